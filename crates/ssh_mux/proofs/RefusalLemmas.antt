@@ -215,7 +215,7 @@ list-unlisted (Some files) (Some statuses) facts asked settings (list_errors.Tok
     subst (λ o. IsRefused (Certain o) (BadListing (list_errors.Token key error))) (sym is) refl
 
 -- the outcome of a control path
-abbrev Path : Recorded → Bytes → List Bytes → List Bytes → Outcome
+abbrev Path : Recorded → Bytes → Permissions → Outcome
 Path recorded transport ps = unrefused (all_rows recorded) (opened_end transport ps (control_path_at recorded (all_rows recorded)))
 
 path-is : (files : List Pair) (statuses : List CommandStatus) (facts : Facts) (asked : Asked) (transport : Bytes) (ps : Permissions) (settings : List Given) (r : Result (Option Bytes) ListError) → Promise (Some files) (Some statuses) facts asked (λ recorded. Resolved recorded (Ok settings)) → control_path_at (recorded_of (machine_of files statuses facts) asked) (all_rows (recorded_of (machine_of files statuses facts) asked)) ≡ r → Path (recorded_of (machine_of files statuses facts) asked) transport ps ≡ opened_end transport ps r

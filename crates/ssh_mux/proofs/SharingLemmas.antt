@@ -168,7 +168,7 @@ pid_is (Some pid) = refl
 -- ---- a master whose control path was found
 
 -- what was found of it
-abbrev pub IsMaster : Known → Bytes → List Bytes → List Bytes → Bytes → Type 0
+abbrev pub IsMaster : Known → Bytes → Permissions → Bytes → Type 0
 IsMaster k transport ps control = (k ≡ Certain (opens_at transport ps control)) ⊎ (k ≡ Master transport ps)
 
 certain-comes : (transport : Bytes) (ps : Permissions) (control : Bytes) (result : Result Status Ending) → EndsMaster result → Comes (Certain (opens_at transport ps control)) result
