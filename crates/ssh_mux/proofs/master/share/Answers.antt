@@ -33,10 +33,10 @@ pub returns-in_err-policy-clause-untouched : goal.returns-in_err-policy-clause-u
 returns-in_err-policy-clause-untouched g c = both-still _ _ _
 
 pub returns-clause-looks : goal.returns-clause-looks
-returns-clause-looks g c = looks-on _ _ _ _ _ _ _ _ c.begin_and_serve.result (c.in_ok-found.ensures.master c.args.transport.now c.args.permits.now) (master-comes (coming (sources g.F.Files g.R.Runner c.args.files.now c.args.runner.now) c.args.facts.now (commands.Master c.args.asked.now c.args.transport.now c.args.permits.now)) _ _ _ _ _ (c.in_ok-found.ensures.master c.args.transport.now c.args.permits.now).exact c.begin_and_serve.ensures.ends) (master-placed _ _ _ _ _ _ c.begin_and_serve.ensures.ends) (shared-cause _ _ _ _ _ c.begin_and_serve.ensures.ends (c.in_ok-found.ensures.master c.args.transport.now c.args.permits.now).cause)
+returns-clause-looks g c = looks-on _ _ _ _ _ _ _ _ c.begin_and_serve.result (c.in_ok-found.ensures.master c.args.transport.now c.args.permits.now) (master-comes (coming (sources g.F.Files g.R.Runner c.args.files.now c.args.runner.now) c.args.facts.now (commands.Master c.args.asked.now c.args.transport.now c.args.permits.now)) _ _ _ _ (c.in_ok-found.ensures.master c.args.transport.now c.args.permits.now).exact c.begin_and_serve.ensures.ends) (master-placed _ _ _ _ _ _ c.begin_and_serve.ensures.ends) (shared-cause _ _ _ _ _ c.begin_and_serve.ensures.ends (c.in_ok-found.ensures.master c.args.transport.now c.args.permits.now).cause)
 
 pub returns-clause-leaves : goal.returns-clause-leaves
 returns-clause-leaves g c = served-leaves g.H.Asks.may g.H.Asks.state (machine_of_sources (sources g.F.Files g.R.Runner c.args.files.now c.args.runner.now) c.args.facts.now) c.args.asked.now c.args.transport.now c.args.permits.now _ (recorded_over (machine_of_sources (sources g.F.Files g.R.Runner c.args.files.now c.args.runner.now) c.args.facts.now) c.args.asked.now) _ (pid_of c.args.facts.now.pid) c.args.turns c.begin_and_serve.result (sockets g.W.Wire g.H.Asks c.args.wire.now c.args.house.now) (sockets g.W.Wire g.H.Asks c.begin_and_serve.new.wire c.begin_and_serve.new.house) (c.in_ok-found.ensures.master c.args.transport.now c.args.permits.now).exact c.in_ok-found.ensures.settled c.begin_and_serve.ensures.ends c.begin_and_serve.ensures.opened (rw (c.in_ok-policy.ensures.exact, c.unwrap_or-pid.ensures ∙ pid_is c.args.facts.now.pid) at c.begin_and_serve.ensures.served) c.begin_and_serve.ensures.start c.begin_and_serve.ensures.must c.begin_and_serve.ensures.wire
 
 pub returns-clause-untouched : goal.returns-clause-untouched
-returns-clause-untouched g c = not_false _ _ (master-shares (coming (sources g.F.Files g.R.Runner c.args.files.now c.args.runner.now) c.args.facts.now (commands.Master c.args.asked.now c.args.transport.now c.args.permits.now)) _ _ _ _ _ (c.in_ok-found.ensures.master c.args.transport.now c.args.permits.now).exact c.begin_and_serve.ensures.ends)
+returns-clause-untouched g c = not_false _ _ (master-shares (coming (sources g.F.Files g.R.Runner c.args.files.now c.args.runner.now) c.args.facts.now (commands.Master c.args.asked.now c.args.transport.now c.args.permits.now)) _ _ _ _ (c.in_ok-found.ensures.master c.args.transport.now c.args.permits.now).exact c.begin_and_serve.ensures.ends)

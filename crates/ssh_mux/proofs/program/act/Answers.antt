@@ -40,15 +40,15 @@ returns-in-List-clause-leaves g c = record {
 }
 
 pub returns-in-Master-clause-runs : goal.returns-in-Master-clause-runs
-returns-in-Master-clause-runs g c = let e = rw c.in-Master.is at c.requires.read in obeyed-runs c.args.words.now c.args.facts.now c.args.turns g.H.Asks.may g.H.Asks.state (sources g.F.Files g.R.Runner c.args.files.now c.args.runner.now) (sources g.F.Files g.R.Runner c.share.new.files c.share.new.runner) (sockets g.W.Wire g.H.Asks c.args.wire.now c.args.house.now) (sockets g.W.Wire g.H.Asks c.share.new.wire c.share.new.house) (output g.S.Sink c.args.out.now) (output g.S.Sink c.args.out.now) _ _ _ c.share.result (of-read _ _ _ e) (master-recorded _ _ _ _ _ _ e) (for-read _ _ _ e)
+returns-in-Master-clause-runs g c = let e = rw c.in-Master.is at c.requires.read in obeyed-runs c.args.words.now c.args.facts.now c.args.turns g.H.Asks.may g.H.Asks.state (sources g.F.Files g.R.Runner c.args.files.now c.args.runner.now) (sources g.F.Files g.R.Runner c.share.new.files c.share.new.runner) (sockets g.W.Wire g.H.Asks c.args.wire.now c.args.house.now) (sockets g.W.Wire g.H.Asks c.share.new.wire c.share.new.house) (output g.S.Sink c.args.out.now) (output g.S.Sink c.args.out.now) _ _ _ c.share.result (of-read _ _ _ e) (master-recorded _ _ _ _ _ e) (for-read _ _ _ e)
     (master-obeyed c.args.words.now (pid_of c.args.facts.now.pid) c.args.turns g.H.Asks.may g.H.Asks.state c.args.facts.now c.in-Master.asked c.in-Master.transport c.in-Master.permits c.share.result (sources g.F.Files g.R.Runner c.args.files.now c.args.runner.now) (sources g.F.Files g.R.Runner c.share.new.files c.share.new.runner) (sockets g.W.Wire g.H.Asks c.args.wire.now c.args.house.now) (sockets g.W.Wire g.H.Asks c.share.new.wire c.share.new.house) (output g.S.Sink c.args.out.now) c.share.ensures.looks c.share.ensures.leaves (both-shown _ g.W.Wire.state (λ h. (g.H.Asks.state h).recorded) _ _ _ _ c.share.ensures.untouched))
 
 pub returns-in-Master-clause-leaves : goal.returns-in-Master-clause-leaves
 returns-in-Master-clause-leaves g c = record {
   unwritten = on_false _ _;
   unlisted = on_false _ _;
-  files = rw (of-read _ _ _ (rw c.in-Master.is at c.requires.read)) (not_false _ _ (master-looks _ _ _ _ _));
-  runner = rw (of-read _ _ _ (rw c.in-Master.is at c.requires.read)) (not_false _ _ (master-looks _ _ _ _ _));
+  files = rw (of-read _ _ _ (rw c.in-Master.is at c.requires.read)) (not_false _ _ (master-looks _ _ _ _));
+  runner = rw (of-read _ _ _ (rw c.in-Master.is at c.requires.read)) (not_false _ _ (master-looks _ _ _ _));
   wire = rw (of-read _ _ _ (rw c.in-Master.is at c.requires.read)) (or-else (touches (coming (sources g.F.Files g.R.Runner c.args.files.now c.args.runner.now) c.args.facts.now (commands.Master c.in-Master.asked c.in-Master.transport c.in-Master.permits)) (so_far c.share.result)) (may_ask (coming (sources g.F.Files g.R.Runner c.args.files.now c.args.runner.now) c.args.facts.now (commands.Master c.in-Master.asked c.in-Master.transport c.in-Master.permits)) (so_far c.share.result)) (c.share.new.wire ≡ c.args.wire.now) (untouched (may_open (so_far c.share.result)) (opens (coming (sources g.F.Files g.R.Runner c.args.files.now c.args.runner.now) c.args.facts.now (commands.Master c.in-Master.asked c.in-Master.transport c.in-Master.permits))) (drills (coming (sources g.F.Files g.R.Runner c.args.files.now c.args.runner.now) c.args.facts.now (commands.Master c.in-Master.asked c.in-Master.transport c.in-Master.permits))) (c.share.new.wire ≡ c.args.wire.now) (first-still _ _ _ c.share.ensures.untouched)));
   house = rw (of-read _ _ _ (rw c.in-Master.is at c.requires.read)) (second-still _ _ _ c.share.ensures.untouched);
 }
