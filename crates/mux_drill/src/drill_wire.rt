@@ -1,5 +1,5 @@
 ghost use Rattle.std.specs.Prelude.{◌≡◌, ◌≢◌, [], false, IsErr, length};
-ghost use Rattle.mux_outside.specs.Seen.{seen_after_close, seen_after_note, seen_after_silence};
+ghost use Rattle.mux_outside.specs.Seen.{seen_after_close, seen_after_connect, seen_after_listen, seen_after_note, seen_after_silence};
 ghost use Rattle.mux_outside.specs.Wire.{JoinFaults, MakeFaults, MayWait, MayWrite, OpenFaults, OwnFits, TurnFaults, TurnFits, WroteFaults, WroteFits};
 ghost use Rattle.mux_outside.specs.WireState.{seeing, state_after_join, state_after_open, state_after_wait, state_after_write};
 ghost use Rattle.mux_outside.specs.declared.turn.Turn.TheVariants.{End, NoMemory};
@@ -151,22 +151,24 @@ impl Wire for DrillWire {
         self.log.noted(m)
     }
 
-    fn listen(&mut self, _host: &[u8], _port: u32) -> Result<u64, FileError>
-        ensures state { self.new.log.state ≡ self.old.log.state }
+    fn listen(&mut self, host: &[u8], port: u32) -> Result<u64, FileError>
+        ensures state { self.new.log.state
+            ≡ seeing (seen_after_listen result host.now port) self.old.log.state }
         ensures cause { MakeFaults result self.old.log.faults self.new.log.faults }
         ensures fails { IsErr result }
         ensures same { SamePlay self.old self.new }
     {
-        self.log.listened(true)
+        self.log.listened(host, port, true)
     }
 
-    fn connect(&mut self, _host: &[u8], _port: u32) -> Result<u64, FileError>
-        ensures state { self.new.log.state ≡ self.old.log.state }
+    fn connect(&mut self, host: &[u8], port: u32) -> Result<u64, FileError>
+        ensures state { self.new.log.state
+            ≡ seeing (seen_after_connect result host.now port) self.old.log.state }
         ensures cause { MakeFaults result self.old.log.faults self.new.log.faults }
         ensures fails { IsErr result }
         ensures same { SamePlay self.old self.new }
     {
-        self.log.connected(true)
+        self.log.connected(host, port, true)
     }
 
     fn unlisten(&mut self, _listener: u64)

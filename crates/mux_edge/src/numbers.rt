@@ -1,6 +1,6 @@
 //! The numbers of clients, and of the master's own listeners and streams.
 ghost use Rattle.std.specs.Prelude.{◌≡◌};
-ghost use Rattle.mux_outside.specs.Seen.{seen_after_connect, seen_after_listen};
+ghost use Rattle.mux_outside.specs.Seen.{moved_by_connect, moved_by_listen};
 ghost use Rattle.mux_outside.specs.Wire.{IsNewOwn, NumberFits};
 ghost use Rattle.mux_outside.specs.WireState.{seeing};
 ghost use Rattle.mux_edge.specs.Sockets.{MayBeGiven};
@@ -46,7 +46,7 @@ pub fn next_number(state: &WireState) -> Result<u64, FileError>
 pub fn keep_listener(state: &mut WireState, number: u64) -> Result<u64, FileError>
     requires { IsNewOwn state.old.seen.last_own number }
     ensures fits { NumberFits result state.old.seen.last_own }
-    ensures state { state.new ≡ seeing (seen_after_listen result) state.old }
+    ensures state { state.new ≡ seeing (moved_by_listen result) state.old }
 {
     match state.listened(number) {
         Ok(()) => Ok(number),
@@ -58,7 +58,7 @@ pub fn keep_listener(state: &mut WireState, number: u64) -> Result<u64, FileErro
 pub fn keep_stream(state: &mut WireState, number: u64) -> Result<u64, FileError>
     requires { IsNewOwn state.old.seen.last_own number }
     ensures fits { NumberFits result state.old.seen.last_own }
-    ensures state { state.new ≡ seeing (seen_after_connect result) state.old }
+    ensures state { state.new ≡ seeing (moved_by_connect result) state.old }
 {
     match state.connected(number) {
         Ok(()) => Ok(number),

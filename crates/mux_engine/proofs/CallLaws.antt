@@ -1,7 +1,6 @@
 -- What the calls that a journal has say of the streams of the house.
-use Rattle.std.proofs.Common.{◌≡◌, ◌+◌, ℕ, Bool, true, false, not, ◌&&◌, List, [], ◌∷◌, ◌++◌, length, refl, sym, ap, ◌∙◌, subst, cond, inl, inr, append_assoc, append-nil, arith}
+use Rattle.std.proofs.Common.{◌≡◌, ℕ, Bool, true, false, not, ◌&&◌, List, [], ◌∷◌, ◌++◌, refl, sym, ap, ◌∙◌, subst, cond, inl, inr, append_assoc, append-nil}
 use Rattle.std.specs.Prelude.{◌==◌}
-use Rattle.std.proofs.lemmas.List.{length-append}
 use Rattle.std.proofs.lemmas.Bool.Decides.{eqb_tells}
 use Rattle.mux_outside.specs.HouseCalls.{End, Failed, Got, HouseCall, Turns, Writable}
 use Rattle.mux_outside.specs.HouseCalls as call
@@ -14,7 +13,7 @@ use Rattle.mux_history.specs.declared.limits.TheConstants.{HOUSE}
 use Rattle.mux_history.specs.Log.{Setting}
 use Rattle.mux_history.specs.Journal.{bytes_in, bytes_of, house_sent, is_own_stream, log_of_journal, taken_by, taken_in}
 use Rattle.mux_history.specs.Pending.{pending}
-use Rattle.mux_engine.specs.CallLaws.{IsGivenAll, IsRecordedAll, bytes_got, got_by, size_by, sizes_taken}
+use Rattle.mux_engine.specs.CallLaws.{IsGivenAll, IsRecordedAll, bytes_got, got_by, bytes_took, took_by}
 use Rattle.mux_engine.specs.Called.{calls_at, calls_in, house_calls}
 use Rattle.mux_engine.proofs.Lists.{test-other, true-false}
 
@@ -73,7 +72,7 @@ got-at setting before (Ends k) t own = got-none t (Turns (End k)) refl (is_own k
 got-at setting before (Frees k) t own = got-none t (Turns (Writable k)) refl (is_own k)
 got-at setting before (Fails k) t own = got-none t (Turns (Failed k)) refl (is_own k)
 got-at setting before (WriteFails k) t own = got-none t (Turns (Failed k)) refl (is_own k)
-got-at setting before (Takes k bytes) t own = got-none t (call.Takes k (length bytes)) refl (is_own k)
+got-at setting before (Takes k bytes) t own = got-none t (call.Takes k bytes) refl (is_own k)
 got-at setting before (House mark) t own = got-house t (pending HOUSE (log_of_journal setting before)) mark ∙ sym (ap (λ (b : Bool). elim b as (λ _. List ℕ) [ true ↦ house_sent mark | false ↦ [] ]) (no-house t own))
 got-at setting before (Waits waiting want streams listens) t own = refl
 got-at setting before (Accepts k) t own = refl
@@ -88,47 +87,50 @@ given-all setting (mark ∷ before) t own =
 
 -- ---- bytes that it took
 
-sizes-append : (t : ℕ) (a b : List HouseCall) → sizes_taken t (a ++ b) ≡ sizes_taken t a + sizes_taken t b
-sizes-append t [] b = omega arith
-sizes-append t (one ∷ a) b = let e = sizes-append t a b in omega (arith, e)
+took-append : (t : ℕ) (a b : List HouseCall) → bytes_took t (a ++ b) ≡ bytes_took t a ++ bytes_took t b
+took-append t [] b = refl
+took-append t (one ∷ a) b = ap (λ l. took_by t one ++ l) (took-append t a b) ∙ sym (append_assoc (took_by t one) (bytes_took t a) (bytes_took t b))
 
-size-none : (t : ℕ) (one : HouseCall) → size_by t one ≡ 0 → (b : Bool) → sizes_taken t (cond b (one ∷ []) []) ≡ 0
-size-none t one e true = omega (arith, e)
-size-none t one e false = refl
+took-none : (t : ℕ) (one : HouseCall) → took_by t one ≡ [] → (b : Bool) → bytes_took t (cond b (one ∷ []) []) ≡ []
+took-none t one e true = ap (λ l. l ++ []) e
+took-none t one e false = refl
 
-size-house : (t : ℕ) (waiting : List ℕ) (mark : HouseMark) → sizes_taken t (house_calls waiting mark) ≡ 0
-size-house t waiting HouseIn = refl
-size-house t waiting (HouseSaid bytes) = refl
-size-house t waiting (HouseTook size) = refl
-size-house t waiting (HouseAsked client id opening ask reply) = refl
-size-house t waiting (HouseAnswer client id reply) = refl
-size-house t waiting (HouseOrder order number) = refl
+took-house : (t : ℕ) (waiting : List ℕ) (mark : HouseMark) → bytes_took t (house_calls waiting mark) ≡ []
+took-house t waiting HouseIn = refl
+took-house t waiting (HouseSaid bytes) = refl
+took-house t waiting (HouseTook size) = refl
+took-house t waiting (HouseAsked client id opening ask reply) = refl
+took-house t waiting (HouseAnswer client id reply) = refl
+took-house t waiting (HouseOrder order number) = refl
 
-size-at : (setting : Setting) (before : List Mark) (mark : Mark) (t : ℕ) → is_own_stream t ≡ true → sizes_taken t (calls_at setting before mark) ≡ length (taken_in t mark)
-size-at setting before (Takes k bytes) t own = by_test (k == t) refl (is_own k) refl
+took-at : (setting : Setting) (before : List Mark) (mark : Mark) (t : ℕ) → is_own_stream t ≡ true → bytes_took t (calls_at setting before mark) ≡ taken_in t mark
+took-at setting before (Takes k bytes) t own = by_test (k == t) refl (is_own k) refl
   where
-    by_test : (b : Bool) → (k == t) ≡ b → (c : Bool) → is_own k ≡ c → sizes_taken t (cond c (call.Takes k (length bytes) ∷ []) []) ≡ length (elim b as (λ _. List ℕ) [ true ↦ bytes | false ↦ [] ])
-    by_test true e true f = let w : cond (k == t) (length bytes) 0 ≡ length bytes = ap (λ (x : Bool). cond x (length bytes) 0) e in omega (arith, w)
-    by_test false e true f = let w : cond (k == t) (length bytes) 0 ≡ 0 = ap (λ (x : Bool). cond x (length bytes) 0) e in omega (arith, w)
+    by_test : (b : Bool) → (k == t) ≡ b → (c : Bool) → is_own k ≡ c → bytes_took t (cond c (call.Takes k bytes ∷ []) []) ≡ elim b as (λ _. List ℕ) [ true ↦ bytes | false ↦ [] ]
+    by_test b e true f = append-nil (cond (k == t) bytes []) ∙ ap (λ (x : Bool). cond x bytes []) e ∙ by_flag b
+      where
+        by_flag : (x : Bool) → cond x bytes [] ≡ elim x as (λ _. List ℕ) [ true ↦ bytes | false ↦ [] ]
+        by_flag true = refl
+        by_flag false = refl
     by_test false e false f = refl
     by_test true e false f = elim (eqb_tells k t) [
       | inl q ↦ true-false (sym (subst (λ (i : ℕ). is_own i ≡ true) (sym q.1) (is-own t own)) ∙ f)
       | inr q ↦ true-false (sym e ∙ q.0)
     ]
-size-at setting before (Gets k bytes) t own = size-none t (Turns (Got k bytes)) refl (is_own k)
-size-at setting before (Joins l k) t own = refl
-size-at setting before (Ends k) t own = size-none t (Turns (End k)) refl (is_own k)
-size-at setting before (Frees k) t own = size-none t (Turns (Writable k)) refl (is_own k)
-size-at setting before (Fails k) t own = size-none t (Turns (Failed k)) refl (is_own k)
-size-at setting before (WriteFails k) t own = size-none t (Turns (Failed k)) refl (is_own k)
-size-at setting before (House mark) t own = size-house t (pending HOUSE (log_of_journal setting before)) mark
-size-at setting before (Waits waiting want streams listens) t own = refl
-size-at setting before (Accepts k) t own = refl
-size-at setting before (Holds k) t own = refl
+took-at setting before (Gets k bytes) t own = took-none t (Turns (Got k bytes)) refl (is_own k)
+took-at setting before (Joins l k) t own = refl
+took-at setting before (Ends k) t own = took-none t (Turns (End k)) refl (is_own k)
+took-at setting before (Frees k) t own = took-none t (Turns (Writable k)) refl (is_own k)
+took-at setting before (Fails k) t own = took-none t (Turns (Failed k)) refl (is_own k)
+took-at setting before (WriteFails k) t own = took-none t (Turns (Failed k)) refl (is_own k)
+took-at setting before (House mark) t own = took-house t (pending HOUSE (log_of_journal setting before)) mark
+took-at setting before (Waits waiting want streams listens) t own = refl
+took-at setting before (Accepts k) t own = refl
+took-at setting before (Holds k) t own = refl
 
 pub recorded-all : IsRecordedAll
 recorded-all setting [] t own = refl
 recorded-all setting (mark ∷ before) t own =
-    sizes-append t (calls_in setting before) (calls_at setting before mark)
-    ∙ (ap (λ n. n + sizes_taken t (calls_at setting before mark)) (recorded-all setting before t own)
-    ∙ (ap (λ n. length (taken_by t before) + n) (size-at setting before mark t own) ∙ sym (length-append (taken_by t before) (taken_in t mark))))
+    took-append t (calls_in setting before) (calls_at setting before mark)
+    ∙ (ap (λ l. l ++ bytes_took t (calls_at setting before mark)) (recorded-all setting before t own)
+    ∙ ap (λ l. taken_by t before ++ l) (took-at setting before mark t own))

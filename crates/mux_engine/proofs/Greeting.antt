@@ -89,7 +89,7 @@ greets-before (Marks (HouseAnswer client id reply) ∷ a) b h = greets-before a 
 greets-before (Marks (HouseOrder order number) ∷ a) b h = greets-before a b h
 greets-before (Receives bytes ∷ a) b h = greets-before a b h
 greets-before (Turns happening ∷ a) b h = greets-before a b h
-greets-before (Takes stream size ∷ a) b h = greets-before a b h
+greets-before (Takes stream bytes ∷ a) b h = greets-before a b h
 
 -- behind calls of which none gave a piece
 pub greets-behind : (a b : List HouseCall) → list_any is_piece a ≡ false → GreetsFirst (a ++ b) → GreetsFirst b
@@ -103,7 +103,7 @@ greets-behind (Marks (HouseAnswer client id reply) ∷ a) b none h = greets-behi
 greets-behind (Marks (HouseOrder order number) ∷ a) b none h = greets-behind a b none h
 greets-behind (Receives bytes ∷ a) b none h = greets-behind a b none h
 greets-behind (Turns happening ∷ a) b none h = greets-behind a b none h
-greets-behind (Takes stream size ∷ a) b none h = greets-behind a b none h
+greets-behind (Takes stream bytes ∷ a) b none h = greets-behind a b none h
 
 -- nothing, or the greeting and more
 abbrev pub Greeting : List ℕ → Type 0
@@ -120,7 +120,7 @@ greeting-pieces (Marks (HouseAnswer client id reply) ∷ later) h = greeting-pie
 greeting-pieces (Marks (HouseOrder order number) ∷ later) h = greeting-pieces later h
 greeting-pieces (Receives bytes ∷ later) h = greeting-pieces later h
 greeting-pieces (Turns happening ∷ later) h = greeting-pieces later h
-greeting-pieces (Takes stream size ∷ later) h = greeting-pieces later h
+greeting-pieces (Takes stream bytes ∷ later) h = greeting-pieces later h
 
 pub journal-greets : (set : Setting) (journal : List Mark) → Throughout IsOfOthers journal → GreetsFirst (calls_in set journal) → Greeting (bytes_of HOUSE journal)
 journal-greets set journal others greets = subst Greeting (sym (journal-pieces set journal others)) (greeting-pieces (calls_in set journal) greets)

@@ -99,7 +99,7 @@ at-wait state first house calls wire lists s b hands = let housed = b.together.h
       },
       refl,
       hands,
-      record { listeners_are = housed.listeners; streams_are = housed.streams },
+      record { listeners_are = housed.listeners; streams_are = housed.streams; none_awaited = housed.ordering },
     ),
   );
 }

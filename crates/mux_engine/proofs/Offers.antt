@@ -76,7 +76,7 @@ next-takes {May} {Rest} {before} {now} {policy} {pid} {start} {seen} {held} {fai
       policy_is = same.policy;
       pid_is = same.pid;
       notes = notes-none now mark refl;
-      called = λ picks later. calls-other now k (call.Takes k (length (take n bytes))) (open-own v k opened ne);
+      called = λ picks later. calls-other now k (call.Takes k (take n bytes)) (open-own v k opened ne);
       askers = askers-more v mark;
       deferred = still-deferred now now [] refl;
       house_in = v.house_in;

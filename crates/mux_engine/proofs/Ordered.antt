@@ -10,7 +10,7 @@ use Rattle.mux_outside.specs.OwnStreams.{is_one, is_own, numbers_of}
 use Rattle.mux_outside.specs.Seen.{Seen, seen_after_close, seen_after_note}
 use Rattle.mux_outside.specs.declared.own_streams.OwnStream.{OwnStream}
 use Rattle.mux_outside.specs.Streams.{among, without}
-use Rattle.mux_outside.specs.Wire.{IsNewOwn}
+use Rattle.mux_outside.specs.Wire.{IsNewOwn, MayNote}
 use Rattle.mux_outside.specs.declared.own_streams.TheConstants.{LAST_CLIENT, LAST_OWN}
 use Rattle.mux_outside.specs.declared.house.HouseReply.{HouseReply}
 use Rattle.mux_outside.specs.declared.house_mark.HouseMark.{HouseMark}
@@ -28,7 +28,7 @@ use Rattle.mux_history.proofs.Wires.{wire-keeps}
 use Rattle.mux_state.specs.State.{State}
 use Rattle.mux_state.proofs.Twins.{own-silent, stands-alike}
 use Rattle.mux_engine.specs.Called.{calls_at}
-use Rattle.mux_engine.specs.Orders.{HasOrdered, MadeBy, failed_carried, held_carried, known_carried, more_recorded, seen_carried}
+use Rattle.mux_engine.specs.Orders.{HasOrdered, MadeBy, failed_carried, held_carried, known_carried, makes, more_recorded, seen_carried, told_carried}
 use Rattle.mux_engine.specs.Places.{listeners_ordered, own_ordered}
 use Rattle.mux_engine.specs.Serving.{IsFree, IsUnseen, IsUnused, Promised, Serving}
 use Rattle.mux_engine.specs.Sides.{Resting, Side, asks_in, noted, noting}
@@ -41,6 +41,7 @@ use Rattle.mux_engine.proofs.Marks.{Notes, Placed}
 use Rattle.mux_engine.proofs.Owns.{Owns, finish-numbers, less-numbers, owns-by, pause-numbers, streams-more}
 use Rattle.mux_engine.proofs.Places.{placed-still}
 use Rattle.mux_engine.proofs.Quiet.{serve-quiet}
+use Rattle.mux_engine.proofs.Recorded.{records-none}
 use Rattle.mux_engine.proofs.WireTurns.{client-number}
 
 -- what is seen once it is noted
@@ -233,6 +234,37 @@ module _ {May : HouseReply → Type 0} {Rest : Resting} {before : Option (List H
   order-noted (Err e) order number side seen0 seen' held' failed' inside made own noted recorded asks unnoted within called carried same after held_is failed_is =
       cut-here v side.recorded seen'.recorded (given + 1) (more_recorded order number) (ap (λ (x : Seen). x.recorded) after ∙ same) recorded (no-asks order number) (omega arith)
 
+-- ---- where it makes something
+
+-- the order is told as it is carried out
+pub recorded-noted : (order : Order) (number : Option ℕ) (seen : Seen) → makes order ≡ true → told_carried order number seen ≡ seen_after_note {E = Unit {0}} (Ok tt) (HouseOrder order number) seen
+recorded-noted (Listen host port) number seen e = refl
+recorded-noted (Connect host port) number seen e = refl
+recorded-noted (Unlisten l) number seen e = cc
+recorded-noted (Pause k) number seen e = cc
+recorded-noted (Resume k) number seen e = cc
+recorded-noted (Finish k) number seen e = cc
+recorded-noted (Close k) number seen e = cc
+
+-- or it may be noted behind
+pub recorded-later : (order : Order) (number : Option ℕ) (seen : Seen) → makes order ≡ false → told_carried order number seen ≡ seen
+recorded-later (Listen host port) number seen e = cc
+recorded-later (Connect host port) number seen e = cc
+recorded-later (Unlisten l) number seen e = refl
+recorded-later (Pause k) number seen e = refl
+recorded-later (Resume k) number seen e = refl
+recorded-later (Finish k) number seen e = refl
+recorded-later (Close k) number seen e = refl
+
+pub may-note : (order : Order) (number : Option ℕ) → makes order ≡ false → MayNote (HouseOrder order number)
+may-note (Listen host port) number e = cc
+may-note (Connect host port) number e = cc
+may-note (Unlisten l) number e = tt
+may-note (Pause k) number e = tt
+may-note (Resume k) number e = tt
+may-note (Finish k) number e = tt
+may-note (Close k) number e = tt
+
 -- ---- what is known of the house then
 
 pub carried-recorded : (order : Order) (number : Option ℕ) (seen : Seen) → (seen_carried order number seen).recorded ≡ seen.recorded
@@ -245,6 +277,13 @@ carried-recorded (Pause k) number seen = refl
 carried-recorded (Resume k) number seen = refl
 carried-recorded (Finish k) number seen = refl
 carried-recorded (Close k) number seen = refl
+
+-- it was made and told, and there was no memory to keep it
+pub order-lost : {May : HouseReply → Type 0} {Rest : Resting} {before : Option (List HouseMark)} {now : Side} {policy : Policy} {pid : ℕ} {start : Option (List Mark)} {seen : Seen} {held failed : List ℕ} {given : ℕ} {todo : List ℕ} {s : State} (v : Serving May Rest before now policy pid start seen held failed given todo s)
+    → now.let_in ≡ true → (order : Order) (n : ℕ) (recorded' : Option (List HouseMark)) (marks' : Option (List Mark)) → MadeBy order (Some n) seen → OwnedBy order → now.unnoted ≡ order_marks (Some order) → recorded' ≡ option_map (λ l. l ++ more_recorded order (Some n)) now.recorded → marks' ≡ option_map (λ m. m ++ House (HouseOrder order (Some n)) ∷ []) seen.recorded → Promised May Rest before recorded' policy pid start marks' (given + 1)
+order-lost {seen = seen} {given = given} v inside order n recorded' marks' made own noted recorded e =
+    cut-here (order-done v inside order (Some n) recorded' made own noted recorded) recorded' marks' (given + 1) []
+    (e ∙ ap (λ (t : Option (List Mark)). option_map (λ (m : List Mark). m ++ House (HouseOrder order (Some n)) ∷ []) t) (sym (carried-recorded order (Some n) seen))) (records-none recorded') refl (omega arith)
 
 -- its asks and whether it is there stay
 pub record SameSide (old new : Known) : Type 0 where

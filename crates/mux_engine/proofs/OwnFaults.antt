@@ -23,7 +23,7 @@ use Rattle.mux_outside.specs.declared.turn.Wrote.{Wrote}
 use Rattle.mux_outside.specs.declared.turn.Wrote.TheVariants as wrote
 use Rattle.mux_outside.specs.declared.whose.Whose.{Whose}
 use Rattle.mux_outside.specs.declared.whose.Whose.TheVariants.{Server, Client, Own}
-use Rattle.mux_engine.specs.OwnFaults.{OrderCounted, OwnCounted, is_unmade, unmade_in}
+use Rattle.mux_engine.specs.OwnFaults.{OrderCounted, OwnCounted, is_unmade, is_unmade_order, unmade_in}
 use Rattle.mux_engine.proofs.Asks.{EachAsked}
 
 same-later : (a b : ℕ) → b ≡ a → a ≤ b
@@ -172,3 +172,20 @@ own-ordered {E} r order number old mid new m n o same f e g = elim (order-step o
     by_note : (r : Result (Unit {0}) E) → new ≡ seen_after_note r (HouseOrder order number) mid → Rose m n → OwnCounted old.recorded new.recorded m o
     by_note (Ok x) e rose = own-rose old.recorded new.recorded (House (HouseOrder order number)) m o (ap (λ (x : Seen). x.recorded) e ∙ ap (λ (t : Option (List Mark)). option_map (λ l. l ++ House (HouseOrder order number) ∷ []) t) same) (subst (λ (j : ℕ). Rose m j) (sym g) rose)
     by_note (Err x) e rose = own-still old.recorded new.recorded m o (ap (λ (x : Seen). x.recorded) e ∙ same) (let l : m ≤ n = rose.later in omega (arith, l, g))
+
+-- what was made has a number
+made-is : (order : Order) (n : ℕ) → is_unmade_order order (Some n) ≡ false
+made-is (Listen host port) n = refl
+made-is (Connect host port) n = refl
+made-is (Unlisten l) n = refl
+made-is (Pause t) n = refl
+made-is (Resume t) n = refl
+made-is (Finish t) n = refl
+made-is (Close t) n = refl
+
+pub own-made : (order : Order) (k : ℕ) (old new : Option (List Mark)) (m n : ℕ) → new ≡ option_map (λ (l : List Mark). l ++ House (HouseOrder order (Some k)) ∷ []) old → m ≤ n → OwnCounted old new m n
+own-made order k old new m n e le = own-recorded old new (House (HouseOrder order (Some k)) ∷ []) m n e (ap (λ b. cond b (House (HouseOrder order (Some k)) ∷ []) []) (made-is order k)) le
+
+-- an order that the wire told
+pub own-ordered-recorded : (order : Order) (number : Option ℕ) (old : Seen) (new : Option (List Mark)) (m n : ℕ) → new ≡ option_map (λ (l : List Mark). l ++ House (HouseOrder order number) ∷ []) old.recorded → OrderCounted order number m n → OwnCounted old.recorded new m n
+own-ordered-recorded order number old new m n e count = subst (λ (t : Option (List Mark)). OwnCounted old.recorded t m n) (sym e) (own-ordered {E = Unit {0}} (Ok tt) order number old old (seen_after_note {E = Unit {0}} (Ok tt) (HouseOrder order number) old) m n n refl count refl refl)

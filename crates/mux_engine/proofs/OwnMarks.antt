@@ -2,7 +2,6 @@
 use Rattle.std.proofs.Common.{◌≡◌, ◌≢◌, ◌<◌, ℕ, Bool, true, false, ◌||◌, List, [], ◌∷◌, ◌++◌, length, take, Option, refl, sym, ap, ◌∙◌, subst}
 use Rattle.std.specs.Prelude.{◌==◌, IsTrue}
 use Rattle.std.specs.Bool.{MatchBool}
-use Rattle.std.proofs.lemmas.List.{length-take-le}
 use Rattle.ssh_fields.specs.Fields.{AreBytes}
 use Rattle.mux_outside.specs.HouseCalls.{Failed, Turns}
 use Rattle.mux_outside.specs.HouseCalls as call
@@ -47,15 +46,15 @@ module _ {May : HouseReply → Type 0} {Rest : Resting} {before : Option (List H
   takes-own set bytes = subst (λ (b : Bool). MatchBool b (Unit {0}) (IsFront bytes (pending k (log_of_journal set v.journal)))) (sym own-is) tt
 
   -- it took bytes
-  pub own-takes : (n : ℕ) (bytes : List ℕ) (seen' : Seen) → is_finished k seen.own ≡ false → now.unnoted ≡ [] → AreBytes bytes → 0 < length bytes → WroteFits (wrote.Took n) (length bytes) → seen' ≡ seen_after_write (wrote.Took n) k bytes seen → Serving May Rest before (calling now (call.Takes k n ∷ [])) policy pid start seen' held failed given todo s
+  pub own-takes : (n : ℕ) (bytes : List ℕ) (seen' : Seen) → is_finished k seen.own ≡ false → now.unnoted ≡ [] → AreBytes bytes → 0 < length bytes → WroteFits (wrote.Took n) (length bytes) → seen' ≡ seen_after_write (wrote.Took n) k bytes seen → Serving May Rest before (calling now (call.Takes k (take n bytes) ∷ [])) policy pid start seen' held failed given todo s
   own-takes n bytes seen' unfinished none are some fits e =
       let mark : Mark = Takes k (take n bytes) in
       let alike = own-silent.takes v.journal k (take n bytes) own-is in
-      subst (λ (x : Seen). Serving May Rest before (calling now (call.Takes k n ∷ [])) policy pid start x held failed given todo s) (sym e)
-      (serve-quiet v (calling now (call.Takes k n ∷ [])) (seen_after_write (wrote.Took n) k bytes seen) held failed given mark
+      subst (λ (x : Seen). Serving May Rest before (calling now (call.Takes k (take n bytes) ∷ [])) policy pid start x held failed given todo s) (sym e)
+      (serve-quiet v (calling now (call.Takes k (take n bytes) ∷ [])) (seen_after_write (wrote.Took n) k bytes seen) held failed given mark
       (record { log = alike.log; blocked = λ t client. refl; unwritten = λ t client. failed-other mark v.journal t (apart-own t client); promise = λ set. record { takes = takes-own set (take n bytes); waits = tt; speaks = tt; open_streams = tt; answers = tt }; rested = λ set. tt; absent = λ e. refl; house = refl })
-      (stands-alike v.journal (mark ∷ v.journal) v.picked v.replies s v.closed alike v.stands) (notes-calling now (call.Takes k n ∷ []) mark refl)
-      (λ set. subst (λ (i : ℕ). CallsOn now (calling now (call.Takes k n ∷ [])) (if_own k (call.Takes k i))) (sym (length-take-le n bytes fits.1)) (calls-own now k (call.Takes k n) own none)) refl refl refl v.turns
+      (stands-alike v.journal (mark ∷ v.journal) v.picked v.replies s v.closed alike v.stands) (notes-calling now (call.Takes k (take n bytes) ∷ []) mark refl)
+      (λ set. calls-own now k (call.Takes k (take n bytes)) own none) refl refl refl v.turns
       (placed-still v mark (seen_after_write (wrote.Took n) k bytes seen) s ((wire-keeps seen v.journal).write (wrote.Took n) k bytes are some found fits v.of_wire) refl refl refl refl refl refl (λ t. refl) (λ t. refl) (λ t. refl)
       (owns-as v.journal seen (seen_after_write (wrote.Took n) k bytes seen) mark v.places (takes-placed v.journal k (take n bytes) (taking seen v.journal v.places k found unfinished) (house-other v k found)) (λ o. refl) (λ l. refl) refl refl refl)))
 

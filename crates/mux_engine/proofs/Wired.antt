@@ -222,11 +222,11 @@ made-no-fault (Ok n) e = no-fault-same e
 made-no-fault (Err file.Failed) e = let o : OwnFault _ _ = e in record { server = o.server; client = o.client }
 made-no-fault (Err file.OutOfMemory) e = no-fault-same e
 
-pub untouched-listen : {old new : WireState} {f f' : Faults} (r : Result ℕ FileError) → new ≡ seeing (seen_after_listen r) old → MakeFaults r f f' → Untouched old new f f'
-untouched-listen {old} {new} r e cause = untouched-seeing (seen_after_listen r) old new e (made-no-fault r cause)
+pub untouched-listen : {old new : WireState} {f f' : Faults} (r : Result ℕ FileError) (host : List ℕ) (port : ℕ) → new ≡ seeing (seen_after_listen r host port) old → MakeFaults r f f' → Untouched old new f f'
+untouched-listen {old} {new} r host port e cause = untouched-seeing (seen_after_listen r host port) old new e (made-no-fault r cause)
 
-pub untouched-connect : {old new : WireState} {f f' : Faults} (r : Result ℕ FileError) → new ≡ seeing (seen_after_connect r) old → MakeFaults r f f' → Untouched old new f f'
-untouched-connect {old} {new} r e cause = untouched-seeing (seen_after_connect r) old new e (made-no-fault r cause)
+pub untouched-connect : {old new : WireState} {f f' : Faults} (r : Result ℕ FileError) (host : List ℕ) (port : ℕ) → new ≡ seeing (seen_after_connect r host port) old → MakeFaults r f f' → Untouched old new f f'
+untouched-connect {old} {new} r host port e cause = untouched-seeing (seen_after_connect r host port) old new e (made-no-fault r cause)
 
 -- ---- a write
 

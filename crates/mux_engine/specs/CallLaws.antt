@@ -1,5 +1,5 @@
 -- What the calls that a journal has say of the streams of the house.
-use Rattle.std.specs.Prelude.{◌≡◌, ◌+◌, ◌==◌, ℕ, true, List, [], ◌∷◌, ◌++◌, if◌then◌else◌, length, reverse, Some, codes}
+use Rattle.std.specs.Prelude.{◌≡◌, ◌==◌, ℕ, true, List, [], ◌∷◌, ◌++◌, if◌then◌else◌, reverse, Some, codes}
 use Rattle.mux_outside.specs.HouseCalls.{End, Failed, Got, HouseCall, Joined, Marks, Turns, Writable}
 use Rattle.mux_outside.specs.HouseCalls as call
 use Rattle.mux_outside.specs.declared.house_mark.HouseMark.TheVariants.{HouseOrder}
@@ -19,24 +19,24 @@ abbrev pub bytes_got : ℕ → List HouseCall → List ℕ
 bytes_got t [] = []
 bytes_got t (one ∷ calls) = got_by t one ++ bytes_got t calls
 
--- how many bytes of a stream it was told were taken, by a call and by all of them
-abbrev pub size_by : ℕ → HouseCall → ℕ
-size_by t (call.Takes stream size) = if stream == t then size else 0
-size_by t _ = 0
+-- the bytes of a stream that it was told were taken, by a call and by all of them
+abbrev pub took_by : ℕ → HouseCall → List ℕ
+took_by t (call.Takes stream bytes) = if stream == t then bytes else []
+took_by t _ = []
 
-abbrev pub sizes_taken : ℕ → List HouseCall → ℕ
-sizes_taken t [] = 0
-sizes_taken t (one ∷ calls) = size_by t one + sizes_taken t calls
+abbrev pub bytes_took : ℕ → List HouseCall → List ℕ
+bytes_took t [] = []
+bytes_took t (one ∷ calls) = took_by t one ++ bytes_took t calls
 
 -- it is given what a stream of its own gave: all of it, once and in that order
 abbrev pub IsGivenAll : Type 0
 IsGivenAll = (setting : Setting) (journal : List Mark) (t : ℕ) → is_own_stream t ≡ true
     → bytes_got t (calls_in setting journal) ≡ bytes_of t journal
 
--- it is told of as many bytes as a stream of its own took
+-- it is told of the bytes that a stream of its own took: all of them, once and in that order
 abbrev pub IsRecordedAll : Type 0
 IsRecordedAll = (setting : Setting) (journal : List Mark) (t : ℕ) → is_own_stream t ≡ true
-    → sizes_taken t (calls_in setting journal) ≡ length (taken_by t journal)
+    → bytes_took t (calls_in setting journal) ≡ taken_by t journal
 
 -- a worked journal: a stream that was joined and gives "hello", and one that the house ordered,
 -- which is connected and fails

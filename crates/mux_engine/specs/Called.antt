@@ -25,7 +25,7 @@ house_calls waiting (HouseTook size) = Receives (take size waiting) ∷ []
 house_calls waiting mark = call_of mark
 
 -- the call of a mark after those before it: a turn of a listener or a stream of the master's own is
--- handed on, and so is a failed write there, and how many bytes such a stream took
+-- handed on, and so is a failed write there, and the bytes that such a stream took
 abbrev pub calls_at : Setting → List Mark → Mark → List HouseCall
 calls_at setting before (Joins l t) = Turns (Joined l t) ∷ []
 calls_at setting before (Gets t bytes) = if_own t (Turns (Got t bytes))
@@ -33,7 +33,7 @@ calls_at setting before (Ends t) = if_own t (Turns (End t))
 calls_at setting before (Frees t) = if_own t (Turns (Writable t))
 calls_at setting before (Fails t) = if_own t (Turns (Failed t))
 calls_at setting before (WriteFails t) = if_own t (Turns (Failed t))
-calls_at setting before (Takes t bytes) = if_own t (call.Takes t (length bytes))
+calls_at setting before (Takes t bytes) = if_own t (call.Takes t bytes)
 calls_at setting before (House mark) =
     house_calls (pending HOUSE (log_of_journal setting before)) mark
 calls_at setting before _ = []

@@ -1,14 +1,16 @@
 -- What carrying out an order leaves.
-use Rattle.std.specs.Prelude.{◌≡◌, ◌≤◌, ℕ, true, false, List, [], ◌∷◌, ◌++◌, Option, Some, None, Result, Ok, Err, IsErr}
+use Rattle.std.specs.Prelude.{◌≡◌, ◌≤◌, ◌⊎◌, ℕ, Bool, true, false, List, [], ◌∷◌, ◌++◌, Option, Some, None, Result, Ok, Err, IsErr}
+use Rattle.std.specs.Option.{option_map}
 use Rattle.mux_outside.specs.House.{HouseState, Known, OrderFits, known_after_order, known_after_ordered, recorded_more}
 use Rattle.mux_outside.specs.HouseCalls.{HandsOn, calls_of}
-use Rattle.mux_outside.specs.Seen.{Seen, seen_after_close, seen_after_finish, seen_after_pause, seen_after_unlisten}
+use Rattle.mux_outside.specs.Seen.{Seen, seen_after_close, seen_after_finish, seen_after_note, seen_after_pause, seen_after_unlisten}
 use Rattle.mux_outside.specs.Streams.{without}
 use Rattle.mux_outside.specs.Wire.{IsNewOwn}
 use Rattle.mux_outside.specs.declared.file_error.FileError.{FileError}
 use Rattle.mux_outside.specs.declared.file_error.FileError.TheVariants.{Failed, OutOfMemory}
 use Rattle.mux_outside.specs.declared.house_mark.HouseMark.{HouseMark}
 use Rattle.mux_outside.specs.declared.house_mark.HouseMark.TheVariants.{HouseOrder}
+use Rattle.mux_outside.specs.declared.mark.Mark.TheVariants.{House}
 use Rattle.mux_outside.specs.declared.order.Order.{Order}
 use Rattle.mux_outside.specs.declared.order.Order.TheVariants.{Listen, Connect, Unlisten, Pause, Resume, Finish, Close}
 use Rattle.mux_outside.specs.OwnStreams.{new_stream}
@@ -32,6 +34,20 @@ seen_carried (Resume t) number seen = seen_after_pause false t seen
 seen_carried (Finish t) number seen = seen_after_finish t seen
 seen_carried (Close t) number seen = seen_after_close t seen
 seen_carried order number seen = seen
+
+-- an order is to make something
+abbrev pub makes : Order → Bool
+makes (Listen host port) = true
+makes (Connect host port) = true
+makes order = false
+
+-- the mark of such an order is told as it is carried out
+abbrev pub told_carried : Order → Option ℕ → Seen → Seen
+told_carried (Listen host port) number seen =
+    seen_after_note {E = Unit {0}} (Ok tt) (HouseOrder (Listen host port) number) seen
+told_carried (Connect host port) number seen =
+    seen_after_note {E = Unit {0}} (Ok tt) (HouseOrder (Connect host port) number) seen
+told_carried order number seen = seen
 
 -- the numbers of the house's streams then
 abbrev pub own_carried : Order → Option ℕ → List ℕ → List ℕ
@@ -91,7 +107,7 @@ IsMade (Err OutOfMemory) result = IsErr result
 pub record CarriedOut (order : Order) (number : Option ℕ) (seen seen' : Seen) (lists lists' : Lists)
     (house house' : HouseState) : Type 0 where
   pub made : MadeBy order number seen
-  pub seen_is : seen' ≡ seen_carried order number seen
+  pub seen_is : seen' ≡ told_carried order number (seen_carried order number seen)
   pub own : lists'.own ≡ own_carried order number lists.own
   pub held : lists'.held ≡ held_carried order number lists.held
   pub failed : lists'.failed ≡ failed_carried order lists.failed
@@ -99,16 +115,32 @@ pub record CarriedOut (order : Order) (number : Option ℕ) (seen seen' : Seen) 
   pub recorded : house'.recorded ≡ recorded_more (more_recorded order number) house.recorded
   pub stands : HandsOn house.stands house'.stands (calls_of (more_recorded order number))
 
--- there was no memory for it: nothing more was told
-pub record NotCarried (seen seen' : Seen) (house house' : HouseState) : Type 0 where
+-- nothing more was told
+pub record ToldNothing (seen seen' : Seen) (house house' : HouseState) : Type 0 where
   pub marks : seen'.recorded ≡ seen.recorded
   pub recorded : house'.recorded ≡ house.recorded
+
+-- a stream was made, and both told so
+pub record ToldMade (order : Order) (number : ℕ) (seen seen' : Seen) (house house' : HouseState) :
+    Type 0 where
+  pub makes : makes order ≡ true
+  pub made : MadeBy order (Some number) seen
+  pub marks : seen'.recorded
+      ≡ option_map (λ m. m ++ House (HouseOrder order (Some number)) ∷ []) seen.recorded
+  pub recorded : house'.recorded ≡ recorded_more (more_recorded order (Some number)) house.recorded
+
+-- there was no memory for it: nothing was made, or none to keep what was made
+abbrev pub NotCarried : Order → Seen → Seen → HouseState → HouseState → Type 0
+NotCarried order seen seen' house house' =
+    ToldNothing seen seen' house house'
+    ⊎ ((number : ℕ) × ToldMade order number seen seen' house house')
 
 abbrev pub Carries : {E : Type 0} → Result (Option ℕ) E → Order → Seen → Seen → Lists → Lists
     → HouseState → HouseState → Type 0
 Carries (Ok number) order seen seen' lists lists' house house' =
     CarriedOut order number seen seen' lists lists' house house'
-Carries (Err e) order seen seen' lists lists' house house' = NotCarried seen seen' house house'
+Carries (Err e) order seen seen' lists lists' house house' =
+    NotCarried order seen seen' house house'
 
 -- one that got no number was counted as an own fault; for want of memory none need be, and the count
 -- does not fall

@@ -76,10 +76,11 @@ pub record HouseWaits (want : Want) (quiet : Quiet) (must : Bool) (refused : Opt
   pub rests : want ≡ Read → IsAtRest quiet
   pub permitted : IsTrue must → refused ≡ None
 
--- a house knows these as its listeners and its streams
+-- a house knows these as its listeners and its streams, and waits for the number of none
 pub record Knows (known : Known) (listeners : List ℕ) (own : List OwnStream) : Type 0 where
   pub listeners_are : known.listeners ≡ listeners
   pub streams_are : known.streams ≡ own
+  pub none_awaited : known.ordering ≡ None
 
 -- what may be so of a house right before a wait for this, by what it told, by its calls since the
 -- run began, and by the listeners and streams of its own that are open

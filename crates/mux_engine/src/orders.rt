@@ -2,7 +2,7 @@ ghost use Rattle.std.specs.Prelude.{◌≡◌, ℕ, true, false, List, IfOk, OnO
 ghost use Rattle.mux_outside.specs.House.{order_marks};
 ghost use Rattle.mux_outside.specs.declared.order.Order.TheVariants.{Connect as TheConnect};
 ghost use Rattle.mux_state.specs.State.{State as TheState};
-ghost use Rattle.mux_engine.specs.Orders.{Carries, CarryCounted, HasOrdered, IsMade};
+ghost use Rattle.mux_engine.specs.Orders.{Carries, CarryCounted, HasOrdered, IsMade, makes as does_make};
 ghost use Rattle.mux_engine.specs.Serving.{RunsFrom, RunsOn, scene};
 ghost use Rattle.mux_engine.specs.Sides.{Housed, OrderedNothing, StaysHouse, noting};
 ghost use Rattle.mux_engine.specs.Wires.{IsIdle, Untouched};
@@ -42,11 +42,11 @@ fn add_stream<W: Wire, H: House>(
         (W.faults wire.new) }
 {
     let made = made_by(wire.connect(host.as_bytes(), port))?;
+    house.ordered(made);
     if let Some(stream) = made {
         lists.own.push(stream)?;
         lists.held.push(stream)?;
     }
-    house.ordered(made);
     Ok(made)
 }
 
@@ -88,7 +88,14 @@ fn carry_out<W: Wire, H: House>(
     Ok(None)
 }
 
-// Carries out an order that the house just gave, and notes it.
+// Whether an order is to make something. The wire tells such a one itself.
+fn makes(order: &Order) -> bool
+    ensures { result ≡ does_make order.now }
+{
+    matches!(order, Order::Listen { .. } | Order::Connect { .. })
+}
+
+// Carries out an order that the house just gave, and notes it where the wire didn't tell it.
 fn obey<W: Wire, H: House>(
     wire: &mut W,
     house: &mut H,
@@ -109,6 +116,9 @@ fn obey<W: Wire, H: House>(
         (W.faults wire.new) }
 {
     let number = carry_out(wire, house, lists, &order)?;
+    if makes(&order) {
+        return Ok(());
+    }
     wire.note(&HouseMark::HouseOrder { order, number })
 }
 

@@ -1,5 +1,6 @@
-ghost use Rattle.std.specs.Prelude.{◌≡◌, [], ◌∷◌, ◌++◌, IfOk, OnOk, OnErr};
+ghost use Rattle.std.specs.Prelude.{◌≡◌, [], ◌∷◌, ◌++◌, All, IfOk, OnOk, OnErr};
 ghost use Rattle.mux_outside.specs.House.{ask_of};
+ghost use Rattle.mux_outside.specs.Wire.{MayNote};
 
 use mux_outside::{FwdAsk, HouseMark, HouseReply, StartAsk};
 use ssh_fields::{OutOfMemory, Text};
@@ -14,12 +15,15 @@ pub struct AskLog {
 }
 
 impl Model for AskLog {
-    ghost use Rattle.std.specs.Prelude.{List};
+    ghost use Rattle.std.specs.Prelude.{List, All};
+    ghost use Rattle.mux_outside.specs.Wire.{MayNote};
     ghost use Rattle.mux_outside.specs.declared.house_mark.HouseMark.{HouseMark as TheMark};
 
     ghost Value = { List TheMark };
 
     ghost view = { λ a. a.marks.items };
+
+    ghost invariant = { λ a. All MayNote a.marks.items };
 }
 
 impl AskLog {
@@ -51,6 +55,7 @@ impl AskLog {
 
     /// Adds an ask with its reply. An `Err` changes nothing.
     pub fn push(&mut self, mark: HouseMark) -> Result<(), OutOfMemory>
+        requires may { MayNote mark }
         ensures ok { OnOk result (self.new ≡ self.old ++ mark ∷ []) }
         ensures err { OnErr result (self.new ≡ self.old) }
     {
@@ -60,7 +65,8 @@ impl AskLog {
 
     /// All of them.
     pub fn as_slice(&self) -> &[HouseMark]
-        ensures { result.now ≡ self.now }
+        ensures all { result.now ≡ self.now }
+        ensures may { All MayNote result.now }
     {
         self.marks.as_slice()
     }

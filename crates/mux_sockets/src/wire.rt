@@ -2,7 +2,7 @@ ghost use Rattle.std.specs.Prelude.{◌≡◌, ◌≢◌, ◌<◌, ◌⊎◌, �
 ghost use Rattle.indexmap.specs.IndexMap.{get};
 ghost use Rattle.mux_outside.specs.Faults.{no_faults};
 ghost use Rattle.mux_outside.specs.OwnStreams.{is_own, is_silent};
-ghost use Rattle.mux_outside.specs.Seen.{seen_after_close, seen_after_connect, seen_after_finish, seen_after_join, seen_after_listen, seen_after_pause, seen_after_silence, seen_after_unlisten};
+ghost use Rattle.mux_outside.specs.Seen.{moved_by_connect, moved_by_listen, seen_after_close, seen_after_finish, seen_after_join, seen_after_pause, seen_after_silence, seen_after_unlisten};
 ghost use Rattle.mux_outside.specs.Streams.{among};
 ghost use Rattle.mux_outside.specs.Wire.{IsNewOwn, JoinFaults, MakeFaults, MayWait, MayWrite, NumberFits, OpenFaults, OwnFits, TurnFaults, TurnFits, WroteFaults, WroteFits};
 ghost use Rattle.mux_outside.specs.WireState.{nothing_called, opens_stream, seeing, state_opened, state_waited, state_written, untelling};
@@ -199,7 +199,7 @@ impl<R: Files + Net + Processes + Clock + Clone + Drop> RealWire<R> {
     fn listen_at(&mut self, host: &[u8], port: u32) -> Result<u64, FileError>
         ensures named { self.new.control ≡ self.old.control }
         ensures fits { NumberFits result self.old.state.seen.last_own }
-        ensures state { self.new.state ≡ seeing (seen_after_listen result) self.old.state }
+        ensures state { self.new.state ≡ seeing (moved_by_listen result) self.old.state }
         ensures faults { self.new.faults ≡ self.old.faults }
     {
         let number = next_number(&self.state)?;
@@ -215,7 +215,7 @@ impl<R: Files + Net + Processes + Clock + Clone + Drop> RealWire<R> {
     fn connect_to(&mut self, host: &[u8], port: u32) -> Result<u64, FileError>
         ensures named { self.new.control ≡ self.old.control }
         ensures fits { NumberFits result self.old.state.seen.last_own }
-        ensures state { self.new.state ≡ seeing (seen_after_connect result) self.old.state }
+        ensures state { self.new.state ≡ seeing (moved_by_connect result) self.old.state }
         ensures faults { self.new.faults ≡ self.old.faults }
     {
         let number = next_number(&self.state)?;
@@ -334,7 +334,7 @@ impl<R: Files + Net + Processes + Clock + Clone + Drop> Wire for RealWire<R> {
     fn listen(&mut self, host: &[u8], port: u32) -> Result<u64, FileError>
         ensures named { self.new.control ≡ self.old.control }
         ensures fits { NumberFits result self.old.state.seen.last_own }
-        ensures state { self.new.state ≡ seeing (seen_after_listen result) self.old.state }
+        ensures state { self.new.state ≡ seeing (moved_by_listen result) self.old.state }
         ensures cause { MakeFaults result self.old.faults self.new.faults }
     {
         let answer = self.listen_at(host, port);
@@ -345,7 +345,7 @@ impl<R: Files + Net + Processes + Clock + Clone + Drop> Wire for RealWire<R> {
     fn connect(&mut self, host: &[u8], port: u32) -> Result<u64, FileError>
         ensures named { self.new.control ≡ self.old.control }
         ensures fits { NumberFits result self.old.state.seen.last_own }
-        ensures state { self.new.state ≡ seeing (seen_after_connect result) self.old.state }
+        ensures state { self.new.state ≡ seeing (moved_by_connect result) self.old.state }
         ensures cause { MakeFaults result self.old.faults self.new.faults }
     {
         let answer = self.connect_to(host, port);

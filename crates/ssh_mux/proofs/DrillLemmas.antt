@@ -180,6 +180,7 @@ pub summed-counts : (turns : ℕ) (due : Status) (text : Bytes) (result : Result
 summed-counts turns due text result before now w w' f f' is d h = record {
   joinings = h.joinings;
   cause = summed-cause text result before now f f' d;
+  own_faults = h.own_faults;
   calls = summed-calls turns due text result before now w.calls w'.calls is d h.calls;
   came = summed-came due text result before now w.calls w'.calls is d h.came;
   waited = summed-waits turns due text result before now w.calls w'.calls is d h.waited;

@@ -13,6 +13,7 @@ pub mod MasterLemmas
 pub mod MisreadLemmas
 pub mod NamedLemmas
 pub mod Obeyed
+pub mod OwnLemmas
 pub mod PermitParts
 pub mod PermitWords
 pub mod Permits

@@ -32,6 +32,7 @@ use Rattle.ssh_mux.specs.Sharing.{CameFor, CountsFor, MasterLeaves, OpensAt, Sha
 use Rattle.ssh_mux.specs.Starts.{BeganWith, Begun, BegunRests, MustsAs, SettledFor, must_for, starts_for}
 use Rattle.ssh_mux.specs.Status.{status_of}
 use Rattle.ssh_mux.specs.World.{Sockets}
+use Rattle.ssh_mux.proofs.OwnLemmas.{from-own, kept-own, still-own}
 use Rattle.ssh_mux.proofs.PolicyLemmas.{with-policy}
 use Rattle.ssh_mux.proofs.SharingLemmas.{IsMaster, came_end, idle_end, master-came, master-idle, master-opened, master-opens, master-waits, opened_ended, opened_stops, opening_calls, serving_calls, waits_end}
 use Rattle.ssh_mux.proofs.StartLemmas.{musts-recorded, starts-recorded}
@@ -45,6 +46,7 @@ pub starved-counts : (housed : Bool) (turns : ℕ) (w : WireState) (f : Faults) 
 starved-counts housed turns w f = record {
   joinings = refl;
   cause = tt;
+  own_faults = still-own w.seen.recorded f.own;
   calls = still-calls turns statuses.Memory w.calls;
   came = tt;
   waited = where_false housed Unit tt;
@@ -57,6 +59,7 @@ module _ (housed : Bool) (turns : ℕ) (control transport : Bytes) (old new : Wi
   failed-counts e cause = record {
     joinings = ap (λ (w : WireState). w.joinings) e;
     cause = cause;
+    own_faults = kept-own old.seen.recorded new.seen.recorded f.own f'.own (ap (λ (w : WireState). w.seen.recorded) e) cause.own;
     calls = opening_calls (Err failures.Failed) turns statuses.Open old.calls new.calls (ap (λ (w : WireState). w.calls) e);
     came = tt;
     waited = where_false housed Unit tt;
@@ -85,6 +88,7 @@ served-counts housed turns ended refused x control transport old mid new f f' f'
     record {
       joinings = keeps.joinings ∙ ap (λ (w : WireState). w.joinings) e;
       cause = served-cause ended housed refused mid new f f' f'' same over;
+      own_faults = from-own old.seen.recorded mid.seen.recorded new.seen.recorded f.own f'.own f''.own (ap (λ (w : WireState). w.seen.recorded) e) (ap (λ (x : Faults). x.own) same) keeps.own_faults;
       calls = serving_calls (Ok x) housed turns ended old.calls mid.calls new.calls c called.stops called.came;
       came = came_end ended old.calls new.calls (opened_ended (Ok x) ended old.calls mid.calls new.calls c came);
       waited = waits_end housed turns ended old.calls new.calls (opened_stops (Ok x) housed turns ended old.calls mid.calls new.calls c called.stops);
@@ -119,6 +123,7 @@ module _ {T : Type 0} (May : HouseReply → Type 0) (state : T → HouseState) w
     start = still-start known (shown meant) (refusal_after k.house k.house) r;
     must = λ p. still-must known (shown meant) (must_for by) k.house.must r;
     wire_cause = still-wire known (shown meant) k.faults k.faults r;
+    own_faults = still-own k.wire.seen.recorded k.faults.own;
     calls = still-calls turns (status_of (shown meant)) k.wire.calls;
     came = still-came known (shown meant) k.wire.calls k.wire.calls r;
     waited = unshared-waits (serves_house k.house.known.present known) known (shown meant) turns k.wire.calls k.wire.calls r;
@@ -142,6 +147,7 @@ module _ {T : Type 0} (May : HouseReply → Type 0) (state : T → HouseState) w
         start = on_true (may_share known status) (StartCause status (refusal_after k.house k'.house)) start;
         must = λ p. on_true (may_share known status) (MustsAs status (must_for by) k'.house.must) (musts-recorded by settings status k'.house.must settled (must p));
         wire_cause = on_true (may_share known status) (WireCause status k.faults k'.faults) counts.cause;
+        own_faults = counts.own_faults;
         calls = counts.calls;
         came = master-came known status k.wire.calls k'.wire.calls counts.came;
         waited = master-waits known transport ps control present turns status k.wire.calls k'.wire.calls is counts.waited;

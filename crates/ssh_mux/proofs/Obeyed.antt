@@ -1,5 +1,5 @@
 -- What words come to before a line is written of it, from what each command does, and to a run.
-use Rattle.std.proofs.Common.{◌≡◌, ℕ, true, false, List, Option, Result, Ok, Err, refl, sym, ap, subst}
+use Rattle.std.proofs.Common.{◌≡◌, ◌||◌, ℕ, true, false, List, Option, Result, Ok, Err, refl, sym, ap, subst}
 use Rattle.std.specs.Prelude.{IsTrue}
 use Rattle.std.specs.Bool.{OnFalse, OnTrue}
 use Rattle.conf_command.specs.declared.reader.WordsError.{WordsError}
@@ -11,6 +11,7 @@ use Rattle.conf_rules.specs.Outcome.{Drills, Machine}
 use Rattle.conf_rules.specs.Reading.{reading}
 use Rattle.conf_rules.specs.Texts.{Bytes}
 use Rattle.conf_rules.specs.Recorded.{Recorded}
+use Rattle.mux_engine.specs.OwnFaults.{OwnCounted}
 use Rattle.mux_engine.specs.Rests.{refusal_after}
 use Rattle.mux_outside.specs.declared.facts.Facts.{Facts}
 use Rattle.mux_outside.specs.declared.house.HouseReply.{HouseReply}
@@ -42,6 +43,7 @@ use Rattle.ssh_mux.proofs.DrillLemmas.{drill-cause, drill-comes, drill-takes, dr
 use Rattle.ssh_mux.proofs.EndLemmas.{calls_after, came_after, ended, ended-well, fault_after, idle_after, must_after, opened_after, out_after, runs_after, shared_after, shared_well, sink_after, start_after, stays_after, waits_after, well-cause, wire_after}
 use Rattle.ssh_mux.proofs.JoinLemmas.{client-shut, client-taken, client-undrilled, list-unasked, master-unasked}
 use Rattle.ssh_mux.proofs.MisreadLemmas.{drilled-runs, misread, misread-cause, misread-runs}
+use Rattle.ssh_mux.proofs.OwnLemmas.{neither, still-own}
 use Rattle.ssh_mux.proofs.PlaceLemmas.{misread-place}
 use Rattle.ssh_mux.proofs.PutLemmas.{client-unprinted, loud-puts, puts_after, quiet-puts, unprinted, well-puts}
 use Rattle.ssh_mux.proofs.ReadLemmas.{drilled-reads, misread-reads, reads_after}
@@ -70,6 +72,7 @@ pub record Obeyed {T : Type 0} (known : Known) (recorded : Option Recorded) (due
   pub start : OnTrue (may_share known (so_far result)) (StartCause (so_far result) (refusal_after k.house k'.house))
   pub must : IsTrue k.house.known.present → OnTrue (may_share known (so_far result)) (MustsAs (so_far result) (must_for recorded) k'.house.must)
   pub wire_cause : OnTrue (touches known (so_far result)) (WireCause (so_far result) k.faults k'.faults)
+  pub own_faults : OnTrue (opens known || drills known) (OwnCounted k.wire.seen.recorded k'.wire.seen.recorded k.faults.own k'.faults.own)
   pub asked : ConversesFor known k.wire.seen.recorded k'.wire.seen.recorded out.recorded out'.recorded result
   pub asked_cause : OnTrue (may_ask known (so_far result)) (WireCause (so_far result) k.faults k'.faults)
   pub asked_waits : OnTrue (may_ask known (so_far result)) (TalksFor turns (so_far result) k.wire.calls k'.wire.calls)
@@ -117,6 +120,7 @@ module _ {T : Type 0} (words : List Bytes) (facts : Facts) (turns : ℕ) (May : 
     opened = h.opened;
     unopened = h.unopened;
     wire_cause = h.wire_cause;
+    own_faults = h.own_faults;
     calls = h.calls;
     came = h.came;
     waited = h.waited;
@@ -145,6 +149,7 @@ module _ {T : Type 0} (words : List Bytes) (facts : Facts) (turns : ℕ) (May : 
     opened = opened_after Known_ status e err.recorded err'.recorded err.faults err'.faults _ _ r h.opened;
     unopened = stays_after _ _ status e err.recorded err'.recorded err.faults err'.faults r h.unopened;
     wire_cause = wire_after Known_ status e err.recorded err'.recorded err.faults err'.faults k.faults k'.faults r h.wire_cause;
+    own_faults = h.own_faults;
     calls = calls_after turns status e err.recorded err'.recorded err.faults err'.faults k.wire.calls k'.wire.calls r h.calls;
     came = came_after Known_ status e err.recorded err'.recorded err.faults err'.faults k.wire.calls k'.wire.calls r h.came;
     waited = follows _ _ _ (waits_after Known_ turns status e err.recorded err'.recorded err.faults err'.faults k.wire.calls k'.wire.calls r) h.waited;
@@ -180,6 +185,7 @@ module _ {T : Type 0} (words : List Bytes) (pid turns : ℕ) (May : HouseReply �
     start = still-start _ _ _ r;
     must = λ p. still-must _ _ _ _ r;
     wire_cause = still-caused _ _ _ _ r;
+    own_faults = on_true _ _ (still-own k.wire.seen.recorded k.faults.own);
     asked = still-talked _ _ _ _ (refused-unjoined _ _ r);
     asked_cause = still-asked-cause _ _ _ _ (refused-unjoined _ _ r);
     asked_waits = still-asked-waits _ _ turns k.wire.calls k.wire.calls (refused-unjoined _ _ r);
@@ -212,6 +218,7 @@ module _ {T : Type 0} (words : List Bytes) (pid turns : ℕ) (May : HouseReply �
     start = not_true _ _ (shut _ _ (list-shut m asked));
     must = λ p. not_true _ _ (shut _ _ (list-shut m asked));
     wire_cause = not_true _ _ (shut-all _ _ (list-shut m asked) (list-undrilled m asked));
+    own_faults = on_true _ _ (still-own k.wire.seen.recorded k.faults.own);
     asked = not_true _ _ (unasked _ _ (list-unasked m asked));
     asked_cause = not_true _ _ (unasked _ _ (list-unasked m asked));
     asked_waits = not_true _ _ (unasked _ _ (list-unasked m asked));
@@ -251,6 +258,7 @@ module _ {T : Type 0} (words : List Bytes) (pid turns : ℕ) (May : HouseReply �
         start = leaves.start;
         must = leaves.must;
         wire_cause = for-master (may_open status) (opens known) (drills known) (WireCause status k.faults k'.faults) none leaves.wire_cause;
+        own_faults = on_true _ _ leaves.own_faults;
         asked = not_true _ _ (unasked known status apart);
         asked_cause = not_true _ _ (unasked known status apart);
         asked_waits = not_true _ _ (unasked known status apart);
@@ -290,6 +298,7 @@ module _ {T : Type 0} (words : List Bytes) (pid turns : ℕ) (May : HouseReply �
         start = not_true _ _ (shut known status closed);
         must = λ p. not_true _ _ (shut known status closed);
         wire_cause = not_true _ _ (shut-all known status closed none);
+        own_faults = not_true _ _ (neither (opens known) (drills known) closed none);
         asked = leaves.talked;
         asked_cause = leaves.wire_cause;
         asked_waits = leaves.waited;
@@ -326,6 +335,7 @@ module _ {T : Type 0} (words : List Bytes) (pid turns : ℕ) (May : HouseReply �
         start = not_true _ _ (shut known status refl);
         must = λ p. not_true _ _ (shut known status refl);
         wire_cause = on_true _ _ counts.cause;
+        own_faults = on_true _ _ counts.own_faults;
         asked = not_true _ _ (unasked known status refl);
         asked_cause = not_true _ _ (unasked known status refl);
         asked_waits = not_true _ _ (unasked known status refl);

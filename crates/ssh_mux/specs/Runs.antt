@@ -1,9 +1,10 @@
 -- What a run of the program does.
-use Rattle.std.specs.Prelude.{◌≡◌, ℕ, Bool, IsTrue, List, Option}
+use Rattle.std.specs.Prelude.{◌≡◌, ◌||◌, ℕ, Bool, IsTrue, List, Option}
 use Rattle.std.specs.Bool.{OnFalse, OnTrue}
 use Rattle.conf_rules.specs.Outcome.{Machine}
 use Rattle.conf_rules.specs.Texts.{Bytes}
 use Rattle.conf_rules.specs.Recorded.{Recorded}
+use Rattle.mux_engine.specs.OwnFaults.{OwnCounted}
 use Rattle.mux_engine.specs.Rests.{refusal_after}
 use Rattle.mux_outside.specs.Counts.{counted}
 use Rattle.mux_outside.specs.declared.facts.Facts.{Facts}
@@ -17,7 +18,7 @@ use Rattle.ssh_mux.specs.Commands.{RunsFor, commands_for}
 use Rattle.ssh_mux.specs.Drill.{IsDrill}
 use Rattle.ssh_mux.specs.Err.{Ended}
 use Rattle.ssh_mux.specs.Out.{OutTakes}
-use Rattle.ssh_mux.specs.Outcomes.{Known, drills, machine, of_words}
+use Rattle.ssh_mux.specs.Outcomes.{Known, drills, machine, of_words, opens}
 use Rattle.ssh_mux.specs.Places.{recorded_for}
 use Rattle.ssh_mux.specs.Puts.{PutsOnce, prints}
 use Rattle.ssh_mux.specs.Reads.{ReadsFor}
@@ -95,6 +96,9 @@ module _ (words : List Bytes) (facts : Facts) (before : World) where
         (after.wire.calls.opens ≡ before.wire.calls.opens)
     -- they failed to open, and the transport failed, only where that was counted
     pub wire_cause : OnTrue (touches known status) (WireCause status before.faults after.faults)
+    -- each order of a listener or a connection that got no number was counted as an own fault
+    pub own_faults : OnTrue (opens known || drills known) (OwnCounted before.wire.seen.recorded
+        after.wire.seen.recorded before.faults.own after.faults.own)
     -- calls of the wire were few, and none came behind one that wanted memory
     pub calls : CallsEnd turns status before.wire.calls after.wire.calls
     -- the run ended only where that came which ends it so

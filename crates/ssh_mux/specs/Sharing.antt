@@ -6,6 +6,7 @@ use Rattle.conf_rules.specs.Texts.{Bytes}
 use Rattle.conf_rules.specs.Recorded.{Recorded}
 use Rattle.forward_rules.specs.Allows.{read_policy}
 use Rattle.mux_engine.specs.Came.{WentUp}
+use Rattle.mux_engine.specs.OwnFaults.{OwnCounted}
 use Rattle.mux_engine.specs.Rests.{refusal_after}
 use Rattle.mux_engine.specs.Run.{IsRun}
 use Rattle.mux_engine.specs.Sides.{Resting}
@@ -275,6 +276,7 @@ pub record CountsFor (housed : Bool) (turns : ℕ) (status : Status) (old new : 
     (faults faults' : Faults) : Type 0 where
   pub joinings : new.joinings ≡ old.joinings
   pub cause : WireCause status faults faults'
+  pub own_faults : OwnCounted old.seen.recorded new.seen.recorded faults.own faults'.own
   pub calls : CallsEnd turns status old.calls new.calls
   pub came : CameFor status old.calls new.calls
   pub waited : OnFalse housed (WaitsFor turns status old.calls new.calls)
@@ -299,6 +301,9 @@ pub record MasterLeaves {T : Type 0} (May : HouseReply → Type 0) (state : T �
   -- the sockets failed to open, and the transport failed, only where that was counted
   pub wire_cause : OnTrue (may_share known (so_far result))
       (WireCause (so_far result) old.faults new.faults)
+  -- each order of a listener or a connection that got no number was counted as an own fault
+  pub own_faults : OwnCounted old.wire.seen.recorded new.wire.seen.recorded old.faults.own
+      new.faults.own
   -- calls were few, and none came behind one that wanted memory
   pub calls : CallsEnd turns (so_far result) old.wire.calls new.wire.calls
   -- it ended only where that came which ends it so

@@ -1,5 +1,7 @@
-use Rattle.std.proofs.Common.{◌∙◌, ap, take}
+use Rattle.std.proofs.Common.{◌∙◌, ap, subst, sym, take}
+use Rattle.std.proofs.lemmas.List.Elements.{All-get_or}
 use Rattle.mux_outside.specs.Faults.{Faults}
+use Rattle.mux_outside.specs.Wire.{MayNote}
 use Rattle.mux_outside.specs.WireState.{WireState}
 use Rattle.mux_engine.proofs.Heeding.{hands-so, applied-some, applies-so, noted-next}
 use Rattle.mux_engine.proofs.Noted.{seen-with}
@@ -12,7 +14,12 @@ returns-in_err-note-clause-applied g c =
     let W = g.W.Wire in
     applied-some c.from_residual-in_err-note.result c.args.e c.args.engine.now c.event.new.self c.event.new.asks _ _ _ _ (W.state c.args.wire.now).seen (W.state c.note.new.self).seen c.loop-mark.mark-index c.from_residual-in_err-note.ensures.0
     (applies-so c.args.e c.args.engine.now c.event.new.self c.clear.new.self c.event.new.asks _ _ (W.state c.args.wire.now).seen (W.state c.note.new.self).seen c.loop-mark.mark-index c.clear.ensures o.takes.stands o.applies o.keeps o.takes.ends
-    (ap (λ (x : WireState). x.seen) c.in_err-note.ensures.state ∙ (c.loop-mark.invariant.seen ∙ ap (λ l. seen-with (take c.loop-mark.mark-index l) (W.state c.args.wire.now).seen) c.as_slice-mark-items.ensures)))
+    (ap (λ (x : WireState). x.seen) c.in_err-note.ensures.state ∙ (c.loop-mark.invariant.seen ∙ ap (λ l. seen-with (take c.loop-mark.mark-index l) (W.state c.args.wire.now).seen) c.as_slice-mark-items.ensures.all)))
+
+pub note-requires : goal.note-requires
+note-requires g c = record {
+  may = subst MayNote (sym c.mark-item.is) (All-get_or MayNote c.as_slice-mark-items.result.now c.loop-mark.mark-index c.mark-item.result c.loop-mark-test.true c.as_slice-mark-items.ensures.may);
+}
 
 pub loop-mark-preserved : goal.loop-mark-preserved
 loop-mark-preserved g c = record {

@@ -1,4 +1,4 @@
-use Rattle.std.proofs.Common.{◌≡◌, ◌<◌, ◌∙◌, ℕ, Bool, true, false, List, [], ◌∷◌, length, ap, refl, sym, arith, rules}
+use Rattle.std.proofs.Common.{◌≡◌, ◌<◌, ◌∙◌, ℕ, Bool, true, false, List, [], ◌∷◌, length, take, ap, refl, sym, arith, rules}
 use Rattle.std.specs.Prelude.{IsTrue}
 use Rattle.std.proofs.lemmas.Grind.{common_steps}
 use Rattle.mux_outside.specs.OwnStreams.{is_finished}
@@ -25,7 +25,7 @@ unfinished k bytes known same finished some = ap (is_finished k) (sym same) ∙ 
 
 pub returns-in-Took-clause-serving : goal.returns-in-Took-clause-serving
 returns-in-Took-clause-serving g c present first before now policy pid start given todo s none hands v =
-    handed-more _ (call.Takes c.args.stream c.in-Took.n ∷ []) hands c.took.ensures.stands
+    handed-more {mid = (g.H.Asks.state c.args.house.now).stands} _ (call.Takes c.args.stream (take c.in-Took.n c.queue_of-bytes.result.now) ∷ []) hands (rw (sym c.queue_of-bytes.ensures.queue) at c.took.ensures.stands)
     (own-takes v c.args.stream c.requires.stream.own c.requires.stream.stream_open c.in-Took.n c.queue_of-bytes.result.now _ (unfinished _ _ _ c.requires.knows.same c.queue_of-bytes.ensures.finished (some-bytes c.queue_of-bytes.result.now (sym c.if-is_empty.ensures))) none c.in-Took.ensures.bytes (some-bytes c.queue_of-bytes.result.now (sym c.if-is_empty.ensures)) c.in-Took.ensures.wrote (seen-is c.in-Took.ensures.state))
 
 pub returns-in_ok-push-in-Later-clause-serving : goal.returns-in_ok-push-in-Later-clause-serving
