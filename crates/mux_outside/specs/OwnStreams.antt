@@ -45,7 +45,7 @@ end_one t s = if s.number == t then record s { ended = true } else s
 abbrev pub with_pause : Bool → ℕ → List OwnStream → List OwnStream
 with_pause b t own = map (pause_one b t) own
 
--- a stream takes no more bytes
+-- a stream accepts no more bytes
 abbrev pub with_finish : ℕ → List OwnStream → List OwnStream
 with_finish t own = map (finish_one t) own
 

@@ -13,7 +13,7 @@ pub data Mode : Type 0 where
   InProxy : Mode
   Stopped : Mode
 
--- what is said at once: a control message's body, a payload, or a frame that is none
+-- what is sent at once: a control message's body, a payload, or a frame that is none
 pub data Outgoing : Type 0 where
   Body : (body : List ℕ) → Outgoing
   Payload : (payload : List ℕ) → Outgoing
@@ -49,7 +49,7 @@ mode_after InControl content = after_body content
 mode_after InProxy content = InProxy
 mode_after Stopped content = Stopped
 
--- what was said, how the next bytes are read, and the bytes that are not read yet
+-- what was sent, how the next bytes are read, and the bytes that are not read yet
 pub record Parsed : Type 0 where
   pub says : List Outgoing
   pub mode : Mode
