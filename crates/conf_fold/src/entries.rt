@@ -230,7 +230,7 @@ fn asked_text(alloc: Global, ignored: Option<&[u8]>, line: &[u8]) -> Result<Line
     }
 }
 
-/// What a keyword of the command line says with words that are taken as they are.
+/// What a keyword of the command line gives with words that are kept as they are.
 fn asked_parts(
     alloc: Global,
     ignored: Option<&[u8]>,

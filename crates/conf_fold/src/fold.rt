@@ -32,7 +32,7 @@ pub struct Fold {
     applies: ListOf<bool>,
     // Whether some Match line asked for a second pass.
     asks_again: bool,
-    // In the second pass the host name behind the first.
+    // In the second pass the host name after the first.
     name: Option<Text>,
     // Whether each line that gives a value to collect was active in the first pass.
     were_active: ListOf<bool>,
@@ -130,7 +130,7 @@ impl Fold {
         Ok(true)
     }
 
-    /// How many files are open: 1 more than the depth of the line that was taken last.
+    /// How many files are open: 1 more than the depth of the line that was applied last.
     pub fn open_files(&self) -> usize
         ensures count { result ≡ length self.now.applies }
     {

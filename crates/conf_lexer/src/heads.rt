@@ -54,7 +54,7 @@ fn zero_at(bytes: &[u8]) -> Option<usize>
     bytes.iter().position(|b| *b == 0)
 }
 
-/// What stands behind an equals sign and its blanks, at place `at` of the line.
+/// What stands after an equals sign and its blanks, at place `at` of the line.
 fn second_equals(text: &[u8], at: usize) -> Result<&[u8], LexError>
     ensures { Shows (λ rest. rest.now) result (second_equals at text.now) }
 {
@@ -64,7 +64,7 @@ fn second_equals(text: &[u8], at: usize) -> Result<&[u8], LexError>
     }
 }
 
-/// What stands behind the keyword and its blanks, at place `at` of the line.
+/// What stands after the keyword and its blanks, at place `at` of the line.
 #[tactic(auto, unfolding(conf_rules::specs::Heads::after_keyword))]
 fn after_keyword(text: &[u8], at: usize) -> Result<&[u8], LexError>
     requires { at + length text.now < 2 ^ 64 }
@@ -108,7 +108,7 @@ fn uncommented(text: &[u8], at: usize) -> Result<Head<'_>, LexError>
 
 /// A line's keyword and what follows it (ssh_config(5)): blanks around them and line endings are
 /// dropped, and one equals sign may stand between them. `at` of a refusal is a byte's place in
-/// `line`. It takes no memory.
+/// `line`. It allocates no memory.
 #[tactic(auto, unfolding(conf_rules::specs::Heads::head_of))]
 pub fn split_head(line: &[u8]) -> Result<Head<'_>, LexError>
     ensures exact { Shows heading result (head_of line.now) }

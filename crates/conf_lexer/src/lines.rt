@@ -11,7 +11,7 @@ fn line_len(bytes: &[u8]) -> usize
 }
 
 /// The line of a text that begins at a place: where it ends, without its line feed, and where the
-/// next one begins. It takes no memory.
+/// next one begins. It allocates no memory.
 pub fn next_line(text: &[u8], at: usize) -> Option<(usize, usize)>
     requires { at ≤ length text.now }
     ensures none { IsNone result ↔ (at ≡ length text.now) }

@@ -66,7 +66,7 @@ fn some_suffix(syntax: Syntax, pattern: &[u8], name: &[u8]) -> bool
     }
 }
 
-/// Whether a pattern takes a name. It takes no memory, and at most about the product of both
+/// Whether a pattern matches a name. It allocates no memory, and at most about the product of both
 /// lengths in steps: no star is tried again once a later one is reached, and no class is looked for
 /// that isn't closed.
 pub fn takes_name(syntax: Syntax, pattern: &[u8], name: &[u8]) -> bool

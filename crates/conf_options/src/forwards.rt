@@ -18,7 +18,7 @@ fn port(word: &[u8], low: u64) -> Option<u16>
     }
 }
 
-/// A port behind its host.
+/// A port after its host.
 fn with_port(alloc: Global, low: u64, host: &[u8], word: &[u8]) -> Result<Option<End>, OutOfMemory>
     ensures { IfOk result (λ end. end ≡ with_port low word.now (Some host.now)) }
 {

@@ -231,7 +231,7 @@ fn is_unchecked(word: &[u8]) -> bool
     is_unchecked_of(word.len(), word)
 }
 
-/// What a keyword is, in any case. It takes no memory.
+/// What a keyword is, in any case. It allocates no memory.
 #[tactic(auto, unfolding(conf_rules::specs::Keywords::meaning_of))]
 pub fn kind_of(keyword: &[u8]) -> KeyKind
     ensures { result ≡ meaning_of keyword.now }

@@ -92,7 +92,7 @@ fn place_of(all: &[(Key, Value)], key: Key) -> Option<usize>
     None
 }
 
-/// Takes a value behind the others.
+/// Adds a value after the others.
 fn add(all: &mut Vec<(Key, Value)>, key: Key, value: Value) -> Result<bool, OutOfMemory>
     ensures becomes { OnOk result (all.new.items ≡ behind_all all.old.items key value) }
     ensures changed { IfOk result (λ changed. changed ≡ true) }
@@ -102,7 +102,7 @@ fn add(all: &mut Vec<(Key, Value)>, key: Key, value: Value) -> Result<bool, OutO
     Ok(true)
 }
 
-/// Takes patterns behind those of a value.
+/// Adds patterns after those of a value.
 fn more_patterns(alloc: Global, kept: &mut Value, patterns: &[Text]) -> Result<bool, OutOfMemory>
     requires names { values.Names (patterns_in kept.old) ≡ kept.old }
     ensures becomes { OnOk result
@@ -233,8 +233,8 @@ impl Settings {
         }
     }
 
-    /// Values that are kept, each behind its key, in the order in which they came: all of a key,
-    /// and maybe some of others.
+    /// Values that are kept, each after its key, in the order in which they came: all of a key, and
+    /// maybe some of others.
     pub fn among(&self, key: Key) -> &[(Key, Value)]
         ensures { values_among key result.now ≡ values_among key self.now }
     {
@@ -252,8 +252,8 @@ impl Settings {
         port_of(self.singles.as_slice())
     }
 
-    /// Takes a value, where it counts: the first of its key, or of both proxy keys; each one of a
-    /// key that collects; patterns of `SendEnv`, of which those behind a dash remove earlier ones.
+    /// Keeps a value, if it counts: the first of its key, or of both proxy keys; each one of a key
+    /// that collects; patterns of `SendEnv`, of which those after a dash remove earlier ones.
     /// `true` exactly where what is kept changed. An `Err` changes nothing.
     pub fn offer(&mut self, key: Key, value: Value) -> Result<bool, OutOfMemory>
         requires { fits key value ≡ true }

@@ -128,8 +128,8 @@ fn first_files(
 }
 
 /// Gives the lines of all files that are asked for one by one, without comments and empty lines.
-/// The files that an Include line names are opened by the call behind the one that gives it. Behind
-/// a refusal, a fault and want of memory, and at the end, it gives no line.
+/// The files that an Include line names are opened by the call after the one that gives it. After a
+/// refusal, a fault and running out of memory, and at the end, it gives no line.
 #[derive(Drop)]
 pub struct LineReader {
     lines: Lines,
@@ -200,11 +200,11 @@ impl LineReader {
         Ok(())
     }
 
-    /// The next line of the files that says something; `None` at the end, and behind every `Err`.
+    /// The next line of the files that has content; `None` at the end, and after every `Err`.
     /// Refused are files, line counts, zero bytes, forms of lines, and what an Include line names,
     /// each at its line; a fault is one of reading, comes only where that of `files` rose, and is
-    /// told at the Include line that names what is read, or, for a file that no line includes, at
-    /// its line 0.
+    /// reported at the Include line that names what is read, or, for a file that no line includes,
+    /// at its line 0.
     pub fn next<F: Files>(&mut self, files: &mut F) -> Result<Option<ConfLine>, ResolveError>
         ensures reads { ReadsFor (F.recorded files.old) (known self.old.facts) self.old.original
             self.old.lines self.new.lines result }

@@ -51,7 +51,7 @@ pub struct Lines {
 }
 
 /// What a file holds that no line includes, or the refusal of a failed read at its line 0: the
-/// memory for it is taken before the read.
+/// memory for it is allocated before the read.
 fn first_found<F: Files>(alloc: Global, path: &[u8], files: &mut F) -> Result<Found, ResolveError>
     ensures found { (recorded : Recorded) → RecordsFiles (F.recorded files.old) recorded
         → IfOk result (λ found. IsFound found (recorded.content path.now)) }

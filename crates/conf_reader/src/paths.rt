@@ -86,7 +86,7 @@ fn in_folder(alloc: Global, facts: &Facts, system: bool, path: &[u8]) -> Result<
     Ok(in_home(alloc, home, path)?)
 }
 
-/// A path that isn't absolute is taken from the folder of its source.
+/// A path that isn't absolute is resolved from the folder of its source.
 fn absolute(alloc: Global, facts: &Facts, system: bool, path: Text) -> Result<Text, TokenError>
     ensures { Gives token_wants_memory result (absolute (source_of system) (known facts.now) path) }
 {
@@ -271,7 +271,7 @@ fn with_component<F: Files>(
     Ok(paths)
 }
 
-/// The paths that a path with globs stands for, in whatever order.
+/// The paths that a path with globs expands to, in whatever order.
 fn along<F: Files>(alloc: Global, path: &[u8], files: &mut F) -> Result<Vec<Text>, FileError>
     ensures found { (recorded : Recorded) → RecordsFiles (F.recorded files.old) recorded
         → IfOk result (λ paths.
@@ -311,7 +311,7 @@ fn add_all(texts: &mut Texts, more: Vec<Text>) -> Result<(), OutOfMemory>
     Ok(())
 }
 
-/// The path that one without globs stands for, alone.
+/// The path that one without globs expands to, alone.
 fn alone(alloc: Global, path: &[u8]) -> Result<Vec<Text>, OutOfMemory>
     ensures { IfOk result (λ paths. paths.items ≡ path.now ∷ []) }
 {
@@ -340,7 +340,7 @@ fn in_order(texts: Vec<Text>) -> Result<Vec<Text>, OutOfMemory>
     }
 }
 
-/// The paths that an absolute path stands for, in the order of their bytes.
+/// The paths that an absolute path expands to, in the order of their bytes.
 #[tactic(auto, unfolding(conf_rules::specs::Includes::globbed))]
 fn globbed<F: Files>(alloc: Global, path: &[u8], files: &mut F) -> Result<Vec<Text>, FileError>
     ensures found { (recorded : Recorded) → RecordsFiles (F.recorded files.old) recorded
@@ -361,7 +361,7 @@ fn globbed<F: Files>(alloc: Global, path: &[u8], files: &mut F) -> Result<Vec<Te
     Ok(in_order(paths)?)
 }
 
-/// Adds the paths that an absolute path stands for.
+/// Adds the paths that an absolute path expands to.
 fn add_globbed<F: Files>(
     alloc: Global,
     all: &mut Texts,
@@ -380,7 +380,7 @@ fn add_globbed<F: Files>(
     Ok(add_all(all, found)?)
 }
 
-/// The paths that absolute paths stand for.
+/// The paths that absolute paths expand to.
 fn all_globbed<F: Files>(alloc: Global, paths: &Texts, files: &mut F) -> Result<Texts, FileError>
     ensures found { (recorded : Recorded) → RecordsFiles (F.recorded files.old) recorded
         → IfOk result (λ found. found ≡ all_globbed recorded paths.now) }

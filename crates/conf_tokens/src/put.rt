@@ -115,7 +115,7 @@ fn put_digest(alloc: Global, out: &mut Text, view: &View<'_>) -> Result<(), Toke
     put(out, &digest)
 }
 
-/// Adds what a token gives, by the byte behind its percent sign.
+/// Adds what a token gives, by the byte after its percent sign.
 #[tactic(auto, unfolding(conf_rules::specs::Tokens::meaning))]
 pub fn put_token(alloc: Global, out: &mut Text, byte: u8, view: &View<'_>) -> Result<(), TokenError>
     ensures { Puts result out.old out.new (meaning (seen view.now) byte) }
