@@ -8,7 +8,7 @@ use conn_messages::Key;
 use ssh_fields::{OutOfMemory, Text};
 use std::alloc::Global;
 
-/// An entry as its text has it, where `None` stands for each host and each port.
+/// An entry as its text has it, where `None` represents each host and each port.
 #[derive(Clone, Copy)]
 pub enum Parts<'a> {
     /// `host:port`, `[address]:port` or `port`.

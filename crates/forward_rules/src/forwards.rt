@@ -143,8 +143,8 @@ impl Forwards {
         count_in(&self.listed, client)
     }
 
-    /// Takes a client's earliest live forwarding out: its key, and whether a cancel of it has no
-    /// reply. Where it has no live one, all that it has asked are taken out, and None is answered.
+    /// Removes a client's earliest live forwarding: its key, and whether a cancel of it has no
+    /// reply. Where it has no live one, all that it has asked are removed, and None is answered.
     pub fn take_of(&mut self, client: u64) -> Option<(OwnKey, bool)>
         ensures exact { option_map taken_of result
             ≡ option_map recorded_of (first_live client self.old) }
@@ -184,7 +184,7 @@ impl Forwards {
         settle_in(&mut self.listed, client, rank);
     }
 
-    /// What the client's cancel of this rank meant was taken out, if one meant it: the later ones
+    /// What the client's cancel of this rank meant was removed, if one meant it: the later ones
     /// move up.
     fn close_up(&mut self, client: u64, cancel: Option<usize>)
         ensures { self.new ≡ closed_up client cancel self.old }
@@ -286,7 +286,7 @@ fn settle_in(listed: &mut [Listed], client: u64, rank: usize)
     }
 }
 
-/// The client's cancels behind this rank move up by one.
+/// The client's cancels after this rank move up by one.
 fn move_up_in(listed: &mut [Listed], client: u64, rank: usize)
     ensures { map forward_of listed.new
         ≡ map (moved_up_of client rank) (map forward_of listed.old) }

@@ -100,7 +100,7 @@ fn has_mark(text: &[u8]) -> bool
     false
 }
 
-/// A colon and a port, behind an address in brackets.
+/// A colon and a port, after an address in brackets.
 fn read_colon_port(text: &[u8]) -> Option<Option<u32>>
     ensures { result ≡ history.read_colon_port text.now }
 {

@@ -66,7 +66,7 @@ impl ClientAnswers {
     }
 
     /// A wanted request of the client is refused: true where nothing waits, so that the refusal
-    /// goes out now; else it waits behind what waits. An `Err` also comes where 2^32 - 1 requests
+    /// goes out now; else it waits after what waits. An `Err` also comes where 2^32 - 1 requests
     /// wait.
     pub fn local(&mut self) -> Result<bool, OutOfMemory>
         ensures stands { IfOk result (RefusalGoesOn self.old self.new) }

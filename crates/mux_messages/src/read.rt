@@ -79,7 +79,7 @@ fn hello<'a>(fields: &mut FieldReader<'a>) -> Result<Control<'a>, BadControl>
     Ok(Control::Hello { version })
 }
 
-/// A type that no client says, with the id after it, if there is one.
+/// A type that no client sends, with the id after it, if there is one.
 fn unknown(kind: u32, fields: &mut FieldReader<'_>) -> BadControl
     ensures { read_unknown kind fields.old.cursor ≡ Err result }
 {

@@ -43,7 +43,7 @@ fn least(framing: Framing) -> u32
     }
 }
 
-/// So many bytes behind a header, as soon as they are there.
+/// So many bytes after a header, as soon as they are there.
 fn content(header: usize, size: usize, bytes: &[u8]) -> Front
     requires { header ≤ length bytes.now }
     ensures { IsFront bytes.now result (cut_content size (drop header bytes.now)) }

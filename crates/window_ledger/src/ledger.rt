@@ -125,8 +125,8 @@ impl Ledger {
         };
     }
 
-    /// Any of the messages below, for a caller that has told them apart already. The master is such
-    /// a one: of these seven calls it makes this one alone.
+    /// Any of the messages below, for a caller that has distinguished them already. The master is
+    /// such a one: of these seven calls it makes this one alone.
     pub fn take(&mut self, way: Side, act: Act) -> Result<(), Breach>
         ensures exact { Judges self.old way (act_of act) result }
         ensures ok { OnOk result (GoesOn self.old self.new way (act_of act)) }
