@@ -61,7 +61,7 @@ RefusalGoesOn old new now =
     → Waits (flags ++ false ∷ []) heard new
     × (answers_to (flags ++ false ∷ []) heard ≡ answers_to flags heard ++ refused now)
 
--- one more reply came to a request that was sent: it is answered, and so many refusals after it
+-- one more reply arrived for a request that was sent: it is answered, and so many refusals after it
 abbrev pub AnswerGoesOn : List Bool → List Bool → ℕ → Type 0
 AnswerGoesOn old new refusals =
     (flags : List Bool) (heard : List (List ℕ)) (p : List ℕ) → IsAwaited old → Waits flags heard old

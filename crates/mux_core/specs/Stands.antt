@@ -1,4 +1,4 @@
--- A core stands for a log, the newest row first: one clause a part.
+-- A core represents a log, the newest row first: one clause a part.
 use Rattle.std.specs.Prelude.{◌≡◌, ◌≢◌, ◌≤◌, ◌<◌, ℕ, ◌==◌, ◌&&◌, Bool, true, false, List, [], ◌∷◌, Option, Some, is_some, is_none, map, filter, drop, length}
 use Rattle.std.specs.List.{AllByRecursion}
 use Rattle.ssh_grammar.specs.declared.side.Side.{Side}
@@ -33,7 +33,7 @@ is_whole e = has_numbers (confirmed e.ledger) e.channel.by e.channel.own e.chann
 abbrev pub HasSmall : Entry → Type 0
 HasSmall e = (s : ℕ) → e.channel.remote ≡ Some s → s < 4294967296
 
--- the table stands for the channels that are held; no number names two of them, and no client holds
+-- the table represents the channels that are held; no number names two of them, and no client holds
 -- more than 256
 pub record TableFits (es : List Entry) (held : List Channel) : Type 0 where
   pub fit : ChannelsFit es held
@@ -87,7 +87,7 @@ pub record AsksFit (queue : List Ask) (l : Look) : Type 0 where
 
 -- ---- clients
 
--- a client stands for its rows: while it isn't lost, what it is still to be answered is what they
+-- a client represents its rows: while it isn't lost, what it is still to be answered is what they
 -- leave unanswered
 pub record ClientFits (l : Look) (c : MemberState) : Type 0 where
   pub nonzero : c.number ≢ 0

@@ -15,7 +15,7 @@ pub struct Lists {
     pub failed: Streams,
     /// Room for the numbers of streams that are still to be offered something.
     pub todo: Streams,
-    /// Room for what the house is asked at an event, until it is noted.
+    /// Room for what the forwarder is asked at an event, until it is noted.
     pub asks: AskLog,
     /// Whether the run is over and each stream was offered what waits for it.
     pub settled: bool,
