@@ -1,4 +1,4 @@
-//! The forwardings of the house, in order of asking.
+//! The forwardings of the forwarder, in order of asking.
 ghost use Rattle.std.specs.Prelude.{◌≡◌, ◌≤◌, ◌<◌, ◌+◌, ◌++◌, ◌∷◌, [], None, true, false, not, length, map, IfOk, IfSome, OnOk, OnErr, IsSomeAnd, Some, find, filter, is_some};
 ghost use Rattle.std.specs.List.{All, position, remove};
 ghost use Rattle.std.specs.Option.{option_copied};
@@ -104,7 +104,7 @@ impl Forwardings {
         self.all.iter().filter(|f| f.counts()).count()
     }
 
-    /// What comes of an ask to open a forwarding.
+    /// The outcome of a request to open a forwarding.
     fn may_open(&self, ends: Ends<'_>) -> Asked
         ensures { result ≡ opens_of self.now.serials ends.entry self.now.all.items
             (standing ends.entry self.now.all.items) }
@@ -127,7 +127,7 @@ impl Forwardings {
         }
     }
 
-    /// An ask to open a forwarding.
+    /// A request to open a forwarding.
     #[tactic(auto, using(crate::proofs::InOrder::order_more, crate::proofs::InOrder::listeners_more, crate::proofs::InOrder::first_listens, crate::proofs::Placed::placed_more, crate::proofs::Numbered::numbered_more))]
     pub fn open(&mut self, ends: Ends<'_>, start: Option<usize>) -> Result<Asked, OutOfMemory>
         ensures exact { IfOk result (λ asked. asked ≡ opens_of self.old.serials ends.entry
@@ -194,7 +194,7 @@ impl Forwardings {
         Ok(())
     }
 
-    /// An ask to close a forwarding.
+    /// A request to close a forwarding.
     pub fn close(&mut self, ends: Ends<'_>) -> Asked
         ensures exact { result ≡ closes_of (standing ends.entry self.old.all.items) }
         ensures all { self.new.all.items ≡ after_close result self.old.all.items }
@@ -215,7 +215,7 @@ impl Forwardings {
         change_all(&mut self.all, serial, change);
     }
 
-    /// What comes of an ask to close a forwarding.
+    /// The outcome of a request to close a forwarding.
     fn may_close(&self, ends: Ends<'_>) -> Asked
         ensures { result ≡ closes_of (standing ends.entry self.now.all.items) }
     {
@@ -328,7 +328,7 @@ impl Forwardings {
         }
     }
 
-    /// A forwarding can't be had.
+    /// A forwarding isn't possible.
     fn fail(&mut self, i: usize)
         requires { i < length self.old.all.items }
         ensures all { self.new.all.items ≡ remove self.old.all.items i }
@@ -340,14 +340,14 @@ impl Forwardings {
         self.refuse_start(f.start);
     }
 
-    /// The forwarding whose request is to be said next, if any.
+    /// The forwarding whose request is to be sent next, if any.
     pub fn to_send(&self) -> Option<&Forwarding>
         ensures { option_copied result ≡ find has_request self.now.all.items }
     {
         self.all.iter().find(|f| f.has_request())
     }
 
-    /// A request is said now.
+    /// A request is sent now.
     pub fn said(&mut self, request: ForwardingRequest) -> Result<(), OutOfMemory>
         ensures all { OnOk result
             (self.new.all.items ≡ after_sending request self.old.all.items) }
@@ -417,7 +417,7 @@ impl Forwardings {
         self.all.iter().position(|f| f.is_cancelled(serial))
     }
 
-    /// What a forwarding comes to as the server listens for it.
+    /// The outcome of a forwarding as the server listens for it.
     fn granted(&self, serial: u64, port: Option<u32>) -> Option<Outcome>
         ensures { result ≡ live_in port (find (is_asked serial) self.now.all.items) }
     {

@@ -1,4 +1,4 @@
-//! What the house says as a client: whole frames, each in a piece of its own.
+//! What the forwarder sends as a client: whole frames, each in a piece of its own.
 ghost use Rattle.std.specs.Prelude.{◌≡◌, ◌<◌, ◌≤◌, ◌++◌, ◌∷◌, [], false, length, take, is_some, OnOk, IfOk, IfSome};
 ghost use Rattle.ssh_fields.specs.Fields.{str, u32};
 ghost use Rattle.ssh_grammar.specs.Messages.{To, Data as GivesData};

@@ -21,7 +21,7 @@ use Rattle.house_relay.specs.declared.relay.Socket.TheVariants as socket
 abbrev pub chunk : Relay → LiveState → ℕ
 chunk r live = min (min (takes live) MAXIMUM) (length r.held.waiting)
 
--- the held bytes first, and behind them the end
+-- the held bytes first, and after them the end
 abbrev pub sends_held : Relay → LiveState → Option Outgoing
 sends_held r live = if nat_lt 0 (length r.held.waiting)
     then (if nat_lt 0 (chunk r live) then Some (outgoing.Data (chunk r live)) else None)
