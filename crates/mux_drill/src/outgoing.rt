@@ -40,7 +40,7 @@ impl Outgoing {
         }
     }
 
-    /// Nothing is said.
+    /// Nothing is sent.
     pub fn nothing(alloc: Global) -> Outgoing
         ensures { result ≡ record { stream = 0; rest = [] } }
     {

@@ -39,7 +39,7 @@ IsOf number (Failed t) = t ≡ number
 IsOf number (Joined l t) = ⊥
 IsOf number NoMemory = ⊥
 
--- what was ready is what the turn tells of
+-- what was ready is what the turn is about
 abbrev pub Serves : Ready → Numbers → Turn → Type 0
 Serves Accept numbers turn = IsSomeAnd numbers.client (λ k. turn ≡ Accepted k)
 Serves (Join listener) numbers turn = IsSomeAnd numbers.own (λ t. turn ≡ Joined listener t)
@@ -47,7 +47,7 @@ Serves (Read number) numbers turn = IsOf number turn
 Serves (Write number) numbers turn = turn ≡ Writable number
 Serves (Connect number) numbers turn = (turn ≡ Writable number) ⊎ (turn ≡ Failed number)
 
--- what was found is told as it is, but for a client or a stream that is joined for which there is
+-- what was found is reported as it is, except for a client or an accepted stream for which there is
 -- no memory
 abbrev pub Records : Turn → Turn → Type 0
 Records (Accepted k) recorded = (recorded ≡ Accepted k) ⊎ (recorded ≡ NoMemory)
