@@ -1,6 +1,6 @@
 use mux_messages::{BadControl, alive, failure, hello, ok, proxy, read_control, remote_port};
 
-/// A body with one byte too many behind it; the fault where its last byte is missing, and the fault
+/// A body with one byte too many after it; the fault where its last byte is missing, and the fault
 /// with the byte too many. Where what follows the id isn't read, that byte is none.
 type Row = (&'static [u8], Option<BadControl>, Option<BadControl>);
 

@@ -10,7 +10,7 @@ enum End {
     Bad(&'static [u8]),
 }
 
-/// All bytes of a client, the reply before the end, the end, and how many bytes are data behind it.
+/// All bytes of a client, the reply before the end, the end, and how many bytes are data after it.
 type Row = (&'static [u8], &'static [u8], End, usize);
 
 /// The reply of SOCKS 4 that refuses.
@@ -68,7 +68,7 @@ const REQUESTS: [Row; 12] = [
 ];
 
 /// A request for each cause of a refusal, and what is written then. Its bytes up to the first fault
-/// are the dialog, so what stands behind is counted as data.
+/// are the dialog, so what stands after is counted as data.
 const REFUSALS: [Row; 13] = [
     (b"\x04\x02\x00\x50", b"", Bad(REFUSED_4), 2),
     (

@@ -12,7 +12,7 @@ fn put_both(out: &mut Vec<u8>) -> Result<(), OutOfMemory> {
     put_string(out, b"testing")
 }
 
-/// Whether these are the two spellings, one behind the other.
+/// Whether these are the two spellings, one after the other.
 fn is_spelled(bytes: &[u8]) -> bool {
     matches!(bytes.split_at_checked(4), Some((number, text)) if number == NUMBER.as_slice() && text == TESTING.as_slice())
 }

@@ -3,7 +3,7 @@ use ssh_fields::Text;
 use std::alloc::Global;
 use std::test::Fail;
 
-/// The words of a rest, a bar behind each.
+/// The words of a rest, a bar after each.
 fn barred(alloc: Global, rest: &[u8]) -> Result<Text, LexError> {
     let words = split_words(alloc, rest)?;
     let mut text = Text::new(alloc);

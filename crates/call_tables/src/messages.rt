@@ -2,7 +2,7 @@ use conn_messages::{
     Bad, cancel_forward, cancel_path, close, open_failure, read_message, request_failure,
 };
 
-/// A payload with one byte too many behind it; the fault where its last byte is missing, and the
+/// A payload with one byte too many after it; the fault where its last byte is missing, and the
 /// fault with the byte too many. Where its last field is data, neither is a fault.
 type Row = (&'static [u8], Option<Bad>, Option<Bad>);
 

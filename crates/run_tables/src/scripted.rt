@@ -58,7 +58,7 @@ fn stream_step(
     }
 }
 
-/// Tells what a stream took.
+/// Writes what a stream accepted.
 pub fn record_taken(line: &mut Text, stream: &[u8], bytes: &[u8]) -> Result<(), OutOfMemory> {
     line.add(b"took ")?;
     line.add(stream)?;
@@ -66,7 +66,7 @@ pub fn record_taken(line: &mut Text, stream: &[u8], bytes: &[u8]) -> Result<(), 
 }
 
 /// The bytes that words spell: each a name, a text behind `'`, or digits of base 16; a number and
-/// `*` before it say how often.
+/// `*` before it give how often.
 pub fn bytes_of(alloc: Global, words: &str, names: &Pairs) -> Result<Text, Trouble> {
     let mut out = Text::new(alloc);
     add_words(&mut out, words, names)?;
@@ -81,7 +81,7 @@ fn add_words(out: &mut Text, words: &str, names: &Pairs) -> Result<(), Trouble> 
     Ok(())
 }
 
-// Adds the bytes of a word, as often as it says.
+// Adds the bytes of a word, as often as it gives.
 fn add_word(out: &mut Text, word: &str, names: &Pairs) -> Result<(), Trouble> {
     let (count, one) = word.split_once('*').unwrap_or(("", ""));
     let Ok(count) = number_of(count) else {

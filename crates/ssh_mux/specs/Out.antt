@@ -12,8 +12,8 @@ use Rattle.ssh_mux.specs.declared.status.Status.TheVariants.{Done, Write}
 use Rattle.ssh_mux.specs.Answers.{may_open}
 use Rattle.ssh_mux.specs.Outcomes.{Known, Certain, Listing, Client}
 
--- a text was handed over: all of it was taken, a prefix where that failed, or nothing for want of
--- memory
+-- a text was handed over: all of it was accepted, a prefix where that failed, or nothing if memory
+-- ran out
 abbrev pub HandsOver :
     Result Status Ending → Bytes → Option (List ℕ) → Option (List ℕ) → Type 0
 HandsOver (Ok Done) text before now = TakesRecorded (Ok tt) before now text

@@ -49,7 +49,7 @@ fn start(rt: &HostRuntime, err: &mut RealSink<Standard>) -> Result<Status, OutOf
     ended
 }
 
-// Runs over a wire in memory, with no house.
+// Runs over a wire in memory, with no forwarder.
 fn drill(
     rt: &HostRuntime,
     words: &Texts,
