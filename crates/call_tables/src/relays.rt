@@ -221,7 +221,7 @@ impl Bench {
         self.word(word, digits.as_bytes())
     }
 
-    /// Notes what it sends.
+    // Notes what it sends.
     fn note_sending(&mut self, outgoing: Outgoing) -> Result<(), OutOfMemory> {
         match outgoing {
             Outgoing::Open => self.note_open(),
@@ -249,7 +249,7 @@ impl Bench {
         self.word(b"open", end.as_bytes())
     }
 
-    /// Says what it has to say next: whether there was something.
+    // Says what it has to say next: whether there was something.
     fn says(&mut self) -> Result<bool, OutOfMemory> {
         match self.relay.says() {
             Some(outgoing) => {
@@ -263,7 +263,7 @@ impl Bench {
         }
     }
 
-    /// Does what it orders next: whether there was something.
+    // Does what it orders next: whether there was something.
     fn orders(&mut self) -> Result<bool, OutOfMemory> {
         if self.relay.stream() != Some(self.stream.number) {
             return Ok(false);
@@ -296,7 +296,7 @@ impl Bench {
         Ok(true)
     }
 
-    /// All that it sends and orders, until it is at rest.
+    // All that it sends and orders, until it is at rest.
     fn settle(&mut self) -> Result<(), OutOfMemory> {
         for _ in 0..100 {
             if !self.says()? && !self.orders()? {
@@ -348,7 +348,7 @@ impl Bench {
     }
 }
 
-/// Runs a test case over a relay.
+// Runs a test case over a relay.
 fn play(
     rt: &impl Abort,
     alloc: Global,

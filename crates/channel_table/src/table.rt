@@ -191,7 +191,7 @@ impl Table {
         self.remote.get(&remote).copied()
     }
 
-    /// The client whose channel the server names by its own number.
+    // The client whose channel the server names by its own number.
     fn holder(&self, remote: u32) -> Option<u64>
         ensures { result ≡ holder_of self.now remote }
     {

@@ -2,7 +2,7 @@ ghost use Rattle.std.specs.Prelude.{◌≡◌, ◌↔◌, ◌≤◌, ◌<◌, �
 ghost use Rattle.std.specs.List.{prefix_len};
 ghost use Rattle.conf_rules.specs.Heads.{lines_of};
 
-/// How many bytes stand before the first line feed.
+// How many bytes stand before the first line feed.
 fn line_len(bytes: &[u8]) -> usize
     ensures count { result ≡ prefix_len (λ b. not (b == 10)) bytes.now }
     ensures within { result ≤ length bytes.now }

@@ -16,7 +16,7 @@ pub struct Place {
     pub may: bool,
 }
 
-/// Adds a criterion; after it the reading goes on at a word.
+// Adds a criterion; after it the reading goes on at a word.
 fn add(
     alloc: Global,
     criteria: &mut Criteria,
@@ -34,7 +34,7 @@ fn add(
     Ok(())
 }
 
-/// Takes `all`, which is the last criterion and stands where it may.
+// Takes `all`, which is the last criterion and stands where it may.
 fn take_all(
     alloc: Global,
     criteria: &mut Criteria,
@@ -62,7 +62,7 @@ fn take_all(
     })
 }
 
-/// Takes a criterion that takes no value, at a word of these.
+// Takes a criterion that takes no value, at a word of these.
 fn take_plain(
     alloc: Global,
     criteria: &mut Criteria,
@@ -86,7 +86,7 @@ fn take_plain(
     })
 }
 
-/// Reads a criterion with its value, after which a word follows.
+// Reads a criterion with its value, after which a word follows.
 fn take_value(
     alloc: Global,
     criteria: &mut Criteria,
@@ -109,7 +109,7 @@ fn take_value(
     })
 }
 
-/// Takes a criterion whose value is the next word.
+// Takes a criterion whose value is the next word.
 fn take_next(
     alloc: Global,
     criteria: &mut Criteria,
@@ -129,7 +129,7 @@ fn take_next(
     Err(MatchError::NoValue { word: at })
 }
 
-/// Takes one criterion.
+// Takes one criterion.
 fn take(
     alloc: Global,
     criteria: &mut Criteria,

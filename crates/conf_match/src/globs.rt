@@ -5,7 +5,7 @@ ghost use Rattle.conf_match.specs.Pieces.{NoneInLast};
 use crate::pieces::Syntax;
 use crate::stars::takes_name;
 
-/// How many bytes stand after the last closing bracket; where there is none, all.
+// How many bytes stand after the last closing bracket; where there is none, all.
 fn tail_of(pattern: &[u8]) -> usize
     ensures { NoneInLast result pattern.now }
 {
@@ -19,7 +19,7 @@ fn tail_of(pattern: &[u8]) -> usize
     pattern.len()
 }
 
-/// Whether a text begins with a dot.
+// Whether a text begins with a dot.
 fn is_dotted(text: &[u8]) -> bool
     ensures { result ≡ is_dotted text.now }
 {

@@ -8,7 +8,7 @@ use conf_lexer::split_at_first;
 use conf_rules::ListAnswer;
 use ssh_fields::Texts;
 
-/// What one pattern says of a name.
+// What one pattern says of a name.
 #[tactic(auto, unfolding(conf_rules::specs::Patterns::answer_of))]
 fn one(pattern: &[u8], text: &[u8]) -> ListAnswer
     ensures { result ≡ answer_of (pattern.now ∷ []) text.now }
@@ -31,7 +31,7 @@ fn one(pattern: &[u8], text: &[u8]) -> ListAnswer
     }
 }
 
-/// What two lists say together.
+// What two lists say together.
 fn either(first: ListAnswer, second: ListAnswer) -> ListAnswer
     ensures { result ≡ either first second }
 {

@@ -16,7 +16,7 @@ pub enum Segment<'p, 't> {
     Star(&'p [u8], &'t [u8]),
 }
 
-/// Goes to the pattern's first star.
+// Goes to the pattern's first star.
 fn to_star<'p, 't>(syntax: Syntax, pattern: &'p [u8], name: &'t [u8]) -> Segment<'p, 't>
     requires { Fits syntax pattern.now }
     ensures { Begins syntax pattern.now name.now result }
@@ -43,7 +43,7 @@ fn to_star<'p, 't>(syntax: Syntax, pattern: &'p [u8], name: &'t [u8]) -> Segment
     }
 }
 
-/// Whether the pattern takes a suffix.
+// Whether the pattern takes a suffix.
 fn some_suffix(syntax: Syntax, pattern: &[u8], name: &[u8]) -> bool
     requires { Fits syntax pattern.now }
     ensures { result ≡ some_suffix (takes_name syntax pattern.now) name.now }

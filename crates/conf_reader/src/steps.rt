@@ -24,7 +24,7 @@ impl Lines {
     ghost use Rattle.conf_reader.specs.ToRead.{all_read};
     ghost use Rattle.conf_reader.specs.Uses.{UsesFiles, UsesFilesFor, of_all, behind_step, behind_call};
 
-    /// Takes one line of all files.
+    // Takes one line of all files.
     fn one<F: Files>(&mut self, files: &mut F) -> Result<ReadStep, ResolveError>
         requires ready { IsReady self.old.open_files }
         requires plain { list_all is_plain_first self.old.firsts.items ≡ true }
@@ -72,7 +72,7 @@ impl Lines {
         }
     }
 
-    /// Finds the files that the last line includes. It stands apart for its proof alone.
+    // Finds the files that the last line includes. It stands apart for its proof alone.
     fn expand<F: Files>(
         &mut self,
         facts: &Facts,

@@ -20,7 +20,7 @@ use conf_rules::{Asked, ResolveError};
 use mux_outside::{Facts, Files, Runner};
 use std::alloc::Global;
 
-/// Gives all lines of files to a fold.
+// Gives all lines of files to a fold.
 fn pass<F: Files, R: Runner>(
     alloc: Global,
     asked: &Asked,
@@ -59,7 +59,7 @@ fn pass<F: Files, R: Runner>(
     Ok(())
 }
 
-/// Gives all lines of files to a fold, and once more where a line asks for it.
+// Gives all lines of files to a fold, and once more where a line asks for it.
 fn passes<F: Files, R: Runner>(
     alloc: Global,
     asked: &Asked,

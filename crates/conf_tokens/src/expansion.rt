@@ -14,7 +14,7 @@ use conf_rules::{TokenError, TokenSet};
 use ssh_fields::{OutOfMemory, Text};
 use std::alloc::Global;
 
-/// A text, and after it another, from a place on, with its tokens expanded.
+// A text, and after it another, from a place on, with its tokens expanded.
 fn expand_onto(
     alloc: Global,
     front: Text,
@@ -53,7 +53,7 @@ pub fn expand(
     expand_onto(alloc, Text::new(alloc), 0, text, set, view)
 }
 
-/// What stands after a tilde, with the home before it.
+// What stands after a tilde, with the home before it.
 fn with_home(alloc: Global, rest: &[u8], set: TokenSet, view: &View<'_>) -> Result<Text, TokenError>
     requires { 1 + length rest.now < 2 ^ 64 }
     ensures { Gives token_wants_memory result (with_home set (seen view.now) rest.now) }
@@ -79,7 +79,7 @@ pub fn expand_path(
     }
 }
 
-/// Whether a tilde before this text represents the home.
+// Whether a tilde before this text represents the home.
 fn represents_home(lone: bool, rest: &[u8]) -> bool
     ensures { result ≡ (starts_with_slash rest.now || (lone && is_empty rest.now)) }
 {
@@ -111,7 +111,7 @@ pub fn expand_name(alloc: Global, original: &[u8], text: &[u8]) -> Result<Text, 
     Ok(out)
 }
 
-/// Adds what a token of a Hostname gives.
+// Adds what a token of a Hostname gives.
 fn put_name_token(out: &mut Text, original: &[u8], token: u8) -> Result<(), OutOfMemory>
     ensures { OnOk result (out.new ≡ out.old ++ name_token original.now token) }
 {

@@ -25,7 +25,7 @@ impl Model for ClientAnswers {
     ghost invariant = { λ a. length a.waiting.items ≤ MOST_WAITING };
 }
 
-/// How many refusals stand in front.
+// How many refusals stand in front.
 fn leading(flags: &[bool]) -> usize
     ensures within { result ≤ length flags.now }
     ensures exact { result ≡ leading flags.now }

@@ -65,7 +65,7 @@ impl Asks {
         self.waiting.len()
     }
 
-    /// Whether a client has a request with this id.
+    // Whether a client has a request with this id.
     fn has(&self, client: u64, id: u32) -> bool
         ensures { result ≡ has_open client id self.now.waiting.items }
     {
@@ -151,7 +151,7 @@ impl Asks {
         Some((w.client, w.id, w.reply()))
     }
 
-    /// The place of the first that has this client and id.
+    // The place of the first that has this client and id.
     fn place_of(&self, client: u64, id: u32) -> Option<usize>
         ensures { result ≡ position (is_waiting client id) self.now.waiting.items }
     {
@@ -160,7 +160,7 @@ impl Asks {
             .position(|w| w.client == client && w.id == id)
     }
 
-    /// The one that had an outcome first.
+    // The one that had an outcome first.
     fn earliest(&self) -> Option<Waiting>
         ensures { result ≡ earliest self.now.waiting.items }
     {
@@ -171,7 +171,7 @@ impl Asks {
 }
 
 impl Waiting {
-    /// How many had an outcome before it did.
+    // How many had an outcome before it did.
     fn stamp(&self) -> u64
         ensures { result ≡ stamp_of self.now.outcome }
     {
@@ -181,7 +181,7 @@ impl Waiting {
         }
     }
 
-    /// Its answer.
+    // Its answer.
     fn reply(&self) -> HouseReply
         ensures { result ≡ reply_of self.now }
     {
@@ -199,7 +199,7 @@ impl Waiting {
     }
 }
 
-/// The one of both that had an outcome earlier.
+// The one of both that had an outcome earlier.
 fn earlier(first: Option<Waiting>, w: Waiting) -> Option<Waiting>
     ensures { result ≡ earlier first w }
 {
@@ -212,7 +212,7 @@ fn earlier(first: Option<Waiting>, w: Waiting) -> Option<Waiting>
     }
 }
 
-/// A request, which has this outcome if it is one of these and has none yet.
+// A request, which has this outcome if it is one of these and has none yet.
 fn settled(w: Waiting, forwarding: u64, opening: bool, at: u64, outcome: Outcome) -> Waiting
     ensures { result ≡ settle_one forwarding opening at outcome w }
 {

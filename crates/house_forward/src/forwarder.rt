@@ -42,8 +42,8 @@ impl<N: Notes + Drop> Forwarder<N> {
         &self.notes.notes
     }
 
-    /// Room for so many marks, and for those of all that so many forwardings, relays and asks more
-    /// can bring.
+    // Room for so many marks, and for those of all that so many forwardings, relays and asks more
+    // can bring.
     fn reserve(
         &mut self,
         forwardings: usize,
@@ -65,7 +65,7 @@ impl<N: Notes + Drop> Forwarder<N> {
     }
 }
 
-/// The mark of an order that makes nothing.
+// The mark of an order that makes nothing.
 fn mark_of(order: &Order) -> Option<HouseMark>
     ensures { option_to_list result ≡ order_marks (Some order.now) }
 {

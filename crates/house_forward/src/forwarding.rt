@@ -277,7 +277,7 @@ impl Forwarding {
         }
     }
 
-    /// Its stage changes.
+    // Its stage changes.
     fn go(&mut self, change: Change)
         ensures { self.new ≡ record self.old {
           stage = stage_after change self.old.listen_port self.old.stage;
@@ -300,7 +300,7 @@ impl Forwarding {
         drop(mem::replace(&mut self.stage, stage));
     }
 
-    /// The port on which the server listens, if it chose this one where it was to choose.
+    // The port on which the server listens, if it chose this one where it was to choose.
     fn bound_to(&self, port: Option<u32>) -> u32
         ensures { result ≡ bound_to self.now.listen_port port }
     {
@@ -465,7 +465,7 @@ impl Forwarding {
     }
 }
 
-/// What is to be done first.
+// What is to be done first.
 fn first_stage(alloc: Global, ends: Ends<'_>) -> Result<Stage, OutOfMemory>
     ensures first { IfOk result (λ stage. is_first stage ≡ true) }
     ensures here { IfOk result (λ stage. waits_at stage ≡ listens_here ends.entry.kind) }

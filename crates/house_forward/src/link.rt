@@ -184,7 +184,7 @@ impl Link {
         }
     }
 
-    /// Its relay takes a step.
+    // Its relay takes a step.
     fn relay_takes(&mut self, step: LinkStep)
         ensures { self.new ≡ record self.old { relay = relay_after step self.old.relay } }
     {

@@ -51,7 +51,7 @@ pub fn put_frame(into: &mut Piece, payload: &[u8]) -> Result<(), OutOfMemory>
     Ok(())
 }
 
-/// Puts the frame of data in a channel into the piece.
+// Puts the frame of data in a channel into the piece.
 fn put_data(into: &mut Piece, remote: u32, bytes: &[u8]) -> Result<(), OutOfMemory>
     ensures frame { OnOk result (into.new ≡ framed (spell (To remote (GivesData bytes.now)))) }
     ensures short { OnOk result (length into.new ≤ LONGEST_PIECE) }
@@ -87,7 +87,7 @@ pub fn send(alloc: Global, relay: &mut Relay, into: &mut Piece) -> Result<bool, 
     Ok(true)
 }
 
-/// Puts the frame of what a relay says into the piece.
+// Puts the frame of what a relay says into the piece.
 fn put_sending(
     alloc: Global,
     relay: &Relay,
@@ -120,7 +120,7 @@ fn put_sending(
     }
 }
 
-/// An OPEN of `direct-tcpip` (RFC 4254, section 7.2).
+// An OPEN of `direct-tcpip` (RFC 4254, section 7.2).
 fn open(alloc: Global, number: u32, host: &[u8], port: u32) -> Result<Vec<u8>, OutOfMemory>
     ensures { IfOk result (λ payload. payload.items ≡ direct number host.now port) }
 {
@@ -146,7 +146,7 @@ fn put_text(out: &mut Vec<u8>, text: &[u8]) -> Result<(), OutOfMemory>
     put_string(out, text)
 }
 
-/// A CONFIRMATION (RFC 4254, section 5.1).
+// A CONFIRMATION (RFC 4254, section 5.1).
 fn confirmation(alloc: Global, remote: u32, number: u32) -> Result<Vec<u8>, OutOfMemory>
     ensures { IfOk result (λ payload. payload.items ≡ confirmed remote number) }
 {
@@ -158,7 +158,7 @@ fn confirmation(alloc: Global, remote: u32, number: u32) -> Result<Vec<u8>, OutO
     Ok(payload)
 }
 
-/// The window of a channel, and the longest data of one message.
+// The window of a channel, and the longest data of one message.
 fn put_limits(out: &mut Vec<u8>) -> Result<(), OutOfMemory>
     ensures { OnOk result (out.new.items ≡ out.old.items ++ limits) }
 {
@@ -167,7 +167,7 @@ fn put_limits(out: &mut Vec<u8>) -> Result<(), OutOfMemory>
     Ok(())
 }
 
-/// The answer to the server's OPEN.
+// The answer to the server's OPEN.
 fn answer(
     alloc: Global,
     outgoing: Outgoing,
@@ -184,8 +184,8 @@ fn answer(
     Ok(payload)
 }
 
-/// Puts the frame of what a relay says in its confirmed channel into the piece. Data goes there at
-/// once.
+// Puts the frame of what a relay says in its confirmed channel into the piece. Data goes there at
+// once.
 fn put_in_channel(
     alloc: Global,
     outgoing: Outgoing,
@@ -203,7 +203,7 @@ fn put_in_channel(
     put_frame(into, &payload)
 }
 
-/// What a relay says in its confirmed channel, but data.
+// What a relay says in its confirmed channel, but data.
 fn besides_data(alloc: Global, outgoing: Outgoing, remote: u32) -> Result<Vec<u8>, OutOfMemory>
     requires { is_data outgoing ≡ false }
     ensures { IfOk result (λ payload. payload.items ≡ in_live outgoing remote []) }
@@ -229,7 +229,7 @@ fn besides_data(alloc: Global, outgoing: Outgoing, remote: u32) -> Result<Vec<u8
     Ok(payload)
 }
 
-/// The number of a message, and its recipient.
+// The number of a message, and its recipient.
 fn put_to(out: &mut Vec<u8>, number: u8, remote: u32) -> Result<(), OutOfMemory>
     ensures { OnOk result (out.new.items ≡ out.old.items ++ (number ∷ u32 remote)) }
 {
@@ -256,7 +256,7 @@ pub fn request(
     Ok(payload)
 }
 
-/// So many of the bytes, or all if there are fewer.
+// So many of the bytes, or all if there are fewer.
 fn first_of(bytes: &[u8], count: u32) -> &[u8]
     ensures { result.now ≡ take count bytes.now }
 {

@@ -77,8 +77,8 @@ pub fn receive(
     }
 }
 
-/// An OPEN of the server at an address and a port: for a forwarding that it listens for there a socket
-/// is to be connected, and for others none.
+// An OPEN of the server at an address and a port: for a forwarding that it listens for there a socket
+// is to be connected, and for others none.
 #[tactic(auto, using(crate::proofs::Changes::offered_more))]
 fn take_open(
     alloc: Global,

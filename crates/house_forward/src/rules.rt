@@ -119,7 +119,7 @@ pub fn of_start(ask: &OneAsk) -> Asked<'_>
     }
 }
 
-/// The kinds that are served.
+// The kinds that are served.
 fn kind_of(kind: u32) -> Option<Kind>
     ensures { result ≡ kind_of kind }
 {
@@ -131,8 +131,8 @@ fn kind_of(kind: u32) -> Option<Kind>
     }
 }
 
-/// The host that is listened on for a host that was requested: `localhost` and nothing represent
-/// this machine alone, and `*` for all its addresses, as nothing does where others may come in.
+// The host that is listened on for a host that was requested: `localhost` and nothing represent
+// this machine alone, and `*` for all its addresses, as nothing does where others may come in.
 fn local_host(host: &[u8], gateway: bool) -> &[u8]
     ensures { result.now ≡ local_host gateway host.now }
 {
@@ -145,7 +145,7 @@ fn local_host(host: &[u8], gateway: bool) -> &[u8]
     }
 }
 
-/// The address that the server is asked to listen on for a host that was asked.
+// The address that the server is asked to listen on for a host that was asked.
 fn remote_host(host: &[u8]) -> &[u8]
     ensures { result.now ≡ remote_host host.now }
 {
@@ -158,7 +158,7 @@ fn remote_host(host: &[u8]) -> &[u8]
     }
 }
 
-/// The host as it is used.
+// The host as it is used.
 fn listen_host(kind: Kind, host: &[u8], gateway: bool) -> &[u8]
     ensures { result.now ≡ listen_host kind gateway host.now }
 {
@@ -168,8 +168,8 @@ fn listen_host(kind: Kind, host: &[u8], gateway: bool) -> &[u8]
     }
 }
 
-/// Whether a port is past the last, or missing where one is needed. A dialog says where a dynamic
-/// forwarding connects.
+// Whether a port is past the last, or missing where one is needed. A dialog says where a dynamic
+// forwarding connects.
 fn has_bad_port(kind: Kind, listen: u32, connect: u32) -> bool
     ensures { result ≡ has_bad_port kind listen connect }
 {

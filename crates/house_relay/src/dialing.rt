@@ -27,7 +27,7 @@ pub struct Heard {
     pub came: Came,
 }
 
-/// The replies that a dialog gives now go into the queue; and its outcome then.
+// The replies that a dialog gives now go into the queue; and its outcome then.
 fn next(dialog: &mut Dialog, queue: &mut Queue) -> Result<Step, OutOfMemory>
     ensures gives { IfOk result (λ step. GaveSome dialog.old
         → GivesAll dialog.old dialog.new step queue.old queue.new) }
@@ -42,7 +42,7 @@ fn next(dialog: &mut Dialog, queue: &mut Queue) -> Result<Step, OutOfMemory>
     }
 }
 
-/// The outcome of a dialog by this step. The reply to a fault goes into the queue.
+// The outcome of a dialog by this step. The reply to a fault goes into the queue.
 fn came_by(step: Step, dialog: &Dialog, queue: &mut Queue) -> Result<Came, OutOfMemory>
     requires { GivesConnect step → HasConnect dialog.now }
     ensures { IfOk result (λ came. IsCame step (version_of dialog.now) came queue.old queue.new) }

@@ -65,7 +65,7 @@ pub fn record_taken(line: &mut Text, stream: &[u8], bytes: &[u8]) -> Result<(), 
     spell_frames(line, bytes)
 }
 
-/// The bytes that words spell: each a name, a text behind `'`, or digits of base 16; a number and
+/// The bytes that words spell: each a name, a text after `'`, or digits of base 16; a number and
 /// `*` before it give how often.
 pub fn bytes_of(alloc: Global, words: &str, names: &Pairs) -> Result<Text, Trouble> {
     let mut out = Text::new(alloc);

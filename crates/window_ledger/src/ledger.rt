@@ -22,7 +22,7 @@ enum State {
     Confirmed { up: Account, down: Account },
 }
 
-/// After an act, the account of its own direction and that of the other.
+// After an act, the account of its own direction and that of the other.
 fn exchange(own: Account, other: Account, act: Act) -> Result<(Account, Account), Breach>
     ensures { result ≡ judged (between act own other) (own_after act own, other_after act other) }
 {
@@ -49,7 +49,7 @@ fn after(state: State, way: Side, act: Act) -> Result<State, Breach>
     }
 }
 
-/// After the client's CLOSE, in a channel that is confirmed.
+// After the client's CLOSE, in a channel that is confirmed.
 fn left(state: State) -> State
     ensures { result ≡ left_state state }
 {

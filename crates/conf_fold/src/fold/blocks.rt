@@ -14,7 +14,7 @@ use conf_match::matches_words;
 use conf_rules::{Criteria, Key, ListAnswer, Value};
 use ssh_fields::{OutOfMemory, Texts};
 
-/// Whether an answer is yes; it names for the proof what the definition names.
+// Whether an answer is yes; it names for the proof what the definition names.
 fn is_yes(answer: ListAnswer) -> bool
     ensures { result ≡ is_yes answer }
 {

@@ -23,8 +23,8 @@ use mux_outside::{Facts, Runner};
 use ssh_fields::Text;
 use std::alloc::Global;
 
-/// The outcome of a line; an error is reported at its file, whose path is given away for it, and
-/// its number. It allocates no memory.
+// The outcome of a line; an error is reported at its file, whose path is given away for it, and
+// its number. It allocates no memory.
 fn placed(taken: Result<(), LineError>, file: Text, number: u64) -> Result<(), ResolveError>
     ensures { result ≡ as_error (λ e. refused_at e file number) taken }
 {
@@ -34,7 +34,7 @@ fn placed(taken: Result<(), LineError>, file: Text, number: u64) -> Result<(), R
     }
 }
 
-/// Whether criteria hold; an error is one of a line. It stands apart for its proof alone.
+// Whether criteria hold; an error is one of a line. It stands apart for its proof alone.
 fn evaluate<R: Runner>(
     alloc: Global,
     criteria: &Criteria,

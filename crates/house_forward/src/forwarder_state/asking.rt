@@ -110,7 +110,7 @@ impl ForwarderState {
         }
     }
 
-    /// The outcome of a request.
+    // The outcome of a request.
     fn asked(
         &mut self,
         client: u64,

@@ -48,7 +48,7 @@ impl ForwarderState {
         self.relays.send(into)
     }
 
-    /// Puts the next request to the server into the piece, if there is one.
+    // Puts the next request to the server into the piece, if there is one.
     fn request(&self, into: &mut Piece) -> Result<Option<ForwardingRequest>, OutOfMemory>
         ensures exact { IfOk result (λ request. is_some request
             ≡ is_some (find has_request self.now.forwardings.all.items)) }
@@ -104,7 +104,7 @@ impl ForwarderState {
         }
     }
 
-    /// Receives the frame that is current.
+    // Receives the frame that is current.
     fn receive_frame(&mut self) -> Result<(), OutOfMemory>
         requires current { IsSome self.old.framer.current }
         requires ordering { self.old.ordering ≡ None }
@@ -133,7 +133,7 @@ impl ForwarderState {
     }
 }
 
-/// Whether a control message grants the proxy.
+// Whether a control message grants the proxy.
 fn grants(message: &[u8]) -> bool
     ensures { result ≡ is_grant (take_u32 message.now) }
 {
