@@ -131,7 +131,7 @@ fn is(step: &Step, end: End) -> bool {
     }
 }
 
-/// A dialog, and what it has said so far.
+/// A dialog, and what it has sent so far.
 #[derive(Drop)]
 struct Talk {
     dialog: Dialog,

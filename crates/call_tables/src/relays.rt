@@ -35,7 +35,7 @@ type Row = (&'static [Event], &'static [u8]);
 
 const STREAM: u64 = 0x8000_0000_0000_0001;
 
-/// A socket that was joined for a channel to `db`, port 5432.
+/// A socket that was accepted for a channel to `db`, port 5432.
 const JOINED: [Row; 8] = [
     // The server accepts three bytes, and then two.
     (
@@ -109,7 +109,7 @@ const OFFERED: [Row; 3] = [
     (&[Made(false)], b"|open failure;"),
 ];
 
-/// A socket that was joined for a dynamic forwarding: it begins with a dialog.
+/// A socket that was accepted for a dynamic forwarding: it begins with a dialog.
 const DIALED: [Row; 10] = [
     // SOCKS 5 in pieces, with bytes after the request in its piece.
     (

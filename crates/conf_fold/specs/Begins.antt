@@ -16,7 +16,7 @@ use Rattle.conf_fold.specs.Stands.{Stands, next_row}
 abbrev pub asked_rows : Recorded → List Row
 asked_rows recorded = rows_from recorded entry_of [] (first_place First) (map asked_line recorded.asked.lines)
 
--- a fold that took no line
+-- a fold that has applied no line
 pub record IsEmpty (original : Bytes) (fold : Fold) : Type 0 where
   pub original_is : fold.original ≡ original
   pub settings : fold.settings ≡ []

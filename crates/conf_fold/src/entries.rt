@@ -64,7 +64,7 @@ fn split(alloc: Global, rest: &[u8]) -> Result<Texts, LineError>
     Ok(split_words(alloc, rest)?)
 }
 
-// What a Host line says.
+// The content of a Host line.
 fn host_entry(alloc: Global, rest: &[u8]) -> Result<LineContent, LineError>
     ensures read { GivesLine result (host_entry (split rest.now)) }
     ensures fits { IfOk result (λ entry. entry_fits entry ≡ true) }
@@ -73,7 +73,7 @@ fn host_entry(alloc: Global, rest: &[u8]) -> Result<LineContent, LineError>
     Ok(LineContent::Host(split(alloc, rest)?))
 }
 
-// What a Match line says.
+// The content of a Match line.
 fn match_entry(alloc: Global, rest: &[u8]) -> Result<LineContent, LineError>
     ensures read { GivesLine result (match_entry (split rest.now)) }
     ensures fits { IfOk result (λ entry. entry_fits entry ≡ true) }

@@ -97,7 +97,7 @@ impl Fold {
         Ok(())
     }
 
-    // Takes what a line of the command line says, which is active.
+    // Applies the content of a line of the command line, which is active.
     fn take_asked(&mut self, entry: LineContent) -> Result<(), OutOfMemory>
         requires fits { entry_fits entry ≡ true }
         ensures keeps { OnOk result ((given : List Given) → Keeps self.old.settings given

@@ -53,7 +53,7 @@ impl Lines {
         }
     }
 
-    /// The next line that says something.
+    /// The next line with content.
     pub fn next_line<F: Files>(&mut self, files: &mut F) -> Result<Option<ConfLine>, ResolveError>
         requires ready { IsReady self.old.open_files }
         requires plain { list_all is_plain_first self.old.firsts.items ≡ true }
@@ -90,7 +90,7 @@ impl Lines {
         self.open_files.expand(facts, original, files)
     }
 
-    /// The next line that says something, with the files that the last one includes before it.
+    /// The next line with content, with the files that the last one includes before it.
     pub fn next<F: Files>(
         &mut self,
         facts: &Facts,

@@ -39,7 +39,7 @@ abbrev pub listens_at : Ends → Forwarding → Bool
 listens_at ends f = same_kind f.kind ends.kind
     && ((f.listen_port == ends.listen_port) && bytes_eq f.listen_host ends.listen_host.now)
 
--- whether it connects where this is to connect: where a dialog says that, whatever was asked
+-- whether it connects where this is to connect: where a dialog specifies that, whatever was asked
 abbrev pub connects_to : Ends → Forwarding → Bool
 connects_to ends f = not (connects_there f.kind)
     || ((f.connect_port == ends.connect_port) && bytes_eq f.connect_host ends.connect_host.now)

@@ -277,7 +277,7 @@ abbrev pub IsDialed : Bool → ℕ → Relay → Type 0
 IsDialed true t r = HasNoChannelLeft t r
 IsDialed false t r = r ≡ fresh_relay r.number fresh_dialing (socket.Open t)
 
--- the channel is to be to where the forwarding connects, or to where a dialog says
+-- the channel is to be to where the forwarding connects, or to where a dialog requests
 abbrev pub IsJoinedAt : Kind → Bool → Forwarding → ℕ → Relay → Type 0
 IsJoinedAt Local dialogs_full f t r =
     r ≡ fresh_relay r.number (Asked f.connect_host f.connect_port None) (socket.Open t)
@@ -292,7 +292,7 @@ IsJoined true dialogs_full f t r = HasNoChannelLeft t r
 IsJoined false dialogs_full None t r = HasNoChannelLeft t r
 IsJoined false dialogs_full (Some f) t r = IsJoinedAt f.kind dialogs_full f t r
 
--- one relay more, for a socket that is joined
+-- one relay more, for a socket that is accepted
 pub record Joins (f : Option Forwarding) (t : ℕ) (old new : List Link) : Type 0 where
   pub relay : Relay
   pub joined : IsJoined (is_full old) (has_full_dialogs old) f t relay

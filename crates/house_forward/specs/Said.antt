@@ -105,7 +105,7 @@ payload_in (Offered remote window maximum) r outgoing = in_offer outgoing remote
 payload_in (Live live) r outgoing = in_live outgoing live.remote r.held.waiting
 payload_in Over r outgoing = []
 
--- the payload of what a relay says
+-- the payload of what a relay sends
 abbrev pub payload_of : Relay → Outgoing → List ℕ
 payload_of r outgoing = payload_in r.line r outgoing
 

@@ -339,7 +339,8 @@ impl Forwarding {
             && self.listen_host.as_bytes() == ends.listen_host
     }
 
-    /// Whether it connects where this is to connect: where a dialog says that, whatever was asked.
+    /// Whether it connects where this is to connect: where a dialog specifies that, whatever was
+    /// asked.
     pub fn connects_to(&self, ends: Ends<'_>) -> bool
         ensures { result ≡ connects_to ends.entry self.now }
     {

@@ -68,7 +68,8 @@ fn put_data(into: &mut Piece, remote: u32, bytes: &[u8]) -> Result<(), OutOfMemo
     Ok(())
 }
 
-/// Puts what a relay has to say into the piece, and whether there was something. It has said it then.
+/// Puts what a relay has to send into the piece, and whether there was something. It has sent it
+/// then.
 pub fn send(alloc: Global, relay: &mut Relay, into: &mut Piece) -> Result<bool, OutOfMemory>
     ensures exact { IfOk result (λ said. said ≡ is_some (sends_of relay.old)) }
     ensures fits { SendsFits result into.new }
@@ -87,7 +88,7 @@ pub fn send(alloc: Global, relay: &mut Relay, into: &mut Piece) -> Result<bool, 
     Ok(true)
 }
 
-// Puts the frame of what a relay says into the piece.
+// Puts the frame of what a relay sends into the piece.
 fn put_sending(
     alloc: Global,
     relay: &Relay,
@@ -184,7 +185,7 @@ fn answer(
     Ok(payload)
 }
 
-// Puts the frame of what a relay says in its confirmed channel into the piece. Data goes there at
+// Puts the frame of what a relay sends in its confirmed channel into the piece. Data goes there at
 // once.
 fn put_in_channel(
     alloc: Global,
@@ -203,7 +204,7 @@ fn put_in_channel(
     put_frame(into, &payload)
 }
 
-// What a relay says in its confirmed channel, but data.
+// What a relay sends in its confirmed channel, but data.
 fn besides_data(alloc: Global, outgoing: Outgoing, remote: u32) -> Result<Vec<u8>, OutOfMemory>
     requires { is_data outgoing ≡ false }
     ensures { IfOk result (λ payload. payload.items ≡ in_live outgoing remote []) }

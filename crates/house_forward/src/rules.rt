@@ -168,8 +168,8 @@ fn listen_host(kind: Kind, host: &[u8], gateway: bool) -> &[u8]
     }
 }
 
-// Whether a port is past the last, or missing where one is needed. A dialog says where a dynamic
-// forwarding connects.
+// Whether a port is past the last, or missing where one is needed. A dialog specifies where a
+// dynamic forwarding connects.
 fn has_bad_port(kind: Kind, listen: u32, connect: u32) -> bool
     ensures { result ≡ has_bad_port kind listen connect }
 {

@@ -18,7 +18,7 @@ pub fn no_run_drops_the_house<H: House>(house: &H)
     ensures { LeadsOn (H.state house.now).stands → RunsKeep H.may H.state house.now }
 {}
 
-/// The calls of this house do, whatever it notes.
+/// The calls of this forwarder do, whatever it notes.
 pub fn its_calls_lead_on<N: Notes + Drop>(house: &Forwarder<N>)
     ensures { LeadsOn (⟦<Forwarder<N> as Asks>⟧.state house.now).stands }
 {}

@@ -30,7 +30,7 @@ pub struct Live {
 /// How a channel stands.
 #[derive(Drop)]
 pub enum ChannelState {
-    /// A dialog is read, which says to which end the OPEN is.
+    /// A dialog is read, which requests the end that the OPEN is for.
     Dialing(Dialog),
     /// The OPEN to this end is to be sent.
     Asked {

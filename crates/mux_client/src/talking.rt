@@ -17,7 +17,7 @@ use crate::verdict::{OutLine, text_of};
 use mux_outside::{FileError, Piece, Sink, Streams, Turn, Want, Wire, Wrote};
 use std::alloc::Global;
 
-// In what follows an `Err` says how the talk is over.
+// In what follows an `Err` is how the talk is over.
 
 // Offers the master what is to be sent, once: whether it accepted some and can be offered the rest.
 fn offer_once<W: Wire>(

@@ -34,7 +34,7 @@ pub record IsNew (k : ℕ) (rows : List Row) : Type 0 where
   pub nonzero : k ≢ 0
   pub fresh : rows_of k rows ≡ []
 
--- it is let in exactly where fewer than 64 clients have open matters
+-- it is admitted exactly where fewer than 64 clients have open matters
 pub record Admits (old new : CoreState) (k : ℕ) (let_in : Bool) (rows : List Row) : Type 0 where
   pub exact : let_in ≡ nat_lt (open_matters rows) MAX_CLIENTS
   pub stands : Stands new (bare (Admit k) k (admits rows) ∷ rows)
@@ -43,7 +43,7 @@ abbrev pub AdmitsOn : CoreState → CoreState → ℕ → Bool → Type 0
 AdmitsOn old new k let_in = (rows : List Row) → Stands old rows → IsNew k rows
     → Admits old new k let_in rows
 
--- ---- said
+-- ---- sent
 
 -- the row of what a client sends, as far as the item goes
 abbrev pub row_sent : CoreState → ℕ → List ℕ → ℕ → List Row → Row

@@ -46,8 +46,8 @@ pub record TableFits (es : List Entry) (held : List Channel) : Type 0 where
 -- ---- what is looked up besides
 
 -- all requests and those of each client, the forwardings that are asked or live, the clients that
--- were let in, and of each client whether it was let in, whether it is lost, and what it is still
--- to be answered
+-- were admitted, and of each client whether it was admitted, whether it is lost, and what it is
+-- still to be answered
 pub record Look : Type 0 where
   pub all : Places
   pub own : ℕ → Places
@@ -103,7 +103,7 @@ AreOnce (c ∷ cs) = AllByRecursion (λ d. (c.number == d.number) ≡ false) cs 
 abbrev pub has_matters : List Row → ℕ → Bool
 has_matters rows k = has_open_matters (rows_of k rows)
 
--- those that were let in and have open matters, in order, at most 64
+-- those that were admitted and have open matters, in order, at most 64
 pub record ClientsFit (cs : List MemberState) (matters : ℕ → Bool) (l : Look) : Type 0 where
   pub numbers : map (λ c. c.number) cs ≡ filter matters l.entered
   pub each : AllByRecursion (ClientFits l) cs

@@ -111,7 +111,7 @@ impl Members {
         u32::try_from(self.listed.len()).unwrap_or(u32::MAX)
     }
 
-    /// A client comes, where fewer than 64 are there: whether it is let in.
+    /// A client comes, where fewer than 64 are there: whether it is admitted.
     pub fn enter(&mut self, client: u64) -> Result<bool, OutOfMemory>
         ensures exact { IfOk result (λ b. b ≡ nat_lt (length self.old) MAX_CLIENTS) }
         ensures ok { IfOk result (λ b. self.new ≡ with_client b client self.old) }

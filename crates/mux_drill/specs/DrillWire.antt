@@ -72,7 +72,7 @@ pub record CountsToTheEnd (turn : Turn) (old new : DrillWire) : Type 0 where
   pub ends : turn ≡ End 0 → IsOver new
   pub over : IsOver old → tally_of new ≡ tally_of old
 
--- a write took all bytes, and they wait to be read
+-- a write accepted all bytes, and they wait to be read
 pub record TakesAll (stream : ℕ) (bytes : List ℕ) (old new : DrillWire) (wrote : Wrote) :
     Type 0 where
   pub wrote_is : wrote ≡ Took (length bytes)

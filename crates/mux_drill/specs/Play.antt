@@ -124,7 +124,7 @@ pub record Starts (plan : Plan) (play : Play) : Type 0 where
   pub unread_is : play.unread ≡ replicate (plan.clients + 1) []
   pub picks_are : play.picks ≡ replicate 65 0
 
--- no play: nothing is opened, said, written or picked
+-- no play: nothing is opened, sent, written or picked
 pub record IsNothing (play : Play) : Type 0 where
   pub stage_is : play.trace.stage ≡ Unopened
   pub sent_is : play.said ≡ record { stream = 0; rest = [] }

@@ -12,7 +12,7 @@ use Rattle.mux_drill.specs.declared.step.DrillStep.{DrillStep}
 
 -- ---- what is needed and given
 
--- a turn, before which nothing is needed and which says nothing
+-- a turn, before which nothing is needed and which sends nothing
 abbrev pub bare : Turn → DrillStep
 bare turn = record { up = []; client = 0; down = []; turn = turn; says = [] }
 

@@ -25,7 +25,7 @@ pub struct DrillStep {
 }
 
 impl DrillStep {
-    /// A turn, before which nothing is needed and which says nothing.
+    /// A turn, before which nothing is needed and which sends nothing.
     pub fn bare(alloc: Global, turn: Turn) -> DrillStep
         ensures { result ≡ bare turn }
     {

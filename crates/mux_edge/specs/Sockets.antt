@@ -12,13 +12,13 @@ use Rattle.mux_edge.specs.declared.numbers.Numbers.{Numbers}
 use Rattle.mux_edge.specs.declared.table.ready.Ready.{Ready}
 use Rattle.mux_edge.specs.declared.table.ready.Ready.TheVariants.{Accept, Join, Read, Write, Connect}
 
--- the numbers that may be given now, to a client and to a stream that is joined
+-- the numbers that may be given now, to a client and to a stream that is accepted
 pub record MayBeGiven (numbers : Numbers) (want : Want) (seen : Seen) : Type 0 where
   pub client : IfSome numbers.client (λ k. (want ≡ WantsAll) × (seen.listens ≡ true)
       × (k ≡ seen.last + 1) × (seen.last < LAST_CLIENT))
   pub own : IfSome numbers.own (λ t. (want ≡ WantsAll) × IsNewOwn seen.last_own t)
 
--- a client and a stream that is joined have the number that was given, bytes are at most a piece
+-- a client and a stream that is accepted have the number that was given, bytes are at most a piece
 -- and not none, and nothing else changes the piece
 abbrev pub FoundFits : Turn → Numbers → List ℕ → List ℕ → Type 0
 FoundFits (Accepted k) numbers before now = (numbers.client ≡ Some k) × (now ≡ before)

@@ -20,7 +20,7 @@ pub record Well (waits : ℕ) (old new : CallCounts) : Type 0 where
   pub late : old.wants ≡ 0 → new.late ≡ old.late
   pub came : Came old new
 
--- at most so many calls of `wait`, and at most one call that wanted memory, which was the last
+-- at most so many calls of `wait`, and at most one call that ran out of memory, which was the last
 pub record Cut (waits : ℕ) (old new : CallCounts) : Type 0 where
   pub few : new.waits ≤ old.waits + waits
   pub wants : new.wants ≤ old.wants + 1

@@ -79,7 +79,7 @@ WritesOwn before (Holds t) = IsTrue (is_own t) → IsTaking t (own_in before)
 WritesOwn before (WriteFails t) = IsTrue (is_own t) → IsTaking t (own_in before)
 WritesOwn before mark = Unit {0}
 
--- a socket is joined at an open listener
+-- a socket is accepted at an open listener
 abbrev pub JoinsOwn : List Mark → Mark → Type 0
 JoinsOwn before (Joins l t) = IsTrue (among l (listeners_in before))
 JoinsOwn before mark = Unit {0}

@@ -58,7 +58,7 @@ pub record HasNoneToClose (s : State) : Type 0 where
   pub closed : s.leaving ≡ []
   pub refused : s.refused ≡ []
 
--- whatever house is ready for a wait stays so, and knows the wire's streams
+-- whatever forwarder is ready for a wait stays so, and knows the wire's streams
 abbrev pub StaysReady : Seen → Seen → List ℕ → List ℕ → State → State → Type 0
 StaysReady seen seen' held held' s s' =
     (known : Known) (quiet : Quiet) (queue : ℕ → List ℕ) (failed own : List ℕ)
@@ -93,7 +93,7 @@ ended_as None None = Spent
 abbrev pub refusal_of : HouseState → Option ℕ
 refusal_of house = refused_if house.known.present house.must house.refused
 
--- the same at the end of a run that began with this house
+-- the same at the end of a run that began with this forwarder
 abbrev pub refusal_after : HouseState → HouseState → Option ℕ
 refusal_after first house = refused_if first.known.present house.must house.refused
 

@@ -168,8 +168,8 @@ pub record IsRun (May : HouseReply → Type 0)
   pub ends : answer ≢ OutOfMemory
       → EndsRight (by_lists policy pid picks replies) turns journal refused answer
 
--- the same of a run of this house, which has become another, over a wire of which this was seen as it
--- began, and that as it ended
+-- the same of a run of this forwarder, which has become another, over a wire of which this was seen
+-- as it began, and that as it ended
 abbrev pub RunKept : {T : Type 0} → Ended → Policy → ℕ → ℕ → (HouseReply → Type 0)
     → (T → HouseState) → T → T → Seen → Seen → Type 0
 RunKept answer policy pid turns May state house house' seen seen' =

@@ -167,7 +167,7 @@ pub record IsServed {T : Type 0} (May : HouseReply → Type 0) (state : T → Ho
   pub serving : Serving May (RestsOf state present first) before now policy pid start seen held
       failed given todo s
 
--- the same with this house, of which this is noted
+-- the same with this forwarder, of which this is noted
 pub record ServedAs {T : Type 0} (noted_of : HouseState → List HouseCall → Side)
     (May : HouseReply → Type 0) (state : T → HouseState) (house : T) (now : Scene) (todo : List ℕ) :
     Type 0 where
@@ -183,13 +183,13 @@ pub record ServedAs {T : Type 0} (noted_of : HouseState → List HouseCall → S
       (noted_of (state house) calls) policy pid start now.seen now.held now.failed given todo
       now.engine
 
--- all of it is noted, and it is let in where it is present
+-- all of it is noted, and it is admitted where it is present
 abbrev pub ServedWith : {T : Type 0} → (HouseReply → Type 0) → (T → HouseState) → T → Scene
     → List ℕ → Type 0
 ServedWith May state house now todo =
     ServedAs (λ house calls. noted house.recorded house.known calls) May state house now todo
 
--- a run goes on with this house: it was served so far, and the server's stream and those of the
+-- a run goes on with this forwarder: it was served so far, and the server's stream and those of the
 -- clients that are here are to be offered what waits for them
 pub record IsOngoing {T : Type 0} (May : HouseReply → Type 0) (state : T → HouseState) (house : T)
     (wire : WireState) (lists : Lists) (s : State) : Type 0 where
@@ -197,7 +197,7 @@ pub record IsOngoing {T : Type 0} (May : HouseReply → Type 0) (state : T → H
   pub together : Together (state house) wire lists
   pub on : s.ended ≡ None
 
--- it was not let in yet
+-- it was not admitted yet
 abbrev pub ServedOutside : {T : Type 0} → (HouseReply → Type 0) → (T → HouseState) → T → Scene
     → List ℕ → Type 0
 ServedOutside May state house now todo =
@@ -205,7 +205,7 @@ ServedOutside May state house now todo =
 
 -- ---- out of memory
 
--- rows that were left of the journal: so many took a number, and they ask this
+-- rows that were left of the journal: so many used a number, and they request this
 pub record IsLeft (setting : Setting) (journal : List Mark) (taken : ℕ) (asks : List HouseMark) :
     Type 0 where
   pub kept : Kept setting journal
@@ -354,7 +354,7 @@ pub record Spends (all : Bool) (turns : ℕ) (May : HouseReply → Type 0)
   pub all_given : all ≡ true → given ≡ turns
   pub serving : Serving May Rest before now policy pid start seen held failed given todo s
 
--- a run whose house, of which all was noted, is called for one turn
+-- a run whose forwarder, of which all was noted, is called for one turn
 abbrev pub TurnsOn : {E T : Type 0} → Result Bool E → (HouseReply → Type 0) → (T → HouseState) → T
     → T → Scene → Scene → Bool → Type 0
 TurnsOn {T = T} result May state house house' old new settled =
@@ -406,7 +406,7 @@ LetsIn {T = T} result May state seen seen' s s' =
     (λ e. Promised May (RestsOf state present first) before now.recorded policy pid start seen'.recorded
     given)
 
--- before all else this house is let in, where it is present
+-- before all else this forwarder is admitted, where it is present
 abbrev pub Enters : {A E T : Type 0} → Result A E → (HouseReply → Type 0) → (T → HouseState) → T
     → Seen → Seen → State → State → Type 0
 Enters {T = T} result May state house seen seen' s s' =
@@ -422,7 +422,7 @@ Enters {T = T} result May state house seen seen' s s' =
     (λ e. Promised May (RestsOf state (state house).known.present first) before (state house).recorded
     policy pid start seen'.recorded given)
 
--- a whole run that begins with this house, of which nothing was noted
+-- a whole run that begins with this forwarder, of which nothing was noted
 abbrev pub RunsWhole : {T : Type 0} → Ended → ℕ → (HouseReply → Type 0) → (T → HouseState) → T → T
     → Seen → Seen → State → Type 0
 RunsWhole answer turns May state house house' seen seen' s =

@@ -4,7 +4,7 @@ use mux_outside::Streams;
 use mux_peers::AskLog;
 use std::alloc::Global;
 
-/// The streams of a run, between its engine, its wire and its house.
+/// The streams of a run, between its engine, its wire and its forwarder.
 #[derive(Drop)]
 pub struct Lists {
     /// The streams that are blocked.

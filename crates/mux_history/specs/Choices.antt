@@ -19,7 +19,7 @@ pub data Choices : Type 0 where
 abbrev pub takes_number : Row → Bool
 takes_number row = is_sent row && is_some (own_of row.item)
 
--- how many numbers the rows took
+-- how many numbers the rows used
 abbrev pub numbers_taken : List Row → ℕ
 numbers_taken [] = 0
 numbers_taken (row ∷ before) = elim (takes_number row) [

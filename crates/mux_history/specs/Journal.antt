@@ -14,7 +14,7 @@ use Rattle.mux_history.specs.Rows.{Item, Admit, Says, HouseSays, Gone, Heard, Ba
 use Rattle.mux_history.specs.declared.limits.TheConstants.{HOUSE}
 use Rattle.mux_history.specs.Log.{Setting, more_all}
 
--- ---- what streams gave and took
+-- ---- what streams gave and accepted
 
 -- a stream of the master's own; the forwarder itself has none, and its number is that of a client
 abbrev pub is_own_stream : ℕ → Bool

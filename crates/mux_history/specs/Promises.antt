@@ -176,7 +176,7 @@ counts_as_turn (HouseSaid bytes) = true
 counts_as_turn (HouseOrder order number) = true
 counts_as_turn mark = false
 
--- how many turns were given: of the wire, of pieces said, and of orders
+-- how many turns were given: of the wire, of pieces sent, and of orders
 abbrev pub turns_in : List Mark → ℕ
 turns_in [] = 0
 turns_in (Waits waiting want streams accepts ∷ before) = turns_in before + 1

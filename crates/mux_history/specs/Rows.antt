@@ -70,7 +70,7 @@ is_lost own = any_of loses own
 abbrev pub is_admit : Row → Bool
 is_admit row = elim row.fate [ Refused ↦ false | _ ↦ elim row.item [ Admit k ↦ true | _ ↦ false ] ]
 
--- the client was not let in
+-- the client was not admitted
 abbrev pub is_refusal : Fate → Bool
 is_refusal Refused = true
 is_refusal _ = false

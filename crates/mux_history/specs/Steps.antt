@@ -36,7 +36,7 @@ CurrentGoesOn = (row : Row) (before : List Row) → CurrentStep row before
 
 -- ---- open matters
 
--- a client counts where it was let in and its matters are open
+-- a client counts where it was admitted and its matters are open
 abbrev pub counts : List Row → Bool
 counts own = any_of is_admit own && has_open_matters own
 

@@ -100,7 +100,7 @@ sent_by_client policy pid k own pick (Body body) given = sent_body pid k given (
 sent_by_client policy pid k own pick (Payload p) given = sent_payload policy k own pick p
 sent_by_client policy pid k own pick (BadFraming fault) given = drops (why.BadFrame fault)
 
--- the clients that were let in, in order
+-- the clients that were admitted, in order
 abbrev pub entered : List Row → List ℕ
 entered [] = []
 entered (row ∷ before) =

@@ -19,7 +19,7 @@ use Rattle.ssh_fields.specs.Fields.{AreBytes}
 use Rattle.mux_history.specs.Journal.{IsLawful, LawfulHouse, is_own_stream, is_blocked, is_known, last_client}
 use Rattle.mux_history.specs.Promises.{Throughout}
 
--- bytes that are read, clients that are accepted, and sockets that are joined
+-- bytes that are read, clients that are accepted, and sockets that are accepted
 abbrev pub reads : Mark → Bool
 reads (Accepts k) = true
 reads (Gets stream bytes) = true

@@ -18,7 +18,7 @@ asks_any_port =
 abbrev pub replied_later : HouseReply → List Mark
 replied_later given = greets 1 ++ asks_any_port ∷ House (HouseAnswer 1 4 given) ∷ []
 
--- the client has said PROXY meanwhile
+-- the client has sent PROXY meanwhile
 abbrev pub replied_in_proxy : List Mark
 replied_in_proxy =
     greets 1 ++ asks_any_port ∷ Gets 1 (hex (codes "00000008 1000000f 00000000"))

@@ -21,6 +21,6 @@ pub enum Control<'a> {
     StdioForward { id: u32 },
     /// MUX_C_STOP_LISTENING: requests that the master accepts no more clients.
     StopListening { id: u32 },
-    /// MUX_C_PROXY: says that all further bytes are proxy frames.
+    /// MUX_C_PROXY: announces that all further bytes are proxy frames.
     Proxy { id: u32 },
 }

@@ -183,7 +183,7 @@ abbrev pub gives_none : {X : Type 0} → Option X → Bool
 gives_none None = true
 gives_none (Some x) = false
 
--- ---- says and takes
+-- ---- sends and accepts
 
 -- what was sent has a byte at least, and fits a piece
 abbrev pub SendsFits : {E : Type 0} → Result Bool E → List ℕ → Type 0
@@ -300,6 +300,6 @@ known_after_own_turn (Failed t) known = known
 
 -- ---- queues
 
--- what waits for a stream after another stream, or this one, took so many bytes
+-- what waits for a stream after another stream, or this one, accepted so many bytes
 abbrev pub queue_after_took : ℕ → ℕ → ℕ → List ℕ → List ℕ
 queue_after_took stream n t queue = if t == stream then drop n queue else queue

@@ -57,7 +57,7 @@ with_end t own = map (end_one t) own
 abbrev pub without_stream : ℕ → List OwnStream → List OwnStream
 without_stream t own = filter (λ s. not (s.number == t)) own
 
--- the stream of a socket that is joined is one of them
+-- the stream of a socket that is accepted is one of them
 abbrev pub joined_after : Turn → List OwnStream → List OwnStream
 joined_after (Joined l t) own = own ++ new_stream t ∷ []
 joined_after (Accepted k) own = own

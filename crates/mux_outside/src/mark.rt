@@ -37,9 +37,9 @@ pub enum Mark {
     Holds(u64),
     /// A stream failed at a write.
     WriteFails(u64),
-    /// A socket was joined at this listener of the master's own, and is this stream.
+    /// A socket was accepted at this listener of the master's own, and is this stream.
     Joins(u64, u64),
-    /// What happened between the master and its house.
+    /// What happened between the master and its forwarder.
     House(KeptMark),
 }
 

@@ -23,7 +23,7 @@ pub enum Turn {
     Writable(u64),
     /// A stream failed.
     Failed(u64),
-    /// A socket was joined at this listener of the master's own, and is this stream.
+    /// A socket was accepted at this listener of the master's own, and is this stream.
     Joined(u64, u64),
     /// There was no memory, and nothing has changed.
     NoMemory,

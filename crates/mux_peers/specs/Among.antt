@@ -18,7 +18,7 @@ abbrev pub is_present : List ClientState → ℕ → Bool
 is_present [] k = false
 is_present (c ∷ cs) k = elim (c.peer.number == k) [ true ↦ true | false ↦ is_present cs k ]
 
--- a client that was let in, and not refused
+-- a client that was admitted, and not refused
 pub record InFits (rows : List Row) (c : ClientState) : Type 0 where
   pub nonzero : (c.peer.number == 0) ≡ false
   pub peer : PeerFits (rows_of c.peer.number rows) c.peer.standing c.peer.queue

@@ -12,7 +12,7 @@ use Rattle.mux_core.specs.State.{CoreState}
 use Rattle.mux_peers.specs.State.{ClientState, ClientsAndQueue}
 use Rattle.mux_peers.specs.Among.{AllFit, AreAmong, KeepReading, is_present}
 
--- each client that was let in and isn't lost is here
+-- each client that was admitted and isn't lost is here
 abbrev pub AreHere : List Row → List ClientState → Type 0
 AreHere rows cs = (k : ℕ) → any_of is_admit (rows_of k rows) ≡ true
     → is_lost (rows_of k rows) ≡ false → is_present cs k ≡ true

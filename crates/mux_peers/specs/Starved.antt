@@ -39,7 +39,7 @@ AsksAtMost May recorded recorded' k greeted body =
 
 -- ---- what a client sends next
 
--- what the frame at the front asks, of a client that says control messages
+-- what the frame at the front asks, of a client that sends control messages
 pub record AsksFront (May : HouseReply → Type 0) (recorded recorded' : Option (List Asked)) (k : ℕ)
     (standing : Standing) (front : Front) : Type 0 where
   pub body : List ℕ

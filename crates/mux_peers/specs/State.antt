@@ -22,8 +22,9 @@ pub record ClientState : Type 0 where
   pub peer : PeerState
   pub rest : List ℕ
 
--- the clients of a master: those that were let in, in the order in which they came; and those that
--- are lost or refused and not closed, in that order, each with the cause for which it was dropped
+-- the clients of a master: those that were admitted, in the order in which they came; and those
+-- that are lost or refused and not closed, in that order, each with the cause for which it was
+-- dropped
 pub record ClientsState : Type 0 where
   pub all : List ClientState
   pub leaving : List (ℕ × Option Why)

@@ -33,11 +33,11 @@ use ssh_fields::OutOfMemory;
 use std::alloc::Global;
 use std::marker::Model;
 
-/// The clients of a master: those that were let in, and those that are to be closed.
+/// The clients of a master: those that were admitted, and those that are to be closed.
 #[derive(Drop)]
 pub struct Clients {
     alloc: Global,
-    /// Those that were let in, in the order in which they came.
+    /// Those that were admitted, in the order in which they came.
     all: Vec<Client>,
     /// Those that are lost or refused and whose streams are not closed, in that order, each with the
     /// cause for which it was dropped, if it was.
@@ -120,7 +120,7 @@ impl Clients {
         }
     }
 
-    /// A client comes: whether it is let in. Then the master's hello waits for it, and its own is
+    /// A client comes: whether it is admitted. Then the master's hello waits for it, and its own is
     /// awaited; else it is to be closed.
     pub fn admit(&mut self, number: u64, core: &mut Core) -> Result<bool, OutOfMemory>
         ensures enters { IfOk result (λ let_in.

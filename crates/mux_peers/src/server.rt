@@ -36,7 +36,7 @@ impl Model for Server {
 }
 
 impl Server {
-    /// A server that said nothing yet.
+    /// A server that sent nothing yet.
     pub fn new(alloc: Global) -> Server
         ensures { result ≡ new_server }
     {

@@ -91,7 +91,7 @@ ReceivedIsOfBytes =
 
 -- ---- the bytes of each stream and the order in which they complete make the items
 
--- an item without its words: who says something, or else what happens
+-- an item without its words: who sends something, or else what happens
 abbrev pub without_words : Item → Item
 without_words (Says k outgoing given) = Says k (Body []) None
 without_words (Heard p) = Heard []

@@ -67,7 +67,7 @@ intrusion =
 -- ---- the premises
 
 -- all at once: the wire keeps its law; the log is the right one, whole, with fresh numbers; each
--- take is the front of what waited; and the client is let in
+-- take is the front of what waited; and the client is admitted
 pub record MeetsAll (setting : Setting) (marks : List Mark) (rows : List Row) (k : ℕ) : Type 0 where
   pub lawful : IsLawful marks
   pub asked : Throughout ReadsWhenAsked marks

@@ -34,7 +34,8 @@ went_of (Some ended) = Over ended
 
 -- ---- what an event leaves as it was
 
--- the streams of clients that are open: of those that were let in, then of those that were refused
+-- the streams of clients that are open: of those that were admitted, then of those that were
+-- refused
 abbrev pub here : State → List ℕ
 here s = numbers s.clients ++ s.refused
 
@@ -43,7 +44,7 @@ pub record SameStreams (old new : State) : Type 0 where
   pub clients : numbers new.clients ≡ numbers old.clients
   pub refused : new.refused ≡ old.refused
 
--- a client was let in
+-- a client was admitted
 pub record LetsIn (k : ℕ) (old new : State) : Type 0 where
   pub clients : numbers new.clients ≡ numbers old.clients ++ k ∷ []
   pub refused : new.refused ≡ old.refused

@@ -87,7 +87,7 @@ LeavesIdle bytes old new =
     → (picks : List ℕ) (replies : List HouseReply) (k : ℕ)
     → MakesNoRow k bytes old (picked ++ picks) (given ++ replies) marks → StaysAsItWas k old new
 
--- of the events those of the server's bytes alone; what the others leave, `LeavesOthers` says
+-- of the events those of the server's bytes alone; what the others leave, `LeavesOthers` defines
 abbrev pub ServerLeavesIdle : Event → State → State → Type 0
 ServerLeavesIdle (FromServer bytes) old new = LeavesIdle bytes.now old new
 ServerLeavesIdle event old new = Unit {0}

@@ -42,7 +42,7 @@ log s picks replies marks = log_of_journal (setting s picks replies) marks
 abbrev pub not_closed : List ℕ → ℕ × Option Why → Bool
 not_closed closed l = not (among l.0 closed)
 
--- the rows of a client that was let in: it was never refused
+-- the rows of a client that was admitted: it was never refused
 pub record IsKnown (own : List Row) : Type 0 where
   pub admitted : any_of is_admit own ≡ true
   pub out_is : is_out own ≡ has_loss own

@@ -107,14 +107,14 @@ server_cause s = elim s.server.rest [
 
 -- ---- who is here
 
--- the stream of a client is open: the client was let in, or it was refused and its stream is not
+-- the stream of a client is open: the client was admitted, or it was refused and its stream is not
 -- closed yet
 abbrev pub is_here : State → ℕ → Bool
 is_here s k = is_present s.clients k || among k s.refused
 
 -- ---- a client comes
 
--- it is let in, or refused, after which the streams that wait are listed anew
+-- it is admitted, or refused, after which the streams that wait are listed anew
 abbrev pub entered : State → CoreState → QueueState → ℕ → Bool → State
 entered s core' up' k true =
     let s' = record s { core = core'; up = up'; clients = s.clients ++ new_client k ∷ [] } in

@@ -176,7 +176,7 @@ impl Engine {
         }
     }
 
-    // A client comes: it is let in, where fewer than 64 have open matters.
+    // A client comes: it is admitted, where fewer than 64 have open matters.
     fn enter(&mut self, client: u64) -> Result<(), OutOfMemory>
         requires starved { self.old.starved ≡ true }
         requires ready { IsReady self.old }

@@ -26,7 +26,7 @@ pub fn the_server_ends()
     ensures { ServerLaws }
 {}
 
-/// A client comes, and is let in or refused.
+/// A client comes, and is admitted or refused.
 pub fn a_client_comes()
     ensures { EnteredGoesOn }
 {}

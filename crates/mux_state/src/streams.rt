@@ -15,7 +15,7 @@ use mux_peers::Clients;
 use proxy_frames::Queue;
 use ssh_fields::OutOfMemory;
 
-// A client comes: it is let in, or it is refused and to be closed.
+// A client comes: it is admitted, or it is refused and to be closed.
 pub fn take_in(
     clients: &mut Clients,
     refused: &mut Streams,

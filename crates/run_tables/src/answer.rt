@@ -87,7 +87,7 @@ fn opening_line(alloc: Global, opening: &OpenCall) -> Result<Text, OutOfMemory> 
     Ok(line)
 }
 
-// Adds what each stream of these took.
+// Adds what each stream of these accepted.
 fn add_takings(
     lines: &mut Texts,
     alloc: Global,

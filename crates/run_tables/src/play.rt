@@ -86,7 +86,7 @@ fn play_over<W: Wire, H: House>(alloc: Global, row: &mut Row, wire: &mut W, hous
     }
 }
 
-// The status of a row that is played over this wire, its files and this house.
+// The status of a row that is played over this wire, its files and this forwarder.
 fn play_with<W: Wire, H: House>(
     alloc: Global,
     row: &mut Row,

@@ -13,7 +13,7 @@ pub fn add_writes(writes: &mut Writes, words: &str) -> Result<(), Trouble> {
     Ok(())
 }
 
-// How a write is answered that a word says.
+// How a write is answered that a word spells.
 fn write_entry(word: &str) -> Result<WriteEntry, Trouble> {
     match word {
         "all" => Ok(WriteEntry::All),
@@ -31,7 +31,7 @@ pub fn number_of(word: &str) -> Result<u64, Trouble> {
     word.parse::<u64>().map_err(|_| Trouble::Unread)
 }
 
-/// The step that a line says.
+/// The step that a line spells.
 pub fn step_of(alloc: Global, head: &str, rest: &str, names: &Pairs) -> Result<Step, Trouble> {
     if head == "accept" {
         return Ok(Step::Accept);

@@ -177,7 +177,7 @@ impl Ledger {
         self.take(way, Act::Close)
     }
 
-    /// A channel request; `want` says whether it wants a reply (RFC 4254, section 5.4).
+    /// A channel request; `want` is whether it wants a reply (RFC 4254, section 5.4).
     pub fn request(&mut self, way: Side, want: bool) -> Result<(), Breach>
         ensures exact { Judges self.old way (Asks want) result }
         ensures ok { OnOk result (GoesOn self.old self.new way (Asks want)) }

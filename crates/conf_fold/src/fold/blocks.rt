@@ -61,7 +61,7 @@ impl Fold {
         opens || self.applies.get(depth).copied().unwrap_or(true)
     }
 
-    /// Notes whether a line of a key is active, and says whether its value counts.
+    /// Notes whether a line of a key is active, and returns whether its value counts.
     pub(crate) fn note(&mut self, key: Key, active: bool) -> Result<bool, OutOfMemory>
         ensures ok { OnOk result ((result ≡ Ok (does_count key active self.old))
             × (self.new ≡ noted key active self.old)) }

@@ -131,7 +131,7 @@ impl Fold {
         }
     }
 
-    /// Takes what a line of a file says.
+    /// Applies the content of a line of a file.
     pub(crate) fn take<R: Runner>(
         &mut self,
         entry: LineContent,

@@ -54,7 +54,7 @@ impl Peer {
         matches!(self.standing, Standing::Proxied)
     }
 
-    /// Whether it has said its hello.
+    /// Whether it has sent its hello.
     pub fn is_greeted(&self) -> bool
         ensures { result ≡ is_greeted self.now.standing }
     {
