@@ -83,7 +83,7 @@ content-plain ignored (Spelled bytes) e h = let a = bind-ok (as_error causes.Lex
 content-plain ignored (Parts keyword words) e h = keyword-plain ignored keyword [] (Ok words) (meaning_of keyword) e h
 content-plain ignored (Refused cause) e h = absurd cc
 
--- what it says after rows
+-- its content after rows
 pub asked-says : (rows : List Row) (l : AskedLine) → entry_of rows (asked_line l) ≡ content_entry (word_in (value keys.IgnoreUnknown rows)) CommandLine (asked_line l).content
 unfolding entry_of
 asked-says rows l = ap (λ s. content_entry (word_in (value keys.IgnoreUnknown rows)) s (asked_line l).content) (asked-source l)
