@@ -101,7 +101,7 @@ const ASKED: [Row; 5] = [
     (Up, Request(true), None, 0, 0),
 ];
 
-/// The ledger after all rows, and the place of the first that went otherwise.
+// The ledger after all rows, and the place of the first that went otherwise.
 fn follow(start: Ledger, rows: &[Row]) -> (Ledger, Option<usize>) {
     let mut ledger = start;
     for (i, (way, act, breach, up, down)) in rows.iter().enumerate() {
@@ -115,7 +115,7 @@ fn follow(start: Ledger, rows: &[Row]) -> (Ledger, Option<usize>) {
     (ledger, None)
 }
 
-/// A ledger after an open by the server and its confirmation, each with a window and a maximum.
+// A ledger after an open by the server and its confirmation, each with a window and a maximum.
 fn confirmed(own: (u32, u32), other: (u32, u32)) -> Ledger {
     let mut ledger = Ledger::opened(Down, own.0, own.1);
     ledger.confirm(other.0, other.1);

@@ -76,7 +76,7 @@ fn ask_all(askers: &mut Askers, rows: &[Row]) -> Result<(), OutOfMemory> {
     Ok(())
 }
 
-/// The place of the first row that isn't answered in its turn.
+// The place of the first row that isn't answered in its turn.
 fn answer_all(askers: &mut Askers, rows: &[Row]) -> Option<usize> {
     for (i, row) in rows.iter().enumerate() {
         let Some((client, ask)) = askers.answered() else {
@@ -89,7 +89,7 @@ fn answer_all(askers: &mut Askers, rows: &[Row]) -> Option<usize> {
     None
 }
 
-/// How many requests of the clients 7, 9, 3 and 1 wait.
+// How many requests of the clients 7, 9, 3 and 1 wait.
 fn counts(askers: &Askers) -> [u32; 4] {
     [
         askers.count(7),
@@ -103,7 +103,7 @@ fn no_one_waits(askers: &mut Askers) -> bool {
     askers.answered().is_none()
 }
 
-/// Asks all rows, answers four, asks the first once more, and answers the rest.
+// Asks all rows, answers four, asks the first once more, and answers the rest.
 fn ask_and_answer(rt: &impl Abort, askers: &mut Askers) -> Result<(), OutOfMemory> {
     assert!(rt; no_one_waits(askers));
     ask_all(askers, &ASKED)?;
@@ -153,7 +153,7 @@ const STEPS: [(CallStep, u32); 14] = [
     (Replied { refusals: 0 }, 0),
 ];
 
-/// The place of the first step that goes otherwise.
+// The place of the first step that goes otherwise.
 fn follow(
     answers: &mut ClientAnswers,
     steps: &[(CallStep, u32)],

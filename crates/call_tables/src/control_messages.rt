@@ -1,6 +1,6 @@
 use mux_messages::{BadControl, alive, failure, hello, ok, proxy, read_control, remote_port};
 
-/// A body with one byte too many behind it; the fault where its last byte is missing, and the fault
+/// A body with one byte too many after it; the fault where its last byte is missing, and the fault
 /// with the byte too many. Where what follows the id isn't read, that byte is none.
 type Row = (&'static [u8], Option<BadControl>, Option<BadControl>);
 
@@ -77,7 +77,7 @@ const ROWS: [Row; 12] = [
     ),
 ];
 
-/// All bytes but the last.
+// All bytes but the last.
 fn cut(bytes: &[u8]) -> &[u8] {
     bytes.split_last().map_or(bytes, |parts| parts.1)
 }
@@ -86,7 +86,7 @@ fn fault(body: &[u8]) -> Option<BadControl> {
     read_control(body).err()
 }
 
-/// Whether a row's body is read as the row says: short by a byte, whole, and long by one.
+// Whether a row's body is read as the row says: short by a byte, whole, and long by one.
 fn is_read_so(row: &Row) -> bool {
     let (long, short_by_one, long_by_one) = *row;
     let body = cut(long);

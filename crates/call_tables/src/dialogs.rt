@@ -10,7 +10,7 @@ enum End {
     Bad(&'static [u8]),
 }
 
-/// All bytes of a client, the reply before the end, the end, and how many bytes are data behind it.
+/// All bytes of a client, the reply before the end, the end, and how many bytes are data after it.
 type Row = (&'static [u8], &'static [u8], End, usize);
 
 /// The reply of SOCKS 4 that refuses.
@@ -68,7 +68,7 @@ const REQUESTS: [Row; 12] = [
 ];
 
 /// A request for each cause of a refusal, and what is written then. Its bytes up to the first fault
-/// are the dialog, so what stands behind is counted as data.
+/// are the dialog, so what stands after is counted as data.
 const REFUSALS: [Row; 13] = [
     (b"\x04\x02\x00\x50", b"", Bad(REFUSED_4), 2),
     (
@@ -131,7 +131,7 @@ fn is(step: &Step, end: End) -> bool {
     }
 }
 
-/// A dialog, and what it has said so far.
+/// A dialog, and what it has sent so far.
 #[derive(Drop)]
 struct Talk {
     dialog: Dialog,
@@ -148,7 +148,7 @@ impl Talk {
         }
     }
 
-    /// Whether the dialog, given a piece, answers nothing but this reply, and that once.
+    // Whether the dialog, given a piece, answers nothing but this reply, and that once.
     fn receives(&mut self, piece: &[u8], reply: &[u8]) -> bool {
         self.data = self
             .data
@@ -162,14 +162,14 @@ impl Talk {
         true
     }
 
-    /// Whether it ends as its row says.
+    // Whether it ends as its row says.
     fn ends(&mut self, row: &Row) -> bool {
         let (_, reply, end, data) = *row;
         self.replied != reply.is_empty() && self.data == data && is(&self.dialog.step(), end)
     }
 }
 
-/// Whether a dialog goes as its row says where its bytes come in pieces of this size.
+// Whether a dialog goes as its row says where its bytes come in pieces of this size.
 fn goes_in_pieces(row: &Row, size: usize) -> bool {
     let mut talk = Talk::new();
     for piece in row.0.chunks(size.max(1)) {
@@ -180,7 +180,7 @@ fn goes_in_pieces(row: &Row, size: usize) -> bool {
     talk.ends(row)
 }
 
-/// Whether it does where its bytes are cut at these two places.
+// Whether it does where its bytes are cut at these two places.
 fn goes_in_three(row: &Row, first: usize, second: usize) -> bool {
     let mut talk = Talk::new();
     let (front, back) = row.0.split_at(second.min(row.0.len()));
@@ -191,8 +191,8 @@ fn goes_in_three(row: &Row, first: usize, second: usize) -> bool {
         && talk.ends(row)
 }
 
-/// Whether it does a byte at a time, all at once, in pieces of each size between, and in three pieces
-/// of any size.
+// Whether it does a byte at a time, all at once, in pieces of each size between, and in three pieces
+// of any size.
 fn goes(row: &Row) -> bool {
     for size in 0..row.0.len() {
         if !goes_in_pieces(row, size + 1) {
@@ -223,8 +223,8 @@ fn each_refusal_has_its_reply_however_its_bytes_are_cut(rt: HostRuntime) -> Resu
     Ok(())
 }
 
-/// The replies of a dialog in one piece that asks for an end: that it is reached, and that it isn't
-/// for the reasons 1 and 2.
+// The replies of a dialog in one piece that asks for an end: that it is reached, and that it isn't
+// for the reasons 1 and 2.
 fn answers_are(bytes: &[u8], granted: &[u8], first: &[u8], second: &[u8]) -> bool {
     let mut dialog = Dialog::new();
     let _ = dialog.push(bytes);
@@ -259,8 +259,8 @@ fn an_end_that_is_asked_for_is_answered_by_its_version(rt: HostRuntime) -> Resul
     Ok(())
 }
 
-/// How a request of SOCKS 4 ends whose address is this and whose texts are this user and, where one
-/// is wanted, this host.
+// How a request of SOCKS 4 ends whose address is this and whose texts are this user and, where one
+// is wanted, this host.
 fn request_of_4(address: &[u8], user: &[u8], host: &[u8]) -> Step {
     let mut dialog = Dialog::new();
     for piece in [b"\x04\x01\x00\x50", address, user, b"\x00", host, b"\x00"] {

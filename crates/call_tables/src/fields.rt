@@ -12,12 +12,12 @@ fn put_both(out: &mut Vec<u8>) -> Result<(), OutOfMemory> {
     put_string(out, b"testing")
 }
 
-/// Whether these are the two spellings, one behind the other.
+// Whether these are the two spellings, one after the other.
 fn is_spelled(bytes: &[u8]) -> bool {
     matches!(bytes.split_at_checked(4), Some((number, text)) if number == NUMBER.as_slice() && text == TESTING.as_slice())
 }
 
-/// Whether the number and the text are read from these bytes, and nothing else.
+// Whether the number and the text are read from these bytes, and nothing else.
 fn is_read_back(bytes: &[u8]) -> bool {
     let mut cursor = Cursor::new(bytes);
     cursor.take_u32() == Some(699_921_578)
@@ -37,7 +37,7 @@ fn fields_are_spelled_as_rfc_4251_shows(rt: HostRuntime) -> Result<(), Fail> {
     Ok(())
 }
 
-/// The text of a line, that is made in three parts.
+// The text of a line, that is made in three parts.
 fn line(alloc: Global) -> Result<Text, OutOfMemory> {
     let mut text = Text::copy(alloc, b"Host")?;
     text.push(b' ')?;
@@ -45,13 +45,13 @@ fn line(alloc: Global) -> Result<Text, OutOfMemory> {
     Ok(text)
 }
 
-/// Adds the line, and an empty text.
+// Adds the line, and an empty text.
 fn push_both(alloc: Global, texts: &mut Texts) -> Result<(), OutOfMemory> {
     texts.push(line(alloc)?)?;
     texts.push(Text::new(alloc))
 }
 
-/// Whether these are the line and one more text.
+// Whether these are the line and one more text.
 fn are_both(texts: &Texts) -> bool {
     texts.len() == 2
         && texts.get(0).is_some_and(|first| first.as_bytes() == b"Host *.example.org".as_slice())

@@ -3,7 +3,7 @@ use ssh_fields::Text;
 use std::alloc::Global;
 use std::test::Fail;
 
-/// The words of a rest, a bar behind each.
+// The words of a rest, a bar after each.
 fn barred(alloc: Global, rest: &[u8]) -> Result<Text, LexError> {
     let words = split_words(alloc, rest)?;
     let mut text = Text::new(alloc);
@@ -14,7 +14,7 @@ fn barred(alloc: Global, rest: &[u8]) -> Result<Text, LexError> {
     Ok(text)
 }
 
-/// Whether a rest is split into these words, or refused so.
+// Whether a rest is split into these words, or refused so.
 fn is_split_so(alloc: Global, rest: &str, want: Result<&str, LexError>) -> bool {
     match barred(alloc, rest.as_bytes()) {
         Ok(text) => matches!(want, Ok(words) if text.as_bytes() == words.as_bytes()),

@@ -2,7 +2,7 @@ use conn_messages::{
     Bad, cancel_forward, cancel_path, close, open_failure, read_message, request_failure,
 };
 
-/// A payload with one byte too many behind it; the fault where its last byte is missing, and the
+/// A payload with one byte too many after it; the fault where its last byte is missing, and the
 /// fault with the byte too many. Where its last field is data, neither is a fault.
 type Row = (&'static [u8], Option<Bad>, Option<Bad>);
 
@@ -120,7 +120,7 @@ const ROWS: [Row; 27] = [
     ),
 ];
 
-/// All bytes but the last.
+// All bytes but the last.
 fn cut(bytes: &[u8]) -> &[u8] {
     bytes.split_last().map_or(bytes, |parts| parts.1)
 }
@@ -129,7 +129,7 @@ fn fault(payload: &[u8]) -> Option<Bad> {
     read_message(payload).err()
 }
 
-/// Whether a row's payload is read as the row says: short by a byte, whole, and long by one.
+// Whether a row's payload is read as the row says: short by a byte, whole, and long by one.
 fn is_read_so(row: &Row) -> bool {
     let (long, short_by_one, long_by_one) = *row;
     let payload = cut(long);

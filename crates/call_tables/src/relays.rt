@@ -15,7 +15,7 @@ enum Event {
     End,
     Writable,
     Failed,
-    /// So many bytes of those that wait for the socket are taken.
+    /// So many bytes of those that wait for the socket are accepted.
     Took(usize),
     /// The socket is made, or couldn't be.
     Made(bool),
@@ -29,14 +29,15 @@ enum Event {
     Request(bool),
 }
 
-/// What happens, and what is said, ordered and taken by that: a `|` before what each event leads to.
+/// What happens, and what is sent, ordered and accepted by that: a `|` before what each event leads
+/// to.
 type Row = (&'static [Event], &'static [u8]);
 
 const STREAM: u64 = 0x8000_0000_0000_0001;
 
-/// A socket that was joined for a channel to `db`, port 5432.
+/// A socket that was accepted for a channel to `db`, port 5432.
 const JOINED: [Row; 8] = [
-    // The server takes three bytes, and then two.
+    // The server accepts three bytes, and then two.
     (
         &[Confirmed(3), Got(b"hello"), Room(2), Data(b"ok"), Took(2)],
         b"open db 5432;||data hel;pause;|data lo;resume;||took ok;adjust 2;",
@@ -75,7 +76,7 @@ const JOINED: [Row; 8] = [
     ),
     // The OPEN is refused.
     (&[Refused(2)], b"open db 5432;|shut;"),
-    // The socket fails before the OPEN is answered, and behind it.
+    // The socket fails before the OPEN is answered, and after it.
     (
         &[Failed, Confirmed(100), Closed],
         b"open db 5432;|shut;|close;|",
@@ -108,9 +109,9 @@ const OFFERED: [Row; 3] = [
     (&[Made(false)], b"|open failure;"),
 ];
 
-/// A socket that was joined for a dynamic forwarding: it begins with a dialog.
+/// A socket that was accepted for a dynamic forwarding: it begins with a dialog.
 const DIALED: [Row; 10] = [
-    // SOCKS 5 in pieces, with bytes behind the request in its piece.
+    // SOCKS 5 in pieces, with bytes after the request in its piece.
     (
         &[
             Got(b"\x05"),
@@ -125,7 +126,7 @@ const DIALED: [Row; 10] = [
         ],
         b"|||took \x05\x00;||open db 5432;pause;|data hello;resume;|took \x05\x00\x00\x01\x00\x00\x00\x00\x00;||took \x00ok;adjust 2;",
     ),
-    // SOCKS 5 all at once, refused: the rest isn't said, and the socket is closed behind the reply.
+    // SOCKS 5 all at once, refused: the rest isn't sent, and the socket is closed after the reply.
     (
         &[
             Got(b"\x05\x01\x00\x05\x01\x00\x03\x02db\x15\x38hello"),
@@ -142,7 +143,7 @@ const DIALED: [Row; 10] = [
         ],
         b"|open 10.0.0.5 80;||took \x05\x00\x05\x01\x00\x01\x00\x00\x00\x00\x00\x00;shut;",
     ),
-    // SOCKS 4, with bytes behind it.
+    // SOCKS 4, with bytes after it.
     (
         &[
             Got(b"\x04\x01\x00\x50\x0a\x00\x00\x05\x00GET"),
@@ -168,7 +169,7 @@ const DIALED: [Row; 10] = [
         &[Got(b"\x05\x01\x00"), End, Took(2)],
         b"|||took \x05\x00;shut;",
     ),
-    // An end behind the request.
+    // An end after the request.
     (
         &[
             Got(b"\x04\x01\x00\x50\x0a\x00\x00\x05\x00GET"),
@@ -187,7 +188,7 @@ const DIALOGS_FULL: [Row; 1] = [(
     b"|shut;",
 )];
 
-/// A relay, its stream, and what it said, ordered and took.
+/// A relay, its stream, and what it sent, ordered and accepted.
 #[derive(Drop)]
 struct Bench {
     alloc: Global,
@@ -220,7 +221,7 @@ impl Bench {
         self.word(word, digits.as_bytes())
     }
 
-    /// Notes what it says.
+    // Notes what it sends.
     fn note_sending(&mut self, outgoing: Outgoing) -> Result<(), OutOfMemory> {
         match outgoing {
             Outgoing::Open => self.note_open(),
@@ -248,7 +249,7 @@ impl Bench {
         self.word(b"open", end.as_bytes())
     }
 
-    /// Says what it has to say next: whether there was something.
+    // Says what it has to say next: whether there was something.
     fn says(&mut self) -> Result<bool, OutOfMemory> {
         match self.relay.says() {
             Some(outgoing) => {
@@ -262,7 +263,7 @@ impl Bench {
         }
     }
 
-    /// Does what it orders next: whether there was something.
+    // Does what it orders next: whether there was something.
     fn orders(&mut self) -> Result<bool, OutOfMemory> {
         if self.relay.stream() != Some(self.stream.number) {
             return Ok(false);
@@ -295,7 +296,7 @@ impl Bench {
         Ok(true)
     }
 
-    /// All that it says and orders, until it is at rest.
+    // All that it sends and orders, until it is at rest.
     fn settle(&mut self) -> Result<(), OutOfMemory> {
         for _ in 0..100 {
             if !self.says()? && !self.orders()? {
@@ -347,7 +348,7 @@ impl Bench {
     }
 }
 
-/// Plays a row over a relay.
+// Runs a test case over a relay.
 fn play(
     rt: &impl Abort,
     alloc: Global,

@@ -21,7 +21,7 @@ exact_pair = record {
   refl = λ p. and_from (nat_eq p.0 p.0) (nat_eq p.1 p.1) (eq-eqb p.0 p.0 refl) (eq-eqb p.1 p.1 refl);
 }
 
--- ---- what a number stands for, after each step. `name` is one of `owner_in` and `remote_in`
+-- ---- what a number represents, after each step. `name` is one of `owner_in` and `remote_in`
 
 module _ {Q : Type 0} (name : Option Entry → Option Q) (nothing : name None ≡ None) where
   abbrev pub named : List Entry → ℕ → Option Q

@@ -21,11 +21,11 @@ each-at (y ∷ ys) d = (rw (eq-eqb y.number y.number refl) refl, later ys (each-
         let ne : is_at z.number y ≡ false = ne_eqb y.number z.number (λ e. none-some z (sym (subst (λ i. entry_at ys i ≡ None) e d.0) ∙ all.0)) in
         (rw ne all.0, later zs all.1)
 
--- two numbers are one where they stand for one name
+-- two numbers are one where they represent one name
 abbrev AreOne : {Q : Type 0} → (List Entry → ℕ → Option Q) → List Entry → Type 0
 AreOne {Q} name xs = (n m : ℕ) (q : Q) → name xs n ≡ Some q → name xs m ≡ Some q → n ≡ m
 
--- one channel and the others behind it
+-- one channel and the others after it
 two-all : (x : Entry) (xs ys : List Entry) → entry_at xs x.number ≡ Some x → AreOne owner_at xs → AreOne remote_at xs → AllByRecursion (λ y. (entry_at xs y.number ≡ Some y) × (x.number ≢ y.number)) ys → AllByRecursion (AreTwo x) ys
 two-all x xs [] at owners remotes all = tt
 two-all x xs (y ∷ ys) at owners remotes all = (two, two-all x xs ys at owners remotes all.1)
@@ -49,7 +49,7 @@ two-all x xs (y ∷ ys) at owners remotes all = (two, two-all x xs ys at owners 
       own = λ c same h. own c same h (is_number y.channel.own c) refl;
     }
 
--- the channels behind one have other numbers
+-- the channels after one have other numbers
 behind : (x : Entry) (xs ys : List Entry) → entry_at xs x.number ≡ None → AllByRecursion (λ y. entry_at xs y.number ≡ Some y) ys → AllByRecursion (λ y. (entry_at (x ∷ xs) y.number ≡ Some y) × (x.number ≢ y.number)) ys
 behind x xs [] none all = tt
 behind x xs (y ∷ ys) none all =

@@ -1,4 +1,4 @@
--- A table and the channels that it stands for, under one change.
+-- A table and the channels that it represents, under one change.
 use Rattle.std.proofs.Common.{◌≡◌, List, [], ◌∷◌, ◌++◌, map, true, false, Bool, refl, ◌∙◌, sym, subst, Option, Some, None}
 use Rattle.std.specs.Prelude.{filter, find}
 use Rattle.std.specs.List.{AllByRecursion}

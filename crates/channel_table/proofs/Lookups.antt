@@ -11,7 +11,7 @@ pub some-none : {A : Type 0} (o : Option A) → is_some o ≡ false → o ≡ No
 some-none None e = refl
 some-none (Some a) e = cc
 
--- no channel behind one has its number
+-- no channel after one has its number
 pub none-behind : (x : Entry) (xs : List Entry) → AllByRecursion (AreTwo x) xs → find (is_at x.number) xs ≡ None
 none-behind x [] all = refl
 none-behind x (y ∷ ys) all =

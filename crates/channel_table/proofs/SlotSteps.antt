@@ -16,7 +16,7 @@ use Rattle.channel_table.proofs.Links.{IsLinked-held, IsLinked-shorter, IsLinked
 
 -- ---- the front one of the free slots
 
--- the front one is free, and the others are linked behind it
+-- the front one is free, and the others are linked after it
 pub record IsFront (slots : List Slot) (n : ℕ) : Type 0 where
   pub next : Option ℕ
   pub behind : ℕ

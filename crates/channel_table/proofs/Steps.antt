@@ -132,7 +132,7 @@ without-none n (y ∷ ys) none = by (is_at n y) refl (without-none n ys)
     by true e ih = absurd (none-some y (sym none ∙ rw e refl))
     by false e ih = ap (λ zs. y ∷ zs) (ih (rw e at none))
 
--- one channel has the number, and the change is told by what it makes of that one
+-- one channel has the number, and the change is recorded by what it makes of that one
 pub changed-at : (n : ℕ) (f : Entry → Entry) (z : Entry) (xs : List Entry) (x : Entry) → AreDistinct xs → entry_at xs n ≡ Some x → f x ≡ z → changed_at n (λ _. z) xs ≡ changed_at n f xs
 changed-at n f z [] x d at is = refl
 changed-at n f z (y ∷ ys) x d at is = by (is_at n y) refl (λ rest. changed-at n f z ys x d.1 rest is)

@@ -34,7 +34,7 @@ has_own k c e = (e.channel.client == k) && is_number e.channel.own c
 abbrev pub has_remote : (remote : ℕ) → Entry → Bool
 has_remote s e = is_number e.channel.remote s
 
--- its number stands for it towards the server: of a server's open only once the client has
+-- its number represents it towards the server: of a server's open only once the client has
 -- confirmed it
 abbrev pub is_shown : Channel → Bool
 is_shown c = is_up c.by || is_some c.own
@@ -163,7 +163,7 @@ RefusesAs (Ok a) why = why ≡ None
 RefusesAs (Err refused.OutOfMemory) why = why ≡ None
 RefusesAs (Err other) why = why ≡ Some other
 
--- a number of the client's, or of the server's, is taken in, or refused
+-- a number of the client's, or of the server's, is admitted, or refused
 abbrev pub SetsOwn : {A : Type 0} → List Entry → (number own : ℕ) → Result A Refused → Type 0
 SetsOwn es n own result = RefusesAs result (own_in_use es (admitted_at es n) own)
 

@@ -1,14 +1,14 @@
--- The table stands for the channels of a history that are held, in the order in which they began.
+-- The table represents the channels of a history that are held, in the order in which they began.
 use Rattle.std.specs.Prelude.{◌≡◌, ℕ, List, [], ◌∷◌, Option, Some, None, true, false}
 use Rattle.mux_history.specs.Channels as history
 use Rattle.window_ledger.specs.Stands as ledger
 use Rattle.channel_table.specs.Entries.{Entry, is_shown}
 
--- the number, where it stands for the channel towards the server
+-- the number, where it represents the channel towards the server
 abbrev pub shown_number : Entry → Option ℕ
 shown_number e = elim (is_shown e.channel) [ true ↦ Some e.number | false ↦ None ]
 
--- an entry stands for a channel that is held
+-- an entry represents a channel that is held
 pub record Fits (e : Entry) (x : history.Channel) : Type 0 where
   pub client : e.channel.client ≡ x.client
   pub by : e.channel.by ≡ x.by

@@ -1,7 +1,7 @@
 //! The channels of all clients that are held. A table is one list of channels in the order in which
-//! they began, with three look-ups: by the number that stands for a channel towards the server, by
+//! they began, with three look-ups: by the number that represents a channel towards the server, by
 //! its client's own number, and by the server's. No look-up, and no change but those that bring in
-//! a new number, takes memory.
+//! a new number, allocates memory.
 #![tactic(auto)]
 
 mod channel;

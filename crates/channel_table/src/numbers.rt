@@ -55,7 +55,7 @@ impl Numbers {
         self.numbers.get(i as usize).copied()
     }
 
-    /// Adds one behind the others, in room that is there.
+    /// Adds one after the others, in room that is there.
     pub fn push(&mut self, number: u32)
         requires { length self.old < MAX_CHANNELS }
         ensures { self.new ≡ self.old ++ number ∷ [] }

@@ -19,7 +19,7 @@ pub struct Opened {
 /// A place for a channel.
 #[derive(Clone, Copy)]
 pub enum Slot {
-    /// A free one, and the free one behind it.
+    /// A free one, and the free one after it.
     Free(Option<u32>),
     Held(Opened),
 }
@@ -149,7 +149,7 @@ impl Slots {
         });
     }
 
-    /// Frees the slot of a channel, and puts it in front of the other free ones.
+    /// Frees the slot of a channel, and puts it before the other free ones.
     pub fn free(&mut self, number: u32)
         requires { IsSome (entry_at self.old.entries number) }
         ensures { self.new.entries ≡ freed number self.old.entries }

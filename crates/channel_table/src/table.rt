@@ -56,8 +56,8 @@ impl Table {
         })
     }
 
-    /// A client has opened a channel: the number that stands for it from now on. Of two numbers
-    /// that are free, the one that was freed last is taken.
+    /// A client has opened a channel: the number that represents it from now on. Of two numbers
+    /// that are free, the one that was freed last is used.
     pub fn admit_own(&mut self, client: u64, own: u32, ledger: Ledger) -> Result<u32, Refused>
         ensures exact { RefusesAs result (own_refusal self.old client own) }
         ensures fresh { IfOk result (λ number. IsFree self.old number) }
@@ -82,7 +82,7 @@ impl Table {
         Ok(number)
     }
 
-    /// The server has opened a channel to a client: the number that will stand for it.
+    /// The server has opened a channel to a client: the number that will represent it.
     pub fn admit_remote(&mut self, client: u64, remote: u32, ledger: Ledger) -> Result<u32, Refused>
         ensures exact { RefusesAs result (remote_refusal self.old client remote) }
         ensures fresh { IfOk result (λ number. IsFree self.old number) }
@@ -191,7 +191,7 @@ impl Table {
         self.remote.get(&remote).copied()
     }
 
-    /// The client whose channel the server names by its own number.
+    // The client whose channel the server names by its own number.
     fn holder(&self, remote: u32) -> Option<u64>
         ensures { result ≡ holder_of self.now remote }
     {
@@ -283,7 +283,7 @@ impl Table {
     }
 }
 
-// Whether the number that a channel was admitted under stands for it towards the server.
+// Whether the number that a channel was admitted under represents it towards the server.
 fn is_shown(channel: &Channel) -> bool
     ensures { result ≡ is_shown channel.now }
 {

@@ -1,4 +1,4 @@
--- A client's forwardings are taken out one after the other: the cancels that are still to be sent.
+-- A client's forwardings are removed one after the other: the cancels that are still to be sent.
 use Rattle.std.proofs.Common.{◌≡◌, ℕ, suc, List, [], ◌∷◌, ◌++◌, length, map, not, Bool, true, false, refl, ap, sym, ◌∙◌, subst, ◌+◌, ◌-◌, ◌≤◌, arith}
 use Rattle.std.specs.Prelude.{flat_map, is_none, is_some, Option, Some, None, option_map, ◌&&◌}
 use Rattle.std.proofs.lemmas.Option.{none-some, same_Some}
@@ -14,7 +14,7 @@ use Rattle.forward_rules.proofs.Taken.{taking-none, taking-one}
 use Rattle.client_teardown.specs.Leaving.{Sends, cancel_of, forward_farewells}
 use Rattle.client_teardown.proofs.Sending.{frames, sends-none, sends-one, sends-then}
 
--- of one that was told, unless a cancel of it is unanswered
+-- of one that was recorded, unless a cancel of it is unanswered
 abbrev pub cancel_recorded : grammar.Key × Bool → List (List ℕ)
 cancel_recorded t = elim t.1 [ true ↦ [] | false ↦ cancel_forward t.0 ∷ [] ]
 
@@ -51,7 +51,7 @@ cancels-recorded k (f ∷ fs) = by (is_of k f) refl f.live refl (cancels-recorde
 
 -- ---- one step
 
--- what is told of one that was taken is still to be sent, and then the others
+-- what is recorded of one that was removed is still to be sent, and then the others
 pub taken-cancel : (k : ℕ) (fs : List Forward) (t : grammar.Key × Bool) → Some t ≡ option_map recorded_of (first_live k fs) → cancels_recorded (recorded_one_by_one k fs) ≡ cancel_recorded t ++ cancels_recorded (recorded_one_by_one k (after_taking k fs))
 taken-cancel k fs t h = by (first_live k fs) refl
   where
@@ -66,7 +66,7 @@ taking-step k fs gs t u v h is sends =
     ap (λ hs. v.waiting ++ frames (cancels_recorded (recorded_one_by_one k hs))) is
     ∙ (sends-then (cancel_recorded t) (cancels_recorded (recorded_one_by_one k (after_taking k fs))) u v sends ∙ sym (ap (λ ps. u.waiting ++ frames ps) (taken-cancel k fs t h)))
 
--- the cancel of one that was taken is queued, where one is to be sent, in the room for one
+-- the cancel of one that was removed is queued, where one is to be sent, in the room for one
 pub record IsSent (t : grammar.Key × Bool) (u v : QueueState) : Type 0 where
   pub sends : Sends (cancel_recorded t) u v
   pub spare : u.spare ≤ v.spare + 308

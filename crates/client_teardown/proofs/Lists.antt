@@ -1,4 +1,4 @@
--- An element of a list by its place, and what is behind it.
+-- An element of a list by its place, and what is after it.
 use Rattle.std.proofs.Common.{◌≡◌, ℕ, zero, suc, List, [], ◌∷◌, drop, refl, ap, sym}
 use Rattle.std.specs.Prelude.{Some, None, slice_get}
 use Rattle.std.proofs.lemmas.Option.{none-some, same_Some}

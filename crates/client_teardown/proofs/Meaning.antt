@@ -1,5 +1,5 @@
 -- What the tables send for a client that is lost is what the history sends, and what they keep
--- stands for what it keeps.
+-- represents what it keeps.
 use Rattle.std.proofs.Common.{◌≡◌, ℕ, List, [], ◌∷◌, ◌++◌, true, false, Bool, refl, ◌∙◌, ap, sym, subst, Option, Some, None}
 use Rattle.std.specs.Prelude.{not, ◌==◌, ◌&&◌, ◌||◌, is_some, is_none, flat_map, unwrap_or}
 use Rattle.std.specs.List.{AllByRecursion}

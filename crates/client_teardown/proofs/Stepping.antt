@@ -16,7 +16,7 @@ use Rattle.client_teardown.proofs.Lists.{drop-none, drop-some}
 use Rattle.client_teardown.proofs.Noting.{left-at}
 use Rattle.client_teardown.proofs.Sending.{frames, sends-all, sends-then}
 
--- what is still to be said from a client's channel on
+-- what is still to be sent from a client's channel on
 abbrev pub farewells_from : (client place : ℕ) → List Entry → List (List ℕ)
 farewells_from k i es = flat_map farewell_of (drop i (filter (is_of k) es))
 
@@ -103,7 +103,7 @@ no-nth es k i h = by (nth_entry es k i) refl
 pub past-nth : (es : List Entry) (k i : ℕ) → count_of es k ≤ i → nth_entry es k i ≡ None
 past-nth es k i l = slice_get_past (filter (is_of k) es) i l
 
--- all is said
+-- all is sent
 pub all-said : (k i : ℕ) (es : List Entry) (u v : QueueState) (qs : List (List ℕ)) → nth_entry es k i ≡ None → v.waiting ++ frames (farewells_from k i es) ≡ u.waiting ++ frames qs → Sends qs u v
 all-said k i es u v qs none h =
     sends-all qs u v (ap (λ ps. v.waiting ++ frames ps) (sym (ap (flat_map farewell_of) (drop-none (filter (is_of k) es) i none))) ∙ h)

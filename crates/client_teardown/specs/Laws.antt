@@ -27,8 +27,8 @@ channels_of k xs = filter (λ x. x.client == k) xs
 abbrev pub forwardings_of : ℕ → List Forwarding → List Forwarding
 forwardings_of k gs = filter (λ g. g.client == k) gs
 
--- wherever the tables stand for the channels and the forwardings of a history, a client's farewell
--- is what the history says for each of its channels, and then for each of its forwardings
+-- wherever the tables represent the channels and the forwardings of a history, a client's farewell
+-- is what the history sends for each of its channels, and then for each of its forwardings
 abbrev pub FarewellsAreTheHistorys : Type 0
 FarewellsAreTheHistorys =
     (k : ℕ) (es : List Entry) (xs : List Channel) (fs : List Forward) (gs : List Forwarding)
@@ -37,7 +37,7 @@ FarewellsAreTheHistorys =
     ≡ flat_map history.leave_channel (channels_of k xs)
     ++ flat_map history.leave_forwarding (forwardings_of k gs)
 
--- what a farewell makes of a channel: CLOSE is said in one that is confirmed, and a server's open
+-- what a farewell makes of a channel: CLOSE is sent in one that is confirmed, and a server's open
 -- that waits has failed
 abbrev pub left : Channel → Channel
 left x = elim (is_confirmed x) [
@@ -53,7 +53,7 @@ left_by k x = elim (x.client == k) [ true ↦ left x | false ↦ x ]
 abbrev pub left_channels : ℕ → List Channel → List Channel
 left_channels k xs = filter is_held (map (left_by k) xs)
 
--- the table stands for them afterwards
+-- the table represents them afterwards
 abbrev pub TableIsLeft : Type 0
 TableIsLeft = (k : ℕ) (es : List Entry) (xs : List Channel) → ChannelsFit es xs
     → ChannelsFit (left_entries k es) (left_channels k xs)

@@ -20,11 +20,11 @@ use Rattle.client_teardown.specs.declared.message.Late.TheVariants.{CancelFailed
 
 -- ---- what goes up
 
--- a queue with these payloads behind what waits
+-- a queue with these payloads after what waits
 abbrev pub with_payloads : List (List ℕ) → QueueState → QueueState
 with_payloads payloads q = record q { waiting = q.waiting ++ joined (map frame_payload payloads) }
 
--- the proxy frames of these payloads wait behind what waited
+-- the proxy frames of these payloads wait after what waited
 abbrev pub Sends : List (List ℕ) → QueueState → QueueState → Type 0
 Sends payloads up up' = up'.waiting ≡ up.waiting ++ joined (map frame_payload payloads)
 
@@ -54,7 +54,7 @@ forward_farewells k fs = flat_map cancel_of (filter (forwards.is_of k) fs)
 
 -- ---- what stays in the table
 
--- CLOSE is said, where the channel is confirmed
+-- CLOSE is sent, where the channel is confirmed
 abbrev pub closing : Entry → Entry
 closing e = record e { ledger = account.left e.ledger }
 

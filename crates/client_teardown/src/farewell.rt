@@ -24,7 +24,7 @@ const CHANNEL_ROOM: usize = 36;
 // The part of it for forwardings.
 const FORWARDS_ROOM: usize = 19_712;
 
-// What is said in a channel of a client that is lost, where anything is.
+// What is sent in a channel of a client that is lost, where anything is.
 fn farewell_for(channel: &Channel, ledger: &Ledger) -> Option<Small>
     ensures exact { listed result ≡ farewell_for channel.now ledger.now }
     ensures least { IfSome result (λ p. 1 ≤ length p) }
@@ -43,7 +43,7 @@ fn farewell_for(channel: &Channel, ledger: &Ledger) -> Option<Small>
     Some(open_failure(remote, CONNECT_FAILED, b"client is gone"))
 }
 
-// Whether a channel of a client that is lost is still held, once that is said.
+// Whether a channel of a client that is lost is still held, once that is sent.
 fn is_open(channel: &Channel, left: &Ledger) -> bool
     ensures { result ≡ is_open_in channel.now left.now }
 {

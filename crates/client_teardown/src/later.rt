@@ -12,9 +12,9 @@ use proxy_frames::Queue;
 /// bytes.
 pub const LATE_ROOM: usize = 308;
 
-/// Answers what the server says for a client that is lost already: a confirmation by CLOSE, which
-/// is noted in the channel's account, and the others by a cancel without reply. The product calls it
-/// nowhere: it is for callers that want no memory, and the core queues the same payloads itself.
+/// Answers what the server sends for a client that is lost already: a confirmation by CLOSE, which
+/// is noted in the channel's account, and the others by a cancel without reply. The product calls
+/// it nowhere: it is for callers that need no memory, and the core queues the same payloads itself.
 pub fn late(table: &mut Table, message: Late<'_>, up: &mut Queue)
     requires room { LATE_ROOM ≤ up.old.spare }
     requires short { IsShortLate message }

@@ -2,8 +2,8 @@
 
 ghost use Rattle.client_teardown.specs.Laws.{FarewellsAreTheHistorys, LateIsTheHistorys, TableIsLeft};
 
-/// A farewell is what the history says, wherever the tables stand for its channels and its
-/// forwardings, and the table stands for what it leaves.
+/// A farewell is what the history sends, wherever the tables represent its channels and its
+/// forwardings, and the table represents what it leaves.
 pub fn farewell_of_a_history()
     ensures sent { FarewellsAreTheHistorys }
     ensures left { TableIsLeft }

@@ -1,6 +1,6 @@
 use conn_messages::Key;
 
-/// What the server says for a client that is lost already, and that the master has to undo.
+/// What the server sends for a client that is lost already, and that the master has to undo.
 #[derive(Clone, Copy)]
 pub enum Late<'a> {
     /// The open of this channel is confirmed under the server's number, which the table has taken

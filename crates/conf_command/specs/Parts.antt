@@ -10,7 +10,7 @@ one_end one word = if one then Some (word ∷ []) else None
 abbrev pub two_ends : Bool → Bytes → Bytes → Option (List Bytes)
 two_ends two listen connect = if two then Some (listen ∷ connect ∷ []) else None
 
--- the ends of parts: a port with a host or none, behind it where it connects to
+-- the ends of parts: a port with a host or none, after it where it connects to
 unfoldable pub ends_among : Bool → Bool → List Bytes → Option (List Bytes)
 ends_among one two (p ∷ []) = one_end one p
 ends_among one two (b ∷ p ∷ []) = one_end one (b ++ 58 ∷ p)
@@ -18,7 +18,7 @@ ends_among one two (p ∷ h ∷ t ∷ []) = two_ends two p (h ++ 58 ∷ t)
 ends_among one two (b ∷ p ∷ h ∷ t ∷ []) = two_ends two (b ++ 58 ∷ p) (h ++ 58 ∷ t)
 ends_among one two parts = None
 
--- bytes in front of the first part, which is there
+-- bytes before the first part, which is there
 abbrev pub onto_part : Bytes → List Bytes → List Bytes
 onto_part bytes [] = bytes ∷ []
 onto_part bytes (p ∷ ps) = (bytes ++ p) ∷ ps

@@ -5,12 +5,12 @@ use Rattle.conf_rules.specs.CommandLine.{ReadCommand}
 use Rattle.conf_command.specs.declared.reader.WordsError.{WordsError}
 use Rattle.conf_command.specs.declared.reader.WordsError.TheVariants.{Refused, OutOfMemory}
 
--- an error is the refusal of the reading, but want of memory may come at any time
+-- an error is the refusal of the reading, but memory may run out at any time
 abbrev pub Fails : WordsError → ReadCommand → Type 0
 Fails (Refused e) reading = reading ≡ Err e
 Fails OutOfMemory reading = Unit {0}
 
--- what was returned is the reading, unless memory was wanting
+-- what was returned is the reading, unless memory ran out
 abbrev pub Gives : Result Command WordsError → ReadCommand → Type 0
 Gives (Ok command) reading = reading ≡ Ok command
 Gives (Err e) reading = Fails e reading

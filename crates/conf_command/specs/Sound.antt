@@ -6,12 +6,12 @@ use Rattle.conf_rules.specs.Options.{Act, Reads, Connects, Goes}
 use Rattle.conf_rules.specs.Destinations.{destination}
 use Rattle.conf_rules.specs.CommandLine.{host_or}
 
--- the files that are read behind a step
+-- the files that are read after a step
 abbrev pub from_at : ConfigFrom → Act → ConfigFrom
 from_at other (Reads from) = from
 from_at other act = other
 
--- the transport behind a step
+-- the transport after a step
 abbrev pub transport_at : Option Bytes → Act → Option Bytes
 transport_at other (Connects transport) = Some transport
 transport_at other act = other

@@ -12,7 +12,7 @@ pub struct Destination<'a> {
     pub host: &'a [u8],
 }
 
-/// Whether a host is not empty and begins with no dash.
+// Whether a host is not empty and begins with no dash.
 fn is_host(host: &[u8]) -> bool
     ensures { result ≡ is_host host.now }
 {

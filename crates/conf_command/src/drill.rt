@@ -5,7 +5,7 @@ use conf_lexer::number;
 use conf_rules::{Command, Usage, UsageError};
 use ssh_fields::Text;
 
-/// A number of the drill in its range.
+// A number of the drill in its range.
 fn drill_number(word: u64, low: u64, high: u64, text: &[u8]) -> Result<u64, UsageError>
     ensures { result ≡ drill_number word low high text.now }
 {
@@ -18,7 +18,7 @@ fn drill_number(word: u64, low: u64, high: u64, text: &[u8]) -> Result<u64, Usag
     }
 }
 
-/// The drill of three numbers, behind which no word may stand.
+// The drill of three numbers, after which no word may stand.
 #[tactic(auto, unfolding(conf_rules::specs::Reading::drill_of, conf_rules::specs::Reading::seed_limit))]
 fn drill_with(
     seed: &[u8],
@@ -44,7 +44,7 @@ fn drill_with(
     }
 }
 
-/// The words behind `--drill`: seed, clients and messages.
+/// The words after `--drill`: seed, clients and messages.
 pub fn drill_of(words: &[Text]) -> Result<Command, UsageError>
     ensures { result ≡ drill_of words.now }
 {

@@ -12,14 +12,14 @@ pub fn is_alone(text: &[u8]) -> bool
     is_same(text, b"any") || is_same(text, b"none")
 }
 
-/// Whether a text is a star or a port.
+// Whether a text is a star or a port.
 fn is_port(text: &[u8]) -> bool
     ensures { result ≡ is_port text.now }
 {
     is_same(text, b"*") || number(text, 0, 65_535).is_some()
 }
 
-/// Whether a text begins with a slash.
+// Whether a text begins with a slash.
 fn is_path(text: &[u8]) -> bool
     ensures { result ≡ is_path text.now }
 {
@@ -29,7 +29,7 @@ fn is_path(text: &[u8]) -> bool
     }
 }
 
-/// Whether a host is one of an entry: not empty and no path.
+// Whether a host is one of an entry: not empty and no path.
 fn is_entry_host(host: &[u8]) -> bool
     ensures { result ≡ is_entry_host host.now }
 {

@@ -9,21 +9,21 @@ use ssh_fields::{OutOfMemory, Text, Texts};
 use std::alloc::Global;
 use std::mem;
 
-/// Whether a byte parts two parts: a colon that doesn't stand inside brackets.
+// Whether a byte parts two parts: a colon that doesn't stand inside brackets.
 fn is_parting(byte: u8, inside: bool) -> bool
     ensures { result ≡ (byte == 58) && not inside }
 {
     byte == b':' && !inside
 }
 
-/// Whether the next byte stands inside brackets.
+// Whether the next byte stands inside brackets.
 fn is_inside(byte: u8, inside: bool) -> bool
     ensures { result ≡ (byte == 91) || (inside && not (byte == 93)) }
 {
     byte == b'[' || (inside && byte != b']')
 }
 
-/// The parts between colons that don't stand inside brackets.
+// The parts between colons that don't stand inside brackets.
 fn parts_of(alloc: Global, value: &[u8]) -> Result<Texts, OutOfMemory>
     ensures { IfOk result (λ parts. parts ≡ parts_from false value.now) }
 {
@@ -42,21 +42,21 @@ fn parts_of(alloc: Global, value: &[u8]) -> Result<Texts, OutOfMemory>
     Ok(parts)
 }
 
-/// Whether a part has more than 255 bytes, or a slash.
+// Whether a part has more than 255 bytes, or a slash.
 fn is_bad_part(part: &[u8]) -> bool
     ensures { result ≡ is_bad_part part.now }
 {
     part.len() > 255 || has_slash(part)
 }
 
-/// Whether one of the parts is bad.
+// Whether one of the parts is bad.
 fn has_bad_part(parts: &[Text]) -> bool
     ensures { result ≡ list_any is_bad_part parts.now }
 {
     parts.iter().any(|part| is_bad_part(part.as_bytes()))
 }
 
-/// One end, if that may be.
+// One end, if that may be.
 fn one_end(alloc: Global, one: bool, word: Text) -> Result<Option<Texts>, OutOfMemory>
     ensures { IfOk result (λ words. words ≡ one_end one word) }
 {
@@ -68,7 +68,7 @@ fn one_end(alloc: Global, one: bool, word: Text) -> Result<Option<Texts>, OutOfM
     Ok(Some(words))
 }
 
-/// Two ends, if that may be.
+// Two ends, if that may be.
 fn two_ends(
     alloc: Global,
     two: bool,
@@ -86,7 +86,7 @@ fn two_ends(
     Ok(Some(words))
 }
 
-/// The words of parts: one end of one or two parts, or two ends of three or four.
+// The words of parts: one end of one or two parts, or two ends of three or four.
 fn ends_among(
     alloc: Global,
     one: bool,

@@ -1,6 +1,6 @@
-//! The words of the command line: the command that they say, or the first bad word.
-//! `read_words` reads each word into the steps that it stands for, walks over them up to the first
-//! bad one, and makes the command of the sound ones. Its memory grows with the words alone.
+//! The words of the command line: the command that they spell, or the first bad word. `read_words`
+//! reads each word into the steps that it represents, walks over them up to the first bad one, and
+//! makes the command of the sound ones. Its memory grows with the words alone.
 #![tactic(auto)]
 
 mod act;

@@ -30,14 +30,14 @@ impl Permit {
         Permit { word, text }
     }
 
-    /// The word.
+    // The word.
     fn word(&self) -> u64
         ensures { result ≡ self.now.word }
     {
         self.word
     }
 
-    /// The entry.
+    // The entry.
     fn text(&self) -> &[u8]
         ensures { result.now ≡ self.now.text }
     {
@@ -48,7 +48,7 @@ impl Permit {
 /// Permissions in order.
 pub type Permits = ListOf<Permit>;
 
-/// Adds the permission of a step, if it is of this list.
+// Adds the permission of a step, if it is of this list.
 fn add_permit(
     all: &mut Permits,
     alloc: Global,
@@ -95,7 +95,7 @@ pub fn texts_of(alloc: Global, permits: &Permits) -> Result<Texts, OutOfMemory>
     Ok(texts)
 }
 
-/// The word of the first text that is no entry.
+// The word of the first text that is no entry.
 fn first_not_entry(permits: &[Permit]) -> Option<u64>
     ensures { result ≡ first_not_entry permits.now }
 {

@@ -53,7 +53,7 @@ kept-again : (k key : Key) (v : Value) (all : List Given) (t : Bool) → same_ke
 kept-again k key v all true e c h = let same : k ≡ key = same-key k key e in rw same (kept-same (keeping key) key v all refl c h)
 kept-again k key v all false e c h = kept-other (keeping k) k key v all e
 
--- settings keep what was given behind a value that is given again
+-- settings keep what was given after a value that is given again
 pub keeps-again : (settings all : List Given) (key : Key) (v : Value) → is_collected key ≡ false → has_key key all ≡ true → Keeps settings all → Keeps settings (all ++ (key, v) ∷ [])
 keeps-again settings all key v c h s = record { each = λ k. s.each k ∙ sym (kept-again k key v all (same_key k key) refl c h) }
 

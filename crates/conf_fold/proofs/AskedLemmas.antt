@@ -53,7 +53,7 @@ pub asked-file : (l : AskedLine) → (asked_line l).file ≡ codes "command line
 asked-file (asks.Line word line) = refl
 asked-file (asks.Parts word keyword words) = refl
 
--- ---- what it says
+-- ---- what it sends
 
 unknown-plain : (t : Bool) (keyword : Bytes) (words : SplitWords) (e : LineContent) → Rattle.conf_rules.specs.Entries.unknown_entry t keyword words ≡ Ok e → opens e ≡ false
 unfolding opens
@@ -83,7 +83,7 @@ content-plain ignored (Spelled bytes) e h = let a = bind-ok (as_error causes.Lex
 content-plain ignored (Parts keyword words) e h = keyword-plain ignored keyword [] (Ok words) (meaning_of keyword) e h
 content-plain ignored (Refused cause) e h = absurd cc
 
--- what it says behind rows
+-- its content after rows
 pub asked-says : (rows : List Row) (l : AskedLine) → entry_of rows (asked_line l) ≡ content_entry (word_in (value keys.IgnoreUnknown rows)) CommandLine (asked_line l).content
 unfolding entry_of
 asked-says rows l = ap (λ s. content_entry (word_in (value keys.IgnoreUnknown rows)) s (asked_line l).content) (asked-source l)
@@ -172,7 +172,7 @@ asked-refused recorded fold new rows l (line_errors.Refused c) number (resolve_e
 
 -- ---- all of them
 
--- what a fold stands for before some of them
+-- what a fold represents before some of them
 pub record SoFar (recorded : Recorded) (fold : Fold) (lines : List AskedLine) : Type 0 where
   pub rows : List Row
   pub stands : Stands recorded First fold rows []
@@ -223,7 +223,7 @@ pub ends : (recorded : Recorded) (fold : Fold) → SoFar recorded fold [] → Is
 unfolding rows_from
 ends recorded fold s = (subst (λ rows. Stands recorded First fold rows []) s.is s.stands, ap refusal_in (sym s.is) ∙ s.none)
 
--- the next of some lines, and those behind it
+-- the next of some lines, and those after it
 pub next-asked : (lines items : List AskedLine) (i : ℕ) (x : AskedLine) → items ≡ lines → i < length items → x ≡ get_or items i x → drop i lines ≡ x ∷ drop (i + 1) lines
 next-asked lines items i x same low is =
     let here : x ≡ get_or lines i x = is ∙ ap (λ xs. get_or xs i x) same in

@@ -95,7 +95,7 @@ active-marked rows pass n opening bs own =
     ∙ ap (λ x. x && list_all (applies_at rows pass) (own_block opening own)) (all-marks rows pass (take n bs) ∙ ap (list_all (λ m. m)) (sym (take-map (open_applies rows pass) n bs)))
     ∙ ap (λ x. list_all (λ m. m) (take n (map (open_applies rows pass) bs)) && x) (own-active rows pass opening own)
 
--- ---- the marks behind a line
+-- ---- the marks after a line
 
 one-more : (rows : List Row) (pass : Pass) (n : ℕ) (bs : Blocks) → n < length bs → map (open_applies rows pass) (take n bs ++ or_none (slice_get bs n) ∷ []) ≡ take (suc n) (map (open_applies rows pass) bs)
 one-more rows pass n [] h = absurd (omega (arith, h))

@@ -46,7 +46,7 @@ entry-any-file ignored source keyword rest words kinds.Include h = in-any-file s
 entry-any-file ignored source keyword rest words kinds.Unchecked h = refl
 entry-any-file ignored source keyword rest words kinds.Unknown h = refl
 
--- what a given line says behind rows
+-- the content of a given line after rows
 pub line-says : (rows : List Row) (line : Line) (given : ConfLine) (blocks : Blocks) → IsLine given blocks line
     → entry_of rows line ≡ headed_entry (word_in (value keys.IgnoreUnknown rows)) UserFile (Says given.keyword given.rest)
 unfolding entry_of
@@ -137,7 +137,7 @@ said-opens ignored keyword rest words kinds.Unknown e h = ignored-opens (Rattle.
     ignored-opens true h = let a = bind-ok words _ e h in let k : Nothing ≡ e = cc in ap opens k
     ignored-opens false h = absurd cc
 
--- a line's keyword opens a block exactly where what it says does
+-- a line's keyword opens a block exactly where its content does
 pub entry-opens : (fold : Fold) (l : ConfLine) (e : LineContent) → entry_so_far fold l ≡ Ok e → opens_block l.keyword ≡ opens e
 unfolding entry_so_far
 entry-opens fold l e h = opens-meaning l.keyword ∙ said-opens (word_in (setting keys.IgnoreUnknown fold)) l.keyword l.rest (split l.rest) (meaning_of l.keyword) e h
@@ -153,7 +153,7 @@ pub keyword-collects : (i j : Option Bytes) (keyword rest : Bytes) (words : Spli
 keyword-collects i j keyword rest words kinds.Unknown = unknown-collects (Rattle.conf_rules.specs.Entries.takes_keyword i keyword) keyword words ∙ sym (unknown-collects (Rattle.conf_rules.specs.Entries.takes_keyword j keyword) keyword words)
 keyword-collects i j keyword rest words m = refl
 
--- a given line collects behind any rows alike
+-- a given line collects after any rows alike
 pub line-collects : (rows others : List Row) (line : Line) (l : ConfLine) (blocks : Blocks) → IsLine l blocks line → collects (entry_of rows line) ≡ collects (entry_of others line)
 line-collects rows others line l blocks is =
     ap collects (line-says rows line l blocks is)

@@ -11,7 +11,7 @@ use Rattle.conf_rules.specs.Entries.{entry_of}
 use Rattle.conf_rules.specs.Resolution.{row_of, rows_from, is_refused, refusal_at, or_later, refusal_in}
 use Rattle.conf_fold.specs.Stands.{next_row}
 
--- the rows of lines from a place on, behind others
+-- the rows of lines from a place on, after others
 abbrev pub from : Recorded → Pass → List Row → ℕ → List Line → List Row
 from recorded pass rows place lines = rows_from recorded entry_of rows (record { pass = pass; line = place }) lines
 
@@ -25,7 +25,7 @@ behind-first : (o before after : Option ResolveError) → (before ≡ None → a
 behind-first o before after later None e = later e
 behind-first o before after later (Some x) e = absurd cc
 
--- a row behind others that aren't refused
+-- a row after others that aren't refused
 pub refusal-behind : (rows : List Row) (row : Row) → refusal_in rows ≡ None → refusal_in (rows ++ row ∷ []) ≡ refusal_at row.line row.entry
 refusal-behind [] row none = later-none (refusal_at row.line row.entry)
 refusal-behind (p ∷ ps) row none = behind-first _ (refusal_in ps) (refusal_in (ps ++ row ∷ [])) (refusal-behind ps row) (refusal_at p.line p.entry) none

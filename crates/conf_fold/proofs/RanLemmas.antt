@@ -35,7 +35,7 @@ use Rattle.conf_fold.proofs.RowLemmas.{said, row-said}
 use Rattle.conf_fold.proofs.FoldLemmas.{tests-active}
 use Rattle.conf_fold.proofs.RefusedLemmas.{failing}
 
--- commands that were run, where they are told
+-- commands that were run, if they are recorded
 abbrev pub Commands : Type 0
 Commands = Option (List Bytes)
 
@@ -189,9 +189,9 @@ plain-placed e file number before now resolve_errors.OutOfMemory plain same r = 
 plain-placed line_errors.OutOfMemory file number before now (resolve_errors.At f n d) plain same r = absurd cc
 plain-placed (line_errors.Refused c) file number before now (resolve_errors.At f n d) plain same r = subst (λ x. HasRunCause {A = Unit {0}} (Err x) before now) (sym r) (placed-cause c file number before now (no-cause (line_errors.Refused c) before now plain same))
 
--- ---- what came of a line, with its place
+-- ---- the outcome of a line, with its place
 
--- what was returned, told at a place
+-- what was returned, reported at a place
 abbrev pub Placed : Result (Unit {0}) LineError → Bytes → ℕ → Result (Unit {0}) ResolveError
 Placed taken file number = as_error (λ e. refused_at e file number) taken
 

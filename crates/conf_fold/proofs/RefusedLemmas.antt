@@ -64,7 +64,7 @@ placed-refusal recorded pass rows blocks l place line (line_errors.Refused c) (r
     let at : resolve_errors.At line.file line.number c ≡ resolve_errors.At file number cause = ap (λ x. resolve_errors.At x line.number c) is.file ∙ ap (λ x. resolve_errors.At l.file x c) is.number ∙ sym r in
     ap (Rattle.conf_rules.specs.Resolution.refusal_at line) (f (sym (ap is_fault same) ∙ fault)) ∙ ap (λ x. Some x) at
 
--- the same of what came of a line
+-- the same of the outcome of a line
 pub placed-folds : (recorded : Recorded) (pass : Pass) (rows : List Row) (blocks : Blocks) (l : ConfLine) (place : ℕ) (line : Line) (taken : Result (Unit {0}) LineError) (new : Fold)
     → IsLine l blocks line → FoldsEntry recorded pass rows blocks l place line taken new → Rattle.conf_fold.specs.Stands.Folds recorded pass rows blocks l place line (as_error (λ e. refused_at e l.file l.number) taken) new
 placed-folds recorded pass rows blocks l place line (Ok x) new is f = f

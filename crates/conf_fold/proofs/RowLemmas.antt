@@ -1,4 +1,4 @@
--- One more row behind the rows that a fold stands for.
+-- One more row after the rows that a fold represents.
 use Rattle.std.proofs.Common.{◌≡◌, ℕ, zero, suc, ◌+◌, ◌<◌, Bool, true, false, cond, not, ◌&&◌, ◌||◌, List, [], ◌∷◌, ◌++◌, length, map, take, Option, Some, Ok, refl, sym, ap, ◌∙◌, arith}
 use Rattle.std.specs.Prelude.{flat_map}
 use Rattle.std.specs.List.{list_all, list_any, slice_get}
@@ -59,7 +59,7 @@ pub behind-before : (rows : List Row) (row : Row) (pass : Pass) (opening : Bool)
 behind-before rows row pass true place own e h = let k : length (rows ++ row ∷ []) ≡ length rows + 1 = length-append rows (row ∷ []) in omega (arith, k, e)
 behind-before rows row pass false place own e h = h
 
--- what stands behind one more row
+-- what stands after one more row
 pub record More (recorded : Recorded) (pass : Pass) (fold new : Fold) (rows : List Row) (blocks : Blocks) (l : ConfLine) (place : ℕ) (row : Row) : Type 0 where
   pub original : new.original ≡ fold.original
   pub keeps : Keeps new.settings (flat_map given rows ++ given row)
@@ -83,7 +83,7 @@ stands-more recorded pass fold new rows blocks l place row s e m = record {
   in_pass = m.in_pass;
 }
 
--- the marks behind a line that opens no block
+-- the marks after a line that opens no block
 pub marks-same : (recorded : Recorded) (pass : Pass) (fold : Fold) (rows : List Row) (blocks : Blocks) (l : ConfLine) (place : ℕ) (row : Row)
     → Stands recorded pass fold rows blocks → opens_block l.keyword ≡ false → (l.opens ≡ false → l.depth < length fold.applies)
     → entered l.depth l.opens fold.applies ≡ map (open_applies (rows ++ row ∷ []) pass) (open_behind l place blocks)
@@ -95,7 +95,7 @@ marks-same recorded pass fold rows blocks l place row s o known =
     ∙ sym (marks-kept rows row pass (take l.depth blocks ++ own_of l blocks ∷ []) before)
     ∙ ap (λ t. map (open_applies (rows ++ row ∷ []) pass) (take l.depth blocks ++ block_behind t place (own_of l blocks) ∷ [])) (sym o)
 
--- the marks behind a line that opens a block
+-- the marks after a line that opens a block
 pub marks-opened : (recorded : Recorded) (pass : Pass) (fold : Fold) (rows : List Row) (blocks : Blocks) (l : ConfLine) (place : ℕ) (row : Row)
     → Stands recorded pass fold rows blocks → opens_block l.keyword ≡ true → length rows ≡ start_of pass + place
     → take l.depth fold.applies ++ row.applies ∷ [] ≡ map (open_applies (rows ++ row ∷ []) pass) (open_behind l place blocks)

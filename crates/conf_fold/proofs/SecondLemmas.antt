@@ -48,7 +48,7 @@ word-is (Some (Word text)) p e = let k : text ≡ p = cc in ap (λ x. Some (Word
 word-is None p e = absurd cc
 word-is (Some v) p e = absurd cc
 
--- patterns that were ignored stay ignored behind more rows
+-- patterns that were ignored stay ignored after more rows
 ignored-front : (rows more : List Row) (p : Bytes) → word_in (value keys.IgnoreUnknown rows) ≡ Some p → word_in (value keys.IgnoreUnknown (rows ++ more)) ≡ Some p
 unfolding values
 ignored-front rows more p e =
@@ -77,7 +77,7 @@ content-free j (Spelled bytes) e h = spelled-free j (as_error causes.Lex (head_o
 content-free j (Parts keyword words) e h = keyword-free j keyword [] (Ok words) (meaning_of keyword) e h
 content-free j (Refused cause) e h = absurd cc
 
--- a line of the command line that wasn't refused says the same behind more rows
+-- a line of the command line that wasn't refused says the same after more rows
 says-again : (rows more : List Row) (l : AskedLine) (e : LineContent) → entry_of rows (asked_line l) ≡ Ok e → entry_of (rows ++ more) (asked_line l) ≡ Ok e
 says-again rows more l e h = asked-says (rows ++ more) l ∙ on (word_in (value keys.IgnoreUnknown rows)) refl (sym (asked-says rows l) ∙ h)
   where
@@ -211,7 +211,7 @@ refused-front recorded rows done later extra new l ls none parts = on (is_refuse
         let here : refusal_at row.line row.entry ≡ None = sym (refusal-behind done row low) ∙ front in
         absurd (not-none row.line row.entry h here)
 
--- the parts of rows behind one more line
+-- the parts of rows after one more line
 next-later : (recorded : Recorded) (rows done later : List Row) (l : AskedLine) (ls : List AskedLine) → rows ≡ from recorded First done (length done) (map asked_line (l ∷ ls)) ++ later → is_refused (first_row recorded done l).entry ≡ false
     → rows ≡ from recorded First (done ++ first_row recorded done l ∷ []) (length (done ++ first_row recorded done l ∷ [])) (map asked_line ls) ++ later
 next-later recorded rows done later l ls parts ok =

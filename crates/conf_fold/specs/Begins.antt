@@ -16,7 +16,7 @@ use Rattle.conf_fold.specs.Stands.{Stands, next_row}
 abbrev pub asked_rows : Recorded → List Row
 asked_rows recorded = rows_from recorded entry_of [] (first_place First) (map asked_line recorded.asked.lines)
 
--- a fold that took no line
+-- a fold that has applied no line
 pub record IsEmpty (original : Bytes) (fold : Fold) : Type 0 where
   pub original_is : fold.original ≡ original
   pub settings : fold.settings ≡ []
@@ -25,15 +25,15 @@ pub record IsEmpty (original : Bytes) (fold : Fold) : Type 0 where
   pub name : fold.name ≡ None
   pub active : fold.were_active ≡ []
 
--- what a fold of the command line's lines is: it stands for their rows, or the first refused one is
--- told
+-- what a fold of the command line's lines is: it represents their rows, or the first refused one is
+-- reported
 abbrev pub IsBegun : Recorded → Result Fold ResolveError → Type 0
 IsBegun recorded (Ok fold) = Stands recorded First fold (asked_rows recorded) []
     × (refusal_in (asked_rows recorded) ≡ None)
 IsBegun recorded (Err OutOfMemory) = Unit {0}
 IsBegun recorded (Err e) = refusal_in (asked_rows recorded) ≡ Some e
 
--- the row of a line of the command line behind others
+-- the row of a line of the command line after others
 abbrev pub asked_row : Recorded → List Row → Line → Row
 asked_row recorded rows line = next_row recorded First rows (length rows) line
 
@@ -50,12 +50,12 @@ pub record Behind (recorded : Recorded) (rows : List Row) : Type 0 where
   pub parts : rows ≡ asked_rows recorded ++ later
   pub none : refusal_in rows ≡ None
 
--- the rows of the command line's lines in a second pass, behind those of the first
+-- the rows of the command line's lines in a second pass, after those of the first
 abbrev pub asked_again : Recorded → List Row → List Row
 asked_again recorded rows =
     rows_from recorded entry_of rows (first_place (Second rows)) (map asked_line recorded.asked.lines)
 
--- whether a second pass begins: where a line of the first asked for it, behind the lines of the
+-- whether a second pass begins: where a line of the first asked for it, after the lines of the
 -- command line
 abbrev pub SecondBegins : Recorded → List Row → Fold → Bool → Type 0
 SecondBegins recorded rows new false = list_any wants_second rows ≡ false

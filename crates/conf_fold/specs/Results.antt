@@ -13,12 +13,12 @@ use Rattle.conf_match.specs.Evaluated.{RanAll, RanSome, FailsOne}
 use Rattle.conf_reader.specs.declared.errors.LineError.{LineError}
 use Rattle.conf_reader.specs.declared.errors.LineError.TheVariants as line_errors
 
--- an error is the refusal of the reading, but want of memory may come at any time
+-- an error is the refusal of the reading, but memory may run out at any time
 abbrev pub FailsLine : {Y : Type 0} → LineError → Result Y Cause → Type 0
 FailsLine line_errors.OutOfMemory reading = Unit {0}
 FailsLine (line_errors.Refused cause) reading = reading ≡ Err cause
 
--- what was returned of a line is its reading, unless memory was wanting
+-- what was returned of a line is its reading, unless memory ran out
 abbrev pub GivesLine : {Y : Type 0} → Result Y LineError → Result Y Cause → Type 0
 GivesLine (Ok x) reading = reading ≡ Ok x
 GivesLine (Err e) reading = FailsLine e reading
@@ -37,7 +37,7 @@ abbrev pub RanUnless : Bool → Option (List Bytes) → Option (List Bytes) → 
 RanUnless broken old new commands =
     MatchBool broken (RanSome old new commands) (RanAll old new commands)
 
--- whether a line breaks off before what it says is done: memory or the runner failed
+-- whether a line breaks off before its content is applied: memory or the runner failed
 abbrev pub breaks_line : {A : Type 0} → Result A LineError → Bool
 breaks_line (Ok x) = false
 breaks_line (Err line_errors.OutOfMemory) = true
@@ -64,7 +64,7 @@ FailsAt file number result old new commands = Unit {0}
 
 -- ---- faults
 
--- the runner's fault comes only where its count rose, and every other answer leaves it, want of
+-- the runner's fault comes only if its count rose, and every other answer leaves the count, out of
 -- memory too
 abbrev pub HasLineCause : {A : Type 0} → Result A LineError → ℕ → ℕ → Type 0
 HasLineCause (Err (line_errors.Refused causes.RunFault)) before now = Rose before now

@@ -1,4 +1,4 @@
--- What a fold stands for: the rows of the places given so far, and the blocks that are open.
+-- What a fold represents: the rows of the places given so far, and the blocks that are open.
 use Rattle.std.specs.Prelude.{◌≡◌, ℕ, ◌+◌, ◌<◌, Bool, true, false, not, ◌&&◌, unwrap_or, if◌then◌else◌, List, [], ◌∷◌, ◌++◌, length, map, flat_map, take, Option, Some, None, is_some, Result, Ok, Err}
 use Rattle.std.specs.List.{list_any, slice_get}
 use Rattle.mux_outside.specs.declared.statuses.CommandStatus.{CommandStatus}
@@ -28,7 +28,7 @@ use Rattle.conf_fold.specs.declared.fold.Fold.{Fold}
 use Rattle.conf_reader.specs.declared.errors.LineError.{LineError}
 use Rattle.conf_reader.specs.declared.errors.LineError.TheVariants as line_errors
 
--- ---- what a fold stands for
+-- ---- what a fold represents
 
 -- whether the block that was opened at a line of a pass applies; where none is open, nothing stands
 -- in the way
@@ -74,7 +74,7 @@ abbrev pub InPass : Recorded → Pass → Fold → List Row → Type 0
 InPass recorded First fold rows = InFirst fold rows
 InPass recorded (Second before) fold rows = InSecond recorded fold rows before
 
--- a fold stands for these rows of a pass, where these blocks are open
+-- a fold represents these rows of a pass, where these blocks are open
 pub record Stands (recorded : Recorded) (pass : Pass) (fold : Fold) (rows : List Row) (blocks : Blocks) :
     Type 0 where
   pub original : fold.original ≡ recorded.asked.original
@@ -92,7 +92,7 @@ IsAgain recorded First place line = Unit {0}
 IsAgain recorded (Second before) place line = slice_get before place
     ≡ Some (row_of recorded entry_of (take place before) (record { pass = First; line = place }) line)
 
--- the line that comes next behind rows
+-- the line that comes next after rows
 pub record IsNext (recorded : Recorded) (pass : Pass) (rows : List Row) (blocks : Blocks) (given : ConfLine)
     (place : ℕ) (line : Line) : Type 0 where
   pub is_line : IsLine given blocks line
@@ -100,11 +100,11 @@ pub record IsNext (recorded : Recorded) (pass : Pass) (rows : List Row) (blocks 
   pub within : is_past_limit recorded line place ≡ false
   pub again : IsAgain recorded pass place line
 
--- where commands tell their statuses
+-- if the statuses of commands are recorded
 abbrev pub WhereRecorded : Option (List CommandStatus) → ((status : Bytes → ℕ) → Type 0) → Type 0
 WhereRecorded statuses fact = (status : Bytes → ℕ) → RecordsStatus statuses status → fact status
 
--- whatever rows a fold stands for, where commands tell and the line comes next
+-- whatever rows a fold represents, if commands record and the line comes next
 abbrev pub OnNext : Facts → Option (List CommandStatus) → Fold → ConfLine
     → (Recorded → Pass → List Row → Blocks → ℕ → Line → Type 0) → Type 0
 OnNext facts statuses fold given fact =
@@ -117,7 +117,7 @@ unfoldable pub next_row : Recorded → Pass → List Row → ℕ → Line → Ro
 next_row recorded pass rows place line =
     row_of recorded entry_of rows (record { pass = pass; line = place }) line
 
--- what reading and evaluating a line came to, before its refusal is placed
+-- the outcome of reading and evaluating a line, before its refusal is placed
 abbrev pub FoldsEntry : Recorded → Pass → List Row → Blocks → ConfLine → ℕ → Line
     → Result (Unit {0}) LineError → Fold → Type 0
 FoldsEntry recorded pass rows blocks given place line (Ok x) new =
@@ -128,7 +128,7 @@ FoldsEntry recorded pass rows blocks given place line (Err line_errors.OutOfMemo
 FoldsEntry recorded pass rows blocks given place line (Err (line_errors.Refused cause)) new =
     (is_fault cause ≡ false → (next_row recorded pass rows place line).entry ≡ Err cause)
 
--- what a fold did with a line: it stands for one more row, or the row is refused
+-- what a fold did with a line: it represents one more row, or the row is refused
 abbrev pub Folds : Recorded → Pass → List Row → Blocks → ConfLine → ℕ → Line
     → Result (Unit {0}) ResolveError → Fold → Type 0
 Folds recorded pass rows blocks given place line (Ok x) new =
@@ -169,7 +169,7 @@ view_of fold facts = record {
   name = or_text (host_so_far fold) fold.name;
 }
 
--- what a heading of a file says behind what was given so far
+-- what a heading of a file gives after what was given so far
 unfoldable pub entry_so_far : Fold → ConfLine → Result LineContent Cause
 entry_so_far fold line = headed_entry (word_in (setting keys.IgnoreUnknown fold)) UserFile
     (Says line.keyword line.rest)

@@ -30,7 +30,7 @@ pub fn has_final(criteria: &Criteria) -> bool
         .any(|criterion| matches!(criterion.kind, Kind::Final))
 }
 
-/// A text in lower case.
+// A text in lower case.
 fn lowered(alloc: Global, text: &[u8]) -> Result<Text, OutOfMemory>
     ensures { OnOk result (result ≡ Ok (lower text.now)) }
 {
@@ -41,7 +41,7 @@ fn lowered(alloc: Global, text: &[u8]) -> Result<Text, OutOfMemory>
     Ok(out)
 }
 
-/// Whether the patterns of IgnoreUnknown take a keyword.
+// Whether the patterns of IgnoreUnknown take a keyword.
 fn takes_keyword(alloc: Global, ignored: Option<&[u8]>, keyword: &[u8]) -> Result<bool, OutOfMemory>
     ensures { OnOk result (result ≡ Ok (takes_keyword (option_copied ignored.entry) keyword.now)) }
 {
@@ -56,7 +56,7 @@ fn takes_keyword(alloc: Global, ignored: Option<&[u8]>, keyword: &[u8]) -> Resul
     }
 }
 
-/// The words of a rest.
+// The words of a rest.
 fn split(alloc: Global, rest: &[u8]) -> Result<Texts, LineError>
     ensures read { GivesLine result (split rest.now) }
     ensures plain { IfErr result (λ e. is_line_fault e ≡ false) }
@@ -64,7 +64,7 @@ fn split(alloc: Global, rest: &[u8]) -> Result<Texts, LineError>
     Ok(split_words(alloc, rest)?)
 }
 
-/// What a Host line says.
+// The content of a Host line.
 fn host_entry(alloc: Global, rest: &[u8]) -> Result<LineContent, LineError>
     ensures read { GivesLine result (host_entry (split rest.now)) }
     ensures fits { IfOk result (λ entry. entry_fits entry ≡ true) }
@@ -73,7 +73,7 @@ fn host_entry(alloc: Global, rest: &[u8]) -> Result<LineContent, LineError>
     Ok(LineContent::Host(split(alloc, rest)?))
 }
 
-/// What a Match line says.
+// The content of a Match line.
 fn match_entry(alloc: Global, rest: &[u8]) -> Result<LineContent, LineError>
     ensures read { GivesLine result (match_entry (split rest.now)) }
     ensures fits { IfOk result (λ entry. entry_fits entry ≡ true) }
@@ -83,7 +83,7 @@ fn match_entry(alloc: Global, rest: &[u8]) -> Result<LineContent, LineError>
     Ok(LineContent::Match(read_criteria(alloc, &words)?))
 }
 
-/// What a line says whose words alone are read.
+// What a line says whose words alone are read.
 fn words_entry(alloc: Global, rest: &[u8]) -> Result<LineContent, LineError>
     ensures read { GivesLine result (words_entry (split rest.now)) }
     ensures fits { IfOk result (λ entry. entry_fits entry ≡ true) }
@@ -93,7 +93,7 @@ fn words_entry(alloc: Global, rest: &[u8]) -> Result<LineContent, LineError>
     Ok(LineContent::Nothing)
 }
 
-/// What words give to a key.
+// What words give to a key.
 fn value_entry(
     alloc: Global,
     key: Key,
@@ -107,7 +107,7 @@ fn value_entry(
     Ok(LineContent::Gives(key, read_value(alloc, key, rest, words)?))
 }
 
-/// What a line gives to a key.
+// What a line gives to a key.
 fn key_entry(alloc: Global, key: Key, rest: &[u8]) -> Result<LineContent, LineError>
     ensures read { GivesLine result (key_entry key rest.now (split rest.now)) }
     ensures fits { IfOk result (λ entry. entry_fits entry ≡ true) }
@@ -120,7 +120,7 @@ fn key_entry(alloc: Global, key: Key, rest: &[u8]) -> Result<LineContent, LineEr
     value_entry(alloc, key, rest, &words)
 }
 
-/// What given words give to a key.
+// What given words give to a key.
 fn parts_key_entry(alloc: Global, key: Key, words: &Texts) -> Result<LineContent, LineError>
     ensures read { GivesLine result (key_entry key [] (Ok words.now)) }
     ensures fits { IfOk result (λ entry. entry_fits entry ≡ true) }
@@ -132,7 +132,7 @@ fn parts_key_entry(alloc: Global, key: Key, words: &Texts) -> Result<LineContent
     value_entry(alloc, key, b"", words)
 }
 
-/// What a line of an unknown keyword says.
+// What a line of an unknown keyword says.
 fn unknown_entry(
     alloc: Global,
     ignored: Option<&[u8]>,
@@ -152,8 +152,8 @@ fn unknown_entry(
     Err(LineError::Refused(Cause::UnknownKeyword(keyword)))
 }
 
-/// What given words of an unknown keyword say. The letters of the command line name keys alone, but
-/// `AskedLine` is public and its keyword any text.
+// What given words of an unknown keyword say. The letters of the command line name keys alone, but
+// `AskedLine` is public and its keyword any text.
 fn parts_unknown_entry(
     alloc: Global,
     ignored: Option<&[u8]>,
@@ -195,7 +195,7 @@ pub fn file_entry(
     }
 }
 
-/// What a heading of the command line says.
+// What a heading of the command line says.
 fn asked_heading(
     alloc: Global,
     ignored: Option<&[u8]>,
@@ -217,7 +217,7 @@ fn asked_heading(
     }
 }
 
-/// What a line of the command line says that is read as one of a file.
+// What a line of the command line says that is read as one of a file.
 fn asked_text(alloc: Global, ignored: Option<&[u8]>, line: &[u8]) -> Result<LineContent, LineError>
     ensures read { GivesLine result
         (spelled_entry (option_copied ignored.entry) CommandLine line.now) }
@@ -230,7 +230,7 @@ fn asked_text(alloc: Global, ignored: Option<&[u8]>, line: &[u8]) -> Result<Line
     }
 }
 
-/// What a keyword of the command line says with words that are taken as they are.
+// What a keyword of the command line gives with words that are kept as they are.
 fn asked_parts(
     alloc: Global,
     ignored: Option<&[u8]>,

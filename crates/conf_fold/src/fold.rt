@@ -32,7 +32,7 @@ pub struct Fold {
     applies: ListOf<bool>,
     // Whether some Match line asked for a second pass.
     asks_again: bool,
-    // In the second pass the host name behind the first.
+    // In the second pass the host name after the first.
     name: Option<Text>,
     // Whether each line that gives a value to collect was active in the first pass.
     were_active: ListOf<bool>,
@@ -40,7 +40,7 @@ pub struct Fold {
     seen: usize,
 }
 
-/// The number of the word at which a line of the command line stands.
+// The number of the word at which a line of the command line stands.
 fn number_of(line: &AskedLine) -> u64
     ensures { result ≡ (asked_line line.now).number }
 {
@@ -55,7 +55,7 @@ fn number_of(line: &AskedLine) -> u64
 }
 
 impl Fold {
-    /// A fold of no line.
+    // A fold of no line.
     fn of_nothing(alloc: Global, original: &[u8]) -> Result<Fold, OutOfMemory>
         ensures { IfOk result (λ fold. IsEmpty original.now fold) }
     {
@@ -83,7 +83,7 @@ impl Fold {
         Ok(fold)
     }
 
-    /// Takes a line of the command line.
+    // Takes a line of the command line.
     fn asked_line(&mut self, line: &AskedLine) -> Result<(), ResolveError>
         ensures takes { (recorded : Recorded) (rows : List Row) → Stands recorded First self.old rows []
             → TakesAsked recorded rows (asked_line line.now) result self.new }
@@ -97,7 +97,7 @@ impl Fold {
         Ok(())
     }
 
-    /// Takes what a line of the command line says, which is active.
+    // Applies the content of a line of the command line, which is active.
     fn take_asked(&mut self, entry: LineContent) -> Result<(), OutOfMemory>
         requires fits { entry_fits entry ≡ true }
         ensures keeps { OnOk result ((given : List Given) → Keeps self.old.settings given
@@ -130,7 +130,7 @@ impl Fold {
         Ok(true)
     }
 
-    /// How many files are open: 1 more than the depth of the line that was taken last.
+    /// How many files are open: 1 more than the depth of the line that was applied last.
     pub fn open_files(&self) -> usize
         ensures count { result ≡ length self.now.applies }
     {
@@ -154,14 +154,14 @@ impl Fold {
         settings
     }
 
-    /// The text of a key.
+    // The text of a key.
     fn text(&self, key: Key) -> Option<&[u8]>
         ensures { option_copied result ≡ word_in (setting key self.now) }
     {
         self.settings.word(key)
     }
 
-    /// The host name so far.
+    // The host name so far.
     fn host(&self) -> Result<Text, OutOfMemory>
         ensures { OnOk result (result ≡ Ok (host_so_far self.now)) }
     {
@@ -171,7 +171,7 @@ impl Fold {
         }
     }
 
-    /// The name that a Host line sees.
+    // The name that a Host line sees.
     fn block_name(&self) -> &[u8]
         ensures { result.now ≡ block_name self.now }
     {

@@ -1,5 +1,5 @@
 -- What was read of the words so far, joined with what is still to be read, and the byte that a
--- backslash stands for.
+-- backslash represents.
 use Rattle.std.specs.Prelude.{ℕ, ◌&&◌, ◌==◌, if◌then◌else◌, List, [], ◌∷◌, ◌++◌, Option, Some, None, Ok}
 use Rattle.conf_rules.specs.declared.quoting.Quoting.{Quoting}
 use Rattle.conf_rules.specs.Results.{◌>>=◌}

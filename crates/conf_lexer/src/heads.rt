@@ -13,7 +13,7 @@ pub enum Head<'a> {
     Line { keyword: &'a [u8], rest: &'a [u8] },
 }
 
-/// How many blanks stand at the front.
+// How many blanks stand at the front.
 fn blanks(bytes: &[u8]) -> usize
     ensures count { result ≡ prefix_len is_blank bytes.now }
     ensures within { result ≤ length bytes.now }
@@ -24,7 +24,7 @@ fn blanks(bytes: &[u8]) -> usize
         .count()
 }
 
-/// How many bytes stand at the front that a keyword may have.
+// How many bytes stand at the front that a keyword may have.
 fn keyword_len(bytes: &[u8]) -> usize
     ensures count { result ≡ prefix_len is_keyword bytes.now }
     ensures within { result ≤ length bytes.now }
@@ -35,7 +35,7 @@ fn keyword_len(bytes: &[u8]) -> usize
         .count()
 }
 
-/// How many bytes at the end are no part of the line; 12 is a form feed.
+// How many bytes at the end are no part of the line; 12 is a form feed.
 fn endings(bytes: &[u8]) -> usize
     ensures count { result ≡ suffix_len is_ending bytes.now }
     ensures within { result ≤ length bytes.now }
@@ -47,14 +47,14 @@ fn endings(bytes: &[u8]) -> usize
         .count()
 }
 
-/// The place of the first zero byte.
+// The place of the first zero byte.
 fn zero_at(bytes: &[u8]) -> Option<usize>
     ensures { result ≡ position is_zero bytes.now }
 {
     bytes.iter().position(|b| *b == 0)
 }
 
-/// What stands behind an equals sign and its blanks, at place `at` of the line.
+// What stands after an equals sign and its blanks, at place `at` of the line.
 fn second_equals(text: &[u8], at: usize) -> Result<&[u8], LexError>
     ensures { Shows (λ rest. rest.now) result (second_equals at text.now) }
 {
@@ -64,7 +64,7 @@ fn second_equals(text: &[u8], at: usize) -> Result<&[u8], LexError>
     }
 }
 
-/// What stands behind the keyword and its blanks, at place `at` of the line.
+// What stands after the keyword and its blanks, at place `at` of the line.
 #[tactic(auto, unfolding(conf_rules::specs::Heads::after_keyword))]
 fn after_keyword(text: &[u8], at: usize) -> Result<&[u8], LexError>
     requires { at + length text.now < 2 ^ 64 }
@@ -79,7 +79,7 @@ fn after_keyword(text: &[u8], at: usize) -> Result<&[u8], LexError>
     }
 }
 
-/// A line that begins, without blanks, at place `at`.
+// A line that begins, without blanks, at place `at`.
 #[tactic(auto, unfolding(conf_rules::specs::Heads::sent_at))]
 fn sent_at(text: &[u8], at: usize) -> Result<Head<'_>, LexError>
     requires { at + length text.now < 2 ^ 64 }
@@ -94,7 +94,7 @@ fn sent_at(text: &[u8], at: usize) -> Result<Head<'_>, LexError>
     Ok(Head::Line { keyword, rest })
 }
 
-/// The same, unless the line is empty or a comment.
+// The same, unless the line is empty or a comment.
 #[tactic(auto, unfolding(conf_rules::specs::Heads::uncommented))]
 fn uncommented(text: &[u8], at: usize) -> Result<Head<'_>, LexError>
     requires { at + length text.now < 2 ^ 64 }
@@ -108,7 +108,7 @@ fn uncommented(text: &[u8], at: usize) -> Result<Head<'_>, LexError>
 
 /// A line's keyword and what follows it (ssh_config(5)): blanks around them and line endings are
 /// dropped, and one equals sign may stand between them. `at` of a refusal is a byte's place in
-/// `line`. It takes no memory.
+/// `line`. It allocates no memory.
 #[tactic(auto, unfolding(conf_rules::specs::Heads::head_of))]
 pub fn split_head(line: &[u8]) -> Result<Head<'_>, LexError>
     ensures exact { Shows heading result (head_of line.now) }

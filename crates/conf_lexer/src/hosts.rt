@@ -7,14 +7,14 @@ ghost use Rattle.conf_lexer.specs.Hosts.{plain_host};
 
 use crate::bytes::first;
 
-/// Whether a byte is a colon or a bracket.
+// Whether a byte is a colon or a bracket.
 fn is_host_byte(b: u8) -> bool
     ensures { result ≡ is_host_byte b }
 {
     b == b':' || b == b'[' || b == b']'
 }
 
-/// What stands before a closing bracket.
+// What stands before a closing bracket.
 fn before_bracket(inner: &[u8]) -> Option<&[u8]>
     ensures { option_copied result ≡ before_bracket (split_last inner.now) }
 {
@@ -24,14 +24,14 @@ fn before_bracket(inner: &[u8]) -> Option<&[u8]>
     }
 }
 
-/// Whether a text has a colon or a bracket.
+// Whether a text has a colon or a bracket.
 fn has_host_byte(text: &[u8]) -> bool
     ensures { result ≡ list_any is_host_byte text.now }
 {
     text.iter().any(|b| is_host_byte(*b))
 }
 
-/// A host without brackets.
+// A host without brackets.
 fn plain_host(host: &[u8]) -> Option<&[u8]>
     ensures { option_copied result ≡ plain_host host.now }
 {

@@ -1,8 +1,7 @@
-//! Lines and words of a configuration, read as ssh_config(5) says.
-//! `next_line` gives the lines of a text one by one, `split_head` a line's keyword and what follows
-//! it, `split_words` the words of that. Both of these name the byte at which a line is refused.
-//! What a word's host and its number are stands here too, for the values of a file and for the
-//! words of the command line.
+//! Lines and words of a configuration, read as ssh_config(5) defines. `next_line` gives the lines
+//! of a text one by one, `split_head` a line's keyword and what follows it, `split_words` the words
+//! of that. Both of these name the byte at which a line is refused. What a word's host and its
+//! number are stands here too, for the values of a file and for the words of the command line.
 #![tactic(auto)]
 
 mod bytes;

@@ -2,7 +2,7 @@ ghost use Rattle.std.specs.Prelude.{◌≡◌, ◌↔◌, ◌≤◌, ◌<◌, �
 ghost use Rattle.std.specs.List.{prefix_len};
 ghost use Rattle.conf_rules.specs.Heads.{lines_of};
 
-/// How many bytes stand before the first line feed.
+// How many bytes stand before the first line feed.
 fn line_len(bytes: &[u8]) -> usize
     ensures count { result ≡ prefix_len (λ b. not (b == 10)) bytes.now }
     ensures within { result ≤ length bytes.now }
@@ -11,7 +11,7 @@ fn line_len(bytes: &[u8]) -> usize
 }
 
 /// The line of a text that begins at a place: where it ends, without its line feed, and where the
-/// next one begins. It takes no memory.
+/// next one begins. It allocates no memory.
 pub fn next_line(text: &[u8], at: usize) -> Option<(usize, usize)>
     requires { at ≤ length text.now }
     ensures none { IsNone result ↔ (at ≡ length text.now) }

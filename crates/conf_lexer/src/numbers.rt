@@ -1,7 +1,7 @@
 ghost use Rattle.std.specs.Prelude.{◌≡◌, ◌≤◌, ◌+◌, ◌-◌, ◌*◌, ◌^◌, MatchOption};
 ghost use Rattle.conf_rules.specs.Numbers.{number_within};
 
-/// A number with one more digit, if it fits.
+// A number with one more digit, if it fits.
 fn with_digit(number: u64, digit: u8) -> Option<u64>
     requires { (48 ≤ digit) × (digit ≤ 57) }
     ensures { MatchOption result (2 ^ 64 ≤ number * 10 + (digit - 48)) (λ n.

@@ -12,7 +12,7 @@ use ssh_fields::{Text, Texts};
 use std::alloc::Global;
 use std::mem;
 
-/// Whether a backslash before this byte stands for the byte.
+// Whether a backslash before this byte represents the byte.
 fn is_escapable(quoting: Quoting, byte: u8) -> bool
     ensures { result ≡ is_escapable quoting byte }
 {
@@ -22,7 +22,7 @@ fn is_escapable(quoting: Quoting, byte: u8) -> bool
     }
 }
 
-/// Where the reading stands behind a byte that a backslash gave.
+// The state of the reading after a byte that a backslash gave.
 fn inside(quoting: Quoting) -> Quoting
     ensures { result ≡ inside quoting }
 {
@@ -32,7 +32,7 @@ fn inside(quoting: Quoting) -> Quoting
     }
 }
 
-/// What a byte does, at its place in the rest.
+// What a byte does, at its place in the rest.
 #[tactic(auto, unfolding(conf_rules::specs::Words::move_of))]
 fn move_of(quoting: Quoting, at: usize, byte: u8) -> Move
     ensures { result ≡ move_of quoting at byte }
@@ -50,7 +50,7 @@ fn move_of(quoting: Quoting, at: usize, byte: u8) -> Move
     }
 }
 
-/// The byte that a backslash stands for, where this byte is one and is read so, and what follows.
+// The byte that a backslash represents, where this byte is one and is read so, and what follows.
 #[tactic(auto, unfolding(crate::specs::Reading::escaped))]
 fn escaped(quoting: Quoting, byte: u8, after: &[u8]) -> Option<(u8, &[u8])>
     ensures { option_map (λ x. (x.0, x.1.now)) result ≡ escaped quoting byte after.now }
@@ -59,7 +59,7 @@ fn escaped(quoting: Quoting, byte: u8, after: &[u8]) -> Option<(u8, &[u8])>
     (byte == b'\\' && is_escapable(quoting, next)).then_some((next, rest))
 }
 
-/// All words, or none.
+// All words, or none.
 fn all_words(alloc: Global, rest: &[u8]) -> Result<Texts, LexError>
     ensures { Gives lex_wants_memory result (words_from Between 0 rest.now) }
 {
@@ -101,9 +101,9 @@ fn all_words(alloc: Global, rest: &[u8]) -> Result<Texts, LexError>
     }
 }
 
-/// The words of a rest (ssh_config(5)): blanks part them, quotes enclose blanks, a backslash stands
-/// for a quote, a backslash or a space, and a number sign at a word's start ends them. `at` of a
-/// refusal is a byte's place in `rest`.
+/// The words of a rest (ssh_config(5)): blanks part them, quotes enclose blanks, a backslash
+/// represents a quote, a backslash or a space, and a number sign at a word's start ends them. `at`
+/// of a refusal is a byte's place in `rest`.
 pub fn split_words(alloc: Global, rest: &[u8]) -> Result<Texts, LexError>
     ensures exact { Gives lex_wants_memory result (words_of rest.now) }
 {

@@ -39,7 +39,7 @@ goes_all old new words at true false n m added here last =
       within = omega (arith, here);
     }
 
--- ---- a word and the words behind it
+-- ---- a word and the words after it
 
 pub of_plain : (at : ℕ) (may : Bool) (word : Bytes) (rest : List Bytes) (kind : Kind) → (spelled word).name ≡ Plain kind → criteria_from at may (word ∷ rest) ≡ unvalued at (spelled word).value (plain_criterion at may (spelled word).negated kind rest (criteria_from (at + 1) (opens_all kind) rest))
 unfolding criteria_from

@@ -17,7 +17,7 @@ both_ran (Some cs) now new a b h k = k ∙ rw (h, append_assoc) refl
 
 -- ---- verdicts
 
--- a verdict behind commands that were run before
+-- a verdict after commands that were run before
 abbrev behind : List Bytes → Verdict → Verdict
 behind commands v = record { holds = v.holds; ran = commands ++ v.ran }
 

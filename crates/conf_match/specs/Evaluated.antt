@@ -35,7 +35,7 @@ abbrev pub takes_local_user : View → Bytes → Result Bool TokenError
 takes_local_user view patterns = fact_of 117 view.facts.local_user >>= λ user.
     Ok (list_takes patterns user)
 
--- a runner tells that commands end with these statuses
+-- a runner records that commands end with these statuses
 abbrev pub RecordsStatus : Option (List CommandStatus) → (Bytes → ℕ) → Type 0
 RecordsStatus None status = ⊥
 RecordsStatus (Some statuses) status = status ≡ status_of statuses
@@ -46,7 +46,7 @@ Evaluated (Ok b) holds = holds ≡ Ok b
 Evaluated (Err (Token e)) holds = holds ≡ Err e
 Evaluated (Err e) holds = Unit {0}
 
--- these commands were run behind those that were run before
+-- these commands were run after those that were run before
 abbrev pub RanAll : Option (List Bytes) → Option (List Bytes) → List Bytes → Type 0
 RanAll old new commands = new ≡ option_map (λ cs. cs ++ commands) old
 

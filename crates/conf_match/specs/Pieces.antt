@@ -8,7 +8,7 @@ use Rattle.conf_match.specs.declared.pieces.Piece.TheVariants as pieces
 use Rattle.conf_match.specs.declared.pieces.Syntax.{Syntax}
 use Rattle.conf_match.specs.declared.pieces.Syntax.TheVariants.{Pattern, Glob}
 
--- the end of a range behind its first byte, and what follows
+-- the end of a range after its first byte, and what follows
 unfoldable pub range_end : Bytes → Option (ℕ × Bytes)
 range_end [] = None
 range_end (y ∷ []) = None
@@ -21,7 +21,7 @@ piece_meaning pieces.One = globs.One
 piece_meaning (pieces.Same b) = globs.Same b
 piece_meaning (pieces.Class negated members) = globs.Class negated members.now
 
--- a piece, and how many more bytes it takes
+-- a piece, and how many more bytes it consumes
 abbrev pub with_count : Piece × ℕ → globs.Piece × ℕ
 with_count p = (piece_meaning p.0, p.1)
 
@@ -39,7 +39,7 @@ abbrev pub pieces_by : Syntax → Bytes → List globs.Piece
 pieces_by Pattern pattern = map plain_piece pattern
 pieces_by (Glob tail) pattern = pieces_from 0 pattern
 
--- the piece that a byte begins, and how many more bytes it takes
+-- the piece that a byte begins, and how many more bytes it consumes
 abbrev pub piece_by : Syntax → ℕ → Bytes → globs.Piece × ℕ
 piece_by Pattern b bs = (plain_piece b, 0)
 piece_by (Glob tail) b bs = piece_at b bs

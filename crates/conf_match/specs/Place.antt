@@ -10,11 +10,11 @@ use Rattle.conf_rules.specs.Texts.{Bytes}
 use Rattle.conf_rules.specs.Criteria.{ReadCriteria, criteria_from, with_criterion, all_alone}
 use Rattle.conf_match.specs.declared.criteria.Place.{Place}
 
--- criteria in front of what is read
+-- criteria before what is read
 abbrev pub onto : List Criterion → ReadCriteria → ReadCriteria
 onto front reading = reading >>= λ cs. Ok (front ++ cs)
 
--- a criterion that takes a value, with the words behind it
+-- a criterion that has a value, with the words after it
 abbrev pub valued : ℕ → Bool → Kind → Option Bytes → List Bytes → ReadCriteria
 valued at negated kind (Some value) rest =
     with_criterion negated kind value (criteria_from (at + 1) false rest)
@@ -37,14 +37,14 @@ abbrev pub Takes : Result Place MatchError → List Criterion → List Criterion
 Takes (Ok place) old new words at reading = Goes old new words at place reading
 Takes (Err e) old new words at reading = Fails match_wants_memory e reading
 
--- a criterion was added, unless memory was wanting
+-- a criterion was added, unless memory ran out
 abbrev pub Adds : Result (Unit {0}) MatchError → List Criterion → List Criterion → Bool → Kind
     → Bytes → Type 0
 Adds (Ok x) old new negated kind value =
     new ≡ old ++ record { negated = negated; kind = kind; value = value } ∷ []
 Adds (Err e) old new negated kind value = e ≡ OutOfMemory
 
--- `all`, with the words behind it
+-- `all`, with the words after it
 abbrev pub every : ℕ → Bool → Bool → List Bytes → ReadCriteria
 every at may true words = Err (Unknown at)
 every at may false words = all_alone may words

@@ -16,7 +16,7 @@ pub struct Place {
     pub may: bool,
 }
 
-/// Adds a criterion; behind it the reading goes on at a word.
+// Adds a criterion; after it the reading goes on at a word.
 fn add(
     alloc: Global,
     criteria: &mut Criteria,
@@ -34,7 +34,7 @@ fn add(
     Ok(())
 }
 
-/// Takes `all`, which is the last criterion and stands where it may.
+// Takes `all`, which is the last criterion and stands where it may.
 fn take_all(
     alloc: Global,
     criteria: &mut Criteria,
@@ -62,7 +62,7 @@ fn take_all(
     })
 }
 
-/// Takes a criterion that takes no value, at a word of these.
+// Takes a criterion that takes no value, at a word of these.
 fn take_plain(
     alloc: Global,
     criteria: &mut Criteria,
@@ -86,7 +86,7 @@ fn take_plain(
     })
 }
 
-/// Takes a criterion with its value, behind which a word comes.
+// Reads a criterion with its value, after which a word follows.
 fn take_value(
     alloc: Global,
     criteria: &mut Criteria,
@@ -109,7 +109,7 @@ fn take_value(
     })
 }
 
-/// Takes a criterion whose value is the next word.
+// Takes a criterion whose value is the next word.
 fn take_next(
     alloc: Global,
     criteria: &mut Criteria,
@@ -129,7 +129,7 @@ fn take_next(
     Err(MatchError::NoValue { word: at })
 }
 
-/// Takes one criterion.
+// Takes one criterion.
 fn take(
     alloc: Global,
     criteria: &mut Criteria,
@@ -159,7 +159,7 @@ fn take(
 
 /// The criteria that the words of `Match` spell, or the first refusal from the left: a word that
 /// names none, that isn't supported, whose value is missing, or an `all` that doesn't stand alone
-/// or right behind `canonical` or `final`.
+/// or right after `canonical` or `final`.
 pub fn read_criteria(alloc: Global, words: &Texts) -> Result<Criteria, MatchError>
     ensures { Gives match_wants_memory result (read_criteria words.now) }
 {

@@ -45,7 +45,7 @@ impl From<FileError> for EvalError {
     }
 }
 
-/// Whether a list of patterns takes a name.
+// Whether a list of patterns takes a name.
 fn takes(patterns: &[u8], name: &[u8]) -> bool
     ensures { result ≡ list_takes patterns.now name.now }
 {
@@ -55,7 +55,7 @@ fn takes(patterns: &[u8], name: &[u8]) -> bool
     }
 }
 
-/// Whether a list of patterns takes the user, or else the local user.
+// Whether a list of patterns takes the user, or else the local user.
 fn takes_user(patterns: &[u8], view: &View<'_>) -> Result<bool, TokenError>
     ensures { Shows (λ holds. holds) result (takes_user (seen view.now) patterns.now) }
 {
@@ -63,7 +63,7 @@ fn takes_user(patterns: &[u8], view: &View<'_>) -> Result<bool, TokenError>
     Ok(takes(patterns, user))
 }
 
-/// Whether a list of patterns takes the local user.
+// Whether a list of patterns takes the local user.
 fn takes_local_user(patterns: &[u8], view: &View<'_>) -> Result<bool, TokenError>
     ensures { Shows (λ holds. holds) result (takes_local_user (seen view.now) patterns.now) }
 {
@@ -71,7 +71,7 @@ fn takes_local_user(patterns: &[u8], view: &View<'_>) -> Result<bool, TokenError
     Ok(takes(patterns, user))
 }
 
-/// Whether a command, expanded, ends with status 0.
+// Whether a command, expanded, ends with status 0.
 fn exec<R: Runner>(
     alloc: Global,
     value: &[u8],
@@ -94,7 +94,7 @@ fn exec<R: Runner>(
     Ok(status == 0)
 }
 
-/// Whether the plain criterion holds.
+// Whether the plain criterion holds.
 fn plain<R: Runner>(
     alloc: Global,
     kind: Kind,
@@ -126,7 +126,7 @@ fn plain<R: Runner>(
     }
 }
 
-/// Whether a criterion holds.
+// Whether a criterion holds.
 fn one<R: Runner>(
     alloc: Global,
     criterion: &Criterion,

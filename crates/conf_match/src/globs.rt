@@ -5,7 +5,7 @@ ghost use Rattle.conf_match.specs.Pieces.{NoneInLast};
 use crate::pieces::Syntax;
 use crate::stars::takes_name;
 
-/// How many bytes stand behind the last closing bracket; where there is none, all.
+// How many bytes stand after the last closing bracket; where there is none, all.
 fn tail_of(pattern: &[u8]) -> usize
     ensures { NoneInLast result pattern.now }
 {
@@ -19,7 +19,7 @@ fn tail_of(pattern: &[u8]) -> usize
     pattern.len()
 }
 
-/// Whether a text begins with a dot.
+// Whether a text begins with a dot.
 fn is_dotted(text: &[u8]) -> bool
     ensures { result ≡ is_dotted text.now }
 {
@@ -29,9 +29,9 @@ fn is_dotted(text: &[u8]) -> bool
     }
 }
 
-/// Whether a component of a path takes a name (glob(7)): one with a leading dot only where the
-/// component begins with a dot itself. It takes no memory, and at most about the product of both
-/// lengths in steps.
+/// Whether a component of a path matches a name (glob(7)): one with a leading dot only where the
+/// component begins with a dot itself. It allocates no memory, and at most about the product of
+/// both lengths in steps.
 #[tactic(auto, unfolding(conf_rules::specs::Globs::component_takes))]
 pub fn glob_component(pattern: &[u8], name: &[u8]) -> bool
     ensures { result ≡ component_takes pattern.now name.now }

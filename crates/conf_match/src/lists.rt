@@ -8,7 +8,7 @@ use conf_lexer::split_at_first;
 use conf_rules::ListAnswer;
 use ssh_fields::Texts;
 
-/// What one pattern says of a name.
+// What one pattern says of a name.
 #[tactic(auto, unfolding(conf_rules::specs::Patterns::answer_of))]
 fn one(pattern: &[u8], text: &[u8]) -> ListAnswer
     ensures { result ≡ answer_of (pattern.now ∷ []) text.now }
@@ -31,7 +31,7 @@ fn one(pattern: &[u8], text: &[u8]) -> ListAnswer
     }
 }
 
-/// What two lists say together.
+// What two lists say together.
 fn either(first: ListAnswer, second: ListAnswer) -> ListAnswer
     ensures { result ≡ either first second }
 {
@@ -43,7 +43,7 @@ fn either(first: ListAnswer, second: ListAnswer) -> ListAnswer
 }
 
 /// What a list of patterns, which commas part, says of a name: denied where a negated one matches,
-/// else yes where a plain one does. It takes no memory.
+/// else yes where a plain one does. It allocates no memory.
 pub fn matches_list(list: &[u8], text: &[u8]) -> ListAnswer
     ensures { result ≡ answer_of (split_at_each 44 list.now) text.now }
 {
@@ -56,7 +56,7 @@ pub fn matches_list(list: &[u8], text: &[u8]) -> ListAnswer
     either(answer, one(left, text))
 }
 
-/// The same of patterns that are words. It takes no memory.
+/// The same of patterns that are words. It allocates no memory.
 pub fn matches_words(words: &Texts, text: &[u8]) -> ListAnswer
     ensures { result ≡ answer_of words.now text.now }
 {

@@ -12,11 +12,11 @@ use conf_rules::{Kind, Named};
 pub struct Spelled<'a> {
     pub negated: bool,
     pub name: Named,
-    /// The text behind its first equals sign.
+    /// The text after its first equals sign.
     pub value: Option<&'a [u8]>,
 }
 
-/// Whether a name is of a criterion that needs facts that aren't known.
+// Whether a name is of a criterion that needs facts that aren't known.
 fn is_unsupported(name: &[u8]) -> bool
     ensures { result ≡ list_any (same_word name.now) not_supported }
 {
@@ -26,7 +26,7 @@ fn is_unsupported(name: &[u8]) -> bool
         || name.eq_ignore_ascii_case(b"version")
 }
 
-/// What a name is, in any case.
+// What a name is, in any case.
 fn name_of(name: &[u8]) -> Named
     ensures { result ≡ named name.now }
 {
@@ -63,7 +63,7 @@ fn name_of(name: &[u8]) -> Named
     Named::NoName
 }
 
-/// A word behind its exclamation mark, if it has one.
+// A word after its exclamation mark, if it has one.
 fn split_value(negated: bool, word: &[u8]) -> Spelled<'_>
     ensures { shown result ≡ split_value negated word.now }
 {
@@ -91,7 +91,7 @@ pub fn read_word(word: &[u8]) -> Spelled<'_>
     }
 }
 
-/// Whether `all` may stand behind a criterion.
+/// Whether `all` may stand after a criterion.
 pub fn opens_all(kind: Kind) -> bool
     ensures { result ≡ opens_all kind }
 {

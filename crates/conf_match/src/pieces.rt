@@ -21,13 +21,13 @@ pub enum Piece<'a> {
     Any,
     /// A question mark.
     One,
-    /// A byte that stands for itself.
+    /// A byte that represents itself.
     Same(u8),
     /// A class, whose members are single bytes and ranges.
     Class { negated: bool, members: &'a [u8] },
 }
 
-/// The end of a range behind its first byte, and what follows.
+// The end of a range after its first byte, and what follows.
 #[tactic(auto, unfolding(crate::specs::Pieces::range_end))]
 fn range_end(behind: &[u8]) -> Option<(u8, &[u8])>
     ensures { option_map (λ x. (x.0, x.1.now)) result ≡ range_end behind.now }
@@ -37,14 +37,14 @@ fn range_end(behind: &[u8]) -> Option<(u8, &[u8])>
     (dash == b'-').then_some((end, rest))
 }
 
-/// Whether a byte is in a range.
+// Whether a byte is in a range.
 fn is_within(start: u8, byte: u8, end: u8) -> bool
     ensures { result ≡ (nat_le start byte && nat_le byte end) }
 {
     start <= byte && byte <= end
 }
 
-/// Whether a byte is among those of a class.
+// Whether a byte is among those of a class.
 fn in_class(byte: u8, members: &[u8]) -> bool
     ensures { result ≡ in_class byte members.now }
 {
@@ -65,8 +65,8 @@ fn in_class(byte: u8, members: &[u8]) -> bool
     false
 }
 
-/// The members of a class behind its bracket, and how many bytes it takes. Where a class isn't
-/// closed it is not looked for: no closing bracket stands among the last `tail` bytes.
+// The members of a class after its bracket, and how many bytes it consumes. Where a class isn't
+// closed it is not looked for: no closing bracket stands among the last `tail` bytes.
 fn class_of(bytes: &[u8], tail: usize) -> Option<(&[u8], usize)>
     requires { NoneInLast tail bytes.now }
     ensures class { option_map (λ x. (x.0.now, x.1)) result ≡ class_of bytes.now }
@@ -80,7 +80,7 @@ fn class_of(bytes: &[u8], tail: usize) -> Option<(&[u8], usize)>
     Some((&bytes[..inner.len() + 1], inner.len() + 2))
 }
 
-/// The piece that an open bracket begins, and how many more bytes it takes.
+// The piece that an open bracket begins, and how many more bytes it consumes.
 fn bracketed(bytes: &[u8], tail: usize) -> (Piece<'_>, usize)
     requires { NoneInLast tail bytes.now }
     ensures piece { with_count result ≡ bracketed bytes.now }
@@ -110,7 +110,7 @@ fn bracketed(bytes: &[u8], tail: usize) -> (Piece<'_>, usize)
     }
 }
 
-/// The piece that a byte begins, and how many more bytes it takes.
+// The piece that a byte begins, and how many more bytes it consumes.
 fn piece_at(syntax: Syntax, byte: u8, behind: &[u8]) -> (Piece<'_>, usize)
     requires { Fits syntax behind.now }
     ensures piece { with_count result ≡ piece_by syntax byte behind.now }

@@ -16,7 +16,7 @@ pub enum Segment<'p, 't> {
     Star(&'p [u8], &'t [u8]),
 }
 
-/// Goes to the pattern's first star.
+// Goes to the pattern's first star.
 fn to_star<'p, 't>(syntax: Syntax, pattern: &'p [u8], name: &'t [u8]) -> Segment<'p, 't>
     requires { Fits syntax pattern.now }
     ensures { Begins syntax pattern.now name.now result }
@@ -43,7 +43,7 @@ fn to_star<'p, 't>(syntax: Syntax, pattern: &'p [u8], name: &'t [u8]) -> Segment
     }
 }
 
-/// Whether the pattern takes a suffix.
+// Whether the pattern takes a suffix.
 fn some_suffix(syntax: Syntax, pattern: &[u8], name: &[u8]) -> bool
     requires { Fits syntax pattern.now }
     ensures { result ≡ some_suffix (takes_name syntax pattern.now) name.now }
@@ -66,7 +66,7 @@ fn some_suffix(syntax: Syntax, pattern: &[u8], name: &[u8]) -> bool
     }
 }
 
-/// Whether a pattern takes a name. It takes no memory, and at most about the product of both
+/// Whether a pattern matches a name. It allocates no memory, and at most about the product of both
 /// lengths in steps: no star is tried again once a later one is reached, and no class is looked for
 /// that isn't closed.
 pub fn takes_name(syntax: Syntax, pattern: &[u8], name: &[u8]) -> bool

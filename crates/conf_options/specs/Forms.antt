@@ -44,7 +44,7 @@ IsSmall form = Unit {0}
 abbrev pub chosen : Bool → Bytes → Option Bytes → Option Bytes
 chosen here listed later = if here then Some listed else later
 
--- whether what follows has right tokens, behind a percent sign or not
+-- whether what follows has right tokens, after a percent sign or not
 abbrev pub tokens_from : Bool → Bytes → Bool
 tokens_from marked [] = not marked
 tokens_from true (b ∷ bs) = let later = tokens_from false bs in ((b == 37) || (b == 104)) && later

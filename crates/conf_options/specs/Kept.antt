@@ -31,7 +31,7 @@ fits_single given = not (keeps_every given.0) && fitting given
 abbrev pub fits_every : Given → Bool
 fits_every given = keeps_every given.0 && fitting given
 
--- a value behind the others
+-- a value after the others
 abbrev pub behind_all : List Given → Key → Value → List Given
 behind_all all key value = all ++ (key, value) ∷ []
 

@@ -8,7 +8,7 @@ use conf_rules::End;
 use ssh_fields::{OutOfMemory, Text};
 use std::alloc::Global;
 
-/// A port from `low` on.
+// A port from `low` on.
 fn port(word: &[u8], low: u64) -> Option<u16>
     ensures { result ≡ number_within low 65535 word.now }
 {
@@ -18,7 +18,7 @@ fn port(word: &[u8], low: u64) -> Option<u16>
     }
 }
 
-/// A port behind its host.
+// A port after its host.
 fn with_port(alloc: Global, low: u64, host: &[u8], word: &[u8]) -> Result<Option<End>, OutOfMemory>
     ensures { IfOk result (λ end. end ≡ with_port low word.now (Some host.now)) }
 {

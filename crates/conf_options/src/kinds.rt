@@ -7,8 +7,8 @@ ghost use Rattle.conf_options.specs.Lengths.{keys_of_length, texts_of_length};
 
 use conf_rules::{Key, KeyKind};
 
-/// The keys whose keywords have so many letters, in the order in which they are listed. (Lengths
-/// without a key have lines of their own for the proof, which goes over each length.)
+// The keys whose keywords have so many letters, in the order in which they are listed. (Lengths
+// without a key have lines of their own for the proof, which goes over each length.)
 fn keys_of_length(length: usize) -> &'static [Key]
     ensures { result.now ≡ keys_of_length length }
 {
@@ -72,15 +72,15 @@ fn keys_of_length(length: usize) -> &'static [Key]
     }
 }
 
-/// Whether a word is one of these, in any case.
+// Whether a word is one of these, in any case.
 fn is_any(word: &[u8], others: &[&[u8]]) -> bool
     ensures { result ≡ list_any (λ other. same_word word.now other.now) others.now }
 {
     others.iter().any(|other| word.eq_ignore_ascii_case(other))
 }
 
-/// Whether a word of so many letters is a keyword whose rest isn't checked. (As above, each length
-/// has a line of its own for the proof.)
+// Whether a word of so many letters is a keyword whose rest isn't checked. (As above, each length
+// has a line of its own for the proof.)
 fn is_unchecked_of(length: usize, word: &[u8]) -> bool
     ensures { result ≡ list_any (same_word word.now) (texts_of_length length) }
 {
@@ -208,7 +208,7 @@ fn is_unchecked_of(length: usize, word: &[u8]) -> bool
     }
 }
 
-/// The first of these keys that has this keyword, in any case.
+// The first of these keys that has this keyword, in any case.
 fn find_key(keys: &[Key], word: &[u8]) -> Option<Key>
     ensures { result ≡ find (λ key. same_word word.now (keyword key)) keys.now }
 {
@@ -217,21 +217,21 @@ fn find_key(keys: &[Key], word: &[u8]) -> Option<Key>
         .find(|key| word.eq_ignore_ascii_case(key.keyword()))
 }
 
-/// The key of a keyword, in any case.
+// The key of a keyword, in any case.
 fn key_of(word: &[u8]) -> Option<Key>
     ensures { result ≡ key_of word.now }
 {
     find_key(keys_of_length(word.len()), word)
 }
 
-/// Whether a word is a keyword whose rest isn't checked, in any case.
+// Whether a word is a keyword whose rest isn't checked, in any case.
 fn is_unchecked(word: &[u8]) -> bool
     ensures { result ≡ list_any (same_word word.now) unchecked }
 {
     is_unchecked_of(word.len(), word)
 }
 
-/// What a keyword is, in any case. It takes no memory.
+/// What a keyword is, in any case. It allocates no memory.
 #[tactic(auto, unfolding(conf_rules::specs::Keywords::meaning_of))]
 pub fn kind_of(keyword: &[u8]) -> KeyKind
     ensures { result ≡ meaning_of keyword.now }

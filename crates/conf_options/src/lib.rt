@@ -1,7 +1,7 @@
-//! The keywords of ssh_config(5): what each is, the values that it takes, and the settings that
-//! keep them. `kind_of` looks a keyword up by its length and a few comparisons. `read_value` says
-//! what a line gives, or why it is refused. `Settings` keep of each key what counts: the first
-//! value, all, or the patterns that no later one removes.
+//! The keywords of ssh_config(5): what each is, the values that it accepts, and the settings that
+//! keep them. `kind_of` looks a keyword up by its length and a few comparisons. `read_value`
+//! returns what a line gives, or why it is refused. `Settings` keep of each key what counts: the
+//! first value, all, or the patterns that no later one removes.
 #![tactic(auto)]
 
 mod forms;

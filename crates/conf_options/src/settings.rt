@@ -39,7 +39,7 @@ impl Model for Settings {
         × (list_all fits_every s.collected.items ≡ true) };
 }
 
-/// The first value of a key.
+// The first value of a key.
 fn first_of(all: &[(Key, Value)], key: Key) -> Option<&Value>
     ensures { option_copied result ≡ first_value key all.now }
 {
@@ -51,7 +51,7 @@ fn first_of(all: &[(Key, Value)], key: Key) -> Option<&Value>
     None
 }
 
-/// The port, or 22.
+// The port, or 22.
 fn port_of(singles: &[(Key, Value)]) -> u16
     requires { list_all fits_single singles.now ≡ true }
     ensures { result ≡ number_in 22 (first_value keys.Port singles.now) }
@@ -62,14 +62,14 @@ fn port_of(singles: &[(Key, Value)]) -> u16
     }
 }
 
-/// Whether a key has no value.
+// Whether a key has no value.
 fn is_unset(all: &[(Key, Value)], key: Key) -> bool
     ensures { result ≡ is_unset key all.now }
 {
     first_of(all, key).is_none()
 }
 
-/// The texts of a value of several.
+// The texts of a value of several.
 fn names_in(value: &Value) -> &[Text]
     ensures { result.now ≡ patterns_in value.now }
 {
@@ -79,7 +79,7 @@ fn names_in(value: &Value) -> &[Text]
     }
 }
 
-/// Where the first value of a key stands.
+// Where the first value of a key stands.
 fn place_of(all: &[(Key, Value)], key: Key) -> Option<usize>
     ensures none { IfNone result (values_among key all.now ≡ []) }
     ensures found { IfSome result (StandsAt key all.now) }
@@ -92,7 +92,7 @@ fn place_of(all: &[(Key, Value)], key: Key) -> Option<usize>
     None
 }
 
-/// Takes a value behind the others.
+// Adds a value after the others.
 fn add(all: &mut Vec<(Key, Value)>, key: Key, value: Value) -> Result<bool, OutOfMemory>
     ensures becomes { OnOk result (all.new.items ≡ behind_all all.old.items key value) }
     ensures changed { IfOk result (λ changed. changed ≡ true) }
@@ -102,7 +102,7 @@ fn add(all: &mut Vec<(Key, Value)>, key: Key, value: Value) -> Result<bool, OutO
     Ok(true)
 }
 
-/// Takes patterns behind those of a value.
+// Adds patterns after those of a value.
 fn more_patterns(alloc: Global, kept: &mut Value, patterns: &[Text]) -> Result<bool, OutOfMemory>
     requires names { values.Names (patterns_in kept.old) ≡ kept.old }
     ensures becomes { OnOk result
@@ -116,7 +116,7 @@ fn more_patterns(alloc: Global, kept: &mut Value, patterns: &[Text]) -> Result<b
     }
 }
 
-/// Takes patterns.
+// Takes patterns.
 fn add_patterns(
     alloc: Global,
     singles: &mut Vec<(Key, Value)>,
@@ -144,7 +144,7 @@ fn add_patterns(
     }
 }
 
-/// Takes a value of a key of which one value counts, where it does, or patterns.
+// Takes a value of a key of which one value counts, where it does, or patterns.
 fn take(
     alloc: Global,
     singles: &mut Vec<(Key, Value)>,
@@ -233,8 +233,8 @@ impl Settings {
         }
     }
 
-    /// Values that are kept, each behind its key, in the order in which they came: all of a key,
-    /// and maybe some of others.
+    /// Values that are kept, each after its key, in the order in which they came: all of a key, and
+    /// maybe some of others.
     pub fn among(&self, key: Key) -> &[(Key, Value)]
         ensures { values_among key result.now ≡ values_among key self.now }
     {
@@ -252,8 +252,8 @@ impl Settings {
         port_of(self.singles.as_slice())
     }
 
-    /// Takes a value, where it counts: the first of its key, or of both proxy keys; each one of a
-    /// key that collects; patterns of `SendEnv`, of which those behind a dash remove earlier ones.
+    /// Keeps a value, if it counts: the first of its key, or of both proxy keys; each one of a key
+    /// that collects; patterns of `SendEnv`, of which those after a dash remove earlier ones.
     /// `true` exactly where what is kept changed. An `Err` changes nothing.
     pub fn offer(&mut self, key: Key, value: Value) -> Result<bool, OutOfMemory>
         requires { fits key value ≡ true }

@@ -18,7 +18,7 @@ use conf_rules::{End, Forward, Key, Value, ValueError};
 use ssh_fields::{Text, Texts};
 use std::alloc::Global;
 
-/// A choice that is a value.
+// A choice that is a value.
 fn choice_value(alloc: Global, choices: Choices, word: &[u8]) -> Result<Value, ValueError>
     ensures { Gives value_wants_memory result (choice_value (choices_of choices) word.now) }
 {
@@ -28,7 +28,7 @@ fn choice_value(alloc: Global, choices: Choices, word: &[u8]) -> Result<Value, V
     }
 }
 
-/// A forwarding of one end.
+// A forwarding of one end.
 fn one_end(listen: Option<End>) -> Result<Value, ValueError>
     ensures { Gives value_wants_memory result (one_end listen) }
 {
@@ -41,7 +41,7 @@ fn one_end(listen: Option<End>) -> Result<Value, ValueError>
     }
 }
 
-/// A forwarding of two ends.
+// A forwarding of two ends.
 fn two_ends(listen: Option<End>, connect: Option<End>) -> Result<Value, ValueError>
     ensures { Gives value_wants_memory result (two_ends listen connect) }
 {
@@ -54,7 +54,7 @@ fn two_ends(listen: Option<End>, connect: Option<End>) -> Result<Value, ValueErr
     }
 }
 
-/// What the words of a forwarding say.
+// What the words of a forwarding say.
 fn forward(alloc: Global, low: u64, listen: &[u8], connect: &[u8]) -> Result<Value, ValueError>
     ensures { Gives value_wants_memory result
         (two_ends (listen_end low listen.now) (connect_end connect.now)) }
@@ -64,7 +64,7 @@ fn forward(alloc: Global, low: u64, listen: &[u8], connect: &[u8]) -> Result<Val
     two_ends(listen, connect)
 }
 
-/// What one word says.
+// What one word says.
 #[tactic(auto, unfolding(conf_rules::specs::Values::value_of))]
 fn one_value(alloc: Global, form: Form, word: &[u8]) -> Result<Value, ValueError>
     requires { IsSmall form }
@@ -112,7 +112,7 @@ fn one_value(alloc: Global, form: Form, word: &[u8]) -> Result<Value, ValueError
     }
 }
 
-/// What two words say.
+// What two words say.
 #[tactic(auto, unfolding(conf_rules::specs::Values::values_of))]
 fn two_values(alloc: Global, form: Form, first: &[u8], second: &[u8]) -> Result<Value, ValueError>
     requires { form_kind form ≢ kinds.Names }
@@ -126,7 +126,7 @@ fn two_values(alloc: Global, form: Form, first: &[u8], second: &[u8]) -> Result<
     }
 }
 
-/// What the words of a line say for a key of this form.
+// What the words of a line say for a key of this form.
 #[tactic(auto, unfolding(conf_rules::specs::Values::values_of))]
 fn words_value(alloc: Global, form: Form, words: &[Text]) -> Result<Value, ValueError>
     requires { IsSmall form }

@@ -1,4 +1,4 @@
--- The lines of one key in front of those of others.
+-- The lines of one key before those of others.
 use Rattle.std.proofs.Common.{◌≡◌, ℕ, ◌+◌, ◌<◌, List, [], ◌∷◌, ◌++◌, Result, Ok, Err, refl, sym, ap, ◌∙◌, append_assoc, append-nil, length, get_or, drop, drop-cons, add-one}
 use Rattle.conf_rules.specs.declared.key.Key.{Key}
 use Rattle.conf_rules.specs.declared.causes.TokenError.{TokenError}
@@ -14,7 +14,7 @@ use Rattle.conf_options.specs.Kept.{Given}
 use Rattle.conf_output.specs.Puts.{onto}
 use Rattle.conf_output.specs.Shown.{lines, lines_of, shown_of, lines_over, refusal_of}
 
--- the lines of a key in front of a reading
+-- the lines of a key before a reading
 abbrev pub key_first : Key → Result (List Bytes) TokenError → Result Bytes ListError → Result Bytes ListError
 key_first key reading more = at_key key reading >>= λ texts. more >>= λ rest. Ok (lines key texts ++ rest)
 
@@ -27,7 +27,7 @@ first-key : (settings : List Given) (view : View) (key : Key) (more : List Key) 
 unfolding lines_over
 first-key settings view key more = refl
 
--- behind the lines of a key come those of the others
+-- after the lines of a key come those of the others
 pub goes_on : (settings : List Given) (view : View) (out new : Bytes) (left : List Key) (key : Key) (more : List Key) (total : Result Bytes ListError)
     → left ≡ key ∷ more → onto out (lines_of key (shown_of settings view key)) ≡ Ok new → onto out (lines_over settings view left) ≡ total → onto new (lines_over settings view more) ≡ total
 goes_on settings view out new left key more total e put so_far =
@@ -42,7 +42,7 @@ lines-refused key (Err x) e h = let same : x ≡ e = cc in ap (λ y. Err y) same
 refused-at : {A B : Type 0} (key : Key) (reading : Result A TokenError) (f : A → Result B ListError) (e : TokenError) → reading ≡ Err e → (at_key key reading >>= f) ≡ Err (list_errors.Token key e)
 refused-at key reading f e h = rw h refl
 
--- a token's refusal at a key is that of what comes of it
+-- a token's refusal at a key is that of its outcome
 pub refused : {A B : Type 0} (key : Key) (reading : Result A TokenError) (f : A → Result B ListError) (e : TokenError) (error : ListError)
     → error ≡ refusal_of key e → Fails token_wants_memory e reading → Fails list_wants_memory error (at_key key reading >>= f)
 refused key reading f token_errors.OutOfMemory error is h = rw is tt

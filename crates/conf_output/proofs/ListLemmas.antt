@@ -1,4 +1,4 @@
--- The listing of settings, behind the name of the command line.
+-- The listing of settings, after the name of the command line.
 use Rattle.std.proofs.Common.{◌≡◌, List, Result, Ok, refl, sym, ap, ◌∙◌, codes}
 use Rattle.conf_rules.specs.declared.key.TheConstants.{LISTING_ORDER}
 use Rattle.conf_rules.specs.declared.causes.ListError.{ListError}

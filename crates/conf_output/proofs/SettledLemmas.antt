@@ -27,7 +27,7 @@ same-values : (rows : List Row) (settings : List Given) → Keeps settings (flat
 unfolding values
 same-values rows settings keeps key = sym (keeps.each key)
 
--- what tokens see, told of the same name and facts
+-- what tokens see, for the same name and facts
 abbrev seen_of : Recorded → List Given → View
 seen_of recorded settings = view_of settings recorded.asked.original (host_of settings recorded.asked.original) recorded.facts
 
@@ -59,7 +59,7 @@ unfolding lines_over
 same-lines recorded rows settings keeps [] = refl
 same-lines recorded rows settings keeps (key ∷ more) = same-first key _ _ _ _ (same-shown recorded rows settings keeps key) (same-lines recorded rows settings keeps more)
 
--- behind the name of the command line
+-- after the name of the command line
 abbrev behind_name : Bytes → Result Bytes ListError → Result Bytes ListError
 behind_name original lines = lines >>= λ rest. Ok (listed (codes "host") original ++ rest)
 

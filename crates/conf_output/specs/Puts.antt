@@ -1,4 +1,4 @@
--- What stands behind a text once a reading was put there.
+-- What a text contains once a reading was appended.
 use Rattle.std.specs.Prelude.{◌≡◌, Bool, List, ◌++◌, Result, Ok, Err}
 use Rattle.conf_rules.specs.declared.key.Key.{Key}
 use Rattle.conf_rules.specs.declared.causes.TokenError.{TokenError}
@@ -10,16 +10,16 @@ use Rattle.conf_rules.specs.Tokens.{View}
 use Rattle.conf_options.specs.Kept.{Given}
 use Rattle.conf_output.specs.Shown.{lines_of, lines_over}
 
--- a text in front of a reading
+-- a text before a reading
 abbrev pub onto : {E : Type 0} → Bytes → Result Bytes E → Result Bytes E
 onto front reading = reading >>= λ text. Ok (front ++ text)
 
--- what stood there has the reading behind it, unless memory was wanting
+-- what stood there has the reading after it, unless memory ran out
 abbrev pub Puts : {X E : Type 0} → (E → Bool) → Result X E → Bytes → Bytes → Result Bytes E → Type 0
 Puts wants_memory (Ok x) old new reading = onto old reading ≡ Ok new
 Puts wants_memory (Err e) old new reading = Fails wants_memory e reading
 
--- what stood there has the lines of a key behind it, unless memory was wanting
+-- what stood there has the lines of a key after it, unless memory ran out
 abbrev pub PutsTexts : {X : Type 0} → Result X TokenError → Bytes → Bytes → Key
     → Result (List Bytes) TokenError → Type 0
 PutsTexts result old new key reading = Puts token_wants_memory result old new (lines_of key reading)

@@ -19,13 +19,13 @@ pub record Settled (recorded : Recorded) (rows : List Row) (settings : List Give
   pub facts : recorded.facts ≡ known machine
   pub keeps : Keeps settings (flat_map given rows)
 
--- the result is the listing of each such resolution, unless memory was wanting
+-- the result is the listing of each such resolution, unless memory ran out
 abbrev pub Lists : Result Bytes ListError → List Given → Bytes → TheFacts → Type 0
 Lists result settings original facts =
     (recorded : Recorded) (rows : List Row) → Settled recorded rows settings original facts
     → Gives list_wants_memory result (listing_over LISTING_ORDER recorded rows)
 
--- the result is the control path of each such resolution, unless memory was wanting
+-- the result is the control path of each such resolution, unless memory ran out
 abbrev pub HasControlPath : Result (Option Bytes) ListError → List Given → Bytes → TheFacts → Type 0
 HasControlPath result settings original facts =
     (recorded : Recorded) (rows : List Row) → Settled recorded rows settings original facts

@@ -137,7 +137,7 @@ showing_of manners.Forwards = Forwards
 showing_of manners.Proxy = Proxy
 showing_of manners.Plain = Plainly
 
--- a token's refusal with its key, or want of memory
+-- a token's refusal with its key, or out of memory
 abbrev pub refusal_of : Key → TokenError → ListError
 refusal_of key token_errors.OutOfMemory = list_errors.OutOfMemory
 refusal_of key error = list_errors.Token key error

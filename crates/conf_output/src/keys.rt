@@ -31,7 +31,7 @@ enum Manner {
     Plain,
 }
 
-/// How a key is listed.
+// How a key is listed.
 fn manner_of(key: Key) -> Manner
     ensures { showing_of result ≡ showing key }
 {
@@ -46,14 +46,14 @@ fn manner_of(key: Key) -> Manner
     }
 }
 
-/// The line of a text.
+// The line of a text.
 fn put_text(out: &mut Text, key: Key, text: &[u8]) -> Result<(), OutOfMemory>
     ensures { OnOk result (out.new ≡ out.old ++ lines key (text.now ∷ [])) }
 {
     put_line(out, key.keyword(), text)
 }
 
-/// A line for each value of a key.
+// A line for each value of a key.
 fn put_values(
     alloc: Global,
     out: &mut Text,
@@ -71,7 +71,7 @@ fn put_values(
     Ok(())
 }
 
-/// The line of a key's default, if it has one.
+// The line of a key's default, if it has one.
 fn put_default(out: &mut Text, key: Key) -> Result<(), OutOfMemory>
     ensures { OnOk result (out.new ≡ out.old ++ lines key (default_texts key)) }
 {
@@ -81,7 +81,7 @@ fn put_default(out: &mut Text, key: Key) -> Result<(), OutOfMemory>
     }
 }
 
-/// The lines of a key's values, or else of its default.
+// The lines of a key's values, or else of its default.
 fn put_plain(
     alloc: Global,
     out: &mut Text,
@@ -96,7 +96,7 @@ fn put_plain(
     }
 }
 
-/// The lines of forwardings, unless they are cleared.
+// The lines of forwardings, unless they are cleared.
 fn put_forwards(
     alloc: Global,
     out: &mut Text,
@@ -111,7 +111,7 @@ fn put_forwards(
     put_values(alloc, out, settings, key)
 }
 
-/// The line of a proxy, unless it is `none`.
+// The line of a proxy, unless it is `none`.
 fn put_proxy(out: &mut Text, settings: &Settings, key: Key) -> Result<(), OutOfMemory>
     ensures { OnOk result (out.new ≡ out.old ++ lines key (proxy_texts settings.now key)) }
 {
@@ -121,7 +121,7 @@ fn put_proxy(out: &mut Text, settings: &Settings, key: Key) -> Result<(), OutOfM
     }
 }
 
-/// The line of the user, or else of the local user.
+// The line of the user, or else of the local user.
 fn put_user(
     out: &mut Text,
     settings: &Settings,
@@ -137,7 +137,7 @@ fn put_user(
     Ok(put_text(out, key, user)?)
 }
 
-/// The line of a path, expanded.
+// The line of a path, expanded.
 fn put_path(
     alloc: Global,
     out: &mut Text,
@@ -156,7 +156,7 @@ fn put_path(
     }
 }
 
-/// The line of a command, expanded.
+// The line of a command, expanded.
 fn put_command(
     alloc: Global,
     out: &mut Text,
@@ -176,7 +176,7 @@ fn put_command(
     }
 }
 
-/// The lines of a key, by how it is listed.
+// The lines of a key, by how it is listed.
 fn put_key(
     alloc: Global,
     out: &mut Text,

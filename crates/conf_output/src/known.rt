@@ -19,7 +19,7 @@ pub fn host_name(alloc: Global, settings: &Settings, original: &[u8]) -> Result<
     }
 }
 
-/// What tokens see behind all lines.
+/// What tokens see after all lines.
 pub fn view<'a>(
     settings: &'a Settings,
     original: &'a [u8],

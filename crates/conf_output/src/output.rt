@@ -10,7 +10,7 @@ use mux_outside::Facts;
 use ssh_fields::Text;
 use std::alloc::Global;
 
-/// The settings behind all lines as `-G` lists them for the host `original` of the command line:
+/// The settings after all lines as `-G` lists them for the host `original` of the command line:
 /// that host, then a line of each value of each key, or of its default. Hostname, ControlPath and
 /// RemoteCommand are listed with their tokens expanded; a proxy that is `none` and forwardings that
 /// are cleared aren't listed (ssh_config(5)). `Token` names the first key in the order of the
@@ -31,7 +31,7 @@ pub fn listing(
     Ok(out)
 }
 
-/// ControlPath behind all lines, with its home, tokens and variables expanded (ssh_config(5),
+/// ControlPath after all lines, with its home, tokens and variables expanded (ssh_config(5),
 /// ControlPath). None where it isn't set or is `none` in any case.
 pub fn control_path(
     alloc: Global,

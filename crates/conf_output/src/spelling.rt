@@ -11,7 +11,7 @@ use conf_tokens::put_number;
 use ssh_fields::{OutOfMemory, Text, Texts};
 use std::alloc::Global;
 
-/// An end of a forwarding.
+// An end of a forwarding.
 fn put_end(alloc: Global, out: &mut Text, end: &End) -> Result<(), OutOfMemory>
     ensures { OnOk result (out.new ≡ out.old ++ spelled_end end.now) }
 {
@@ -30,7 +30,7 @@ fn put_end(alloc: Global, out: &mut Text, end: &End) -> Result<(), OutOfMemory>
     }
 }
 
-/// The text of a forwarding.
+// The text of a forwarding.
 fn forward_text(alloc: Global, forward: &Forward) -> Result<Text, OutOfMemory>
     ensures { IfOk result (λ text. text ≡ spelled_forward forward.now) }
 {
@@ -53,7 +53,7 @@ pub fn put_line(out: &mut Text, name: &[u8], text: &[u8]) -> Result<(), OutOfMem
     out.push(b'\n')
 }
 
-/// A line with a number.
+// A line with a number.
 fn put_number_line(
     alloc: Global,
     out: &mut Text,
@@ -68,7 +68,7 @@ fn put_number_line(
     out.push(b'\n')
 }
 
-/// A line for each name.
+// A line for each name.
 fn put_names(out: &mut Text, name: &[u8], names: &[Text]) -> Result<(), OutOfMemory>
     ensures { OnOk result (out.new ≡ out.old ++ flat_map (listed name.now) names.now) }
 {

@@ -94,7 +94,7 @@ fails-there {A = A} {B = B} xs path e q r before now was is among f = rw is (of 
     of Failed f = record { path = path; is = f; among = among }
     of OutOfMemory f = f
 
--- want of memory leaves what failed
+-- running out of memory leaves what failed
 pub unfailed : {A : Type 0} (xs : List Bytes) (r : Result A FileError) (before now : Option (List Bytes)) → r ≡ Err OutOfMemory → now ≡ before → FileFails xs r before now
 unfailed xs r before now is same = rw is same
 
@@ -186,7 +186,7 @@ asked-next recorded left component rest bases whole e so_far path k =
 pub asked-last : (recorded : Recorded) (left : Bytes) (bases whole : List Bytes) → None ≡ split_at_first 47 left → Among (folders_along recorded (components_of left) bases) whole → Among (asked_at left bases) whole
 asked-last recorded left bases whole e so_far path k = so_far path (ap (list_any (bytes_eq path)) (last-folders recorded left bases e) ∙ in-front (asked_at left bases) [] path k)
 
--- and so are those behind it
+-- and so are those after it
 pub asked-further : (recorded : Recorded) (left component rest : Bytes) (bases found whole : List Bytes) → Some (component, rest) ≡ split_at_first 47 left → SameTexts (with_component recorded component bases) found
     → Among (folders_along recorded (components_of left) bases) whole → Among (folders_along recorded (components_of rest) found) whole
 asked-further recorded left component rest bases found whole e same so_far path k =
@@ -211,7 +211,7 @@ all-found recorded component bases found n e h so_far f =
 pub folders-looked : (recorded : Recorded) (paths : List Bytes) → Among (flat_map (folders_of recorded) paths) (looks_of recorded paths)
 folders-looked recorded paths = flat-among (folders_of recorded) (λ path. folders_of recorded path ++ globbed recorded path) paths (λ path. in-front (folders_of recorded path) (globbed recorded path))
 
--- where facts are those that are told
+-- where facts are those that are recorded
 pub looks-named : (source : Source) (recorded : Recorded) (facts : Facts) (original rest : Bytes) (words paths : List Bytes) → recorded.facts ≡ facts → recorded.asked.original ≡ original → words_of rest ≡ Ok words → paths_from source facts original words ≡ Ok paths
     → looks_in source recorded (words_of rest) ≡ looks_of recorded paths
 looks-named source recorded facts original rest words paths f o w p =

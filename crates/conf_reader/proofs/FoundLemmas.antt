@@ -156,7 +156,7 @@ pub if-ok : {T E : Type 0} (P Q : T → Type 0) (r : Result T E) → ((x : T) �
 if-ok P Q (Ok x) f h = f x h
 if-ok P Q (Err e) f h = tt
 
--- found paths, sorted, are what a path with globs stands for
+-- found paths, sorted, are what a path with globs expands to
 pub globbed-is : (recorded : Recorded) (path : Bytes) (found all : List Bytes) → is_glob path ≡ true → ends_with_slash path ≡ false → SameTexts (along recorded (components_of path) ([] ∷ [])) found → all ≡ sorted found → all ≡ globbed recorded path
 unfolding globbed
 globbed-is recorded path found all g e same s = s ∙ sym (same-sorted (along recorded (components_of path) ([] ∷ [])) found same) ∙ rw (g, e) refl

@@ -111,7 +111,7 @@ closes recorded source depth outer f blocks place files ended =
 abbrev pub file_line : Source → ℕ → List ℕ → Option ℕ → OpenFile → Bytes → Line
 file_line source depth outer own f bytes = record { source = source; file = f.path; number = f.number; depth = depth; blocks = outer ++ own_block (is_opening bytes) own; content = Spelled bytes }
 
--- what is left behind a line
+-- what is left after a line
 pub record Taken (recorded : Recorded) (source : Source) (f g : OpenFile) (bytes : Bytes) : Type 0 where
   pub files : frame_files recorded source f ≡ Ok []
   pub read : lines_of (drop f.at f.text) ≡ bytes ∷ lines_of (drop g.at g.text)
@@ -120,7 +120,7 @@ pub record Taken (recorded : Recorded) (source : Source) (f g : OpenFile) (bytes
   pub named : frame_files recorded source g ≡ included_files source recorded bytes
   pub opening : is_opening bytes ≡ true → included_files source recorded bytes ≡ Ok []
 
--- what a line includes lies in the blocks that are open behind it
+-- what a line includes lies in the blocks that are open after it
 includes-same : (recorded : Recorded) (source : Source) (depth : ℕ) (outer : List ℕ) (own : Option ℕ) (file : Bytes) (number place at : ℕ) (bytes : Bytes) (t : Bool) → is_opening bytes ≡ t
     → (is_opening bytes ≡ true → included_files source recorded bytes ≡ Ok [])
     → deeper recorded source depth (outer ++ own_block t own) file number place (included_files source recorded bytes)

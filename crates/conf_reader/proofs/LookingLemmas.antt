@@ -1,4 +1,4 @@
--- What open files have still to look at, step by step, and where a failed read is told.
+-- What open files have still to look at, step by step, and where a failed read is reported.
 use Rattle.std.proofs.Common.{◌≡◌, ℕ, zero, suc, ◌+◌, ◌-◌, ◌<◌, Bool, true, false, List, [], ◌∷◌, ◌++◌, length, drop, Option, Some, None, Result, Ok, Err, refl, sym, ap, subst, ◌∙◌, arith}
 use Rattle.std.specs.Prelude.{flat_map, option_to_list, codes, ◌&&◌, ◌||◌, IfSome, OnOk}
 use Rattle.std.specs.List.{slice_get, list_all, list_any}
@@ -69,7 +69,7 @@ all-next p [] i e = refl
 all-next p (x ∷ xs) zero e = both-right (p x) (list_all p xs) e
 all-next p (x ∷ xs) (suc i) e = all-next p xs i e
 
--- ---- where a failed read is told
+-- ---- where a failed read is reported
 
 -- the value doesn't matter
 pub records-err : (A B : Type 0) (test : Test) (e : ResolveError) (before now : Option (List Bytes)) → RecordsFailed {A = A} test (Err e) before now → RecordsFailed {A = B} test (Err e) before now
@@ -81,7 +81,7 @@ records-err A B test (errors.At file number cause) before now h = h
 pub records-on : (A B : Type 0) (test : Test) (e : ResolveError) (before mid now : Option (List Bytes)) → mid ≡ before → RecordsFailed {A = A} test (Err e) mid now → RecordsFailed {A = B} test (Err e) before now
 records-on A B test e before mid now same h = subst (λ b. RecordsFailed {A = B} test (Err e) b now) same (records-err A B test e mid now h)
 
--- a failed read that is told at a place where its path may be
+-- a failed read that is reported at a place where its path may be
 pub records-at : (A : Type 0) (test : Test) (file : Bytes) (number : ℕ) (paths : List Bytes) (e : ResolveError) (before now : Option (List Bytes)) → e ≡ errors.At file number causes.ReadFault → FailsAmong paths before now → list_all (test file number) paths ≡ true
     → RecordsFailed {A = A} test (Err e) before now
 records-at A test file number paths e before now r fails all =
@@ -120,7 +120,7 @@ path-meets test recorded source f path include named h =
     let some : list_all p (path ∷ drop (suc f.next) f.named) ≡ true = subst (λ xs. list_all p xs ≡ true) (drop-at f.named f.next path named) all in
     both (p path) true (both-left (p path) (list_all p (drop (suc f.next) f.named)) some) refl
 
--- one that goes behind a line that is given
+-- one that goes after a line that is given
 pub said-meets : (test : Test) (recorded : Recorded) (source : Source) (o : OpenFiles) (f : OpenFile) (next : ℕ) (said : Said) (line : ConfLine) → IsSettled f → GivenBy o f said line → line_meets test recorded source line ≡ true → meets_in test recorded source (gone next (include_of said) f) ≡ true
 said-meets test recorded source o f next said line s g h = by (same_word said.keyword (codes "include")) refl
   where

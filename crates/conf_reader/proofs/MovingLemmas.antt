@@ -23,7 +23,7 @@ Moved files old new = MovesLines {A = Unit {0}} files old new (Ok tt)
 pub lines-same : {A : Type 0} {files : Option (List Pair)} {v : A} (r : Lines) → IsReady r.open_files → MovesLines files r r (Ok v)
 lines-same r ready = record { moves = λ recorded place blocks records. refl; goes_on = goes-same r.open_files ready; firsts = refl; count = refl }
 
--- a step behind another
+-- a step after another
 pub lines-then : {A B C : Type 0} {files later : Option (List Pair)} {a b c : Lines} {v : A} {w : B} (k : C) → later ≡ files → MovesLines files a b (Ok v) → MovesLines later b c (Ok w) → MovesLines files a c (Ok k)
 lines-then k same x y = record {
   moves = λ recorded place blocks records. x.moves recorded place blocks records ∙ y.moves recorded place blocks (subst (λ f. RecordsFiles f recorded) (sym same) records);

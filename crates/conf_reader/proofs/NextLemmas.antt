@@ -1,4 +1,4 @@
--- Comments, and the line behind them.
+-- Comments, and the line after them.
 use Rattle.std.proofs.Common.{◌≡◌, ℕ, suc, ◌+◌, List, [], ◌∷◌, ◌++◌, length, Option, Some, None, Result, Ok, Err, sym, ap, subst, ◌∙◌, append_assoc, arith}
 use Rattle.std.proofs.lemmas.List.{append-nil, length-append}
 use Rattle.conf_rules.specs.declared.causes.ResolveError.{ResolveError}
@@ -33,7 +33,7 @@ more recorded place blocks old now new s o count bounded =
       bounded = bounded;
     }
 
--- the line behind comments
+-- the line after comments
 pub gives : (recorded : Recorded) (place : ℕ) (blocks : Blocks) (old now new : Lines) (given : ConfLine) (s : SoFar recorded place blocks old now) → OneLine recorded (place + length s.comments) blocks now new (Ok (steps.Given given)) → new.read ≡ now.read + 1 → GivesNext recorded place blocks old new given
 gives recorded place blocks old now new given s o count = record {
   comments = s.comments;
@@ -46,11 +46,11 @@ gives recorded place blocks old now new given s o count = record {
   source = o.1.1.1.1;
 }
 
--- no line behind them
+-- no line after them
 pub ends : (recorded : Recorded) (place : ℕ) (blocks : Blocks) (old now : Lines) (s : SoFar recorded place blocks old now) → left recorded (place + length s.comments) blocks now ≡ [] → AreIdle recorded place (left recorded place blocks old)
 ends recorded place blocks old now s e = subst (AreIdle recorded place) (sym (s.is ∙ ap (λ xs. s.comments ++ xs) e ∙ append-nil s.comments)) s.idle
 
--- a refusal behind them
+-- a refusal after them
 pub fails : (recorded : Recorded) (place : ℕ) (blocks : Blocks) (old now new : Lines) (e : ResolveError) (s : SoFar recorded place blocks old now) → OneLine recorded (place + length s.comments) blocks now new (Err e) → Reads recorded place blocks old new (Err e)
 fails recorded place blocks old now new errors.OutOfMemory s o = tt
 fails recorded place blocks old now new (errors.At file number cause) s o = λ fault.

@@ -20,7 +20,7 @@ slash-end path n h = sym (ap ends_with_slash (last-split path n h) ∙ rw (ends_
 
 -- ---- the paths of words
 
--- paths in front of those that are read
+-- paths before those that are read
 abbrev pub onto : List Bytes → Result (List Bytes) TokenError → Result (List Bytes) TokenError
 onto front reading = reading >>= λ paths. Ok (front ++ paths)
 

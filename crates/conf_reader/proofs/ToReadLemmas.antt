@@ -119,7 +119,7 @@ closed-reads recorded source depth f s ended =
 begun-reads : (recorded : Recorded) (source : Source) (depth : ℕ) (path text : Bytes) → file_reads recorded source depth (record { path = path; text = text; at = 0; number = 1; include = None; named = []; next = 0 }) ≡ flat_map (read_by source recorded (depth_limit - depth)) (lines_of text)
 begun-reads recorded source depth path text = ap (λ xs. xs ++ flat_map (read_by source recorded (depth_limit - depth)) (lines_of text)) (along-none source recorded (depth_limit - depth))
 
--- a file behind its next line
+-- a file after its next line
 taken-reads : (recorded : Recorded) (source : Source) (depth : ℕ) (f : OpenFile) (next : ℕ) (include : Option Bytes) (bytes : Bytes) → IsSettled f → lines_of (drop f.at f.text) ≡ bytes ∷ lines_of (drop next f.text)
     → names_left recorded source (gone next include f) ≡ paths_at source recorded bytes → file_reads recorded source depth f ≡ file_reads recorded source depth (gone next include f)
 taken-reads recorded source depth f next include bytes s is names =
@@ -331,11 +331,11 @@ names-map (Some f) fact more h n = by (slice_get f.named f.next) n
 pub names-at : (t : Option OpenFile) (f : OpenFile) (path : Bytes) (fact : Bytes → Type 0) → t ≡ Some f → slice_get f.named f.next ≡ Some path → Names t fact → fact path
 names-at t f path fact top at n = subst (λ p. IfSome p fact) at (subst (λ x. Names x fact) top n)
 
--- a path that was read, behind which the call fails
+-- a path that was read, after which the call fails
 pub fails-behind : (path : Bytes) (before rest : List Bytes) (readings now : Option (List Reading)) → before ≡ path ∷ rest → now ≡ option_map (λ rs. rs ++ reading_of path ∷ []) readings → ReadsSome before readings now
 fails-behind path before rest readings now e n = (rest, one-read path before rest readings now e n)
 
--- a first file was read, behind which the call fails
+-- a first file was read, after which the call fails
 pub first-behind : (recorded : Recorded) (r : Lines) (f : FirstFile) (path : Bytes) (readings now : Option (List Reading)) → r.open_files.top ≡ None → r.open_files.below.items ≡ [] → slice_get r.firsts.items r.next_first ≡ Some f → path ≡ f.path
     → now ≡ option_map (λ rs. rs ++ reading_of path ∷ []) readings → ReadsSome (all_read recorded r) readings now
 first-behind recorded r f path readings now top below named same noted =
@@ -357,7 +357,7 @@ first-each r fact h = by (slice_get r.firsts.items r.next_first) refl
 pub first-at : (r : Lines) (f : FirstFile) (fact : FirstFile → Type 0) → slice_get r.firsts.items r.next_first ≡ Some f → IfSome (slice_get r.firsts.items r.next_first) fact → fact f
 first-at r f fact at n = subst (λ p. IfSome p fact) at n
 
--- a line was taken from what was reached
+-- a line was read from what was reached
 pub taken-all : (recorded : Recorded) (r : Lines) (new : OpenFiles) (count : ℕ) → open_reads recorded r.open_files ≡ open_reads recorded new → all_read recorded r ≡ all_read recorded (record r { open_files = new; read = count })
 taken-all recorded r new count same = ap (λ xs. xs ++ flat_map (first_reads recorded) (drop r.next_first r.firsts.items)) same
 

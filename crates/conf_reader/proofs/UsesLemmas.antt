@@ -51,7 +51,7 @@ pub line-quiet : (cause : Cause) (t : Option OpenFile) (e : ResolveError) → is
 line-quiet cause None e quiet some h = absurd (let k : false ≡ true = some in cc)
 line-quiet cause (Some f) e quiet some h = refuses-quiet cause f.path f.number e quiet h
 
--- a line's error, told as a refusal
+-- a line's error, reported as a refusal
 pub line-cause : (A B : Type 0) (le : LineError) (file : Bytes) (number : ℕ) (e : ResolveError) (before now : ℕ) → e ≡ refused_at le file number → HasLineCause {A = A} (Err le) before now → HasFilesCause {A = B} (Err e) before now
 line-cause A B line_errors.OutOfMemory file number e before now is h = subst (λ x. HasFilesCause {A = B} (Err x) before now) (sym is) h
 line-cause A B (line_errors.Refused cause) file number e before now is h = subst (λ x. HasFilesCause {A = B} (Err x) before now) (sym is) h
@@ -60,7 +60,7 @@ line-cause A B (line_errors.Refused cause) file number e before now is h = subst
 pub read-cause : (A : Type 0) (file : Bytes) (number : ℕ) (e : ResolveError) (before now : ℕ) → e ≡ errors.At file number causes.ReadFault → Rose before now → HasFilesCause {A = A} (Err e) before now
 read-cause A file number e before now is rose = subst (λ x. HasFilesCause {A = A} (Err x) before now) (sym is) (refl, rose)
 
--- no run fault is told
+-- no run fault is reported
 pub no-run-fault : (A : Type 0) (e : ResolveError) (before now : ℕ) → HasFilesCause {A = A} (Err e) before now → is_run_fault e ≡ false
 no-run-fault A errors.OutOfMemory before now h = refl
 no-run-fault A (errors.At file line causes.RunFault) before now h = absurd (let k : causes.RunFault ≡ causes.ReadFault = h.0 in cc)
@@ -76,7 +76,7 @@ Used before now old new = UsesFiles {A = Unit {0}} before now old new (Ok tt)
 pub uses-none : {A : Type 0} {s : FilesState} {x y : Coming} {v : A} → ((recorded : Recorded) (test : Test) → x.meets test recorded → y.meets test recorded) → ((recorded : Recorded) → x.paths recorded ≡ y.paths recorded) → UsesFiles s s x y (Ok v)
 uses-none on same = record { recorded = refl; cause = refl; looks = λ recorded test h. (refl, on recorded test h); noted = λ recorded records. stays-read _ _ _ _ (same recorded) refl }
 
--- a call behind another
+-- a call after another
 pub uses-then : {A B C : Type 0} {s t u : FilesState} {x y z : Coming} {v : A} {w : B} (k : C) → UsesFiles s t x y (Ok v) → UsesFiles t u y z (Ok w) → UsesFiles s u x z (Ok k)
 uses-then k a b = record {
   recorded = b.recorded ∙ a.recorded;
@@ -117,7 +117,7 @@ uses-quiet {A} {s} {t} {x} {y} {e} quiet recorded faults failed noted = record {
   noted = noted;
 }
 
--- one behind a call
+-- one after a call
 pub uses-refused : {A B : Type 0} {s t : FilesState} {x y w : Coming} {v : A} {e : ResolveError} → is_fault_at e ≡ false → UsesFiles s t x y (Ok v) → UsesFiles {A = B} s t x w (Err e)
 uses-refused {A} {B} {s} {t} {x} {y} {w} {v} {e} quiet a = record {
   recorded = a.recorded;
@@ -148,7 +148,7 @@ uses-all-for {A} {facts} {original} {s} {t} r o result a = record {
   noted = λ recorded records facts original. all-note A recorded r o result s.readings t.readings (a.noted recorded records facts original);
 }
 
--- a call behind one
+-- a call after one
 pub uses-from : {A B : Type 0} {facts : Facts} {original : Bytes} {s t u : FilesState} {x y z : Coming} {v : A} (result : Result B ResolveError) → UsesFilesFor facts original s t x y (Ok v) → UsesFiles t u y z result → UsesFilesFor facts original s u x z result
 uses-from {A} {B} {facts} {original} {s} {t} {u} (Ok w) a b = record {
   recorded = b.recorded ∙ a.recorded;

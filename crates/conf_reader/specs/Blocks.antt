@@ -1,4 +1,4 @@
--- The open blocks behind the lines that were given, and a given line among all lines.
+-- The open blocks after the lines that were given, and a given line among all lines.
 use Rattle.std.specs.Prelude.{◌≡◌, ℕ, Bool, false, ◌||◌, if◌then◌else◌, List, [], ◌∷◌, ◌++◌, flat_map, take, Option, Some, None, Ok, option_to_list, codes}
 use Rattle.std.specs.List.{slice_get}
 use Rattle.conf_rules.specs.Texts.{Bytes, same_word}
@@ -29,7 +29,7 @@ abbrev pub blocks_of : ConfLine → Blocks → List ℕ
 blocks_of line blocks = flat_map option_to_list (take line.depth blocks)
     ++ own_block (opens_block line.keyword) (own_of line blocks)
 
--- the blocks that are open behind a line at a place
+-- the blocks that are open after a line at a place
 abbrev pub open_behind : ConfLine → ℕ → Blocks → Blocks
 open_behind line place blocks = take line.depth blocks
     ++ block_behind (opens_block line.keyword) place (own_of line blocks) ∷ []

@@ -5,7 +5,7 @@ use Rattle.mux_outside.specs.declared.pairs.Pair.{Pair}
 use Rattle.mux_outside.specs.declared.reading.Reading.{Reading}
 use Rattle.conf_rules.specs.Texts.{Bytes}
 
--- the paths and contents of all files, how often a call failed, and, where they are told, at which
+-- the paths and contents of all files, how often a call failed, and, if they are recorded, at which
 -- paths, and which calls of `read` there were
 pub record FilesState : Type 0 where
   pub recorded : Option (List Pair)

@@ -153,7 +153,7 @@ abbrev pub Names : Option OpenFile → (Bytes → Type 0) → Type 0
 Names None fact = Unit {0}
 Names (Some f) fact = IfSome (slice_get f.named f.next) fact
 
--- where open files stand behind a step
+-- the state of open files after a step
 abbrev pub StandOf : OpenFiles → OpenFiles → Stand → Type 0
 StandOf old new stands.Line = (new ≡ old)
     × IfSome new.top (λ f. IsSettled f × (f.at < length f.text)) × IsSome new.top
@@ -176,7 +176,7 @@ RefusesNext None cause error = Unit {0}
 RefusesNext (Some f) cause error =
     IfSome (slice_get f.named f.next) (λ path. Refuses (line_errors.Refused cause) path 0 error)
 
--- what holds of open files behind a line that was given
+-- what holds of open files after a line that was given
 pub record IsGiven (o : OpenFiles) : Type 0 where
   pub few : length o.below.items ≤ depth_limit
   pub fresh : o.fresh ≡ false
@@ -186,7 +186,7 @@ pub record IsGiven (o : OpenFiles) : Type 0 where
 
 -- ---- one line
 
--- the next line of an open file, how it is read, and where the line behind it begins
+-- the next line of an open file, how it is read, and where the line after it begins
 pub record NextLine (f : OpenFile) (next : ℕ) (read : Result Heading LexError) : Type 0 where
   pub bytes : Bytes
   pub is : lines_of (drop f.at f.text) ≡ bytes ∷ lines_of (drop next f.text)
@@ -260,11 +260,11 @@ pub record GivenBy (o : OpenFiles) (f : OpenFile) (said : Said) (given : ConfLin
 abbrev pub IsGivenBy : OpenFiles → Said → ConfLine → Type 0
 IsGivenBy o said given = IfSome o.top (λ f. GivenBy o f said given)
 
--- an open file behind its next line
+-- an open file after its next line
 abbrev pub gone : ℕ → Option Bytes → OpenFile → OpenFile
 gone next include f = record f { at = next; number = f.number + 1; include = include }
 
--- what an Include line says behind its keyword
+-- what an Include line has after its keyword
 abbrev pub include_of : Said → Option Bytes
 include_of said = if same_word said.keyword (codes "include") then Some said.rest else None
 
@@ -276,7 +276,7 @@ named_by source recorded (Err e) = Ok []
 named_by source recorded (Ok words) = paths_of source recorded words >>= λ paths.
     Ok (flat_map (globbed recorded) paths)
 
--- what came of finding them
+-- the outcome of finding them
 abbrev pub FoundPaths : Result (List Bytes) LineError → Result (List Bytes) TokenError → Type 0
 FoundPaths (Ok paths) named = named ≡ Ok paths
 FoundPaths (Err line_errors.OutOfMemory) named = Unit {0}

@@ -1,4 +1,4 @@
--- What the steps of a reader keep and do, whatever is told.
+-- What the steps of a reader keep and do, whatever is recorded.
 use Rattle.std.specs.Prelude.{◌≡◌, ℕ, ◌+◌, ◌<◌, Bool, IfSome, IsSome, List, length, Option, None, Result, OnOk}
 use Rattle.std.specs.Bool.{MatchBool}
 use Rattle.mux_outside.specs.declared.pairs.Pair.{Pair}
@@ -39,12 +39,12 @@ KeepsLeft old new =
 abbrev pub KeepsBounds : OpenFiles → OpenFiles → Type 0
 KeepsBounds old new = (n : ℕ) → Bounded old n → Bounded new n
 
--- behind a step the next one can be done, and no more files are open of which a line was given
+-- after a step the next one can be done, and no more files are open of which a line was given
 pub record GoesOn (old new : OpenFiles) : Type 0 where
   pub ready : IsReady new
   pub bounded : KeepsBounds old new
 
--- where files tell, a step left everything as it was, or it refused
+-- if files record, a step left everything as it was, or it refused
 abbrev pub MovesOver : {A : Type 0} →
     Option (List Pair) → OpenFiles → OpenFiles → Result A ResolveError → Type 0
 MovesOver files old new result =
@@ -61,7 +61,7 @@ ExpandsOver files facts original old new result =
 
 -- ---- all files
 
--- where files tell, a step over all files left everything as it was, or it refused
+-- if files record, a step over all files left everything as it was, or it refused
 abbrev pub AllMove : {A : Type 0} →
     Option (List Pair) → Lines → Lines → Result A ResolveError → Type 0
 AllMove files old new result =
@@ -77,7 +77,7 @@ pub record MovesLines {A : Type 0} (files : Option (List Pair)) (old new : Lines
   pub firsts : new.firsts ≡ old.firsts
   pub count : new.read ≡ old.read
 
--- where files tell, a step over all files that looks at the machine too did so
+-- if files record, a step over all files that looks at the machine too did so
 abbrev pub AllExpand : {A : Type 0} →
     Option (List Pair) → Facts → Bytes → Lines → Lines → Result A ResolveError → Type 0
 AllExpand files facts original old new result =
@@ -85,14 +85,14 @@ AllExpand files facts original old new result =
     → RecordsFiles files recorded → recorded.facts ≡ facts → recorded.asked.original ≡ original
     → Moves (left recorded place blocks old) (left recorded place blocks new) result
 
--- where files tell, one line was taken
+-- if files record, one line was read
 abbrev pub TakesOne : Option (List Pair) → Lines → Lines → Result ReadStep ResolveError → Type 0
 TakesOne files old new result =
     (recorded : Recorded) (place : ℕ) (blocks : Blocks)
     → RecordsFiles files recorded → place ≡ length recorded.asked.lines + old.read
     → Bounded old.open_files (length blocks) → OneLine recorded place blocks old new result
 
--- where files tell, the next line was read that says something
+-- if files record, the next line was read that has content
 abbrev pub ReadsOver : Option (List Pair) → Lines → Lines
     → Result (Option ConfLine) ResolveError → Type 0
 ReadsOver files old new result =

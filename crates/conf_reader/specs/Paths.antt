@@ -13,6 +13,6 @@ abbrev pub with_component : Recorded → Bytes → List Bytes → List Bytes
 with_component recorded component bases = if is_empty component then bases
     else flat_map (below recorded component) bases
 
--- the paths that paths stand for
+-- the paths that paths expand to
 abbrev pub all_globbed : Recorded → List Bytes → List Bytes
 all_globbed recorded paths = flat_map (globbed recorded) paths

@@ -32,7 +32,7 @@ abbrev pub AreIdle : Recorded → ℕ → List Line → Type 0
 AreIdle recorded place [] = Unit {0}
 AreIdle recorded place (l ∷ ls) = IsIdle recorded place l × AreIdle recorded (place + 1) ls
 
--- behind comments a line is given
+-- after comments a line is given
 pub record GivesNext (recorded : Recorded) (place : ℕ) (blocks : Blocks) (old new : Lines)
     (given : ConfLine) : Type 0 where
   pub comments : List Line
@@ -46,7 +46,7 @@ pub record GivesNext (recorded : Recorded) (place : ℕ) (blocks : Blocks) (old 
   pub count : place + length comments + 1 ≡ length recorded.asked.lines + new.read
   pub source : line.source ≡ source_of new.open_files.system
 
--- behind comments a line is refused, whatever stands before it
+-- after comments a line is refused, whatever stands before it
 pub record RefusesNext (recorded : Recorded) (place : ℕ) (left : List Line) (file : List ℕ) (number : ℕ)
     (cause : Cause) : Type 0 where
   pub comments : List Line
@@ -103,9 +103,9 @@ pub record SoFar (recorded : Recorded) (place : ℕ) (blocks : Blocks) (old now 
   pub count : place + length comments ≡ length recorded.asked.lines + now.read
   pub bounded : Bounded now.open_files (length blocks)
 
--- ---- what holds behind a line that was given
+-- ---- what holds after a line that was given
 
--- behind a given line a reader can go on; the line lies where files are open, and it was counted
+-- after a given line a reader can go on; the line lies where files are open, and it was counted
 pub record IsGivenFrom (old new : Lines) (line : ConfLine) : Type 0 where
   pub state : IsGiven new.open_files
   pub lies : (n : ℕ) → Bounded old.open_files n → LiesAt n (open_count new) line

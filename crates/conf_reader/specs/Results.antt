@@ -77,7 +77,7 @@ HasFilesCause (Ok x) before now = now ≡ before
 HasFilesCause (Err OutOfMemory) before now = now ≡ before
 HasFilesCause (Err (At file line cause)) before now = IsFilesCause cause before now
 
--- the refusal of a line of a file, unless memory was wanting
+-- the refusal of a line of a file, unless memory ran out
 abbrev pub Refuses : LineError → Bytes → ℕ → ResolveError → Type 0
 Refuses line_errors.OutOfMemory file line error = error ≡ OutOfMemory
 Refuses (line_errors.Refused cause) file line OutOfMemory = Unit {0}
@@ -88,7 +88,7 @@ abbrev pub refused_at : LineError → Bytes → ℕ → ResolveError
 refused_at line_errors.OutOfMemory file line = OutOfMemory
 refused_at (line_errors.Refused cause) file line = At file line cause
 
--- whether a refusal tells that a command failed to run
+-- whether a refusal reports that a command failed to run
 abbrev pub is_run_fault : ResolveError → Bool
 is_run_fault (At file line causes.RunFault) = true
 is_run_fault e = false

@@ -57,7 +57,7 @@ all_read recorded r =
 abbrev pub reading_of : Bytes → Reading
 reading_of path = record { path = path; most = size_limit + 1 }
 
--- one path was read, unless memory was wanting
+-- one path was read, unless memory ran out
 abbrev pub NotesFirst : {A : Type 0} → Bytes → Result A ResolveError → Option (List Reading)
     → Option (List Reading) → Type 0
 NotesFirst path (Err OutOfMemory) readings now = now ≡ readings

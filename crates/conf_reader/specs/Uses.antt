@@ -15,9 +15,9 @@ use Rattle.conf_reader.specs.Looking.{Test, meets, all_meet, line_meets, Records
 use Rattle.conf_reader.specs.Results.{HasFilesCause}
 use Rattle.conf_reader.specs.ToRead.{open_reads, all_read, Notes}
 
--- ---- what is still to come of the files
+-- ---- what is still to be read of the files
 
--- that all that is still to be looked at may be told where it is named, and the paths that are
+-- that all that is still to be looked at may be reported where it is named, and the paths that are
 -- still to be read
 pub record Coming : Type 1 where
   pub meets : Test → Recorded → Type 0
@@ -41,7 +41,7 @@ of_all r = record {
 abbrev pub nothing : Coming
 nothing = record { meets = λ test recorded. Unit {0}; paths = λ recorded. [] }
 
--- behind a line that is given: all that it looks at, too, has to be told where it may be
+-- after a line that is given: all that it looks at, too, has to be reported where it may be
 abbrev pub behind_line : ConfLine → Lines → Coming
 behind_line line r = record {
   meets = λ test recorded. line_meets test recorded (source_of r.open_files.system) line ≡ true
@@ -49,14 +49,14 @@ behind_line line r = record {
   paths = λ recorded. all_read recorded r;
 }
 
--- behind a step
+-- after a step
 abbrev pub behind_step : Result ReadStep ResolveError → Lines → Coming
 behind_step (Ok steps.End) r = nothing
 behind_step (Ok steps.Comment) r = of_all r
 behind_step (Ok (steps.Given line)) r = behind_line line r
 behind_step (Err e) r = nothing
 
--- behind a call that gives the next line
+-- after a call that gives the next line
 abbrev pub behind_call : Result (Option ConfLine) ResolveError → Lines → Coming
 behind_call (Ok None) r = nothing
 behind_call (Ok (Some line)) r = behind_line line r
@@ -64,10 +64,11 @@ behind_call (Err e) r = nothing
 
 -- ---- what a call did
 
--- what a call did to the files, from what was to come of them to what is now: what they tell stays;
--- their faults rose only where a read fault is told, and no other fault is; whatever test was met
--- by all that was to be looked at, a failed read meets it where it is told, and so does all that is
--- to be looked at now; and, where files tell, the first of the paths that were to be read were read
+-- what a call did to the files, from what was to be read of them before to what is now: what they
+-- record stays; their faults rose only where a read fault is reported, and no other fault is;
+-- whatever test was met by all that was to be looked at, a failed read meets it where it is
+-- reported, and so does all that is to be looked at now; and, if files record, the first of the
+-- paths that were to be read were read
 pub record UsesFiles {A : Type 0} (before now : FilesState) (old new : Coming)
     (result : Result A ResolveError) : Type 0 where
   pub recorded : now.recorded ≡ before.recorded

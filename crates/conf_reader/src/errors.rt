@@ -92,7 +92,7 @@ impl From<OutOfMemory> for LineError {
 
 impl LineError {
     /// The refusal of a line of a file, whose path is given away for it; line 0 is the file itself.
-    /// It takes no memory.
+    /// It allocates no memory.
     pub fn at(self, file: Text, line: u64) -> ResolveError
         ensures { result ≡ refused_at self file line }
     {

@@ -19,7 +19,7 @@ pub enum Found {
     Holds(Text),
 }
 
-/// How many bytes a file may have. It stands apart for its proof alone, which unfolds the limit.
+// How many bytes a file may have. It stands apart for its proof alone, which unfolds the limit.
 #[tactic(auto, unfolding(conf_rules::specs::Sources::size_limit))]
 fn size_limit() -> usize
     ensures limit { result ≡ size_limit }

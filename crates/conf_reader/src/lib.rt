@@ -1,5 +1,5 @@
 //! The lines of all files that are asked for, one by one in reading order, as ssh_config(5) has
-//! them. `LineReader` opens the files that an Include line names behind that line. At most 17 files
+//! them. `LineReader` opens the files that an Include line names after that line. At most 17 files
 //! are open.
 #![tactic(auto)]
 

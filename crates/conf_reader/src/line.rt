@@ -1,6 +1,6 @@
 use ssh_fields::Text;
 
-/// A line of a file that says something.
+/// A line of a file with content.
 #[derive(Drop)]
 pub struct ConfLine {
     /// The file's path.

@@ -13,7 +13,7 @@ use mux_outside::{Facts, Files, Pair, Pairs};
 use ssh_fields::{OutOfMemory, Text};
 use std::alloc::Global;
 
-/// A copy of a text, if there is one.
+// A copy of a text, if there is one.
 fn copied(alloc: Global, text: &Option<Text>) -> Result<Option<Text>, OutOfMemory>
     ensures { IfOk result (λ copy. copy ≡ text.now) }
 {
@@ -23,7 +23,7 @@ fn copied(alloc: Global, text: &Option<Text>) -> Result<Option<Text>, OutOfMemor
     }
 }
 
-/// Adds a copy of a pair.
+// Adds a copy of a pair.
 fn put_copy(alloc: Global, pair: &Pair, pairs: &mut Pairs) -> Result<(), OutOfMemory>
     ensures { OnOk result (pairs.new ≡ pairs.old ++ pair.now ∷ []) }
 {
@@ -37,7 +37,7 @@ fn put_copy(alloc: Global, pair: &Pair, pairs: &mut Pairs) -> Result<(), OutOfMe
     }
 }
 
-/// A copy of pairs.
+// A copy of pairs.
 fn copied_pairs(alloc: Global, pairs: &Pairs) -> Result<Pairs, OutOfMemory>
     ensures { IfOk result (λ copy. copy ≡ pairs.now) }
 {
@@ -48,7 +48,7 @@ fn copied_pairs(alloc: Global, pairs: &Pairs) -> Result<Pairs, OutOfMemory>
     Ok(copy)
 }
 
-/// Facts of which nothing is known.
+// Facts of which nothing is known.
 fn no_facts(alloc: Global) -> Facts {
     Facts {
         home: None,
@@ -60,7 +60,7 @@ fn no_facts(alloc: Global) -> Facts {
     }
 }
 
-/// Copies facts over others.
+// Copies facts over others.
 fn copy_facts(alloc: Global, facts: &Facts, copy: &mut Facts) -> Result<(), OutOfMemory>
     ensures { OnOk result (known copy.new ≡ known facts.now) }
 {
@@ -73,7 +73,7 @@ fn copy_facts(alloc: Global, facts: &Facts, copy: &mut Facts) -> Result<(), OutO
     Ok(())
 }
 
-/// Adds a first file. It stands apart for its contract alone, which sees the items.
+// Adds a first file. It stands apart for its contract alone, which sees the items.
 fn put(
     firsts: &mut Vec<FirstFile>,
     system: bool,
@@ -91,7 +91,7 @@ fn put(
     Ok(())
 }
 
-/// The path of the user's file.
+// The path of the user's file.
 fn user_path(alloc: Global, home: &[u8]) -> Result<Text, OutOfMemory>
     ensures { IfOk result (λ path. path ≡ home.now ++ codes "/.ssh/config") }
 {
@@ -100,7 +100,7 @@ fn user_path(alloc: Global, home: &[u8]) -> Result<Text, OutOfMemory>
     Ok(path)
 }
 
-/// The files that no line includes, in the order in which they are read.
+// The files that no line includes, in the order in which they are read.
 fn first_files(
     alloc: Global,
     from: &ConfigFrom,
@@ -128,8 +128,8 @@ fn first_files(
 }
 
 /// Gives the lines of all files that are asked for one by one, without comments and empty lines.
-/// The files that an Include line names are opened by the call behind the one that gives it. Behind
-/// a refusal, a fault and want of memory, and at the end, it gives no line.
+/// The files that an Include line names are opened by the call after the one that gives it. After a
+/// refusal, a fault and running out of memory, and at the end, it gives no line.
 #[derive(Drop)]
 pub struct LineReader {
     lines: Lines,
@@ -188,7 +188,7 @@ impl LineReader {
         }
     }
 
-    /// Notes what is asked for and what is known.
+    // Notes what is asked for and what is known.
     fn note(&mut self, alloc: Global, asked: &Asked, facts: &Facts) -> Result<(), OutOfMemory>
         ensures noted { OnOk result ((known self.new.facts ≡ known facts.now)
             × (self.new.original ≡ asked.now.original)) }
@@ -200,11 +200,11 @@ impl LineReader {
         Ok(())
     }
 
-    /// The next line of the files that says something; `None` at the end, and behind every `Err`.
+    /// The next line of the files that has content; `None` at the end, and after every `Err`.
     /// Refused are files, line counts, zero bytes, forms of lines, and what an Include line names,
     /// each at its line; a fault is one of reading, comes only where that of `files` rose, and is
-    /// told at the Include line that names what is read, or, for a file that no line includes, at
-    /// its line 0.
+    /// reported at the Include line that names what is read, or, for a file that no line includes,
+    /// at its line 0.
     pub fn next<F: Files>(&mut self, files: &mut F) -> Result<Option<ConfLine>, ResolveError>
         ensures reads { ReadsFor (F.recorded files.old) (known self.old.facts) self.old.original
             self.old.lines self.new.lines result }

@@ -50,8 +50,8 @@ pub struct Lines {
     pub read: u64,
 }
 
-/// What a file holds that no line includes, or the refusal of a failed read at its line 0: the
-/// memory for it is taken before the read.
+// What a file holds that no line includes, or the refusal of a failed read at its line 0: the
+// memory for it is allocated before the read.
 fn first_found<F: Files>(alloc: Global, path: &[u8], files: &mut F) -> Result<Found, ResolveError>
     ensures found { (recorded : Recorded) → RecordsFiles (F.recorded files.old) recorded
         → IfOk result (λ found. IsFound found (recorded.content path.now)) }
@@ -94,14 +94,14 @@ impl Lines {
         }
     }
 
-    /// The first file that is opened next.
+    // The first file that is opened next.
     fn next_file(&self) -> Option<&FirstFile>
         ensures { option_copied result ≡ slice_get self.now.firsts.items self.now.next_first }
     {
         self.firsts.get(self.next_first)
     }
 
-    /// Begins the first file of this text.
+    // Begins the first file of this text.
     fn begin(&mut self, text: Text) -> Result<(), OutOfMemory>
         requires none { self.old.open_files.top ≡ None }
         requires next { self.old.next_first < length self.old.firsts.items }
@@ -132,7 +132,7 @@ impl Lines {
         Ok(())
     }
 
-    /// Skips a first file that isn't there.
+    // Skips a first file that isn't there.
     fn skip(&mut self)
         requires none { self.old.open_files.top ≡ None }
         requires ready { IsReady self.old.open_files }
@@ -151,7 +151,7 @@ impl Lines {
         }
     }
 
-    /// The refusal of the first file that is opened next.
+    // The refusal of the first file that is opened next.
     fn file_refusal(&self, cause: Cause) -> ResolveError
         requires { self.now.next_first < length self.now.firsts.items }
         ensures { IfSome (slice_get self.now.firsts.items self.now.next_first) (λ f.
@@ -168,7 +168,7 @@ impl Lines {
         )
     }
 
-    /// Opens the next first file; `false` where there is none.
+    // Opens the next first file; `false` where there is none.
     fn first<F: Files>(&mut self, files: &mut F) -> Result<bool, ResolveError>
         requires none { self.old.open_files.top ≡ None }
         requires ready { IsReady self.old.open_files }
@@ -223,8 +223,8 @@ impl Lines {
         }
     }
 
-    /// Goes to the next line of the open files. It stands apart for its proof alone: what is so of
-    /// open files is so of all lines.
+    // Goes to the next line of the open files. It stands apart for its proof alone: what is so of
+    // open files is so of all lines.
     fn settle<F: Files>(&mut self, files: &mut F) -> Result<bool, ResolveError>
         requires ready { IsReady self.old.open_files }
         ensures lines { MovesLines (F.recorded files.old) self.old self.new result }

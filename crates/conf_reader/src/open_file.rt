@@ -31,7 +31,7 @@ pub struct Said {
     pub rest: Text,
 }
 
-/// The next line of a file, and where the one behind it begins.
+/// The next line of a file, and where the one after it begins.
 #[derive(Drop)]
 pub struct NextFile {
     pub next: usize,
@@ -105,7 +105,7 @@ impl OpenFile {
     }
 }
 
-/// What an Include line says behind its keyword.
+/// What an Include line has after its keyword.
 pub fn include_of(alloc: Global, said: &Said) -> Result<Option<Text>, OutOfMemory>
     ensures { OnOk result (result ≡ Ok (include_of said.now)) }
 {

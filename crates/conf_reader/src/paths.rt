@@ -27,7 +27,7 @@ use mux_outside::{Facts, FileError, Files};
 use ssh_fields::{OutOfMemory, Text, Texts};
 use std::alloc::Global;
 
-/// What the tokens of a path see: facts alone.
+// What the tokens of a path see: facts alone.
 fn view<'a>(facts: &'a Facts, original: &'a [u8]) -> View<'a>
     ensures { seen result ≡ facts_seen (known facts.now) original.now }
 {
@@ -45,7 +45,7 @@ fn view<'a>(facts: &'a Facts, original: &'a [u8]) -> View<'a>
     }
 }
 
-/// Whether a path is absolute.
+// Whether a path is absolute.
 fn starts_with_slash(path: &[u8]) -> bool
     ensures { result ≡ starts_with_slash path.now }
 {
@@ -55,7 +55,7 @@ fn starts_with_slash(path: &[u8]) -> bool
     }
 }
 
-/// A path in the folder of a user's own files.
+// A path in the folder of a user's own files.
 fn in_home(alloc: Global, home: &[u8], path: &[u8]) -> Result<Text, OutOfMemory>
     ensures { IfOk result (λ whole. whole ≡ home.now ++ (codes "/.ssh/" ++ path.now)) }
 {
@@ -65,7 +65,7 @@ fn in_home(alloc: Global, home: &[u8], path: &[u8]) -> Result<Text, OutOfMemory>
     Ok(whole)
 }
 
-/// A path in the folder of the system's files.
+// A path in the folder of the system's files.
 fn in_system(alloc: Global, path: &[u8]) -> Result<Text, OutOfMemory>
     ensures { IfOk result (λ whole. whole ≡ codes "/etc/ssh/" ++ path.now) }
 {
@@ -74,7 +74,7 @@ fn in_system(alloc: Global, path: &[u8]) -> Result<Text, OutOfMemory>
     Ok(whole)
 }
 
-/// A path in the folder of its source.
+// A path in the folder of its source.
 fn in_folder(alloc: Global, facts: &Facts, system: bool, path: &[u8]) -> Result<Text, TokenError>
     ensures { starts_with_slash path.now ≡ false → Gives token_wants_memory result
         (absolute (source_of system) (known facts.now) path.now) }
@@ -86,7 +86,7 @@ fn in_folder(alloc: Global, facts: &Facts, system: bool, path: &[u8]) -> Result<
     Ok(in_home(alloc, home, path)?)
 }
 
-/// A path that isn't absolute is taken from the folder of its source.
+// A path that isn't absolute is resolved from the folder of its source.
 fn absolute(alloc: Global, facts: &Facts, system: bool, path: Text) -> Result<Text, TokenError>
     ensures { Gives token_wants_memory result (absolute (source_of system) (known facts.now) path) }
 {
@@ -98,7 +98,7 @@ fn absolute(alloc: Global, facts: &Facts, system: bool, path: Text) -> Result<Te
     whole
 }
 
-/// The path of a word.
+// The path of a word.
 fn path_of(
     alloc: Global,
     facts: &Facts,
@@ -114,7 +114,7 @@ fn path_of(
     absolute(alloc, facts, system, path)
 }
 
-/// Puts the paths of words into an empty list, up to the first refusal.
+// Puts the paths of words into an empty list, up to the first refusal.
 fn put_paths(
     alloc: Global,
     facts: &Facts,
@@ -135,7 +135,7 @@ fn put_paths(
     Ok(())
 }
 
-/// The paths of words, or the first refusal.
+// The paths of words, or the first refusal.
 fn paths_of(
     alloc: Global,
     facts: &Facts,
@@ -156,14 +156,14 @@ fn paths_of(
     }
 }
 
-/// Whether a path has a star, a question mark or an open bracket.
+// Whether a path has a star, a question mark or an open bracket.
 fn is_glob(path: &[u8]) -> bool
     ensures { result ≡ is_glob path.now }
 {
     path.iter().any(|b| *b == b'*' || *b == b'?' || *b == b'[')
 }
 
-/// Whether a path ends with a slash.
+// Whether a path ends with a slash.
 fn ends_with_slash(path: &[u8]) -> bool
     ensures { result ≡ ends_with_slash path.now }
 {
@@ -173,14 +173,14 @@ fn ends_with_slash(path: &[u8]) -> bool
     }
 }
 
-/// A directory's path; that of the root is a slash.
+// A directory's path; that of the root is a slash.
 fn or_root(base: &[u8]) -> &[u8]
     ensures { result.now ≡ or_root base.now }
 {
     if base.is_empty() { b"/" } else { base }
 }
 
-/// A path with one more component.
+// A path with one more component.
 fn joined(alloc: Global, base: &[u8], name: &[u8]) -> Result<Text, OutOfMemory>
     ensures { IfOk result (λ path. path ≡ base.now ++ 47 ∷ name.now) }
 {
@@ -190,7 +190,7 @@ fn joined(alloc: Global, base: &[u8], name: &[u8]) -> Result<Text, OutOfMemory>
     Ok(path)
 }
 
-/// Adds a path. It stands apart for its contract alone, which sees the items.
+// Adds a path. It stands apart for its contract alone, which sees the items.
 fn put(paths: &mut Vec<Text>, path: Text) -> Result<(), OutOfMemory>
     ensures { OnOk result (paths.new.items ≡ paths.old.items ++ path ∷ []) }
 {
@@ -198,7 +198,7 @@ fn put(paths: &mut Vec<Text>, path: Text) -> Result<(), OutOfMemory>
     Ok(())
 }
 
-/// Adds a path for each name that a component takes.
+// Adds a path for each name that a component takes.
 fn put_taken(
     alloc: Global,
     paths: &mut Vec<Text>,
@@ -217,7 +217,7 @@ fn put_taken(
     Ok(())
 }
 
-/// Adds the paths that a directory has for a component.
+// Adds the paths that a directory has for a component.
 fn put_below<F: Files>(
     alloc: Global,
     paths: &mut Vec<Text>,
@@ -245,7 +245,7 @@ fn put_below<F: Files>(
     Ok(())
 }
 
-/// The paths with one more component; an empty one is dropped.
+// The paths with one more component; an empty one is dropped.
 fn with_component<F: Files>(
     alloc: Global,
     bases: Vec<Text>,
@@ -271,7 +271,7 @@ fn with_component<F: Files>(
     Ok(paths)
 }
 
-/// The paths that a path with globs stands for, in whatever order.
+// The paths that a path with globs expands to, in whatever order.
 fn along<F: Files>(alloc: Global, path: &[u8], files: &mut F) -> Result<Vec<Text>, FileError>
     ensures found { (recorded : Recorded) → RecordsFiles (F.recorded files.old) recorded
         → IfOk result (λ paths.
@@ -293,7 +293,7 @@ fn along<F: Files>(alloc: Global, path: &[u8], files: &mut F) -> Result<Vec<Text
     with_component(alloc, paths, left, files)
 }
 
-/// Puts texts in the order of their bytes.
+// Puts texts in the order of their bytes.
 fn sort(texts: &mut Vec<Text>) -> Result<(), OutOfMemory>
     ensures { OnOk result (texts.new.items ≡ sorted texts.old.items) }
 {
@@ -301,7 +301,7 @@ fn sort(texts: &mut Vec<Text>) -> Result<(), OutOfMemory>
     Ok(())
 }
 
-/// Adds texts.
+// Adds texts.
 fn add_all(texts: &mut Texts, more: Vec<Text>) -> Result<(), OutOfMemory>
     ensures { OnOk result (texts.new ≡ texts.old ++ more.items) }
 {
@@ -311,7 +311,7 @@ fn add_all(texts: &mut Texts, more: Vec<Text>) -> Result<(), OutOfMemory>
     Ok(())
 }
 
-/// The path that one without globs stands for, alone.
+// The path that one without globs expands to, alone.
 fn alone(alloc: Global, path: &[u8]) -> Result<Vec<Text>, OutOfMemory>
     ensures { IfOk result (λ paths. paths.items ≡ path.now ∷ []) }
 {
@@ -326,7 +326,7 @@ fn alone(alloc: Global, path: &[u8]) -> Result<Vec<Text>, OutOfMemory>
     }
 }
 
-/// Texts in the order of their bytes.
+// Texts in the order of their bytes.
 fn in_order(texts: Vec<Text>) -> Result<Vec<Text>, OutOfMemory>
     ensures { IfOk result (λ ordered. ordered.items ≡ sorted texts.items) }
 {
@@ -340,7 +340,7 @@ fn in_order(texts: Vec<Text>) -> Result<Vec<Text>, OutOfMemory>
     }
 }
 
-/// The paths that an absolute path stands for, in the order of their bytes.
+// The paths that an absolute path expands to, in the order of their bytes.
 #[tactic(auto, unfolding(conf_rules::specs::Includes::globbed))]
 fn globbed<F: Files>(alloc: Global, path: &[u8], files: &mut F) -> Result<Vec<Text>, FileError>
     ensures found { (recorded : Recorded) → RecordsFiles (F.recorded files.old) recorded
@@ -361,7 +361,7 @@ fn globbed<F: Files>(alloc: Global, path: &[u8], files: &mut F) -> Result<Vec<Te
     Ok(in_order(paths)?)
 }
 
-/// Adds the paths that an absolute path stands for.
+// Adds the paths that an absolute path expands to.
 fn add_globbed<F: Files>(
     alloc: Global,
     all: &mut Texts,
@@ -380,7 +380,7 @@ fn add_globbed<F: Files>(
     Ok(add_all(all, found)?)
 }
 
-/// The paths that absolute paths stand for.
+// The paths that absolute paths expand to.
 fn all_globbed<F: Files>(alloc: Global, paths: &Texts, files: &mut F) -> Result<Texts, FileError>
     ensures found { (recorded : Recorded) → RecordsFiles (F.recorded files.old) recorded
         → IfOk result (λ found. found ≡ all_globbed recorded paths.now) }

@@ -138,7 +138,7 @@ impl OpenFiles {
     }
 
     /// The refusal of the line that the last file read, with which the reading ends: the file is
-    /// given up for it, and it takes no memory.
+    /// given up for it, and it allocates no memory.
     pub fn give_up(&mut self, error: LineError) -> ResolveError
         requires some { IsSome self.old.top }
         ensures { GivesUp self.old.top error result }

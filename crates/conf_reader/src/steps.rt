@@ -24,7 +24,7 @@ impl Lines {
     ghost use Rattle.conf_reader.specs.ToRead.{all_read};
     ghost use Rattle.conf_reader.specs.Uses.{UsesFiles, UsesFilesFor, of_all, behind_step, behind_call};
 
-    /// Takes one line of all files.
+    // Takes one line of all files.
     fn one<F: Files>(&mut self, files: &mut F) -> Result<ReadStep, ResolveError>
         requires ready { IsReady self.old.open_files }
         requires plain { list_all is_plain_first self.old.firsts.items ≡ true }
@@ -53,7 +53,7 @@ impl Lines {
         }
     }
 
-    /// The next line that says something.
+    /// The next line with content.
     pub fn next_line<F: Files>(&mut self, files: &mut F) -> Result<Option<ConfLine>, ResolveError>
         requires ready { IsReady self.old.open_files }
         requires plain { list_all is_plain_first self.old.firsts.items ≡ true }
@@ -72,7 +72,7 @@ impl Lines {
         }
     }
 
-    /// Finds the files that the last line includes. It stands apart for its proof alone.
+    // Finds the files that the last line includes. It stands apart for its proof alone.
     fn expand<F: Files>(
         &mut self,
         facts: &Facts,
@@ -90,7 +90,7 @@ impl Lines {
         self.open_files.expand(facts, original, files)
     }
 
-    /// The next line that says something, with the files that the last one includes before it.
+    /// The next line with content, with the files that the last one includes before it.
     pub fn next<F: Files>(
         &mut self,
         facts: &Facts,

@@ -38,7 +38,7 @@ impl OpenFiles {
         })
     }
 
-    /// Goes behind the next line of the last file.
+    /// Goes after the next line of the last file.
     pub fn go(&mut self, next: usize, include: Option<Text>)
         requires some { IsSome self.old.top }
         requires counted { IfSome self.old.top (λ f. (f.number ≤ f.at + 1) × (f.at < next)

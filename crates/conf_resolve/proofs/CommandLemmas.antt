@@ -84,7 +84,7 @@ ran-joined (Some cs) xs ys = ap (λ x. Some x) (append_assoc cs xs ys)
 pub ran-on : (before now later : Commands) (xs ys : List (List ℕ)) → RanAll before now xs → RanAll now later ys → RanAll before later (xs ++ ys)
 ran-on before now later xs ys h k = k ∙ ap (Rattle.std.specs.Option.option_map (λ cs. cs ++ ys)) h ∙ ran-joined before xs ys
 
--- a call that broke off, behind others
+-- a call that broke off, after others
 pub ran-some : (before now later : Commands) (xs ys more : List (List ℕ)) → RanAll before now xs → RanSome now later ys → RanSome before later ((xs ++ ys) ++ more)
 ran-some before now later xs ys more h r = record {
   done = xs ++ r.done;

@@ -30,7 +30,7 @@ depth-low recorded pass fold rows blocks old new given s g fits =
 stale : (o : OpenFiles) (b : Bool) → o.fresh ≡ b → b ≡ false → length o.below.items + cond o.fresh 0 (length (option_to_list o.top)) ≡ length o.below.items + length (option_to_list o.top)
 stale o b e h = ap (λ t. length o.below.items + cond t 0 (length (option_to_list o.top))) (e ∙ h)
 
--- behind a given line as many files are open as it lies deep, and one more
+-- after a given line as many files are open as it lies deep, and one more
 pub given-bounded : (old new : Lines) (given : ConfLine) (n m : ℕ) → IsGivenFrom old new given → Bounded old.open_files n → m ≡ given.depth + 1 → Bounded new.open_files m
 given-bounded old new given n m g fits is =
     let count : length (stack new.open_files) ≡ length new.open_files.below.items + length (option_to_list new.open_files.top) = length-append new.open_files.below.items (option_to_list new.open_files.top) in

@@ -1,4 +1,4 @@
--- Where faults are told, pass by pass.
+-- Where faults are reported, pass by pass.
 use Rattle.std.proofs.Common.{◌≡◌, ℕ, ◌+◌, Bool, true, false, List, [], ◌∷◌, ◌++◌, length, Option, None, Result, Err, refl, sym, ap, subst, ◌∙◌, append_assoc}
 use Rattle.std.specs.Prelude.{IfErr}
 use Rattle.std.specs.Option.{option_map}
@@ -33,7 +33,7 @@ use Rattle.conf_resolve.proofs.ResolveLemmas.{all-front, first-is, twice-all}
 
 -- ---- rows
 
--- the row of a line and what may come behind it
+-- the row of a line and what may come after it
 row-front : (recorded : Recorded) (pass : Pass) (rows : List Row) (place : ℕ) (line : Line) (rest : List Line) → (later : List Row) × (from recorded pass rows place (line ∷ rest) ≡ rows ++ next_row recorded pass rows place line ∷ later)
 row-front recorded pass rows place line rest = on (is_refused (next_row recorded pass rows place line).entry) refl
   where
@@ -96,14 +96,14 @@ run-stands recorded pass fold old reader final first start now later before u li
 
 -- ---- both passes
 
--- what is no fault is told anywhere
+-- what is no fault is reported anywhere
 pub plain-stands : (recorded : Recorded) (all : List Row) (e : ResolveError) (before now : Commands) (failed failed-now : FailedPaths) → is_fault_at e ≡ false → FaultStands recorded all e before now failed failed-now
 plain-stands recorded all errors.OutOfMemory before now failed failed-now h = tt
 plain-stands recorded all (errors.At file number causes.ReadFault) before now failed failed-now h = absurd cc
 plain-stands recorded all (errors.At file number causes.RunFault) before now failed failed-now h = absurd cc
 plain-stands recorded all (errors.At file number cause) before now failed failed-now h = tt
 
--- where more rows come behind
+-- where more rows come after
 more-stands : (recorded : Recorded) (rows all more : List Row) (e : ResolveError) (before now : Commands) (failed failed-now : FailedPaths) → all ≡ rows ++ more → FaultStands recorded rows e before now failed failed-now → FaultStands recorded all e before now failed failed-now
 more-stands recorded rows all more errors.OutOfMemory before now failed failed-now is f = tt
 more-stands recorded rows all more (errors.At file number causes.ReadFault) before now failed failed-now is f = record {
@@ -147,7 +147,7 @@ none-fails errors.OutOfMemory failed now same = same
 none-fails (errors.At file number causes.ReadFault) failed now same = tt
 none-fails (errors.At file number cause) failed now same = same
 
--- what the reader tells
+-- what the reader reports
 pub none-recorded : (test : Test) (e : ResolveError) (failed mid now : FailedPaths) → mid ≡ failed → RecordsFailed {A = Option ConfLine} test (Err e) mid now → NoneFails {A = Unit {0}} (Err e) failed now
 none-recorded test errors.OutOfMemory failed mid now same records = records ∙ same
 none-recorded test (errors.At file number causes.ReadFault) failed mid now same records = tt

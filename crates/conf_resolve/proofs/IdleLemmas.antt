@@ -48,7 +48,7 @@ pass-idle recorded (Second before) fold rows place line row p at idle again entr
       p.seen place at ∙ sym (ap length none-more) ∙ ap (λ m. length (flat_map collected (take m before))) (sym i-is);
 }
 
--- the fold stands for one more idle row
+-- the fold represents one more idle row
 pub stands-idle : (recorded : Recorded) (pass : Pass) (fold : Fold) (rows : List Row) (blocks : Blocks) (place : ℕ) (line : Line) → Stands recorded pass fold rows blocks → length rows ≡ start_of pass + place → IsIdle recorded place line → IsAgain recorded pass place line
     → ((next_row recorded pass rows place line).entry ≡ Ok Nothing) × Stands recorded pass fold (rows ++ next_row recorded pass rows place line ∷ []) blocks
 unfolding next_row
@@ -66,7 +66,7 @@ stands-idle recorded pass fold rows blocks place line s at idle again =
       },
     )
 
--- behind idle lines
+-- after idle lines
 pub record Ahead (recorded : Recorded) (pass : Pass) (fold : Fold) (blocks : Blocks) (place : ℕ) (rest : List Line) (final start : List Row) : Type 0 where
   pub rows : List Row
   pub stands : Stands recorded pass fold rows blocks

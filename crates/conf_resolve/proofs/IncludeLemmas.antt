@@ -1,5 +1,5 @@
--- Where a failed read may be told: at an Include line of rows that looks at its path, or at a file
--- that no line includes.
+-- Where a failed read may be reported: at an Include line of rows that looks at its path, or at a
+-- file that no line includes.
 use Rattle.std.proofs.Common.{◌≡◌, ℕ, suc, ◌-◌, Bool, true, false, ◌&&◌, ◌||◌, List, [], ◌∷◌, ◌++◌, Some, refl, sym, ap, subst, ◌∙◌, ◌⊎◌, inl, inr}
 use Rattle.std.specs.Prelude.{◌==◌, codes}
 use Rattle.std.specs.List.{list_all, list_any, slice_get}
@@ -67,11 +67,11 @@ looks_from recorded file number path row = bytes_eq row.line.file file && ((row.
 abbrev pub is_first : Bytes → ℕ → Bytes → FirstFile → Bool
 is_first file number path f = bytes_eq f.path file && (bytes_eq f.path path && (number == 0))
 
--- whether a failed read of a path may be told there, behind these rows
+-- whether a failed read of a path may be reported there, after these rows
 pub may_record : Recorded → List Row → Bytes → ℕ → Bytes → Bool
 may_record recorded rows file number path = list_any (looks_from recorded file number path) rows || list_any (is_first file number path) (firsts_of recorded.facts.home recorded.asked.from)
 
--- the place where it is told
+-- the place where it is reported
 pub recorded-place : (recorded : Recorded) (rows : List Row) (file : Bytes) (number : ℕ) (path : Bytes) → may_record recorded rows file number path ≡ true → LooksFrom recorded rows file number path ⊎ IsFirst recorded file number path
 unfolding may_record
 recorded-place recorded rows file number path e = on (either (list_any (looks_from recorded file number path) rows) _ e)
@@ -90,7 +90,7 @@ recorded-place recorded rows file number path e = on (either (list_any (looks_fr
         let path-is = both (bytes_eq first.path path) _ file-is.1 in
         inr (record { at = f.0; first = first; is = f.1.1.0; path_is = (bytes_eq-Decides first.path path).0 path-is.0; file_is = (bytes_eq-Decides first.path file).0 file-is.0; number_is = eqb-true number 0 path-is.1 })
 
--- ---- behind more rows
+-- ---- after more rows
 
 or-more : (a b c : Bool) → (a || c) ≡ true → ((a || b) || c) ≡ true
 or-more true b c e = refl

@@ -48,7 +48,7 @@ append-one recorded pass x xs ys rows place false h none all later =
     ∙ ap (λ m. from recorded pass (from recorded pass (rows ++ row ∷ []) (place + 1) xs) m ys) n
     ∙ ap (λ rs. from recorded pass rs (place + suc (length xs)) ys) (sym (rows-on recorded pass rows place x xs h))
 
--- where no row is refused, the rows of later lines come behind
+-- where no row is refused, the rows of later lines come after
 pub rows-append : (recorded : Recorded) (pass : Pass) (xs ys : List Line) (rows : List Row) (place : ℕ) → refusal_in rows ≡ None → refusal_in (from recorded pass rows place xs) ≡ None → from recorded pass rows place (xs ++ ys) ≡ from recorded pass (from recorded pass rows place xs) (place + length xs) ys
 unfolding rows_from
 rows-append recorded pass [] ys rows place none all = let z : place ≡ place + 0 = omega arith in ap (λ n. from recorded pass rows n ys) z

@@ -30,7 +30,7 @@ use Rattle.conf_resolve.proofs.CommandLemmas.{commands-more, commands-quiet, ref
 
 -- ---- the steps of a pass
 
--- where a pass stands that began behind these rows, with these commands run
+-- where a pass stands that began after these rows, with these commands run
 pub record Underway (recorded : Recorded) (pass : Pass) (fold : Fold) (reader : Lines) (final first : List Row) (start now : Commands) : Type 0 where
   pub rows : List Row
   pub place : ℕ
@@ -50,7 +50,7 @@ take-size zero bs h = refl
 take-size (suc d) [] h = absurd (omega (arith, h))
 take-size (suc d) (b ∷ bs) h = ap suc (take-size d bs (omega (arith, h)))
 
--- how many blocks are open behind a line
+-- how many blocks are open after a line
 behind-length : (line : ConfLine) (place : ℕ) (bs : Blocks) → line.depth ≤ length bs → length (open_behind line place bs) ≡ line.depth + 1
 behind-length line place bs h = length-append (take line.depth bs) (_ ∷ []) ∙ ap (λ n. n + 1) (take-size line.depth bs h)
 
@@ -149,7 +149,7 @@ none-given recorded place blocks old new (Some line) n r = absurd (n line refl)
 
 -- ---- commands
 
--- the commands of a row and of what may come behind it
+-- the commands of a row and of what may come after it
 step-front : (recorded : Recorded) (pass : Pass) (rows : List Row) (place : ℕ) (line : Line) (rest : List Line)
     → (more : List (List ℕ)) × (commands (from recorded pass rows place (line ∷ rest)) ≡ (commands rows ++ (next_row recorded pass rows place line).ran) ++ more)
 step-front recorded pass rows place line rest = on (is_refused (next_row recorded pass rows place line).entry) refl

@@ -123,7 +123,7 @@ pub begin-refused : (recorded : Recorded) (e : ResolveError) → IsBegun recorde
 begin-refused recorded errors.OutOfMemory b = tt
 begin-refused recorded (errors.At file number cause) b = λ fault. ap refusal_in (asked-all recorded (errors.At file number cause) b) ∙ b
 
--- ---- behind the first pass
+-- ---- after the first pass
 
 pub first-stands : (recorded : Recorded) (new : Fold) → refusal_in (asked_rows recorded) ≡ None → Represents recorded First new (final_rows recorded First (asked_rows recorded)) → Represents recorded First new (first_rows recorded)
 first-stands recorded new none s = subst (Represents recorded First new) (first-is recorded none) s

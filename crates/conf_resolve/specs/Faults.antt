@@ -1,4 +1,4 @@
--- Where the faults of a resolution are told.
+-- Where the faults of a resolution are reported.
 use Rattle.std.specs.Prelude.{◌≡◌, ◌⊎◌, ℕ, true, List, [], ◌∷◌, ◌++◌, Option, Some, Result, Err}
 use Rattle.std.specs.List.{slice_get, list_any}
 use Rattle.std.specs.Option.{option_map}
@@ -15,7 +15,7 @@ use Rattle.conf_reader.specs.declared.lines.FirstFile.{FirstFile}
 use Rattle.conf_reader.specs.Firsts.{firsts_of}
 use Rattle.conf_resolve.specs.Passes.{Commands, commands}
 
--- the paths of calls that failed, where they are told
+-- the paths of calls that failed, if they are recorded
 abbrev pub FailedPaths : Type 0
 FailedPaths = Option (List Bytes)
 
@@ -38,7 +38,7 @@ pub record IsFirst (recorded : Recorded) (file : Bytes) (number : ℕ) (path : B
   pub file_is : first.path ≡ file
   pub number_is : number ≡ 0
 
--- A read of a path failed behind these rows, whose commands were all run. It is told at one of
+-- A read of a path failed after these rows, whose commands were all run. It is reported at one of
 -- their Include lines that looks at this very path, or at line 0 of this path, a file that no line
 -- includes.
 pub record ReadFails (recorded : Recorded) (all : List Row) (file : Bytes) (number : ℕ)
@@ -51,7 +51,7 @@ pub record ReadFails (recorded : Recorded) (all : List Row) (file : Bytes) (numb
   pub is : failed_now ≡ option_map (λ paths. paths ++ path ∷ []) failed
   pub place : LooksFrom recorded rows file number path ⊎ IsFirst recorded file number path
 
--- A command could not be run, behind rows whose commands were all run. It is told at the line of
+-- A command could not be run, after rows whose commands were all run. It is reported at the line of
 -- the row that asks for it, whose earlier commands were run.
 pub record RunFails (all : List Row) (file : Bytes) (number : ℕ) (before now : Commands) :
     Type 0 where
@@ -65,7 +65,7 @@ pub record RunFails (all : List Row) (file : Bytes) (number : ℕ) (before now :
   pub ran : RanAll before reached (commands rows)
   pub fails : FailsOne reached now row.ran
 
--- a fault is told where it came up
+-- a fault is reported where it came up
 abbrev pub FaultStands : Recorded → List Row → ResolveError → Commands → Commands → FailedPaths
     → FailedPaths → Type 0
 FaultStands recorded all (At file number causes.ReadFault) before now failed failed_now =
@@ -74,7 +74,7 @@ FaultStands recorded all (At file number causes.RunFault) before now failed fail
     RunFails all file number before now
 FaultStands recorded all e before now failed failed_now = Unit {0}
 
--- no read failed, unless one is told
+-- no read failed, unless one is reported
 abbrev pub NoneFails : {A : Type 0} → Result A ResolveError → FailedPaths → FailedPaths → Type 0
 NoneFails (Err OutOfMemory) failed now = now ≡ failed
 NoneFails (Err (At file number causes.ReadFault)) failed now = Unit {0}

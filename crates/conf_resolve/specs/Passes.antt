@@ -14,7 +14,7 @@ use Rattle.conf_reader.specs.Blocks.{Blocks}
 use Rattle.conf_fold.specs.declared.fold.Fold.{Fold}
 use Rattle.conf_fold.specs.Stands.{Stands, IsAgain}
 
--- commands that were run, where they are told
+-- commands that were run, if they are recorded
 abbrev pub Commands : Type 0
 Commands = Option (List Bytes)
 
@@ -31,26 +31,26 @@ AreAgain recorded pass place (l ∷ ls) = IsAgain recorded pass place l × AreAg
 abbrev pub file_lines : Recorded → List Line
 file_lines recorded = lines_from recorded (length recorded.asked.lines) recorded.asked.from
 
--- where a pass begins, behind the lines of the command line
+-- where a pass begins, after the lines of the command line
 pub record Begins (recorded : Recorded) (pass : Pass) (fold : Fold) (rows : List Row) : Type 0 where
   pub stands : Stands recorded pass fold rows []
   pub at : length rows ≡ start_of pass + length recorded.asked.lines
   pub none : refusal_in rows ≡ None
   pub again : AreAgain recorded pass (length recorded.asked.lines) (file_lines recorded)
 
--- the rows behind all lines of files
+-- the rows after all lines of files
 abbrev pub final_rows : Recorded → Pass → List Row → List Row
 final_rows recorded pass rows =
     rows_from recorded entry_of rows (record { pass = pass; line = length recorded.asked.lines })
     (file_lines recorded)
 
--- a fold stands for these rows, of which none is refused
+-- a fold represents these rows, of which none is refused
 pub record Represents (recorded : Recorded) (pass : Pass) (fold : Fold) (rows : List Row) : Type 0 where
   pub blocks : Blocks
   pub stands : Stands recorded pass fold rows blocks
   pub none : refusal_in rows ≡ None
 
--- what a pass came to
+-- the outcome of a pass
 abbrev pub Passes : Recorded → Pass → List Row → Fold → Result (Unit {0}) ResolveError → Type 0
 Passes recorded pass rows new (Ok x) = Represents recorded pass new (final_rows recorded pass rows)
 Passes recorded pass rows new (Err OutOfMemory) = Unit {0}
@@ -61,7 +61,7 @@ Passes recorded pass rows new (Err (At file number cause)) =
 abbrev pub first_rows : Recorded → List Row
 first_rows recorded = rows_from recorded entry_of [] (first_place First) (all_lines recorded)
 
--- what both passes came to
+-- the outcome of both passes
 abbrev pub BothPass : Recorded → Fold → Result (Unit {0}) ResolveError → Type 0
 BothPass recorded new (Ok x) = (refusal recorded ≡ None)
     × Keeps new.settings (flat_map given (all_rows recorded))

@@ -6,7 +6,7 @@ use Rattle.conf_rules.specs.declared.causes.ResolveError.{ResolveError}
 use Rattle.conf_rules.specs.Texts.{Bytes}
 use Rattle.conf_reader.specs.ToRead.{reading_of, ReadsSome}
 
--- calls of `read`, where they are told
+-- calls of `read`, if they are recorded
 abbrev pub Readings : Type 0
 Readings = Option (List Reading)
 

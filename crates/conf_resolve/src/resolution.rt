@@ -20,7 +20,7 @@ use conf_rules::{Asked, ResolveError};
 use mux_outside::{Facts, Files, Runner};
 use std::alloc::Global;
 
-/// Gives all lines of files to a fold.
+// Gives all lines of files to a fold.
 fn pass<F: Files, R: Runner>(
     alloc: Global,
     asked: &Asked,
@@ -59,7 +59,7 @@ fn pass<F: Files, R: Runner>(
     Ok(())
 }
 
-/// Gives all lines of files to a fold, and once more where a line asks for it.
+// Gives all lines of files to a fold, and once more where a line asks for it.
 fn passes<F: Files, R: Runner>(
     alloc: Global,
     asked: &Asked,
@@ -103,10 +103,10 @@ fn passes<F: Files, R: Runner>(
 /// The settings of the command line and of all files that are asked for, or the first refusal in
 /// reading order. Exactly the commands are run that the criteria of active `Match` lines reach, and
 /// exactly the files are read that the lines name, in their order, once in each pass. A fault comes
-/// only where the count of faults of `files` or `runner` rose, and no rise goes untold, nor is told
-/// as want of memory. A failed read is told at an Include line that looks at the path that failed,
-/// or at line 0 of this path, a file that no line includes; a command that could not be run at the
-/// line that asks for it.
+/// only if the count of faults of `files` or `runner` rose, and no rise goes unreported, nor is
+/// reported as out of memory. A failed read is reported at an Include line that looks at the path
+/// that failed, or at line 0 of this path, a file that no line includes; a command that could not
+/// be run at the line that asks for it.
 pub fn resolve<F: Files, R: Runner>(
     alloc: Global,
     asked: &Asked,

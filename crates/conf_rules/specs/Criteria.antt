@@ -29,14 +29,13 @@ named name =
     else (if same_word name (codes "localuser") then Valued LocalUser
     else (if list_any (same_word name) not_supported then NotSupported else NoName)))))))))
 
--- a criterion's own word: whether it is negated, its name, and the text behind its first equals
--- sign
+-- a criterion's own word: whether it is negated, its name, and the text after its first equals sign
 pub record Spelled : Type 0 where
   pub negated : Bool
   pub name : Named
   pub value : Option Bytes
 
--- a word behind its exclamation mark, if it has one
+-- a word after its exclamation mark, if it has one
 abbrev pub split_value : Bool → Bytes → Spelled
 split_value negated word = elim (split_at_first 61 word) [
   | None ↦ record { negated = negated; name = named word; value = None }
@@ -54,23 +53,23 @@ spelled word = elim (behind (33 ∷ []) word) [
 abbrev pub ReadCriteria : Type 0
 ReadCriteria = Result (List Criterion) MatchError
 
--- a criterion in front of later ones
+-- a criterion before later ones
 abbrev pub with_criterion : Bool → Kind → Bytes → ReadCriteria → ReadCriteria
 with_criterion negated kind value later = later >>= λ cs.
     Ok (record { negated = negated; kind = kind; value = value } ∷ cs)
 
--- whether `all` may stand behind a criterion
+-- whether `all` may stand after a criterion
 abbrev pub opens_all : Kind → Bool
 opens_all Canonical = true
 opens_all Final = true
 opens_all kind = false
 
--- `all`, with the words behind it: it is the last criterion, and stands where it may
+-- `all`, with the words after it: it is the last criterion, and stands where it may
 abbrev pub all_alone : Bool → List Bytes → ReadCriteria
 all_alone true [] = Ok (record { negated = false; kind = All; value = [] } ∷ [])
 all_alone may words = Err AllNotAlone
 
--- a criterion that takes no value, with the words behind it and their criteria
+-- a criterion that has no value, with the words after it and their criteria
 abbrev pub plain_criterion : ℕ → Bool → Bool → Kind → List Bytes → ReadCriteria → ReadCriteria
 plain_criterion at may true All words later = Err (Unknown at)
 plain_criterion at may false All words later = all_alone may words
@@ -82,7 +81,7 @@ unvalued at None criteria = criteria
 unvalued at (Some value) criteria = Err (Unknown at)
 
 -- the criteria from the word at a place on; `may` says whether `all` may stand here. A value is the
--- text behind the equals sign, or the next word
+-- text after the equals sign, or the next word
 unfoldable pub criteria_from : ℕ → Bool → List Bytes → ReadCriteria
 criteria_from at may [] = Ok []
 criteria_from at may (word ∷ []) = let s = spelled word in elim s.name [

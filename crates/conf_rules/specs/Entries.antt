@@ -47,7 +47,7 @@ host_entry words = words >>= λ ws. Ok (Host ws)
 abbrev pub match_entry : SplitWords → ReadEntry
 match_entry words = words >>= λ ws. as_error causes.Match (read_criteria ws) >>= λ cs. Ok (Match cs)
 
--- the words of a key: those whose rest is taken unsplit have none
+-- the words of a key: those whose rest is kept unsplit have none
 abbrev pub key_words : Bool → SplitWords → SplitWords
 key_words true words = Ok []
 key_words false words = words
@@ -71,8 +71,8 @@ abbrev pub in_file : Source → ReadEntry → ReadEntry
 in_file CommandLine entry = Err causes.NotOnCommandLine
 in_file source entry = entry
 
--- What a keyword with a rest, or with its words, says where these patterns are ignored; what an
--- Include line names stands behind it.
+-- The content of a keyword with a rest, or with its words, where these patterns are ignored; after
+-- it what an Include line names.
 abbrev pub keyword_entry : Option Bytes → Source → Bytes → Bytes → SplitWords → KeyKind → ReadEntry
 keyword_entry ignored source keyword rest words (kinds.Key key) = key_entry key rest words
 keyword_entry ignored source keyword rest words kinds.Host = in_file source (host_entry words)
@@ -96,7 +96,7 @@ content_entry ignored source (Parts keyword words) =
     keyword_entry ignored source keyword [] (Ok words) (meaning_of keyword)
 content_entry ignored source (Refused cause) = Err cause
 
--- what a line says behind rows: an unknown keyword that IgnoreUnknown, set earlier, takes is
+-- the content of a line after rows: an unknown keyword that IgnoreUnknown, set earlier, matches is
 -- ignored
 unfoldable pub entry_of : List Row → Line → ReadEntry
 entry_of rows line = content_entry (word_in (value IgnoreUnknown rows)) line.source line.content

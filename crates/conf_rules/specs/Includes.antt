@@ -33,7 +33,7 @@ facts_seen facts original = record {
   name = original;
 }
 
--- a path that isn't absolute is taken from the folder of its source
+-- a path that isn't absolute is resolved from the folder of its source
 abbrev pub absolute : Source → Facts → Bytes → Result Bytes TokenError
 absolute SystemFile facts path = if starts_with_slash path then Ok path
     else Ok (codes "/etc/ssh/" ++ path)
@@ -61,7 +61,7 @@ abbrev pub or_root : Bytes → Bytes
 or_root [] = 47 ∷ []
 or_root (b ∷ bs) = b ∷ bs
 
--- a path with one more component; of a component with globs all names that it takes
+-- a path with one more component; of a component with globs all names that it matches
 abbrev pub below : Recorded → Bytes → Bytes → List Bytes
 below recorded component base =
     if is_glob component then map (λ name. base ++ (47 ∷ name))
@@ -82,7 +82,7 @@ components_of path = filter (λ component. not (is_empty component)) (split_at_e
 abbrev pub ends_with_slash : Bytes → Bool
 ends_with_slash path = elim (split_last path) [ None ↦ false | Some p ↦ p.1 == 47 ]
 
--- The paths that an absolute path stands for; of one with globs those in the order of their bytes,
+-- The paths that an absolute path expands to; of one with globs those in the order of their bytes,
 -- but none where a slash at its end asks for directories alone.
 unfoldable pub globbed : Recorded → Bytes → List Bytes
 globbed recorded path =

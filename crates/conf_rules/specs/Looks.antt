@@ -37,7 +37,7 @@ abbrev pub looks_in : Source → Recorded → Result (List Bytes) LexError → L
 looks_in source recorded (Err e) = []
 looks_in source recorded (Ok words) = looks_along recorded (paths_of source recorded words)
 
--- what an Include line looks at, by what stands behind its keyword
+-- what an Include line looks at, by what stands after its keyword
 unfoldable pub looks_at : Source → Recorded → Bytes → List Bytes
 looks_at source recorded rest = looks_in source recorded (words_of rest)
 

@@ -1,5 +1,5 @@
--- Which files are read, in which order: each path that an Include line names, and behind it what
--- the file there names, before the next path.
+-- Which files are read, in which order: each path that an Include line names, and after it what the
+-- file there names, before the next path.
 use Rattle.std.specs.Prelude.{ℕ, zero, suc, Bool, false, if◌then◌else◌, List, [], ◌∷◌, ◌++◌, flat_map, Result, Ok, Err, codes}
 use Rattle.std.specs.List.{list_any}
 use Rattle.conf_rules.specs.declared.asked.ConfigFrom.{ConfigFrom}
@@ -18,7 +18,7 @@ use Rattle.conf_rules.specs.Resolution.{first_place, refuses, rows_from, wants_s
 
 -- ---- one line
 
--- the paths that expanded words stand for, unless one is refused
+-- the paths that expanded words expand to, unless one is refused
 abbrev pub paths_behind : Recorded → Result (List Bytes) TokenError → List Bytes
 paths_behind recorded (Err e) = []
 paths_behind recorded (Ok paths) = flat_map (globbed recorded) paths
@@ -40,7 +40,7 @@ paths_at source recorded bytes = paths_by source recorded (head_of bytes)
 
 -- ---- files
 
--- a path, and behind it what the lines of the file there read, if there is one
+-- a path, and after it what the lines of the file there read, if there is one
 abbrev pub read_at : (Bytes → List Bytes) → Recorded → Bytes → List Bytes
 read_at reads recorded path =
     path ∷ flat_map (λ f. flat_map reads (lines_of f.text)) (file_at recorded path)
@@ -69,7 +69,7 @@ read_once recorded Standard = flat_map (read_first UserFile recorded) (user_path
 read_once recorded Nothing = []
 read_once recorded (File path) = read_first UserFile recorded path
 
--- whether rows have a second pass behind them
+-- whether rows have a second pass after them
 abbrev pub asks_second : List Row → Bool
 asks_second rows = if list_any refuses rows then false else list_any wants_second rows
 

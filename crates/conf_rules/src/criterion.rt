@@ -26,9 +26,9 @@ pub enum Kind {
 /// What a criterion's name is.
 #[derive(Clone, Copy, Drop, PartialEq, Eq)]
 pub enum Named {
-    /// It takes a value.
+    /// It has a value.
     Valued(Kind),
-    /// It takes none.
+    /// It has none.
     Plain(Kind),
     /// It needs facts that aren't known.
     NotSupported,

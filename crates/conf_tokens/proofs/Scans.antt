@@ -17,12 +17,12 @@ skipped set view (suc more) at [] within = absurd (omega (arith, within))
 skipped set view (suc more) at (b ∷ bs) within =
     skipped set view more (at + 1) bs (omega (arith, within)) ∙ ap (λ n. expand_from set view 0 n (drop more bs)) (omega arith)
 
--- a text in front of one that is in front
+-- a text before one that is in front
 regrouped : (old text : List ℕ) (r : Result (List ℕ) TokenError) → onto old (r >>= λ rest. Ok (text ++ rest)) ≡ onto (old ++ text) r
 regrouped old text (Err e) = refl
 regrouped old text (Ok rest) = rw append_assoc refl
 
--- a part, and what comes behind it
+-- a part, and what comes after it
 joined : (old : List ℕ) (part : Result Part TokenError) (others : ℕ → Result (List ℕ) TokenError) (new : List ℕ) (more : ℕ) → onto_part old part ≡ Ok (new, more) → onto old (part >>= λ p. others p.more >>= λ rest. Ok (p.text ++ rest)) ≡ onto new (others more)
 joined old (Err e) others new more h = absurd cc
 joined old (Ok p) others new more h =

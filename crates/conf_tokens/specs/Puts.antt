@@ -1,4 +1,4 @@
--- What stands behind a text once a part was put there.
+-- What a text contains once a part was appended.
 use Rattle.std.specs.Prelude.{◌≡◌, ◌==◌, ℕ, if◌then◌else◌, [], ◌∷◌, ◌++◌, Option, Result, Ok, Err}
 use Rattle.conf_rules.specs.declared.causes.TokenError.{TokenError}
 use Rattle.conf_rules.specs.Results.{◌>>=◌, Fails}
@@ -6,21 +6,21 @@ use Rattle.conf_rules.specs.Wants.{token_wants_memory}
 use Rattle.conf_rules.specs.Texts.{Bytes}
 use Rattle.conf_rules.specs.Tokens.{Part, fact_of, before_dot}
 
--- a text in front of a reading
+-- a text before a reading
 abbrev pub onto : Bytes → Result Bytes TokenError → Result Bytes TokenError
 onto front reading = reading >>= λ text. Ok (front ++ text)
 
--- what stood there has the reading behind it, unless memory was wanting
+-- what stood there has the reading after it, unless memory ran out
 abbrev pub Puts : {X : Type 0} → Result X TokenError → Bytes → Bytes
     → Result Bytes TokenError → Type 0
 Puts (Ok x) old new reading = onto old reading ≡ Ok new
 Puts (Err e) old new reading = Fails token_wants_memory e reading
 
--- a part behind what stood there, and how many bytes follow its first
+-- a part after what stood there, and how many bytes follow its first
 abbrev pub onto_part : Bytes → Result Part TokenError → Result (Bytes × ℕ) TokenError
 onto_part front reading = reading >>= λ part. Ok (front ++ part.text, part.more)
 
--- what stood there has the part's text behind it, unless memory was wanting
+-- what stood there has the part's text after it, unless memory ran out
 abbrev pub PutsPart : Result ℕ TokenError → Bytes → Bytes → Result Part TokenError → Type 0
 PutsPart (Ok more) old new reading = onto_part old reading ≡ Ok (new, more)
 PutsPart (Err e) old new reading = Fails token_wants_memory e reading

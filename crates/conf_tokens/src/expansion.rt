@@ -14,7 +14,7 @@ use conf_rules::{TokenError, TokenSet};
 use ssh_fields::{OutOfMemory, Text};
 use std::alloc::Global;
 
-/// A text, and behind it another, from a place on, with its tokens expanded.
+// A text, and after it another, from a place on, with its tokens expanded.
 fn expand_onto(
     alloc: Global,
     front: Text,
@@ -39,7 +39,7 @@ fn expand_onto(
 }
 
 /// A text with those tokens, and variables, expanded that the set has; a percent or dollar sign
-/// that stands for itself stays. Refused are a token that the set doesn't have and a brace that
+/// that represents itself stays. Refused are a token that the set doesn't have and a brace that
 /// isn't closed, with their place in `text`; a percent sign at the end; and a fact or a variable
 /// that isn't known, by its token's byte or its name.
 pub fn expand(
@@ -53,7 +53,7 @@ pub fn expand(
     expand_onto(alloc, Text::new(alloc), 0, text, set, view)
 }
 
-/// What stands behind a tilde, with the home in front.
+// What stands after a tilde, with the home before it.
 fn with_home(alloc: Global, rest: &[u8], set: TokenSet, view: &View<'_>) -> Result<Text, TokenError>
     requires { 1 + length rest.now < 2 ^ 64 }
     ensures { Gives token_wants_memory result (with_home set (seen view.now) rest.now) }
@@ -79,7 +79,7 @@ pub fn expand_path(
     }
 }
 
-/// Whether a tilde before this text stands for the home.
+// Whether a tilde before this text represents the home.
 fn represents_home(lone: bool, rest: &[u8]) -> bool
     ensures { result ≡ (starts_with_slash rest.now || (lone && is_empty rest.now)) }
 {
@@ -111,7 +111,7 @@ pub fn expand_name(alloc: Global, original: &[u8], text: &[u8]) -> Result<Text, 
     Ok(out)
 }
 
-/// Adds what a token of a Hostname gives.
+// Adds what a token of a Hostname gives.
 fn put_name_token(out: &mut Text, original: &[u8], token: u8) -> Result<(), OutOfMemory>
     ensures { OnOk result (out.new ≡ out.old ++ name_token original.now token) }
 {

@@ -20,7 +20,7 @@ pub fn fact(byte: u8, fact: &Option<Text>) -> Result<&[u8], TokenError>
     }
 }
 
-/// The user, or else the local user, whose lack is told under a byte.
+/// The user, or else the local user, whose lack is reported under a byte.
 pub fn user<'a>(byte: u8, view: &View<'a>) -> Result<&'a [u8], TokenError>
     ensures { Shows (λ u. u.now) result
         (user_of byte (seen view.now).user (seen view.now).facts.local_user) }

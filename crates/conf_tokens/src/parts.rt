@@ -12,7 +12,7 @@ use conf_rules::{TokenError, TokenSet};
 use ssh_fields::Text;
 use std::alloc::Global;
 
-/// The bytes that a set allows behind a percent sign.
+// The bytes that a set allows after a percent sign.
 fn letters(set: TokenSet) -> &'static [u8]
     ensures { result.now ≡ letters set }
 {
@@ -22,14 +22,14 @@ fn letters(set: TokenSet) -> &'static [u8]
     }
 }
 
-/// Whether a text has a byte.
+// Whether a text has a byte.
 fn has(byte: u8, text: &[u8]) -> bool
     ensures { result ≡ has byte text.now }
 {
     text.iter().any(|c| *c == byte)
 }
 
-/// Whether a set has variables.
+// Whether a set has variables.
 fn has_vars(set: TokenSet) -> bool
     ensures { result ≡ has_vars set }
 {
@@ -39,8 +39,8 @@ fn has_vars(set: TokenSet) -> bool
     }
 }
 
-/// Adds what a percent sign at a place and the byte behind it give. The result says how many bytes
-/// behind it are used up.
+// Adds what a percent sign at a place and the byte after it give. The result is how many bytes
+// after it are used up.
 fn put_percent(
     alloc: Global,
     out: &mut Text,
@@ -62,7 +62,7 @@ fn put_percent(
     Ok(1)
 }
 
-/// Adds what a variable gives whose name begins here, behind its open brace.
+// Adds what a variable gives whose name begins here, after its open brace.
 fn put_variable(
     alloc: Global,
     out: &mut Text,
@@ -86,7 +86,7 @@ fn put_variable(
     Ok(name.len() + 2)
 }
 
-/// Adds what a dollar sign at a place gives.
+// Adds what a dollar sign at a place gives.
 fn put_dollar(
     alloc: Global,
     out: &mut Text,
@@ -103,7 +103,7 @@ fn put_dollar(
     }
 }
 
-/// Adds a byte that stands for itself.
+// Adds a byte that represents itself.
 fn put_itself(out: &mut Text, byte: u8) -> Result<usize, TokenError>
     ensures puts { PutsPart result out.old out.new (itself byte) }
     ensures within { IfOk result (λ more. more ≡ 0) }
@@ -112,7 +112,7 @@ fn put_itself(out: &mut Text, byte: u8) -> Result<usize, TokenError>
     Ok(0)
 }
 
-/// Adds what the byte at a place and the bytes behind it give.
+/// Adds what the byte at a place and the bytes after it give.
 pub fn put_part(
     alloc: Global,
     out: &mut Text,

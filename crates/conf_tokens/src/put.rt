@@ -15,7 +15,7 @@ use sha1::Sha1;
 use ssh_fields::{OutOfMemory, Text};
 use std::alloc::Global;
 
-/// Adds a text.
+// Adds a text.
 fn put(out: &mut Text, text: &[u8]) -> Result<(), TokenError>
     ensures { Puts result out.old out.new (Ok text.now) }
 {
@@ -23,7 +23,7 @@ fn put(out: &mut Text, text: &[u8]) -> Result<(), TokenError>
     Ok(())
 }
 
-/// Adds a fact.
+// Adds a fact.
 fn put_fact(out: &mut Text, byte: u8, known: &Option<Text>) -> Result<(), TokenError>
     ensures { Puts result out.old out.new (fact_of byte known.now) }
 {
@@ -31,7 +31,7 @@ fn put_fact(out: &mut Text, byte: u8, known: &Option<Text>) -> Result<(), TokenE
     put(out, text)
 }
 
-/// Adds the user.
+// Adds the user.
 fn put_user(out: &mut Text, byte: u8, view: &View<'_>) -> Result<(), TokenError>
     ensures { Puts result out.old out.new
         (user_of byte (seen view.now).user (seen view.now).facts.local_user) }
@@ -48,7 +48,7 @@ pub fn put_number(alloc: Global, out: &mut Text, number: u64) -> Result<(), OutO
     out.add(digits.as_bytes())
 }
 
-/// Adds a port.
+// Adds a port.
 fn put_port(alloc: Global, out: &mut Text, port: u16) -> Result<(), TokenError>
     ensures { Puts result out.old out.new (Ok (digits_of port)) }
 {
@@ -56,7 +56,7 @@ fn put_port(alloc: Global, out: &mut Text, port: u16) -> Result<(), TokenError>
     Ok(())
 }
 
-/// How many bytes stand before the first dot.
+// How many bytes stand before the first dot.
 fn dot_place(name: &[u8]) -> usize
     ensures count { result ≡ prefix_len (λ c. not (c == 46)) name.now }
     ensures within { result ≤ length name.now }
@@ -64,14 +64,14 @@ fn dot_place(name: &[u8]) -> usize
     name.iter().take_while(|c| !(**c == b'.')).count()
 }
 
-/// A name up to its first dot.
+// A name up to its first dot.
 fn before_dot(name: &[u8]) -> &[u8]
     ensures { result.now ≡ before_dot name.now }
 {
     &name[..dot_place(name)]
 }
 
-/// Adds the name of this machine up to its first dot.
+// Adds the name of this machine up to its first dot.
 fn put_short_name(out: &mut Text, view: &View<'_>) -> Result<(), TokenError>
     ensures { Puts result out.old out.new (short_name (seen view.now).facts.host_name) }
 {
@@ -79,7 +79,7 @@ fn put_short_name(out: &mut Text, view: &View<'_>) -> Result<(), TokenError>
     put(out, before_dot(name))
 }
 
-/// The digest of a connection, in hexadecimal digits.
+// The digest of a connection, in hexadecimal digits.
 fn digest(alloc: Global, view: &View<'_>) -> Result<[u8; 40], TokenError>
     ensures { Gives token_wants_memory result (connection_digest (seen view.now)) }
 {
@@ -96,7 +96,7 @@ fn digest(alloc: Global, view: &View<'_>) -> Result<[u8; 40], TokenError>
     Ok(hex_of(&hasher.finalize()))
 }
 
-/// Twenty bytes in hexadecimal digits.
+// Twenty bytes in hexadecimal digits.
 fn hex_of(bytes: &[u8; 20]) -> [u8; 40]
     ensures { result ≡ encode_lower bytes.now }
 {
@@ -107,7 +107,7 @@ fn hex_of(bytes: &[u8; 20]) -> [u8; 40]
     text
 }
 
-/// Adds the digest of a connection.
+// Adds the digest of a connection.
 fn put_digest(alloc: Global, out: &mut Text, view: &View<'_>) -> Result<(), TokenError>
     ensures { Puts result out.old out.new (connection_digest (seen view.now)) }
 {
@@ -115,7 +115,7 @@ fn put_digest(alloc: Global, out: &mut Text, view: &View<'_>) -> Result<(), Toke
     put(out, &digest)
 }
 
-/// Adds what a token gives, by the byte behind its percent sign.
+/// Adds what a token gives, by the byte after its percent sign.
 #[tactic(auto, unfolding(conf_rules::specs::Tokens::meaning))]
 pub fn put_token(alloc: Global, out: &mut Text, byte: u8, view: &View<'_>) -> Result<(), TokenError>
     ensures { Puts result out.old out.new (meaning (seen view.now) byte) }

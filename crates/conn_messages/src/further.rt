@@ -19,7 +19,7 @@ pub(crate) const CANCEL_PATH: &[u8] = b"cancel-streamlocal-forward@openssh.com";
 
 const KEEP_ALIVE: &[u8] = b"keepalive@openssh.com";
 
-/// An address and a port, and nothing after them.
+// An address and a port, and nothing after them.
 fn port_key<'a>(fields: &mut FieldReader<'a>) -> Result<Key<'a>, Bad>
     ensures { (what : grammar.Key → grammar.Global)
         → Gives (λ k. what (key_of k)) result (read_key fields.old.cursor fields.old.at what) }
@@ -44,7 +44,7 @@ fn cancel<'a>(fields: &mut FieldReader<'a>) -> Result<Request<'a>, Bad>
     Ok(Request::Cancel(key))
 }
 
-/// A path, and nothing after it.
+// A path, and nothing after it.
 fn path_key<'a>(fields: &mut FieldReader<'a>) -> Result<Key<'a>, Bad>
     ensures { (what : grammar.Key → grammar.Global)
         → Gives (λ k. what (key_of k)) result (read_path fields.old.cursor fields.old.at what) }
@@ -100,7 +100,7 @@ const DIRECT_PATH: &[u8] = b"direct-streamlocal@openssh.com";
 
 const FORWARDED_PATH: &[u8] = b"forwarded-streamlocal@openssh.com";
 
-/// A host and a port, those of the originator, and nothing after them.
+// A host and a port, those of the originator, and nothing after them.
 fn port_end<'a>(fields: &mut FieldReader<'a>) -> Result<Key<'a>, Bad>
     ensures { (what : grammar.Key → grammar.Opens)
         → Gives (λ k. what (key_of k)) result (read_ends fields.old.cursor fields.old.at what) }
@@ -128,7 +128,7 @@ fn forwarded<'a>(fields: &mut FieldReader<'a>) -> Result<Opening<'a>, Bad>
     Ok(Opening::Forwarded(key))
 }
 
-/// A path, a reserved text and a reserved number, and nothing after them.
+// A path, a reserved text and a reserved number, and nothing after them.
 fn direct_path<'a>(fields: &mut FieldReader<'a>) -> Result<Opening<'a>, Bad>
     ensures { Gives opening_of result (read_direct_path fields.old.cursor fields.old.at) }
 {
@@ -139,7 +139,7 @@ fn direct_path<'a>(fields: &mut FieldReader<'a>) -> Result<Opening<'a>, Bad>
     Ok(Opening::Direct(Key::Path(path)))
 }
 
-/// A path and a reserved text, and nothing after them.
+// A path and a reserved text, and nothing after them.
 fn forwarded_path<'a>(fields: &mut FieldReader<'a>) -> Result<Opening<'a>, Bad>
     ensures { Gives opening_of result (read_forwarded_path fields.old.cursor fields.old.at) }
 {

@@ -11,7 +11,7 @@ use ssh_fields::FieldReader;
 use ssh_grammar::Bad;
 use ssh_grammar::numbers::*;
 
-/// A message with no field that isn't read yet.
+// A message with no field that isn't read yet.
 fn bare<'a>(message: Message<'a>, fields: &mut FieldReader<'a>) -> Result<Message<'a>, Bad>
     ensures { Gives message_of result
         (on_end fields.old.cursor fields.old.at (message_of message.entry)) }
@@ -140,7 +140,7 @@ fn request<'a>(recipient: u32, fields: &mut FieldReader<'a>) -> Result<Message<'
     })
 }
 
-/// A message to a channel, by its number. The recipient comes first in each.
+// A message to a channel, by its number. The recipient comes first in each.
 fn channel_message<'a>(number: u8, fields: &mut FieldReader<'a>) -> Result<Message<'a>, Bad>
     requires place { fields.old.at ≡ 1 }
     requires low { CHANNEL_OPEN_CONFIRMATION ≤ number }

@@ -15,7 +15,7 @@ count-yes k f fs h = ap length (filter-yes (is_of k) f fs h)
 count-no : (k : ℕ) (f : Forward) (fs : List Forward) → is_of k f ≡ false → count_of (f ∷ fs) k ≡ count_of fs k
 count-no k f fs h = ap length (filter-no (is_of k) f fs h)
 
--- the same in front of one as of another
+-- the same before one as of another
 count-same : (k : ℕ) (f g : Forward) (fs gs : List Forward) → f.client ≡ g.client → count_of fs k ≡ count_of gs k → count_of (f ∷ fs) k ≡ count_of (g ∷ gs) k
 count-same k f g fs gs client same = by_case (is_of k f) refl
   where

@@ -51,7 +51,7 @@ last-some end (b ∷ text) zero lt is none =
 last-some end (b ∷ text) (suc n) lt is none =
     ap (split_one end b text) (last-some end text n (omega (arith, lt)) is (λ k l m t. none (suc k) (omega (arith, l)) (omega (arith, m)) t))
 
--- what a search from behind finds
+-- what a search from the end finds
 pub around : (end : ℕ) (text : List ℕ) (r : Option ℕ) → IsLastByte (is_byte end) text r → before_last end text ≡ option_map (λ i. (take i text, drop (i + 1) text)) r
 around end text None last = last-none end text (λ k lt is. last k (omega arith) lt is)
 around end text (Some i) last =

@@ -37,7 +37,7 @@ placed test fs i h = by_case (nat_lt (position_or_len (sees test) fs) (length fs
     by_case true e h = (let s = h in cc, let s : position_or_len (sees test) fs ≡ i = cc in grind (arith, nat_tests))
     by_case false e h = absurd (cc)
 
--- it stands in front, or behind one that doesn't pass
+-- it stands in front, or after one that doesn't pass
 at-zero : (test : Forward → Bool) (f : Listed) (fs : List Listed) → IsPlace test (f ∷ fs) zero → sees test f ≡ true
 unfolding IsPlace
 at-zero test f fs p = by_case (sees test f) refl

@@ -1,4 +1,4 @@
--- Taking out tells a client's live forwardings one after the other, and then nothing of the client
+-- Removing records a client's live forwardings one after the other, and then nothing of the client
 -- is left.
 use Rattle.std.proofs.Common.{◌≡◌, ℕ, List, [], ◌∷◌, map, true, false, Bool, Option, Some, None, refl, ◌∙◌, ap, sym}
 use Rattle.std.specs.Prelude.{is_some, not, nat_lt, ◌-◌, ◌==◌, ◌&&◌}
@@ -10,7 +10,7 @@ use Rattle.forward_rules.specs.Taking.{after_taking, closed_up, first_live, is_l
 use Rattle.forward_rules.proofs.Counts.{moved-client}
 use Rattle.forward_rules.proofs.Places.{without-at}
 
--- ---- one that moves up is told as before
+-- ---- one that moves up is recorded as before
 
 moved-some : (r : ℕ) (cancel : Option ℕ) → is_some (moved_up r cancel) ≡ is_some cancel
 moved-some r None = refl

@@ -1,4 +1,4 @@
--- A list of forwardings stands for those of a history that are asked or live.
+-- A list of forwardings represents those of a history that are asked or live.
 use Rattle.std.specs.Prelude.{◌≡◌, ◌≤◌, ◌<◌, ℕ, ◌==◌, ◌&&◌, Bool, true, false, List, [], ◌∷◌, length, filter, find, Some, None, is_some, is_none, unwrap_or, nat_lt, slice_get}
 use Rattle.std.specs.List.{AllByRecursion}
 use Rattle.ssh_grammar.specs.Messages as full
@@ -32,7 +32,7 @@ InOrder f g f' g' =
     → f'.cancel ≡ Some r' → g'.cancel ≡ Some q' → (nat_lt r r' ≡ nat_lt q q')
     × (nat_lt r' r ≡ nat_lt q' q)
 
--- one and each behind it
+-- one and each after it
 abbrev pub InOrderWith : Forward → Forwarding → List Forward → List Forwarding → Type 0
 InOrderWith f g [] gs = Unit {0}
 InOrderWith f g fs [] = Unit {0}
@@ -96,7 +96,7 @@ EachHas own gs = (place : ℕ) (a : Ask) → own.replied ≤ place → slice_get
 abbrev pub IsRanked : List Forward → Forward → Type 0
 IsRanked fs f = (r : ℕ) → f.cancel ≡ Some r → r < cancels f.client fs
 
--- the list stands for these forwardings, at most 64 a client, where these are the requests of each
+-- the list represents these forwardings, at most 64 a client, where these are the requests of each
 -- client, and these clients are lost
 pub record AreFit (fs : List Forward) (gs : List Forwarding) (own : ℕ → Places) (lost : ℕ
     → Bool) : Type 0 where

@@ -63,7 +63,7 @@ is_leaving k f = is_of k f && is_some f.cancel
 abbrev pub cancels : ℕ → List Forward → ℕ
 cancels k fs = length (filter (is_leaving k) fs)
 
--- a cancel means the earliest that is free: one that wants a reply waits for it, behind those that
+-- a cancel means the earliest that is free: one that wants a reply waits for it, after those that
 -- wait, and one that wants none ends the forwarding
 abbrev pub cancelled : ℕ → Key → Bool → List Forward → List Forward
 cancelled k key true fs =

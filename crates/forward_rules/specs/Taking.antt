@@ -9,7 +9,8 @@ use Rattle.conn_messages.specs.declared.key.OwnKey.{OwnKey}
 use Rattle.forward_rules.specs.declared.forwards.ForwardRefused.{ForwardRefused}
 use Rattle.forward_rules.specs.declared.forwards.ForwardRefused.TheVariants.{Full, OutOfMemory}
 
--- at 64 of a client none is added, and below none is refused for that; want of memory is free
+-- at 64 of a client none is added, and below none is refused for that; running out of memory is
+-- free
 abbrev pub AddsAs : List Forward → ℕ → Result Unit ForwardRefused → Type 0
 AddsAs fs k (Ok u) = count_of fs k < MAX_FORWARDINGS
 AddsAs fs k (Err (Full count)) = (count ≡ count_of fs k) × (count ≡ MAX_FORWARDINGS)
@@ -29,7 +30,7 @@ is_live_of k f = is_of k f && f.live
 abbrev pub first_live : ℕ → List Forward → Option Forward
 first_live k fs = find (is_live_of k) fs
 
--- what is told of it: its key, and whether a cancel of it has no reply
+-- what is recorded of it: its key, and whether a cancel of it has no reply
 abbrev pub recorded_of : Forward → grammar.Key × Bool
 recorded_of f = (f.key, is_some f.cancel)
 
@@ -57,6 +58,6 @@ rest_after k fs (Some f) = closed_up k f.cancel (without_first (is_live_of k) fs
 abbrev pub after_taking : ℕ → List Forward → List Forward
 after_taking k fs = rest_after k fs (first_live k fs)
 
--- what taking tells one after the other, until there is none
+-- what removing them records one after the other, until there is none
 abbrev pub recorded_one_by_one : ℕ → List Forward → List (grammar.Key × Bool)
 recorded_one_by_one k fs = map recorded_of (filter (is_live_of k) fs)

@@ -8,7 +8,7 @@ use conn_messages::Key;
 use ssh_fields::{OutOfMemory, Text};
 use std::alloc::Global;
 
-/// An entry as its text has it, where `None` stands for each host and each port.
+/// An entry as its text has it, where `None` represents each host and each port.
 #[derive(Clone, Copy)]
 pub enum Parts<'a> {
     /// `host:port`, `[address]:port` or `port`.
@@ -47,7 +47,7 @@ impl Entry {
         }
     }
 
-    /// Whether it is for this key. One for ports is for no path, and one for a path is for no port.
+    // Whether it is for this key. One for ports is for no path, and one for a path is for no port.
     fn is_for(&self, key: Key<'_>) -> bool
         ensures { result ≡ is_for (key_of key.entry) (entry_of self.now) }
     {
@@ -65,7 +65,7 @@ impl Entry {
     }
 }
 
-/// Whether a host is this one, or each.
+// Whether a host is this one, or each.
 fn has_host(host: &Option<Text>, address: &[u8]) -> bool
     ensures { result ≡ has_host host.now address.now }
 {
@@ -75,7 +75,7 @@ fn has_host(host: &Option<Text>, address: &[u8]) -> bool
     }
 }
 
-/// Whether a port is this one, or each.
+// Whether a port is this one, or each.
 fn has_port(port: Option<u32>, asked: u32) -> bool
     ensures { result ≡ has_port port asked }
 {

@@ -143,8 +143,8 @@ impl Forwards {
         count_in(&self.listed, client)
     }
 
-    /// Takes a client's earliest live forwarding out: its key, and whether a cancel of it has no
-    /// reply. Where it has no live one, all that it has asked are taken out, and None is answered.
+    /// Removes a client's earliest live forwarding: its key, and whether a cancel of it has no
+    /// reply. Where it has no live one, all that it has asked are removed, and None is answered.
     pub fn take_of(&mut self, client: u64) -> Option<(OwnKey, bool)>
         ensures exact { option_map taken_of result
             ≡ option_map recorded_of (first_live client self.old) }
@@ -170,22 +170,22 @@ impl Forwards {
         self.listed.retain(|f| f.client != client);
     }
 
-    /// What the client's unanswered cancel of this rank means is over.
+    // What the client's unanswered cancel of this rank means is over.
     fn end(&mut self, client: u64, rank: usize)
         ensures { self.new ≡ filter (λ f. not (is_cancelled_at client rank f)) self.old }
     {
         self.listed.retain(|f| !f.is_cancelled_by(client, rank));
     }
 
-    /// The client's cancel of this rank is answered: the later ones move up.
+    // The client's cancel of this rank is answered: the later ones move up.
     fn settle(&mut self, client: u64, rank: usize)
         ensures { self.new ≡ map (without_cancel_of client rank) self.old }
     {
         settle_in(&mut self.listed, client, rank);
     }
 
-    /// What the client's cancel of this rank meant was taken out, if one meant it: the later ones
-    /// move up.
+    // What the client's cancel of this rank meant was removed, if one meant it: the later ones
+    // move up.
     fn close_up(&mut self, client: u64, cancel: Option<usize>)
         ensures { self.new ≡ closed_up client cancel self.old }
     {
@@ -195,7 +195,7 @@ impl Forwards {
     }
 }
 
-/// The place of the client's first that has this key and is asked.
+// The place of the client's first that has this key and is asked.
 fn asked_in(listed: &[Listed], client: u64, key: Key<'_>) -> Option<usize>
     ensures { result ≡ position (λ f. is_asked_at client (key_of key.entry) (forward_of f))
         listed.now }
@@ -203,7 +203,7 @@ fn asked_in(listed: &[Listed], client: u64, key: Key<'_>) -> Option<usize>
     listed.iter().position(|f| f.is_asked(client, key))
 }
 
-/// The place of the client's first that is live with this key, and that no unanswered cancel means.
+// The place of the client's first that is live with this key, and that no unanswered cancel means.
 fn free_in(listed: &[Listed], client: u64, key: Key<'_>) -> Option<usize>
     ensures { result ≡ position (λ f. is_free_at client (key_of key.entry) (forward_of f))
         listed.now }
@@ -211,21 +211,21 @@ fn free_in(listed: &[Listed], client: u64, key: Key<'_>) -> Option<usize>
     listed.iter().position(|f| f.is_free(client, key))
 }
 
-/// The place of the first that is live with this key.
+// The place of the first that is live with this key.
 fn live_in(listed: &[Listed], key: Key<'_>) -> Option<usize>
     ensures { result ≡ position (λ f. is_live_at (key_of key.entry) (forward_of f)) listed.now }
 {
     listed.iter().position(|f| f.is_live(key))
 }
 
-/// The place of the client's first that is live.
+// The place of the client's first that is live.
 fn live_of(listed: &[Listed], client: u64) -> Option<usize>
     ensures { result ≡ position (λ f. is_live_of client (forward_of f)) listed.now }
 {
     listed.iter().position(|f| f.client == client && f.live)
 }
 
-/// How many are a client's.
+// How many are a client's.
 fn count_in(listed: &[Listed], client: u64) -> usize
     ensures { result ≡ count_of (map forward_of listed.now) client }
 {
@@ -238,7 +238,7 @@ fn count_in(listed: &[Listed], client: u64) -> usize
     count
 }
 
-/// How many cancels of a client have no reply: the rank of its next one.
+// How many cancels of a client have no reply: the rank of its next one.
 fn cancels_in(listed: &[Listed], client: u64) -> usize
     ensures { result ≡ cancels client (map forward_of listed.now) }
 {
@@ -251,7 +251,7 @@ fn cancels_in(listed: &[Listed], client: u64) -> usize
     count
 }
 
-/// The rank of the client's first unanswered cancel of this key.
+// The rank of the client's first unanswered cancel of this key.
 fn first_cancel_in(listed: &[Listed], client: u64, key: Key<'_>) -> Option<usize>
     ensures { result ≡ first_cancel (is_leaving_at client (key_of key.entry))
         (map forward_of listed.now) }
@@ -265,7 +265,7 @@ fn first_cancel_in(listed: &[Listed], client: u64, key: Key<'_>) -> Option<usize
     first
 }
 
-/// The lower of two ranks.
+// The lower of two ranks.
 fn earlier(a: Option<usize>, b: Option<usize>) -> Option<usize>
     ensures { result ≡ earlier a b }
 {
@@ -276,7 +276,7 @@ fn earlier(a: Option<usize>, b: Option<usize>) -> Option<usize>
     }
 }
 
-/// The client's cancel of this rank is answered: the later ones move up.
+// The client's cancel of this rank is answered: the later ones move up.
 fn settle_in(listed: &mut [Listed], client: u64, rank: usize)
     ensures { map forward_of listed.new
         ≡ map (without_cancel_of client rank) (map forward_of listed.old) }
@@ -286,7 +286,7 @@ fn settle_in(listed: &mut [Listed], client: u64, rank: usize)
     }
 }
 
-/// The client's cancels behind this rank move up by one.
+// The client's cancels after this rank move up by one.
 fn move_up_in(listed: &mut [Listed], client: u64, rank: usize)
     ensures { map forward_of listed.new
         ≡ map (moved_up_of client rank) (map forward_of listed.old) }

@@ -37,7 +37,7 @@ impl From<OutOfMemory> for ListFault {
     }
 }
 
-/// A decimal number up to 65,535; leading zeros are allowed.
+// A decimal number up to 65,535; leading zeros are allowed.
 fn read_number(text: &[u8]) -> Option<u32>
     ensures { result ≡ history.read_number text.now }
 {
@@ -57,7 +57,7 @@ fn read_number(text: &[u8]) -> Option<u32>
     Some(number)
 }
 
-/// `*`, which is each port, or a number.
+// `*`, which is each port, or a number.
 fn read_port(text: &[u8]) -> Option<Option<u32>>
     ensures { result ≡ history.read_port text.now }
 {
@@ -68,7 +68,7 @@ fn read_port(text: &[u8]) -> Option<Option<u32>>
     Some(Some(number))
 }
 
-/// `*`, which is each host, or a text that isn't empty and doesn't begin with a slash.
+// `*`, which is each host, or a text that isn't empty and doesn't begin with a slash.
 fn read_host(text: &[u8]) -> Option<Option<&[u8]>>
     ensures { option_map host_of result ≡ history.read_host text.now }
 {
@@ -80,7 +80,7 @@ fn read_host(text: &[u8]) -> Option<Option<&[u8]>>
     }
 }
 
-/// The text before the last byte of a kind, and the text after it.
+// The text before the last byte of a kind, and the text after it.
 fn around_last(text: &[u8], byte: u8) -> Option<(&[u8], &[u8])>
     ensures { option_map sides_of result ≡ history.before_last byte text.now }
 {
@@ -88,7 +88,7 @@ fn around_last(text: &[u8], byte: u8) -> Option<(&[u8], &[u8])>
     Some((&text[..at], &text[at + 1..]))
 }
 
-/// Whether there is a colon or a bracket.
+// Whether there is a colon or a bracket.
 fn has_mark(text: &[u8]) -> bool
     ensures { result ≡ any_of history.is_mark text.now }
 {
@@ -100,7 +100,7 @@ fn has_mark(text: &[u8]) -> bool
     false
 }
 
-/// A colon and a port, behind an address in brackets.
+// A colon and a port, after an address in brackets.
 fn read_colon_port(text: &[u8]) -> Option<Option<u32>>
     ensures { result ≡ history.read_colon_port text.now }
 {
@@ -110,7 +110,7 @@ fn read_colon_port(text: &[u8]) -> Option<Option<u32>>
     }
 }
 
-/// An address up to the last closing bracket, and its port.
+// An address up to the last closing bracket, and its port.
 fn read_bracketed(text: &[u8]) -> Option<Parts<'_>>
     ensures { option_map parts_of result ≡ history.read_bracketed text.now }
 {
@@ -120,7 +120,7 @@ fn read_bracketed(text: &[u8]) -> Option<Parts<'_>>
     Some(Parts::Ports { host, port })
 }
 
-/// A host without colon and bracket, and its port; or a port of each host.
+// A host without colon and bracket, and its port; or a port of each host.
 fn read_bare(text: &[u8]) -> Option<Parts<'_>>
     ensures { option_map parts_of result ≡ history.read_bare text.now }
 {
@@ -136,7 +136,7 @@ fn read_bare(text: &[u8]) -> Option<Parts<'_>>
     Some(Parts::Ports { host, port })
 }
 
-/// An entry, by its first byte.
+// An entry, by its first byte.
 fn read_entry(text: &[u8]) -> Option<Parts<'_>>
     ensures { option_map parts_of result ≡ history.read_entry text.now }
 {
@@ -164,7 +164,7 @@ fn read_entries(alloc: Global, texts: &[Text]) -> Result<Vec<Entry>, ListFault>
     Ok(entries)
 }
 
-/// A word that stands alone.
+// A word that stands alone.
 fn read_word(alloc: Global, text: &[u8]) -> Option<Allowed>
     ensures { option_map allow_of result ≡ history.read_word text.now }
 {

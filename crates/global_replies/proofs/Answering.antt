@@ -18,7 +18,7 @@ sent (true ∷ flags) (p ∷ heard) w h = let i = sent flags heard w h in (i.0, 
 pub sent-goes-on : (old new : List Bool) → new ≡ old ++ true ∷ [] → SentGoesOn old new
 sent-goes-on old new is flags heard h = let i = sent flags heard old h in (subst (Waits (flags ++ true ∷ []) heard) (sym is) i.0, i.1)
 
--- ---- a request is refused, at once or behind what waits
+-- ---- a request is refused, at once or after what waits
 
 refusal : (flags : List Bool) (heard : List (List ℕ)) (w : List Bool) → Waits flags heard w → Waits (flags ++ false ∷ []) heard (or_behind w) × (answers_to (flags ++ false ∷ []) heard ≡ answers_to flags heard ++ refused (is_none_left w))
 refusal [] [] w h = (ap or_behind h, ap (λ v. refused (is_none_left v)) (sym h))
@@ -32,7 +32,7 @@ refusal-goes-on old new now said is flags heard h =
     let i = refusal flags heard old h in
     (subst (Waits (flags ++ false ∷ []) heard) (sym is) i.0, i.1 ∙ ap (λ b. answers_to flags heard ++ refused b) (sym said))
 
--- ---- the server's reply comes, and the refusals behind it
+-- ---- the server's reply comes, and the refusals after it
 
 pub no-replies : (ws : List Bool) → answers_to ws [] ≡ replicate (leading ws) request_failure
 no-replies [] = refl

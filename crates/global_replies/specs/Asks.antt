@@ -18,6 +18,6 @@ text_of (Forward key) = keys.text_of key
 text_of (Cancel key) = keys.text_of key
 text_of what = []
 
--- it isn't too long to be said in a cancel
+-- it isn't too long to be sent in a cancel
 abbrev pub IsShort : Global → Type 0
 IsShort what = length (text_of what) ≤ MAX_ADDRESS

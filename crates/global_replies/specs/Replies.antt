@@ -26,7 +26,7 @@ FirstAsked [] (Some a) = ⊥
 FirstAsked (a ∷ later) None = ⊥
 FirstAsked (a ∷ later) (Some b) = request_of b.0 b.1 ≡ a
 
--- those that wait behind it
+-- those that wait after it
 abbrev pub rest_of : List history.Ask → List history.Ask
 rest_of [] = []
 rest_of (a ∷ later) = later
@@ -39,7 +39,7 @@ abbrev pub is_none_left : List Bool → Bool
 is_none_left [] = true
 is_none_left (sent ∷ flags) = false
 
--- a refusal behind what waits, where something does
+-- a refusal after what waits, where something does
 abbrev pub or_behind : List Bool → List Bool
 or_behind [] = []
 or_behind (sent ∷ flags) = (sent ∷ flags) ++ false ∷ []
@@ -56,7 +56,7 @@ leading [] = 0
 leading (true ∷ flags) = 0
 leading (false ∷ flags) = leading flags + 1
 
--- what waits behind them
+-- what waits after them
 abbrev pub without_leading : List Bool → List Bool
 without_leading [] = []
 without_leading (true ∷ flags) = true ∷ flags

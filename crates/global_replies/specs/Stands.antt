@@ -1,4 +1,4 @@
--- What is kept stands for the requests and the replies of a history so far.
+-- What is kept represents the requests and the replies of a history so far.
 use Rattle.std.specs.Prelude.{◌≡◌, ◌≤◌, ℕ, ◌+◌, ◌-◌, List, [], ◌∷◌, ◌++◌, Bool, true, false, Option, Some, None, length, drop, replicate, slice_get}
 use Rattle.ssh_grammar.specs.SpellMessage.{request_failure}
 use Rattle.mux_history.specs.Requests as history
@@ -49,7 +49,7 @@ SentGoesOn old new =
     → Waits (flags ++ true ∷ []) heard new
     × (answers_to (flags ++ true ∷ []) heard ≡ answers_to flags heard)
 
--- a refusal that is said now, or isn't
+-- a refusal that is sent now, or isn't
 abbrev pub refused : Bool → List (List ℕ)
 refused true = request_failure ∷ []
 refused false = []
@@ -61,7 +61,7 @@ RefusalGoesOn old new now =
     → Waits (flags ++ false ∷ []) heard new
     × (answers_to (flags ++ false ∷ []) heard ≡ answers_to flags heard ++ refused now)
 
--- one more reply came to a request that was sent: it is answered, and so many refusals behind it
+-- one more reply arrived for a request that was sent: it is answered, and so many refusals after it
 abbrev pub AnswerGoesOn : List Bool → List Bool → ℕ → Type 0
 AnswerGoesOn old new refusals =
     (flags : List Bool) (heard : List (List ℕ)) (p : List ℕ) → IsAwaited old → Waits flags heard old

@@ -25,7 +25,7 @@ impl Model for ClientAnswers {
     ghost invariant = { λ a. length a.waiting.items ≤ MOST_WAITING };
 }
 
-/// How many refusals stand in front.
+// How many refusals stand in front.
 fn leading(flags: &[bool]) -> usize
     ensures within { result ≤ length flags.now }
     ensures exact { result ≡ leading flags.now }
@@ -66,7 +66,7 @@ impl ClientAnswers {
     }
 
     /// A wanted request of the client is refused: true where nothing waits, so that the refusal
-    /// goes out now; else it waits behind what waits. An `Err` also comes where 2^32 - 1 requests
+    /// goes out now; else it waits after what waits. An `Err` also comes where 2^32 - 1 requests
     /// wait.
     pub fn local(&mut self) -> Result<bool, OutOfMemory>
         ensures stands { IfOk result (RefusalGoesOn self.old self.new) }

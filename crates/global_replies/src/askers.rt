@@ -34,7 +34,7 @@ impl Model for Askers {
 }
 
 impl Askers {
-    /// Nobody has asked.
+    /// No client has asked.
     pub fn new(alloc: Global) -> Askers
         ensures { result ≡ [] }
     {
@@ -63,7 +63,7 @@ impl Askers {
         Ok(())
     }
 
-    /// The server's next reply answers the request that waits longest: it is taken out. None where
+    /// The server's next reply answers the request that waits longest: it is removed. None where
     /// none waits.
     pub fn answered(&mut self) -> Option<(u64, Ask)>
         ensures stands { ReplyGoesOn self.old self.new result }

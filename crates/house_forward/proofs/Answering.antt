@@ -1,4 +1,4 @@
--- The next answer, and what it leaves of the asks.
+-- The next answer, and what it leaves of the requests.
 use Rattle.std.proofs.Common.{◌≡◌, ◌∙◌, refl, sym, ap, subst, ℕ, zero, suc, ◌+◌, ◌<◌, Bool, true, false, List, [], ◌∷◌, length, get_or, Option, Some, None, arith}
 use Rattle.std.specs.Prelude.{◌||◌, ◌&&◌, nat_lt, not, is_some, IsTrue, if◌then◌else◌}
 use Rattle.std.specs.List.{list_any, fold, position, remove}
@@ -15,7 +15,7 @@ use Rattle.house_forward.specs.declared.asks.Outcome.TheVariants.{Done, Port, Re
 use Rattle.house_forward.specs.declared.asks.Waiting.{Waiting}
 use Rattle.house_forward.proofs.Lists.{any-map, none-passes}
 
--- ---- there is one where an ask came to something
+-- ---- there is one where a request has an outcome
 
 one-of : (b : Bool) (v w : Waiting) → is_some (if b then Some v else Some w) ≡ true
 one-of true v w = refl
@@ -119,7 +119,7 @@ is-there ws w e none = both_ways (list_any (λ v. is_ask w.client w.id (open_ask
 
 -- ---- the next answer
 
--- what is known of an answer, and of the asks that it leaves
+-- what is known of an answer, and of the requests that it leaves
 pub record IsAnswer (ws : List Waiting) (o : Option (ℕ × ℕ × HouseReply)) (new : List Waiting) : Type 0 where
   pub fits : AnswerFits o (open_asks ws)
   pub silent : gives_none o ≡ answers_none ws

@@ -1,4 +1,4 @@
--- No two asks that wait have one client and one id.
+-- No two requests that wait have one client and one id.
 use Rattle.std.proofs.Common.{◌≡◌, ◌∙◌, refl, sym, ap, subst, arith, ℕ, zero, suc, ◌<◌, Bool, true, false, List, [], ◌∷◌, ◌++◌, length, get_or, Option, Some, None, inl, inr}
 use Rattle.std.specs.Prelude.{◌||◌, ◌&&◌, ◌==◌, find, if◌then◌else◌}
 use Rattle.std.specs.List.{All, list_any, position, remove}
@@ -44,7 +44,7 @@ apart-more (w ∷ ws) v h e =
       apart-more ws v h.1 both.1,
     )
 
--- ---- they come to something
+-- ---- they have an outcome
 
 settle-same : (b : Bool) (w : Waiting) (o : Option (ℕ × Outcome)) (c i : ℕ)
     → (((if b then record w { outcome = o } else w).client == c) && ((if b then record w { outcome = o } else w).id == i))

@@ -1,4 +1,4 @@
--- How the house goes on standing for its calls.
+-- How the forwarder goes on representing its calls.
 use Rattle.std.proofs.Common.{◌≡◌, ◌∙◌, refl, sym, ap, subst, ℕ, Bool, true, false, List, [], ◌∷◌, ◌++◌, Option, Some, None}
 use Rattle.std.specs.Prelude.{IfSome, IsSome}
 use Rattle.std.proofs.lemmas.List.{append-nil}
@@ -24,7 +24,7 @@ use Rattle.house_forward.specs.declared.ordering.Ordering.TheVariants as orderin
 use Rattle.house_forward.proofs.Traces.{stands-on}
 use Rattle.house_forward.proofs.Leading.{LeadsOn, leads-next, leads-last}
 
--- the house goes on from what is the same
+-- the forwarder goes on from what is the same
 pub from-same : (P : Trace → Trace → Type 0) (old middle : ForwarderState) (new : Held) → middle ≡ old
     → GoesFurther P (held_in middle) new → GoesFurther P (held_in old) new
 from-same P old middle new e goes = subst (λ (h : ForwarderState). GoesFurther P (held_in h) new) e goes
@@ -46,14 +46,14 @@ no-ordering None e = refl
 no-ordering (Some (ordering.Listen host port)) e = cc
 no-ordering (Some (ordering.Connect host port)) e = cc
 
--- a call behind which none is awaited
+-- a call after which none is awaited
 pub since-on : (at at' : Option Ordering) (calls : List HouseCall) (call : HouseCall) (old new : Held) → at ≡ None → at' ≡ None
     → taken_in (call ∷ []) ≡ 0 → GoesFurther (Follows call) old new → StandsSince at calls old
     → StandsSince at' (calls ++ call ∷ []) new
 since-on at at' calls call old new e f none goes h =
     none-since at' (calls ++ call ∷ []) new f (stands-on calls call old new none goes (since-none at calls old e h))
 
--- one in which bytes are taken
+-- one in which bytes are accepted
 pub since-taken : (at at' : Option Ordering) (calls : List HouseCall) (call : HouseCall) (old new : Held) → at ≡ None → at' ≡ None
     → (Represents calls old → Represents (calls ++ call ∷ []) new) → StandsSince at calls old
     → StandsSince at' (calls ++ call ∷ []) new
@@ -133,7 +133,7 @@ lived-first h e =
       };
     })
 
--- ---- what is heard
+-- ---- what is received
 
 -- one frame more
 pub leads-on : (one : Bool) (old : Held) (now middle : ForwarderState) (new : Held) → one ≡ true → middle ≡ now

@@ -1,4 +1,4 @@
--- What an ask gets has its cause in what happened.
+-- What a request gets has its cause in what happened.
 use Rattle.std.proofs.Common.{◌≡◌, ◌∙◌, refl, sym, ap, subst, ℕ, Bool, true, false, List, [], ◌∷◌, ◌++◌, append_assoc, Option, Some, None}
 use Rattle.std.specs.Prelude.{◌&&◌, nat_lt, if◌then◌else◌, find, IfSome}
 use Rattle.std.specs.List.{All, Contains, fold, list_any}
@@ -93,7 +93,7 @@ not-later : (answer : HouseReply) (comes : Comes) (serial : ℕ) (P : Type 0) �
     → IsGrant answer → P
 not-later answer comes serial P e f g = absurd (subst IsGrant (e ∙ ap reply_to f) g)
 
--- what is known as an ask comes
+-- what is known as a request comes
 record Granting (old : ForwardingState) (forwarder_events : List ForwarderEvent) (answer : HouseReply) (comes : Comes) : Type 0 where
   knows : Knows forwarder_events old
   answers : answer ≡ reply_to comes
@@ -183,7 +183,7 @@ each-served client id opening ask answer forwarder_events old new left a grants 
 
 -- ---- later
 
--- the earliest is one of them, and came to something
+-- the earliest is one of them, and has an outcome
 abbrev pub Picks : (Waiting → Type 0) → Waiting → Type 0
 Picks P w = P w × (has_outcome w ≡ true)
 
@@ -204,7 +204,7 @@ picked P [] a w e k h = there-is (Picks P) a w e k
 picked P (v ∷ ws) a w e k h =
     picked P ws (earlier a v) w e (picks P v.outcome a v refl (All-head P v ws h) k) (All-tail P v ws h)
 
--- what it came to is what it is told
+-- its outcome is what it is answered
 made-reply : (number : Option ℕ) (p : ℕ) (P : Type 0) → MadeBy number false (Port p) → P
 made-reply None p P e = cc
 made-reply (Some l) p P e = absurd e

@@ -1,4 +1,4 @@
--- What is known by what happened, deed by deed.
+-- What is known by what happened, event by event.
 use Rattle.std.proofs.Common.{◌≡◌, ◌∙◌, refl, sym, ap, subst, arith, ℕ, zero, suc, ◌+◌, ◌-◌, ◌<◌, ◌≤◌, Bool, true, false, List, [], ◌∷◌, ◌++◌, length, length-append, get_or, set, take, drop, map, filter, Option, Some, None, inl, inr}
 use Rattle.std.specs.Prelude.{◌⊎◌, ◌==◌, ◌&&◌, ◌||◌, not, nat_lt, nat_le, if◌then◌else◌, find, slice_get, IfSome}
 use Rattle.std.specs.List.{All, position, position_or_len, remove}
@@ -261,7 +261,7 @@ knows-nothing = record {
   apart = tt;
 }
 
--- ---- an ask
+-- ---- a request
 
 same-kinds : (a b : Kind) → same_kind a b ≡ true → a ≡ b
 same-kinds kind.Local kind.Local e = refl
@@ -282,7 +282,7 @@ one-end : (there p q : Bool) → (not there || (p && q)) ≡ true → there ≡ 
 one-end true p q e is = and_parts p q e
 one-end false p q e is = cc
 
--- a forwarding that listens where an ask is to listen is the one that it is for
+-- a forwarding that listens where a request is to listen is the one that it is for
 pub is-for : (gateway opening : Bool) (ask : StartAsk) (ends : Ends) (f a : Forwarding) → AreEnds gateway ask ends → AreOne a f
     → listens_at ends f ≡ true → (opening ≡ true → connects_to ends f ≡ true) → IsFor gateway opening ask a
 is-for gateway opening ask ends f a are one listens connects =
@@ -311,13 +311,13 @@ new-is-for gateway opening ask ends serial start f are a = record {
   connects = λ o there. (a.connects ∙ are.connects, a.connect_port_is ∙ are.connect_port);
 }
 
--- the forwarding for whose fate an ask waits
+-- the forwarding for whose fate a request waits
 record WaitsFor (home : ℕ → Forwarding) (serials : ℕ) (gateway opening : Bool) (ask : StartAsk) (serial : ℕ) : Type 0 where
   below : serial < serials
   serial_is : (home serial).serial ≡ serial
   is_for : IsFor gateway opening ask (home serial)
 
--- what an ask leaves
+-- what a request leaves
 record Leaves (home : ℕ → Forwarding) (serials : ℕ) (forwarder_events : List ForwarderEvent) (gateway opening : Bool) (ask : StartAsk) (comes : Comes)
     (fs : List Forwarding) (more : ℕ) : Type 0 where
   grown : Grown home serials forwarder_events fs more
@@ -518,7 +518,7 @@ apart-came : (comes : Comes) (client id : ℕ) (opening : Bool) (ws : List Waiti
 apart-came (Now o) client id opening ws e h = h
 apart-came (Later serial) client id opening ws e h = apart-more ws (waiting_for client id opening serial) h e
 
--- an ask waits where its client has none with its id
+-- a request waits where its client has none with its id
 apart-asked : (client id : ℕ) (opening : Bool) (ask : StartAsk) (comes : Comes) (gateway : Bool) (serials : ℕ)
     (fs new : List Forwarding) (ws : List Waiting) (away : Bool) → turns_away client id ws ≡ away
     → ComesUnless away gateway opening ask serials fs new comes → Apart ws → Apart (asks_after comes client id opening ws)

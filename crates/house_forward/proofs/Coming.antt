@@ -1,4 +1,4 @@
--- What comes of an ask.
+-- The outcome of a request.
 use Rattle.std.proofs.Common.{◌≡◌, ◌∙◌, refl, ap, ℕ, Bool, true, false, List, Some, None, arith}
 use Rattle.std.specs.Prelude.{not, length, Result, Ok, Err, IfOk, OnOk}
 use Rattle.mux_outside.specs.House.{order_marks}

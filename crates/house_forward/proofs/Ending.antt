@@ -1,4 +1,4 @@
--- What is closed was asked to close, and the ask has no answer yet.
+-- What is closed was requested to close, and the request has no answer yet.
 use Rattle.std.proofs.Common.{◌≡◌, ◌∙◌, refl, sym, ap, subst, ℕ, Bool, true, false, List, ◌∷◌, ◌++◌, [], inl, Option, Some, None}
 use Rattle.std.specs.List.{Contains}
 use Rattle.std.proofs.lemmas.Bool.{and_from, eq-eqb}
@@ -69,7 +69,7 @@ is-its n w c = and_from _ _ (eq-eqb w.forwarding n c.of_it) (ap (λ b. same b fa
 settled-one : (n at : ℕ) (o : Outcome) (w : Waiting) → IsCloser n w → settle_one n false at o w ≡ come_to at o w
 settled-one n at o w c = rw (is-its n w c) (ap (λ (x : Option (ℕ × Outcome)). record w { outcome = settled_at at o x }) c.open_yet)
 
--- it comes to this
+-- it has this outcome
 comes-to : (n at : ℕ) (o : Outcome) (w : Waiting) (ws : List Waiting) → In w ws → IsCloser n w
     → Contains (settled n false at o ws) (come_to at o (waiting_for w.client w.id false n))
 comes-to n at o w ws here c =

@@ -86,7 +86,7 @@ of-none ls i t x d e at isnt = none-of (position (is_of t) ls) (λ k there.
 pub of-nowhere : (ls : List Link) (t : ℕ) → position (has_number t) ls ≡ None → position (is_of t) ls ≡ None
 of-nowhere ls t e = none-at (is_of t) ls (none-weaker (has_number t) (is_of t) (not-of t) ls (none-passes (has_number t) ls e))
 
--- ---- what is told of a stream
+-- ---- what is reported of a stream
 
 pub found-of : (ls : List Link) (i t : ℕ) (x : Link) → position (is_of t) ls ≡ Some i → x ≡ get_or ls i x
     → find (is_of t) ls ≡ Some x
@@ -137,7 +137,7 @@ finished-at (y ∷ ls) (suc i) t x d l e n =
     or-last (finishes t y.stream) _ (not-finished y.stream t isnt)
     ∙ finished-at ls i t x (rest-distinct y ls d) (omega arith) e n
 
--- whether it takes no more bytes
+-- whether it accepts no more bytes
 pub finished-there : (ls : List Link) (i t : ℕ) (x : Link) → are_distinct (streams_of ls) ≡ true → position (has_number t) ls ≡ Some i
     → x ≡ get_or ls i x → finishes t x.stream ≡ is_finished t (streams_of ls)
 finished-there ls i t x d e at =

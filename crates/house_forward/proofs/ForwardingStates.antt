@@ -1,4 +1,4 @@
--- How what the house has besides its relays goes on.
+-- How what the forwarder has besides its relays goes on.
 use Rattle.std.proofs.Common.{◌≡◌, ◌∙◌, refl, sym, ap, subst, ℕ, Bool, true, false, List, [], ◌∷◌, ◌++◌, drop, Option, Some, None}
 use Rattle.std.specs.Prelude.{not, filter, find, is_some, IfSome, IsSomeAnd}
 use Rattle.std.specs.List.{position}
@@ -147,7 +147,7 @@ receives-reply success port fs asks fs' asks' all serials refused requests waiti
 
 -- ---- asks
 
--- an ask gets its answer
+-- a request gets its answer
 pub gives-answer : (client id : ℕ) (reply : HouseReply) (o : Option (ℕ × ℕ × HouseReply)) (relays : Relays) (framer : FramerState) (stage : Stage)
     (gateway greeted : Bool) (fs : Forwardings) (asks asks' : Asks) → o ≡ Some (client, id, reply) → o ≡ answer_of asks.waiting.items
     → asks'.waiting.items ≡ after_answer o asks.waiting.items → asks'.done ≡ asks.done
@@ -162,7 +162,7 @@ gives-answer client id reply o relays framer stage gateway greeted fs asks asks'
       },
     )
 
--- ---- what is said
+-- ---- what is sent
 
 requests-by : (o : Option Forwarding) (said : Option ForwardingRequest) (r : ForwardingRequest) (bytes : List ℕ) (relays : Relays) (framer : FramerState) (stage : Stage)
     (gateway greeted : Bool) (fs fs' : Forwardings) (asks : Asks) → find has_request fs.all.items ≡ o → greeted ≡ true → said ≡ Some r
@@ -180,7 +180,7 @@ requests-by (Some f) said r bytes relays framer stage gateway greeted fs fs' ask
     subst (λ (d : ForwardingState). GoesFurther (SendsIn bytes) old (held relays.all.items framer stage d)) (sym forwarding_state)
     (subst (λ (b : List ℕ). GoesFurther (SendsIn b) old (record old { forwarding_state = request_sent f old.forwarding_state })) (sym spelled) (requests f old first e))
 
--- the first request is said
+-- the first request is sent
 pub requests-one : (said : Option ForwardingRequest) (r : ForwardingRequest) (bytes : List ℕ) (relays : Relays) (framer : FramerState) (stage : Stage)
     (gateway greeted : Bool) (fs fs' : Forwardings) (asks : Asks) → greeted ≡ true → said ≡ Some r
     → is_some said ≡ is_some (find has_request fs.all.items) → IfSome (find has_request fs.all.items) (λ f. said ≡ Some (request_of f))

@@ -1,4 +1,4 @@
--- What holds of the relays of a course and of the OPENs that were taken, as frames are heard.
+-- What holds of the relays of a trace and of the OPENs that were accepted, as frames are received.
 use Rattle.std.proofs.Common.{◌≡◌, ◌∙◌, refl, sym, ap, subst, inl, inr, ℕ, Bool, true, false, List, [], ◌∷◌, ◌++◌, append_assoc, Option, Some, None}
 use Rattle.std.specs.Prelude.{if◌then◌else◌, find, Result, Ok, Err}
 use Rattle.std.specs.List.{list_any}
@@ -22,7 +22,7 @@ use Rattle.house_forward.specs.declared.forwarder_state.Stage.{Stage}
 use Rattle.house_forward.specs.declared.forwarder_state.Stage.TheVariants.{Control, Proxy}
 use Rattle.house_forward.proofs.Sound.{Each, All, Sound, offered_life, frame-sound}
 
--- what a message keeps, by the relays and the OPENs that were taken
+-- what a message keeps, by the relays and the OPENs that were accepted
 pub record Applies (K : List Life → List Place → Type 0) : Type 0 where
   pub receives : (n : ℕ) (m : Message) (old new : List Life) (taken : List Place) → Each Sound old → K old taken
       → One (has_channel n) (Listens m) old new → K (kept_in new) taken

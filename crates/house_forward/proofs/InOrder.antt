@@ -19,7 +19,7 @@ use Rattle.house_forward.specs.declared.forwardings.ForwardingWant.{ForwardingWa
 use Rattle.house_forward.specs.declared.forwardings.ForwardingWant.TheVariants as want
 use Rattle.house_forward.proofs.Lists.{kept-remove, kept-set, none-found, none-passes, found-first}
 
--- ---- in order, of what is behind a forwarding
+-- ---- in order, of what is after a forwarding
 
 abbrev before : Stage → List Forwarding → Bool
 before s fs = not (waits_at s && listens fs)

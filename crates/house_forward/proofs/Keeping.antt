@@ -51,7 +51,7 @@ owed-over : (b : Bool) (live : LiveState) (n : ℕ) → live.owed ≤ n → owed
 owed-over true live n h = omega arith
 owed-over false live n h = h
 
--- ---- what is heard
+-- ---- what is received
 
 owed-room : (n : ℕ) (line : ChannelState) → owed_in (room_received n line) ≤ owed_in line
 owed-room n line = owed-live (λ live. Live (receives_room n live))
@@ -106,7 +106,7 @@ stays-heard (message.Request recipient kind want rest) r = record { socket_is = 
 stays-heard (message.Success recipient) r = stays r
 stays-heard (message.Failure recipient) r = stays r
 
--- nothing is taken by that
+-- nothing is accepted by that
 answered-none : (line : ChannelState) (act : Act) (acts : List Act) → taken (act ∷ acts) ≡ taken acts
     → taken (answered_in line act ∷ acts) ≡ taken acts
 answered-none (Dialing dialog) act acts e = refl
@@ -146,7 +146,7 @@ none-heard (message.Request recipient kind want rest) r acts = refl
 none-heard (message.Success recipient) r acts = refl
 none-heard (message.Failure recipient) r acts = refl
 
--- ---- what is said
+-- ---- what is sent
 
 owed-open : (line : ChannelState) → owed_in (sent_open line) ≤ owed_in line
 owed-open (Dialing dialog) = omega arith
@@ -287,7 +287,7 @@ pub keeps-stream : (dials free : Bool) (acts : List Act) (bytes : List ℕ) (old
     → Dials free bytes old new → KeepsStream old new
 keeps-stream dials free acts bytes old new s h = dials-keeps old.line free bytes old new (is-reading dials acts old s) h
 
--- ---- what a socket takes
+-- ---- what a socket accepts
 
 owed-more : (n : ℕ) (live : LiveState) → (takes_more n live).owed ≤ live.owed + n
 owed-more n live = owed-if live.close_sent live (record live { owed = live.owed + (n - live.replies); replies = live.replies - n }) (live.owed + n) (omega arith) (omega arith)

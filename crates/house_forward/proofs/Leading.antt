@@ -1,5 +1,5 @@
--- How what the calls do of their own leads a course on: what is read of the wire, what is given, and what
--- is heard frame by frame.
+-- How what the calls do of their own leads a trace on: what is read of the wire, what is given, and
+-- what is received frame by frame.
 use Rattle.std.proofs.Common.{◌≡◌, ◌∙◌, refl, sym, ap, subst, inl, inr, ◌⊎◌, Bor, ℕ, Bool, true, false, List, [], ◌∷◌, Option, Some, None}
 use Rattle.std.specs.Prelude.{◌≢◌, ◌==◌, not, find, IfSome, IfNone, OnOk, IfOk, Result, Ok, Err}
 use Rattle.std.specs.List.{list_any, position}
@@ -368,13 +368,13 @@ leads-last bytes links framer stage forwarding_state now new leads goes most tra
     let n = goes most m.0 m.1 in
     (n.0, m.2 [] n.0 n.1, n.2)
 
--- ---- what is said
+-- ---- what is sent
 
 pub one-is : (b : Bool) → false ≡ not b → b ≡ true
 one-is true e = refl
 one-is false e = cc
 
--- a relay, where the house greeted and has no request, and one has something to say
+-- a relay, where the forwarder greeted and has no request, and one has something to send
 pub says-one : {E : Type 0} (o : Result Bool E) (bytes : List ℕ) (old new : List Link) (framer : FramerState) (stage : Stage) (forwarding_state : ForwardingState)
     → forwarding_state.greeted ≡ true → find has_request forwarding_state.all ≡ None
     → OnOk o (sends_nothing o ≡ not (list_any has_sending old))
@@ -434,7 +434,7 @@ made-so o number old new is others goes =
     let c = connect-of o is in
     subst (λ (x : Option Ordering). GetsNumber x number old new) (sym c.2) (made-number c.0 c.1 number old new others goes)
 
--- what goes on of the forwardings does so of the house
+-- what goes on of the forwardings does so of the forwarder
 pub forwarding_state-by : (so : ForwardingState → ForwardingState → Type 0) (relays : Relays) (framer : FramerState) (stage : Stage) (gateway greeted : Bool)
     (fs : Forwardings) (asks : Asks) (fs' : Forwardings) (asks' : Asks) → ForwardingsGo so fs asks fs' asks'
     → ForwardingStateGoes so (held_of relays framer stage gateway greeted fs asks) (held_of relays framer stage gateway greeted fs' asks')
@@ -444,7 +444,7 @@ forwarding_state-by so relays framer stage gateway greeted fs asks fs' asks' goe
 abbrev pub IsFresh : Option ℕ → ForwardingState → Type 0
 IsFresh number d = IfSome number (λ l. among l (listeners_of d.all) ≡ false)
 
--- what was ordered of the desk, and what came of it
+-- what was ordered of the forwarding state, and its outcome
 both-forwarding_states : (host : List ℕ) (port : ℕ) (number : Option ℕ) (before old new : Held) → ForwardingStateGoes (OrdersListener host port) before old
     → IsFresh number old.forwarding_state → ForwardingStateGoes (MakesListener number) old new → ForwardingStateGoes (GetsListener host port number) before new
 both-forwarding_states host port number before old new a fresh b = (

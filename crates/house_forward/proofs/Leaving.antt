@@ -1,4 +1,4 @@
--- What is known of the forwardings and the asks after what happened to them.
+-- What is known of the forwardings and the requests after what happened to them.
 use Rattle.std.proofs.Common.{◌≡◌, ◌∙◌, refl, sym, ap, subst, arith, ℕ, ◌+◌, ◌<◌, ◌≤◌, Bool, true, false, List, [], ◌∷◌, ◌++◌, length, length-append, map, filter, Option, Some, None}
 use Rattle.std.specs.Prelude.{if◌then◌else◌, find, not, OnOk, OnErr, Result, Ok, Err}
 use Rattle.std.specs.List.{sum_by, position, remove}
@@ -29,7 +29,7 @@ use Rattle.house_forward.specs.declared.rules.Ends.{Ends}
 use Rattle.house_forward.proofs.InOrder.{first_listens, listeners_more, IsOrdered, orders, made, fails, unlistens, listeners-without, changed-listeners, asked-there, cancelled-there}
 use Rattle.house_forward.proofs.Replying.{HoldsOnReply, on-reply}
 
--- ---- asks come to something
+-- ---- requests have an outcome
 
 open-if : (b : Bool) (w : Waiting) (o : Option (ℕ × Outcome)) → open_ask (if b then record w { outcome = o } else w) ≡ open_ask w
 open-if true w o = refl
@@ -47,7 +47,7 @@ pub settled-count : (serial : ℕ) (opening : Bool) (at : ℕ) (outcome : Outcom
     → length (settled serial opening at outcome ws) ≡ length ws
 settled-count serial opening at outcome ws = length-map ws (settle_one serial opening at outcome)
 
--- the same asks wait, whatever they came to
+-- the same requests wait, whatever their outcome
 pub record SameAsks (old new : List Waiting) : Type 0 where
   pub asks : open_asks new ≡ open_asks old
   pub count : length new ≡ length old
@@ -90,7 +90,7 @@ made-asks (Some l) serial at ws = settles serial true at Done ws
 pub waits-open : (ws : List Waiting) (w : Waiting) → open_asks (ws ++ w ∷ []) ≡ open_asks ws ++ open_ask w ∷ []
 waits-open ws w = map-append open_ask ws (w ∷ [])
 
--- ---- an ask to open
+-- ---- a request to open
 
 -- the same listeners, and one forwarding more at most
 pub record AddsOne (old new : List Forwarding) : Type 0 where
@@ -116,7 +116,7 @@ pub opens-most : {E : Type 0} (r : Result Asked E) (b : Bool) (ends : Ends) (ser
 opens-most (Ok asked) b ends serial start old new h none = opens-one b ends serial start old new h
 opens-most (Err e) b ends serial start old new h none = adds-none old new none
 
--- ---- an ask to close, and a request that is said
+-- ---- a request to close, and a request to the server that is sent
 
 -- as many forwardings, and the same listeners
 pub record SameListeners (old new : List Forwarding) : Type 0 where

@@ -167,7 +167,7 @@ one-place p (z ∷ a) x b (w ∷ c) y d e f g h k =
     let rest = one-place p a x b c y d later (or_parts (p z) (list_any p a) f).1 (or_parts (p w) (list_any p c) g).1 h k in
     record { front = ap (λ (ls : List Link). z ∷ ls) rest.front ∙ ap (λ (v : Link). v ∷ c) same; one = rest.one; back = rest.back }
 
--- ---- more is taken
+-- ---- more is accepted
 
 more-taken : (least most : ℕ) (life : Life) (link : Link) → least ≤ most → IsLife least life link → IsLife most life link
 more-taken least most life link less is =

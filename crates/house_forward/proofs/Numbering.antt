@@ -1,4 +1,5 @@
--- What is known of the house as it gives an order about a listener, and as what it ordered gets its number.
+-- What is known of the forwarder as it gives an order about a listener, and as what it ordered gets
+-- its number.
 use Rattle.std.proofs.Common.{◌≡◌, refl, sym, ap, ℕ, ◌+◌, true, List, ◌++◌, Option, Some, None}
 use Rattle.std.specs.Prelude.{find}
 use Rattle.std.specs.List.{sum_by}
@@ -18,7 +19,7 @@ use Rattle.house_forward.specs.declared.ordering.Ordering.TheVariants as orderin
 use Rattle.house_forward.proofs.Leading.{connects, listens}
 use Rattle.house_forward.proofs.Leaving.{ordered-more}
 
--- a house that has these is known by them
+-- a forwarder that has these is known by them
 abbrev pub known_by : List ℕ → List OwnStream → List OpenAsk → Option Order → Known
 known_by listeners streams asks ordering =
     record { present = true; listeners = listeners; streams = streams; asks = asks; ordering = ordering }

@@ -1,4 +1,4 @@
--- An order is of a stream of the house, and takes one mark's room.
+-- An order is of a stream of the forwarder, and uses one mark's room.
 use Rattle.std.proofs.Common.{◌≡◌, ◌∙◌, refl, sym, ap, subst, ℕ, zero, suc, ◌+◌, ◌<◌, ◌≤◌, Bool, true, false, List, [], ◌∷◌, length, get_or, map, Some, arith}
 use Rattle.std.specs.Prelude.{◌&&◌, ◌==◌, not, if◌then◌else◌, IsTrue}
 use Rattle.std.specs.List.{sum_by, Any}
@@ -23,7 +23,7 @@ use Rattle.house_forward.proofs.Streams.{has-stream, moves-first, moves-later, r
 
 -- ---- one link
 
--- what it takes of a link to take a step: it has the stream, and needs one mark's room less then
+-- what is needed of a link to make a step: it has the stream, and needs one mark's room less then
 record Takes (step : LinkStep) (t : ℕ) (s : Stream) (r : Relay) : Type 0 where
   has : numbered t s ≡ true
   less : stream_due (stream_after step s) (relay_after step r) + 1 ≤ stream_due s r

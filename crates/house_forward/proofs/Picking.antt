@@ -1,4 +1,4 @@
--- What is picked from the relays of a course, as these go on.
+-- What is picked from the relays of a trace, as these go on.
 use Rattle.std.proofs.Common.{◌≡◌, ◌∙◌, refl, sym, ap, subst, inl, inr, ℕ, Bool, true, false, List, [], ◌∷◌, ◌++◌, map, Option, Some, None}
 use Rattle.std.specs.Prelude.{if◌then◌else◌}
 use Rattle.std.specs.List.{filter_map, cons_option}
@@ -55,7 +55,7 @@ if-stepped : {Y : Type 0} (h : Life → Option Y) (b : Bool) (x l : Life) → (b
 if-stepped h true x l e = e refl
 if-stepped h false x l e = refl
 
--- the one with a stream takes a step
+-- the one with a stream makes a step
 pub pick-stepped : {Y : Type 0} (h : Life → Option Y) (P : Life → Type 0) (s : LinkStep) (t : ℕ)
     → ((l : Life) → P l → has_stream t l ≡ true → h (step_of s l) ≡ h l) → (ls : List Life) → Each P ls
     → filter_map h (map (stepped s t) ls) ≡ filter_map h ls

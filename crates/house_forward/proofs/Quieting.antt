@@ -1,4 +1,4 @@
--- A house that has nothing to say, to order and to answer is at rest.
+-- A forwarder that has nothing to send, to order and to answer is at rest.
 use Rattle.std.proofs.Common.{◌≡◌, sym, ap, subst, true, List}
 use Rattle.std.specs.Prelude.{not, is_some, find}
 use Rattle.std.specs.List.{list_any}

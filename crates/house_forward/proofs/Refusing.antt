@@ -17,7 +17,7 @@ pub none-refused : (p : Forwarding → Bool) (fs : List Forwarding) (old : Optio
 none-refused p fs old e = none-more old
     ∙ ap (λ o. first_refused old (start_of o)) (sym (none-found p fs (none-passes p fs e)))
 
--- the first that passes can't be had
+-- the first that passes isn't possible
 pub first-refused : (p : Forwarding → Bool) (fs : List Forwarding) (i : ℕ) (old new : Option ℕ) → position p fs ≡ Some i
     → FailsAt i fs old new → new ≡ first_refused old (start_of (find p fs))
 first-refused p fs i old new e h =

@@ -1,4 +1,5 @@
--- What holds between the forwardings before and after a reply of the server, and a request that is said.
+-- What holds between the forwardings before and after a reply of the server, and a request that is
+-- sent.
 use Rattle.std.proofs.Common.{◌≡◌, refl, ℕ, Bool, true, false, List, map, Option, Some, None}
 use Rattle.std.specs.List.{position, remove}
 use Rattle.house_forward.specs.Forwardings.{changed, after_sending, is_asked, is_cancelled, removed_at, replied_all}

@@ -1,4 +1,5 @@
--- What is kept of asks and requests, deed by deed, and what that says of a house at rest.
+-- What is kept of clients' requests and requests to the server, event by event, and what that means
+-- for a forwarder at rest.
 use Rattle.std.proofs.Common.{◌≡◌, ◌∙◌, refl, sym, ap, subst, arith, ℕ, zero, suc, ◌+◌, ◌<◌, ◌≤◌, Bool, true, false, List, [], ◌∷◌, ◌++◌, length, get_or, set, drop, map, filter, Option, Some, None, inl, inr}
 use Rattle.std.specs.Prelude.{◌⊎◌, ◌==◌, ◌&&◌, not, nat_lt, find, slice_get, if◌then◌else◌}
 use Rattle.std.specs.List.{All, Contains, list_any, position, remove}
@@ -46,7 +47,7 @@ use Rattle.house_forward.proofs.Tracking.{Holds, HasFate, Unsettled, StageAwaits
 abbrev Moves : List Forwarding → List Forwarding → Type 0
 Moves old new = (w : Waiting) → HasFate old w → HasFate new w
 
--- as nothing comes to something
+-- as nothing gets an outcome
 moved : (old new : List Forwarding) (ws : List Waiting) → Moves old new → All (Unsettled (HasFate old)) ws
     → All (Unsettled (HasFate new)) ws
 moved old new ws move h =
@@ -133,7 +134,7 @@ after-start starts old new t b =
           (moved old.all new.all old.waiting (kept-fates old.all new.all m.keeps) t.fates);
     }
 
--- ---- an ask
+-- ---- a request
 
 abbrev Has : Bool → ℕ → List Forwarding → Type 0
 Has opening serial all = (f : Forwarding) × In f all × (f.serial ≡ serial) × Holds opening f
@@ -144,7 +145,7 @@ record AskTracks (rs : List ForwardingRequest) (opening : Bool) (comes : Comes) 
   moves : Moves old new
   waits : (serial : ℕ) → comes ≡ Later serial → Has opening serial new
 
--- what is known as an ask comes
+-- what is known as a request comes
 record Asking (rs : List ForwardingRequest) (serials : ℕ) (fs : List Forwarding) : Type 0 where
   numbered : is_numbered 0 fs serials ≡ true
   stages : All (Awaits rs) fs
@@ -602,7 +603,7 @@ made-of (Some l) i j f old middle new same e first at m =
     ∙ ap (λ (xs : List Forwarding). set xs i (record f { stage = Listening l })) e
     ∙ set-set old i (record f { stage = Ordered }) (record f { stage = Listening l })
 
--- what a listener leaves that was ordered and got its number, or none, one behind the other
+-- what a listener leaves that was ordered and got its number, or none, one after the other
 pub record ListenerMade (number : Option ℕ) (old new : ForwardingState) : Type 0 where
   pub place : ℕ
   pub forwarding : Forwarding
@@ -641,7 +642,7 @@ listener-made host port number old new h =
       serials = ap (λ (d : ForwardingState). d.serials) m ∙ ap (λ (d : ForwardingState). d.serials) s;
     }
 
--- an ask to close keeps its forwarding as that gets its listener
+-- a request to close keeps its forwarding as that gets its listener
 made-fate : (opening : Bool) (l i : ℕ) (f x : Forwarding) (old : List Forwarding) (w : Waiting) → w.opening ≡ opening
     → i < length old → is_about f.serial true w ≡ false → x.serial ≡ w.forwarding → Holds opening x → x ≡ f
     → (y : Forwarding) × In y (set old i (record f { stage = Listening l })) × (y.serial ≡ w.forwarding) × Holds opening y
@@ -709,7 +710,7 @@ has-it l Requested n e = cc
 has-it l (Live port) n e = cc
 has-it l (Cancelling port) n e = cc
 
--- one that an ask waits for has another listener, or none
+-- one that a request waits for has another listener, or none
 lacks-it : (opening : Bool) (l : ℕ) (all : List Forwarding) (serial : ℕ) (f : Forwarding) (w : Waiting) → w.opening ≡ opening
     → ((k : ℕ) (x y : Forwarding) → In x all → In y all → listener_of x ≡ Some k → listener_of y ≡ Some k → x.serial ≡ y.serial)
     → Closing (λ x. In x all) serial l → In f all → f.serial ≡ w.forwarding → Holds opening f → is_about serial false w ≡ false
@@ -855,7 +856,7 @@ all-rest all serials rs ws (g ∷ fs) n fates within h e f here =
       | inr later ↦ all-rest all serials rs ws fs n fates (λ x k. within x (inr k)) (All-tail (Awaits rs) g fs h) one.1 f later
     ]
 
--- what an ask then waits for
+-- what a request then waits for
 waits-opening : (s : Stage) (n asked : ℕ) (closing : Bool) (rs : List ForwardingRequest) → outcome_at s asked ≡ None → Rests s closing
     → requests_at s closing ≡ false → StageAwaits s n rs → In (Listen n) rs ⊎ In (Cancel n) rs
 waits-opening (ToListen host) n asked closing rs none rests says a = absurd rests

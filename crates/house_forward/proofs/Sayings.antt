@@ -1,9 +1,9 @@
--- A search for what is said next.
+-- A search for what is sent next.
 use Rattle.std.proofs.Common.{◌≡◌, ◌∙◌, sym, ap, ℕ, zero, suc, ◌+◌, Bool, true, false, List, [], ◌∷◌, drop, map, Some, add-one}
 use Rattle.std.specs.Prelude.{◌||◌, slice_get}
 use Rattle.std.specs.List.{list_any}
 
--- from a place on, one does where that at the place does, or one behind it
+-- from a place on, one does where that at the place does, or one after it
 pub any-at : {X Y : Type 0} (p : Y → Bool) (f : X → Y) (xs : List X) (i : ℕ) (x : X) → slice_get xs i ≡ Some x
     → list_any p (drop i (map f xs)) ≡ (p (f x) || list_any p (drop (suc i) (map f xs)))
 any-at p f [] i x e = cc

@@ -39,13 +39,13 @@ pub record Stands (home : ℕ → Forwarding) (serials : ℕ) (forwarder_events 
   pub same : AreOne (home f.serial) f
   pub stage : StageFits f.stage (home f.serial) forwarder_events
 
--- a forwarding whose request was said
+-- a forwarding whose request was sent
 pub record Asked (home : ℕ → Forwarding) (serials : ℕ) (g : Forwarding) : Type 0 where
   pub below : g.serial < serials
   pub same : AreOne (home g.serial) g
   pub there : listens_here (home g.serial).kind ≡ false
 
--- an ask came to this later
+-- a request had this outcome later
 pub record Came (a : Forwarding) (opening : Bool) (outcome : Outcome) (later earlier : List ForwarderEvent) : Type 0 where
   pub newer : List ForwarderEvent
   pub forwarder_event : ForwarderEvent
@@ -57,7 +57,7 @@ abbrev pub CameIf : Option (ℕ × Outcome) → Forwarding → Bool → List For
 CameIf None a opening later earlier = Unit {0}
 CameIf (Some o) a opening later earlier = Came a opening o.1 later earlier
 
--- an ask that waits is for the forwarding that had its serial
+-- a request that waits is for the forwarding that had its serial
 pub record Waits (home : ℕ → Forwarding) (serials : ℕ) (forwarder_events : List ForwarderEvent) (w : Waiting) : Type 0 where
   pub below : w.forwarding < serials
   pub serial : (home w.forwarding).serial ≡ w.forwarding
@@ -69,7 +69,7 @@ pub record Waits (home : ℕ → Forwarding) (serials : ℕ) (forwarder_events :
   pub is_for : IsFor (gateway_in earlier) w.opening ask (home w.forwarding)
   pub came : CameIf w.outcome (home w.forwarding) w.opening later (Asks w.client w.id w.opening ask given.Later ∷ earlier)
 
--- ---- one more deed
+-- ---- one more event
 
 pub listens-later : (forwarder_event : ForwarderEvent) (host : List ℕ) (port l : ℕ) (forwarder_events : List ForwarderEvent) → closes l forwarder_event ≡ false
     → ListensSince host port l forwarder_events → ListensSince host port l (forwarder_event ∷ forwarder_events)
@@ -140,7 +140,7 @@ waits-later home serials forwarder_event forwarder_events w e h = record {
   came = came-later w.outcome (home w.forwarding) w.opening forwarder_event h.later (Asks w.client w.id w.opening h.ask given.Later ∷ h.earlier) h.came;
 }
 
--- it answers no ask
+-- it answers no request
 abbrev pub IsNoAnswer : ForwarderEvent → Type 0
 IsNoAnswer forwarder_event = (client id : ℕ) → answers client id forwarder_event ≡ false
 
@@ -267,9 +267,9 @@ steady-stage change.Cancel asked (Cancelling p) a forwarder_events steady h = h
 steady-stage (change.Live q) asked (Cancelling p) a forwarder_events steady h = h
 steady-stage change.Stay asked (Cancelling p) a forwarder_events steady h = h
 
--- ---- asks come to something
+-- ---- requests have an outcome
 
--- what an ask came to stays, or comes by this deed
+-- the outcome of a request stays, or comes by this event
 abbrev Turns : ForwarderEvent → List ForwarderEvent → Bool → Forwarding → Option (ℕ × Outcome) → Option (ℕ × Outcome) → Type 0
 Turns forwarder_event forwarder_events opening a old new =
     (new ≡ old) ⊎ ((o : ℕ × Outcome) × (new ≡ Some o) × CameBy forwarder_event forwarder_events opening a o.1)
@@ -330,7 +330,7 @@ about home forwarder_event forwarder_events serial opening outcome w by e =
     subst (λ (n : ℕ). CameBy forwarder_event forwarder_events w.opening (home n) outcome) (sym (eqb-true w.forwarding serial both.0))
     (subst (λ (b : Bool). CameBy forwarder_event forwarder_events b (home serial) outcome) (sym (same-true w.opening opening both.1)) by)
 
--- those that asked for one thing come to this
+-- those that requested one thing have this outcome
 pub all-settled : (home : ℕ → Forwarding) (serials : ℕ) (forwarder_event : ForwarderEvent) (forwarder_events : List ForwarderEvent) → IsNoAnswer forwarder_event → (serial : ℕ) (opening : Bool) (at : ℕ)
     (outcome : Outcome) (ws : List Waiting) → CameBy forwarder_event forwarder_events opening (home serial) outcome
     → All (Waits home serials forwarder_events) ws → All (Waits home serials (forwarder_event ∷ forwarder_events)) (settled serial opening at outcome ws)

@@ -1,4 +1,4 @@
--- Each forwarding of the start was refused or has begun, once the house is at rest.
+-- Each forwarding of the start was refused or has begun, once the forwarder is at rest.
 use Rattle.std.proofs.Common.{◌≡◌, ◌∙◌, refl, sym, ap, subst, arith, ℕ, zero, suc, ◌<◌, ◌≤◌, Bool, true, false, List, [], ◌∷◌, ◌++◌, length, get_or, set, map, filter, Option, Some, None, inl, inr}
 use Rattle.std.specs.Prelude.{◌⊎◌, ◌==◌, ◌&&◌, not, nat_lt, find, slice_get, if◌then◌else◌}
 use Rattle.std.specs.List.{position, remove}
@@ -40,11 +40,11 @@ pub record Pending (starts : Starts) (ask : StartAsk) (all : List Forwarding) : 
   first : is_first f.stage ≡ true
   is_for : IsFor starts.gateway true ask f
 
--- one that was refused, and is told or one before it
+-- one that was refused, and is recorded, or one before it is
 abbrev pub Fails : Starts → ℕ → StartAsk → Option ℕ → Type 0
 Fails starts i ask refused = WasRefused starts i ask × IsRecorded refused i
 
--- only those before are told
+-- only those before are recorded
 abbrev IsLow : Option ℕ → ℕ → Type 0
 IsLow None i = Unit {0}
 IsLow (Some first) i = first < i
@@ -176,7 +176,7 @@ keeps-fate : (starts : Starts) (j : ℕ) (ask : StartAsk) (r more : Option ℕ) 
 keeps-fate starts j ask r more old new keeps records (inl f) = inl (f.0, records f.1)
 keeps-fate starts j ask r more old new keeps records (inr p) = inr (record { f = p.f; here = keeps p.f p.here; first = p.first; is_for = p.is_for })
 
--- who is told after one more
+-- who is recorded after one more
 records-one : (b gateway : Bool) (ask : StartAsk) (i j : ℕ) (old new : Standing) → StartsIf b gateway ask i old new
     → IsRecorded old.refused j → IsRecorded new.refused j
 records-one true gateway ask i j old new s recorded =
@@ -274,7 +274,7 @@ pending-in starts ask old new p here = record { f = p.f; here = here; first = p.
 pending-all : (starts : Starts) (ask : StartAsk) (old new : List Forwarding) → new ≡ old → Pending starts ask old → Pending starts ask new
 pending-all starts ask old new e p = subst (Pending starts ask) (sym e) p
 
--- what an ask leaves: the same, or one more, or one that closes
+-- what a request leaves: the same, or one more, or one that closes
 abbrev AskLeaves : List Forwarding → List Forwarding → Type 0
 AskLeaves old new = (new ≡ old) ⊎ (((g : Forwarding) × (new ≡ old ++ g ∷ [])) ⊎ ((serial : ℕ) × (new ≡ map (changed change.Close serial) old)))
 
@@ -453,7 +453,7 @@ goes starts ask (Unlistens l) forwarder_events old new t d p =
     (pending-in starts ask old.all (filter keep old.all) p
     (in-filter keep p.f old.all (ap not (first-lacks l p.f.stage p.first)) p.here)))
 
--- who is told stays
+-- who is recorded stays
 recorded-begins : (gateway : Bool) (asks : List StartAsk) (i j : ℕ) (old new : Standing) → i ≤ length asks → BeginsAt gateway asks i old new
     → IsRecorded old.refused j → IsRecorded new.refused j
 recorded-begins gateway asks zero j old new l begins recorded = subst (λ (t : Standing). IsRecorded t.refused j) (sym begins) recorded

@@ -1,4 +1,4 @@
--- How the state of the house goes on.
+-- How the state of the forwarder goes on.
 use Rattle.std.proofs.Common.{◌≡◌, ◌∙◌, sym, ℕ, Bool, true, false, List, [], ◌∷◌, None}
 use Rattle.std.specs.Prelude.{IfOk, Result, Ok, Err}
 use Rattle.std.proofs.lemmas.Bool.{false≢true}
@@ -10,7 +10,7 @@ use Rattle.house_forward.specs.declared.forwarder_state.ForwarderState.{Forwarde
 use Rattle.house_forward.proofs.Calling.{since-on}
 use Rattle.house_forward.proofs.Greeted.{greeted-on}
 
--- a call in which nothing is said and nothing is taken
+-- a call in which nothing is sent and nothing is accepted
 pub hands-on : (call : HouseCall) (old new : ForwarderState) → old.ordering ≡ None → new.ordering ≡ None → taken_in (call ∷ []) ≡ 0
     → sent_in (call ∷ []) ≡ [] → new.greeted ≡ old.greeted → GoesFurther (Follows call) (held_in old) (held_in new)
     → HandsOn (StandsIn old) (StandsIn new) (call ∷ [])
@@ -19,7 +19,7 @@ hands-on call old new e f none silent same goes = λ calls h. record {
   greeting = greeted-on old.greeted new.greeted calls (call ∷ []) same silent h.greeting;
 }
 
--- where something is said, it was greeted before
+-- where something is sent, it was greeted before
 pub says-so : {E : Type 0} (r : Result Bool E) (bytes : List ℕ) (old new : ForwarderState) → old.greeted ≡ true → new.greeted ≡ old.greeted
     → IfOk r (λ said. said ≡ true → GoesFurther (SendsIn bytes) (held_in old) (held_in new))
     → IfOk r (λ said. said ≡ true → HasSent bytes old new)

@@ -12,7 +12,7 @@ use Rattle.house_forward.specs.declared.link.LinkStep.TheVariants.{Pause, Finish
 use Rattle.house_forward.specs.declared.link.Stream.{Stream}
 use Rattle.house_forward.specs.declared.link.Stream.TheVariants.{Offered, Awaited, Made, Gone}
 
--- ---- one link and the streams behind it
+-- ---- one link and the streams after it
 
 has-one : (s : Stream) (ss : List OwnStream) (t : ℕ) → numbered t s ≡ true → is_one t (cons_option (own_of s) ss) ≡ true
 has-one (Offered host port) ss t n = cc

@@ -1,4 +1,5 @@
--- Each ask that came to nothing yet has its forwarding, and each request that was said is unanswered.
+-- Each client's request that has no outcome yet has its forwarding, and each request that was sent
+-- is unanswered.
 use Rattle.std.proofs.Common.{◌≡◌, ◌∙◌, refl, sym, ap, subst, arith, ℕ, zero, suc, ◌+◌, ◌<◌, ◌≤◌, Bool, true, false, List, [], ◌∷◌, length, get_or, map, Option, Some, None, inl, inr}
 use Rattle.std.specs.Prelude.{◌==◌, ◌&&◌, nat_le, if◌then◌else◌}
 use Rattle.std.specs.List.{All, remove}
@@ -33,7 +34,7 @@ HasFate all w = (f : Forwarding) × In f all × (f.serial ≡ w.forwarding) × H
 abbrev pub Unsettled : (Waiting → Type 0) → Waiting → Type 0
 Unsettled P w = w.outcome ≡ None → P w
 
--- a request that was said for it is unanswered; and none is ordered and has no number
+-- a request that was sent for it is unanswered; and none is ordered and has no number
 abbrev pub StageAwaits : Stage → ℕ → List ForwardingRequest → Type 0
 StageAwaits (ToListen host) n rs = Unit {0}
 StageAwaits Ordered n rs = ⊥
@@ -98,7 +99,7 @@ one-serial (y ∷ xs) x z low high e (inr h) (inr k) same =
     let both = and_parts (nat_le low y.serial) (is_numbered (y.serial + 1) xs high) e in
     one-serial xs x z (y.serial + 1) high both.1 h k same
 
--- ---- asks come to something
+-- ---- requests have an outcome
 
 never-none : (at : ℕ) (o : Outcome) (x : Option (ℕ × Outcome)) → settled_at at o x ≡ None → ⊥
 never-none at o None e = cc
@@ -109,7 +110,7 @@ unsettled-if : (P R : Waiting → Type 0) (at : ℕ) (o : Outcome) (w : Waiting)
 unsettled-if P R at o w true step h = λ none. absurd (never-none at o w.outcome none)
 unsettled-if P R at o w false step h = λ none. step refl none (h none)
 
--- those that are left came to nothing
+-- those that are left have no outcome
 pub all-unsettled : (P R : Waiting → Type 0) (serial : ℕ) (opening : Bool) (at : ℕ) (o : Outcome) (ws : List Waiting)
     → ((w : Waiting) → is_about serial opening w ≡ false → w.outcome ≡ None → P w → R w)
     → All (Unsettled P) ws → All (Unsettled R) (settled serial opening at o ws)
@@ -135,7 +136,7 @@ same-self : (b : Bool) → same b b ≡ true
 same-self true = refl
 same-self false = refl
 
--- an ask of this kind that isn't about a forwarding is about another
+-- a request of this kind that isn't about a forwarding is about another
 pub of-other : (serial : ℕ) (opening : Bool) (w : Waiting) → w.opening ≡ opening → is_about serial opening w ≡ false
     → (w.forwarding == serial) ≡ false
 of-other serial opening w is e = first-false (w.forwarding == serial) (same w.opening opening) e

@@ -1,5 +1,5 @@
--- Each forwarding that closes has an ask to close it that came to nothing yet, and each request that was said
--- and has no reply has its forwarding.
+-- Each forwarding that closes has a client's request to close it that has no outcome yet, and each
+-- request that was sent and has no reply has its forwarding.
 use Rattle.std.proofs.Common.{◌≡◌, ◌∙◌, refl, sym, ap, subst, arith, ℕ, zero, suc, ◌<◌, ◌≤◌, Bool, true, false, List, [], ◌∷◌, ◌++◌, length, get_or, set, drop, map, filter, Option, Some, None, inl, inr}
 use Rattle.std.specs.Prelude.{◌⊎◌, ◌==◌, ◌&&◌, not, find, slice_get, if◌then◌else◌}
 use Rattle.std.specs.List.{position, remove}
@@ -35,7 +35,7 @@ use Rattle.house_forward.proofs.Tracking.{Tracks, removed-differs, one-serial, c
 
 -- ---- what is kept
 
--- an ask to close the forwarding with this serial came to nothing yet
+-- a request to close the forwarding with this serial has no outcome yet
 pub record IsCloser (serial : ℕ) (w : Waiting) : Type 0 where
   pub of_it : w.forwarding ≡ serial
   pub closes : w.opening ≡ false
@@ -81,7 +81,7 @@ not-settled : (serial : ℕ) (opening : Bool) (at : ℕ) (o : Outcome) (w : Wait
     → settle_one serial opening at o w ≡ w
 not-settled serial opening at o w e = rw e refl
 
--- those of others come to nothing
+-- those of others get no outcome
 closer-settled : (serial : ℕ) (opening : Bool) (at : ℕ) (o : Outcome) (ws : List Waiting) (n : ℕ) → (opening ≡ false → n ≡ serial → ⊥)
     → Keeps ws (settled serial opening at o ws) n
 closer-settled serial opening at o ws n other c =
@@ -226,7 +226,7 @@ wants-more old new m waiting requests w = record {
   once = subst Once (sym requests) w.once;
 }
 
--- ---- an ask
+-- ---- a request
 
 closer-more : (ws : List Waiting) (v : Waiting) (n : ℕ) → Keeps ws (ws ++ v ∷ []) n
 closer-more ws v n c = (c.0, in-left c.0 ws (v ∷ []) c.1, c.2)
@@ -268,7 +268,7 @@ closed-stage n Requested = (refl, refl)
 closed-stage n (Live port) = (refl, refl)
 closed-stage n (Cancelling port) = (refl, refl)
 
--- its stage, behind a change
+-- its stage, after a change
 stage-if : (P : Stage → Type 0) (c : Change) (b : Bool) (f : Forwarding) → P f.stage → (b ≡ true → P (stage_after c f.listen_port f.stage))
     → P (if b then record f { stage = stage_after c f.listen_port f.stage; closing = closing_after c f.closing } else f).stage
 stage-if P c true f h k = k refl
@@ -388,7 +388,7 @@ one-waits client id w v (x ∷ ws) apart (inr h) (inl b) is its =
     absurd (one-open client id v w ws its is (subst (λ (y : Waiting). has_open y.client y.id ws ≡ false) b apart.0) h)
 one-waits client id w v (x ∷ ws) apart (inr h) (inr k) is its = one-waits client id w v ws apart.1 h k is its
 
--- the one that is answered came to something
+-- the one that is answered has an outcome
 record Answered (client id : ℕ) (ws : List Waiting) : Type 0 where
   w : Waiting
   here : In w ws
@@ -449,7 +449,7 @@ once-more (q ∷ rs) r once new = (
   once-more rs r once.1 (λ h. new (inr h)),
 )
 
--- its stage has no request that was said
+-- its stage has no request that was sent
 asks-not : (s : Stage) (closing : Bool) (P : Type 0) → requests_at s closing ≡ true → asks_at s ≡ true → P
 asks-not (ToListen host) closing P e f = cc
 asks-not Ordered closing P e f = cc
@@ -496,7 +496,7 @@ which-request Requested n = inl refl
 which-request (Live port) n = inr refl
 which-request (Cancelling port) n = inl refl
 
--- a request that was said is that of its forwarding still
+-- a request that was sent is that of its forwarding still
 listen-keeps : (n : ℕ) (s : Stage) → (asks_at s ≡ true → asks_at (stage_after change.ForwardingRequest n s) ≡ true)
     × (cancels_at s ≡ true → cancels_at (stage_after change.ForwardingRequest n s) ≡ true)
 listen-keeps n (ToListen host) = (λ e. e, λ e. e)

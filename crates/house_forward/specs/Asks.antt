@@ -1,4 +1,4 @@
--- The asks that have no answer yet, and the answers.
+-- The requests that have no answer yet, and the answers.
 use Rattle.std.specs.Prelude.{◌+◌, ◌-◌, ◌^◌, ℕ, Bool, true, false, ◌&&◌, ◌||◌, ◌==◌, nat_lt, nat_le, min, if◌then◌else◌, List, length, map, Option, Some, None}
 use Rattle.std.specs.List.{list_any, fold, position, remove}
 use Rattle.mux_outside.specs.declared.house.HouseReply.{HouseReply}
@@ -8,16 +8,16 @@ use Rattle.house_forward.specs.declared.asks.Outcome.TheVariants.{Done, Port, Re
 use Rattle.house_forward.specs.declared.asks.Waiting.{Waiting}
 use Rattle.house_forward.specs.declared.rules.TheConstants.{MOST_ASKS}
 
--- whether a client has an ask with this id
+-- whether a client has a request with this id
 abbrev pub has_open : ℕ → ℕ → List Waiting → Bool
 has_open client id waiting = list_any (λ w. (w.client == client) && (w.id == id)) waiting
 
--- whether an ask is refused for those that wait: one of them is of its client with its id, or they are
--- as many as may wait
+-- whether a request is refused for those that wait: one of them is of its client with its id, or
+-- they are as many as may wait
 abbrev pub turns_away : ℕ → ℕ → List Waiting → Bool
 turns_away client id waiting = has_open client id waiting || nat_le MOST_ASKS (length waiting)
 
--- an ask that waits for the fate of a forwarding
+-- a request that waits for the fate of a forwarding
 abbrev pub waiting_for : ℕ → ℕ → Bool → ℕ → Waiting
 waiting_for client id opening serial = record {
   client = client;
@@ -27,13 +27,13 @@ waiting_for client id opening serial = record {
   outcome = None;
 }
 
--- ---- what an ask came to
+-- ---- the outcome of a request
 
 abbrev pub is_settled : Option (ℕ × Outcome) → Bool
 is_settled None = false
 is_settled (Some o) = true
 
--- whether it came to something
+-- whether it has an outcome
 abbrev pub has_outcome : Waiting → Bool
 has_outcome w = is_settled w.outcome
 
@@ -49,7 +49,7 @@ abbrev pub settled_at : ℕ → Outcome → Option (ℕ × Outcome) → Option (
 settled_at at outcome None = Some (at, outcome)
 settled_at at outcome (Some o) = Some o
 
--- it came to this as that many had come to something, where it is one of these and came to nothing yet
+-- it has this outcome as that many had one, if it is one of these and has none yet
 abbrev pub settle_one : ℕ → Bool → ℕ → Outcome → Waiting → Waiting
 settle_one serial opening at outcome w = if is_about serial opening w
     then record w { outcome = settled_at at outcome w.outcome } else w
@@ -66,7 +66,7 @@ abbrev pub refused : ℕ → ℕ → List Waiting → List Waiting
 refused serial at waiting =
     settled serial false (counted at) Refused (settled serial true at Refused waiting)
 
--- whether the answer to an ask to open this forwarding is still to be given
+-- whether the answer to a request to open this forwarding is still to be given
 abbrev pub owes_opening : ℕ → List Waiting → Bool
 owes_opening serial waiting = list_any (λ w. (w.forwarding == serial) && w.opening) waiting
 
@@ -81,11 +81,11 @@ earlier_at None first w = first
 earlier_at (Some o) None w = Some w
 earlier_at (Some o) (Some f) w = if nat_lt o.0 (stamp_of f.outcome) then Some w else Some f
 
--- the one of both that came to something earlier
+-- the one of both that had an outcome earlier
 abbrev pub earlier : Option Waiting → Waiting → Option Waiting
 earlier first w = earlier_at w.outcome first w
 
--- the one that came to something first
+-- the one that had an outcome first
 abbrev pub earliest : List Waiting → Option Waiting
 earliest waiting = fold earlier None waiting
 
@@ -107,7 +107,7 @@ answer_in (Some w) = Some (w.client, w.id, reply_of w)
 abbrev pub answer_of : List Waiting → Option (ℕ × ℕ × HouseReply)
 answer_of waiting = answer_in (earliest waiting)
 
--- whether an ask is of this client with this id
+-- whether a request is of this client with this id
 abbrev pub is_waiting : ℕ → ℕ → Waiting → Bool
 is_waiting client id w = (w.client == client) && (w.id == id)
 

@@ -38,7 +38,7 @@ gateway_in (Replies success port ∷ forwarder_events) = gateway_in forwarder_ev
 gateway_in (Listens host port number ∷ forwarder_events) = gateway_in forwarder_events
 gateway_in (Unlistens l ∷ forwarder_events) = gateway_in forwarder_events
 
--- the forwardings whose requests were said and have no reply yet, as they were then: a reply of the
+-- the forwardings whose requests were sent and have no reply yet, as they were then: a reply of the
 -- server is to the first
 abbrev pub unanswered : List ForwarderEvent → List Forwarding
 unanswered [] = []
@@ -84,8 +84,8 @@ pub record AreOne (f g : Forwarding) : Type 0 where
   pub connects : f.connect_host ≡ g.connect_host
   pub connect_port : f.connect_port ≡ g.connect_port
 
--- an ask is for this forwarding: it listens where the ask says; and one to open is connected where
--- the ask says, if that is said when it is asked for
+-- a request is for this forwarding: it listens where the request specifies; and one to open is
+-- connected where the request specifies, if that is specified in it
 pub record IsFor (gateway opening : Bool) (ask : StartAsk) (f : Forwarding) : Type 0 where
   pub kind : kind_of ask.kind ≡ Some f.kind
   pub listens : f.listen_host ≡ listen_host f.kind gateway ask.listen_host
@@ -110,7 +110,7 @@ pub record IsNext (what : ℕ → ForwardingRequest) (f : Forwarding) (forwarder
   pub asks : request_of first ≡ what first.serial
   pub there : listens_here f.kind ≡ false
 
--- the server said that it listens for it on this port: it granted the request to listen
+-- the server replied that it listens for it on this port: it granted the request to listen
 pub record IsGranted (f : Forwarding) (port : ℕ) (forwarder_events : List ForwarderEvent) : Type 0 where
   pub chosen : Option ℕ
   pub later : List ForwarderEvent
@@ -130,7 +130,7 @@ ServesAt Requested f forwarder_events = ⊥
 ServesAt (Live port) f forwarder_events = (listens_here f.kind ≡ false) × IsGranted f port forwarder_events
 ServesAt (Cancelling port) f forwarder_events = (listens_here f.kind ≡ false) × IsGranted f port forwarder_events
 
--- ---- what an ask gets at once
+-- ---- what a request gets at once
 
 -- Done, or a port
 abbrev pub IsGrant : HouseReply → Type 0
@@ -139,8 +139,9 @@ IsGrant (given.Port port) = Unit {0}
 IsGrant given.Refused = ⊥
 IsGrant given.Later = ⊥
 
--- an ask to open that gets Done or a port at once: the very forwarding that it asks for is there, has a
--- listener that isn't to be closed or is live, and gives the port where the server was to choose one
+-- a request to open that gets Done or a port at once: the very forwarding that it is for is there,
+-- has a listener that isn't to be closed or is live, and gives the port where the server was to
+-- choose one
 pub record IsServed (opening : Bool) (ask : StartAsk) (reply : HouseReply) (all : List Forwarding)
     (forwarder_events : List ForwarderEvent) : Type 0 where
   pub opens : opening ≡ true
@@ -159,7 +160,7 @@ EachServed = (client id : ℕ) (opening : Bool) (ask : StartAsk) (reply : HouseR
     (old new : ForwardingState) → Leave forwarder_events old → Does (Asks client id opening ask reply) old new → IsGrant reply
     → IsServed opening ask reply old.all forwarder_events
 
--- ---- what an ask comes to later
+-- ---- the later outcome of a request
 
 -- where its listener was made, those that asked for it get Done; where none could be, all that asked
 -- are refused
@@ -183,7 +184,8 @@ abbrev pub ClosedBy : Bool → Outcome → Type 0
 ClosedBy true outcome = ⊥
 ClosedBy false outcome = outcome ≡ Done
 
--- those that asked to open or to close it came to this by this deed, behind the earlier ones
+-- those that requested to open or to close it had this outcome by this event, after the earlier
+-- ones
 abbrev pub CameBy : ForwarderEvent → List ForwarderEvent → Bool → Forwarding → Outcome → Type 0
 CameBy (Begins starts) earlier opening f outcome = ⊥
 CameBy (Asks client id opens ask reply) earlier opening f outcome = ⊥
@@ -197,8 +199,8 @@ CameBy (Listens host port number) earlier opening f outcome = (host ≡ f.listen
 CameBy (Unlistens l) earlier opening f outcome = (listens_here f.kind ≡ true)
     × ListensSince f.listen_host f.listen_port l earlier × ClosedBy opening outcome
 
--- an answer: its ask had none yet, and came to this by what happened since, to the forwarding that it
--- is for
+-- an answer: its request had none yet, and has this outcome by what happened since, to the
+-- forwarding that it is for
 pub record HasCause (client id : ℕ) (reply : HouseReply) (forwarder_events : List ForwarderEvent) : Type 0 where
   pub opening : Bool
   pub ask : StartAsk
@@ -222,8 +224,8 @@ EachAnswer = (client id : ℕ) (reply : HouseReply) (forwarder_events : List For
 
 -- ---- what is closed
 
--- a client asked to close it, and was to get its answer later; it has none yet: its ask waits, and came
--- to nothing
+-- a client requested to close it, and its answer was deferred; it has none yet: its request waits,
+-- and has no outcome
 pub record WaitsToClose (f : Forwarding) (waiting : List Waiting) (forwarder_events : List ForwarderEvent) : Type 0 where
   pub client : ℕ
   pub id : ℕ
@@ -235,12 +237,12 @@ pub record WaitsToClose (f : Forwarding) (waiting : List Waiting) (forwarder_eve
   pub is_for : IsFor (gateway_in earlier) false ask f
   pub waits : Contains waiting (waiting_for client id false f.serial)
 
--- an ask that came to this, as that many had come to something
+-- a request that has this outcome, as that many had one
 abbrev pub come_to : ℕ → Outcome → Waiting → Waiting
 come_to at outcome w = record w { outcome = Some (at, outcome) }
 
--- a listener that is closed is that of a forwarding that a client asked to close, and that ask has no
--- answer yet: it comes to Done now
+-- a listener that is closed is that of a forwarding that a client requested to close, and that
+-- request has no answer yet: its outcome is Done now
 pub record EndsAsked (l : ℕ) (forwarder_events : List ForwarderEvent) (old new : ForwardingState) : Type 0 where
   pub forwarding : Forwarding
   pub stands : Contains old.all forwarding
@@ -254,8 +256,8 @@ abbrev pub EachUnlisten : Type 0
 EachUnlisten = (l : ℕ) (forwarder_events : List ForwarderEvent) (old new : ForwardingState) → Leave forwarder_events old
     → Does (Unlistens l) old new → EndsAsked l forwarder_events old new
 
--- a cancel is said for a forwarding that is live and that a client asked to close, and that ask has no
--- answer yet
+-- a cancel is sent for a forwarding that is live and that a client requested to close, and that
+-- request has no answer yet
 pub record CancelsAsked (f : Forwarding) (waiting : List Waiting) (forwarder_events : List ForwarderEvent) : Type 0 where
   pub serves : ServesAt f.stage f forwarder_events
   pub asked : WaitsToClose f waiting forwarder_events
@@ -264,13 +266,14 @@ abbrev pub EachCancel : Type 0
 EachCancel = (f : Forwarding) (forwarder_events : List ForwarderEvent) (old new : ForwardingState) → Leave forwarder_events old
     → Does (Requests f) old new → request_of f ≡ Cancel f.serial → CancelsAsked f old.waiting forwarder_events
 
--- what an ask to close comes to as the server replies to its cancel
+-- the outcome of a request to close as the server replies to its cancel
 abbrev pub cancelled : Bool → Outcome
 cancelled true = Done
 cancelled false = Refused
 
--- the reply to a cancel is for a forwarding that is live and that a client asked to close, and that ask
--- has no answer yet: it comes to Done now where the cancel was granted, and else it is refused
+-- the reply to a cancel is for a forwarding that is live and that a client requested to close, and
+-- that request has no answer yet: its outcome is Done now where the cancel was granted, and else it
+-- is refused
 pub record EndsCancel (serial : ℕ) (success : Bool) (forwarder_events : List ForwarderEvent) (old new : ForwardingState) : Type 0 where
   pub forwarding : Forwarding
   pub stands : Contains old.all forwarding
@@ -286,10 +289,10 @@ EachCancelReply = (serial : ℕ) (success : Bool) (port : Option ℕ) (forwarder
 
 -- ---- what is refused at once
 
--- an ask is refused at once: its client has an open ask with its id, or as many asks wait as may; or it
--- is refused whatever stands; one to open, where the forwarding that listens there connects elsewhere,
--- or none does and as many are asked or live as may be; one to close, where none listens there, or one
--- that closes already
+-- a request is refused at once: its client has an open request with its id, or as many requests
+-- wait as may; or it is refused whatever stands; one to open, where the forwarding that listens
+-- there connects elsewhere, or none does and as many are requested or live as may be; one to close,
+-- where none listens there, or one that closes already
 pub data IsRefused (client id : ℕ) (opening : Bool) (ask : StartAsk) (d : ForwardingState) : Type 0 where
   TurnedAway : turns_away client id d.waiting ≡ true → IsRefused client id opening ask d
   RefusedAlone : is_refused_alone ask ≡ true → IsRefused client id opening ask d
@@ -315,13 +318,13 @@ pub record IsAtRest (d : ForwardingState) : Type 0 where
   pub orders : next_of d.waiting d.all ≡ None
   pub answers : answers_none d.waiting ≡ true
 
--- the request to listen for the forwarding that an ask waits for, or its cancel, was said and has no
--- reply yet
+-- the request to listen for the forwarding that a request waits for, or its cancel, was sent and
+-- has no reply yet
 abbrev pub AwaitsReply : List ForwardingRequest → Waiting → Type 0
 AwaitsReply requests w =
     Contains requests (Listen w.forwarding) ⊎ Contains requests (Cancel w.forwarding)
 
--- at rest each ask that waits awaits a reply of the server
+-- at rest each request that waits awaits a reply of the server
 abbrev pub EachAwaits : Type 0
 EachAwaits = (forwarder_events : List ForwarderEvent) (d : ForwardingState) → Leave forwarder_events d → IsAtRest d → All (AwaitsReply d.requests) d.waiting
 

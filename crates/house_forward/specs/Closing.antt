@@ -1,4 +1,4 @@
--- Why a stream of the house is closed.
+-- Why a stream of the forwarder is closed.
 use Rattle.std.specs.Prelude.{◌≡◌, ◌⊎◌, ℕ, Bool, true, false, List, [], ◌∷◌, ◌++◌, find, IfSome, Option, Some, None}
 use Rattle.socks_dialog.specs.declared.outcome.Outcome.TheVariants.{Wants, Breaks}
 use Rattle.mux_outside.specs.HouseCalls.{HouseCall, Marks, Turns, Joined, Got}
@@ -43,7 +43,7 @@ abbrev pub IsThrough : Bool → List Act → Type 0
 IsThrough dials acts =
     IsClosed acts ⊎ (IsRefused acts ⊎ (HasBroken dials acts ⊎ HasLeft dials acts))
 
--- nothing waits for its socket, and nothing more comes of it
+-- nothing waits for its socket, and nothing more comes from it
 pub record IsServed (dials : Bool) (acts : List Act) : Type 0 where
   pub none : waiting dials acts ≡ []
   pub through : IsThrough dials acts
@@ -54,8 +54,8 @@ pub record IsServed (dials : Bool) (acts : List Act) : Type 0 where
 abbrev pub IsStream : Option OwnStream → ℕ → Type 0
 IsStream own t = IfSome own (λ o. o.number ≡ t)
 
--- it was joined where the house had all channels or dialogs that it may have, or at a listener of no
--- forwarding
+-- it was accepted where the forwarder had all channels or dialogs that it may have, or at a
+-- listener of no forwarding
 pub record IsTurnedAway (calls : List HouseCall) (own : Option OwnStream) : Type 0 where
   pub listener : ℕ
   pub stream : ℕ
@@ -65,7 +65,7 @@ pub record IsTurnedAway (calls : List HouseCall) (own : Option OwnStream) : Type
   pub cause : (are_full trace.relay_traces ≡ true) ⊎ ((are_dialogs_full trace.relay_traces ≡ true)
       ⊎ (find (has_listener listener) trace.forwarding_state.all ≡ None))
 
--- its dialog asked for an end where the house had all channels that it may have
+-- its dialog asked for an end where the forwarder had all channels that it may have
 pub record IsTooLate (calls : List HouseCall) (own : Option OwnStream) : Type 0 where
   pub stream : ℕ
   pub bytes : List ℕ
@@ -92,7 +92,7 @@ pub record IsCloseOf (calls : List HouseCall) (relay_traces : List Life) (t : �
   pub cause : (has_failed life.acts ≡ true)
       ⊎ (IsServed life.dials life.acts ⊎ HasNoChannel calls life.own)
 
--- each Close that is ordered behind these calls
+-- each Close that is ordered after these calls
 abbrev pub ClosesHaveCause : Type 0
 ClosesHaveCause = (calls : List HouseCall) (trace next : Trace) (t : ℕ) (number : Option ℕ)
     → Reaches first_trace calls trace

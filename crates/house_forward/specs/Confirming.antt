@@ -1,4 +1,4 @@
--- The answers that the house says to the server's OPENs.
+-- The answers that the forwarder sends to the server's OPENs.
 use Rattle.std.specs.Prelude.{◌≡◌, ◌⊎◌, ◌==◌, ℕ, Bool, true, List, ◌∷◌, ◌++◌, get_or, Some, None}
 use Rattle.ssh_grammar.specs.declared.numbers.TheConstants.{CHANNEL_OPEN_CONFIRMATION, CHANNEL_OPEN_FAILURE}
 use Rattle.mux_outside.specs.HouseCalls.{HouseCall, Happening, Marks, Turns, Writable, Failed}
@@ -10,7 +10,7 @@ use Rattle.house_forward.specs.Connects.{Place}
 use Rattle.house_forward.specs.RelayTraces.{Life, Trace, Follows, Reaches, first_trace}
 use Rattle.house_forward.specs.Said.{framed, confirmed, not_connected}
 
--- whether what is said is an OPEN_CONFIRMATION, or an OPEN_FAILURE: its payload begins behind the
+-- whether what is sent is an OPEN_CONFIRMATION, or an OPEN_FAILURE: its payload begins after the
 -- length and the padding of its frame
 abbrev pub is_confirmation : List ℕ → Bool
 is_confirmation bytes = get_or bytes 5 0 == CHANNEL_OPEN_CONFIRMATION
@@ -18,7 +18,7 @@ is_confirmation bytes = get_or bytes 5 0 == CHANNEL_OPEN_CONFIRMATION
 abbrev pub is_failure : List ℕ → Bool
 is_failure bytes = get_or bytes 5 0 == CHANNEL_OPEN_FAILURE
 
--- a Connect to there got this number, and this happened to that stream behind it
+-- a Connect to there got this number, and this happened to that stream after it
 pub record HasHappened (calls : List HouseCall) (to : Place) (t : ℕ)
     (happening : Happening) : Type 0 where
   pub before : List HouseCall
@@ -39,7 +39,7 @@ pub record HasFailedSince (calls : List HouseCall) (l : Life) (to : Place) : Typ
   pub its : IsStream l.own stream
   pub failed : HasHappened calls to stream (Failed stream)
 
--- one of the relays, which the server opened and the house didn't answer yet
+-- one of the relays, which the server opened and the forwarder didn't answer yet
 pub record IsUnanswered (relay_traces : List Life) (l : Life) (remote : ℕ) (to : Place) : Type 0 where
   pub before : List Life
   pub behind : List Life
@@ -49,8 +49,8 @@ pub record IsUnanswered (relay_traces : List Life) (l : Life) (remote : ℕ) (to
   pub line : l.relay.line ≡ Offered remote window maximum
   pub there : l.to ≡ Some to
 
--- what is said confirms the OPEN of one whose stream a Connect to where that is to be connected made,
--- and which was writable since
+-- what is sent confirms the OPEN of one whose stream a Connect to where that is to be connected
+-- made, and which was writable since
 pub record IsConfirmationOf (calls : List HouseCall) (relay_traces : List Life) (bytes : List ℕ) : Type 0
   where
     pub life : Life
@@ -68,7 +68,7 @@ ConfirmsConnected = (calls : List HouseCall) (trace next : Trace) (bytes : List 
     → Follows (Marks (HouseSaid bytes)) trace next → is_confirmation bytes ≡ true
     → IsConfirmationOf calls trace.relay_traces bytes
 
--- what is said refuses the OPEN of one whose Connect got no number, or whose stream failed
+-- what is sent refuses the OPEN of one whose Connect got no number, or whose stream failed
 pub record IsFailureOf (calls : List HouseCall) (relay_traces : List Life) (bytes : List ℕ) : Type 0 where
   pub life : Life
   pub remote : ℕ

@@ -1,5 +1,5 @@
--- For how many marks a house needs room: of all orders and answers that can come without a call that
--- may want memory.
+-- For how many marks a forwarder needs room: of all orders and answers that can come without a call
+-- that may run out of memory.
 use Rattle.std.specs.Prelude.{ℕ, Bool, true, false, not, ◌&&◌, ◌+◌, ◌*◌, ◌==◌, if◌then◌else◌, List, length}
 use Rattle.std.specs.List.{sum_by}
 use Rattle.mux_outside.specs.declared.own_streams.OwnStream.{OwnStream}
@@ -44,7 +44,7 @@ stage_due (Cancelling port) = 0
 abbrev pub forwarding_due : Forwarding → ℕ
 forwarding_due f = stage_due f.stage
 
--- of an ask: its answer
+-- of a request: its answer
 abbrev pub due : List Forwarding → List Link → List Waiting → ℕ
 due forwardings links waiting =
     sum_by forwarding_due forwardings + (sum_by link_due links + length waiting)

@@ -1,5 +1,5 @@
--- What the house has besides its relays, as its calls go on: the forwardings, the requests to the
--- server and the asks.
+-- What the forwarder has besides its relays, as its calls go on: the forwardings, the requests to
+-- the server and the requests.
 use Rattle.std.specs.Prelude.{◌≡◌, ◌+◌, ◌-◌, ℕ, Bool, true, false, not, List, [], ◌∷◌, ◌++◌, drop, length, filter, find, IfSome, Option, Some, None}
 use Rattle.std.specs.List.{position}
 use Rattle.mux_outside.specs.Streams.{among}
@@ -21,10 +21,10 @@ use Rattle.house_forward.specs.declared.forwardings.ListenerOrder.{ListenerOrder
 use Rattle.house_forward.specs.declared.forwardings.ListenerOrder.TheVariants.{Listen as ListensAt, Unlisten as Unlistens}
 use Rattle.house_forward.specs.declared.forwardings.ForwardingWant.TheVariants as want
 
--- whether a listen host of none means all addresses, and whether the house greeted; the forwardings,
--- in order of asking, how many there were so far, and the first of those asked for at the start that
--- was refused; the requests that were said and have no reply yet; the asks that have no answer yet,
--- and how many came to something
+-- whether a listen host of none means all addresses, and whether the forwarder greeted; the
+-- forwardings, in order of asking, how many there were so far, and the first of those asked for at
+-- the start that was refused; the requests to the server that were sent and have no reply yet; the
+-- requests of clients that have no answer yet, and how many had an outcome
 pub record ForwardingState : Type 0 where
   pub gateway : Bool
   pub greeted : Bool
@@ -48,7 +48,7 @@ empty_forwarding_state = record {
   done = 0;
 }
 
--- that of the house, by what it has
+-- that of the forwarder, by what it has
 abbrev pub forwarding_state_of : Bool → Bool → Forwardings → Asks → ForwardingState
 forwarding_state_of gateway greeted forwardings asks = record {
   gateway = gateway;
@@ -78,9 +78,9 @@ pub record BeginsWith (starts : Starts) (old new : ForwardingState) : Type 0 whe
     refused = new.refused;
   }
 
--- a client asks to open or close a forwarding, and this is the reply: what comes of it is known by
--- what stands and by those that wait; it waits where it has no reply yet; and a new forwarding takes
--- the next serial
+-- a client requests to open or close a forwarding, and this is the reply: its outcome is known by
+-- what stands and by those that wait; it waits where it has no reply yet; and a new forwarding
+-- takes the next serial
 pub record IsAsked (client id : ℕ) (opening : Bool) (ask : StartAsk) (reply : HouseReply)
     (old new : ForwardingState) : Type 0 where
   pub came_to : Asked
@@ -93,18 +93,18 @@ pub record IsAsked (client id : ℕ) (opening : Bool) (ask : StartAsk) (reply : 
     waiting = asks_after came_to client id opening old.waiting;
   }
 
--- the ask that came to something first gets its answer, and waits no longer
+-- the request that had an outcome first gets its answer, and waits no longer
 pub record Answers (client id : ℕ) (reply : HouseReply) (old new : ForwardingState) : Type 0 where
   pub answer : answer_of old.waiting ≡ Some (client, id, reply)
   pub others : new ≡ record old { waiting = after_answer (Some (client, id, reply)) old.waiting }
 
--- ---- what is said, and the server's replies
+-- ---- what is sent, and the server's replies
 
--- the greeting is said
+-- the greeting is sent
 abbrev pub greeting_sent : ForwardingState → ForwardingState
 greeting_sent d = record d { greeted = true }
 
--- the request of this forwarding is said, and is unanswered
+-- the request of this forwarding is sent, and is unanswered
 abbrev pub request_sent : Forwarding → ForwardingState → ForwardingState
 request_sent f d = record d {
   all = after_sending (request_of f) d.all;
@@ -134,7 +134,7 @@ pub record OrdersListener (host : List ℕ) (port : ℕ) (old new : ForwardingSt
   pub ordered : OrderedAt place old.all new.all
   pub others : new ≡ record old { all = new.all }
 
--- it is made, with this number, or couldn't be: those that asked for it come to that
+-- it is made, with this number, or couldn't be: those that requested it have that outcome
 pub record MakesListener (number : Option ℕ) (old new : ForwardingState) : Type 0 where
   pub place : ℕ
   pub first : position to_listen old.all ≡ Some place
@@ -146,7 +146,7 @@ pub record MakesListener (number : Option ℕ) (old new : ForwardingState) : Typ
     done = ordered_done number old.done;
   }
 
--- both, one behind the other; no other listener has the number
+-- both, one after the other; no other listener has the number
 pub record GetsListener (host : List ℕ) (port : ℕ) (number : Option ℕ)
     (old new : ForwardingState) : Type 0 where
   pub between : ForwardingState
@@ -154,8 +154,8 @@ pub record GetsListener (host : List ℕ) (port : ℕ) (number : Option ℕ)
   pub fresh : IfSome number (λ l. among l (listeners_of between.all) ≡ false)
   pub makes : MakesListener number between new
 
--- a listener that is next to be closed is closed: its forwarding is gone, and those that asked to
--- close it come to that
+-- a listener that is next to be closed is closed: its forwarding is gone, and those that requested
+-- to close it have that outcome
 pub record EndsListener (l : ℕ) (old new : ForwardingState) : Type 0 where
   pub serial : ℕ
   pub next : next_of old.waiting old.all ≡ Some (want.Unlisten serial l)
@@ -170,7 +170,7 @@ abbrev pub OrdersBy : ListenerOrder → ForwardingState → ForwardingState → 
 OrdersBy (ListensAt host port) old new = OrdersListener host.one port old new
 OrdersBy (Unlistens l) old new = EndsListener l old new
 
--- ---- by what the house has
+-- ---- by what the forwarder has
 
 -- all but the list of its forwardings stays
 pub record ChangesList (old new : Forwardings) : Type 0 where

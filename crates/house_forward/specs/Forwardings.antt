@@ -1,4 +1,4 @@
--- The forwardings of the house, and what comes of an ask by those that stand.
+-- The forwardings of the forwarder, and the outcome of a request by those that stand.
 use Rattle.std.specs.Prelude.{◌≡◌, ◌+◌, ℕ, zero, suc, Bool, true, false, not, ◌&&◌, ◌||◌, if◌then◌else◌, ◌==◌, nat_lt, nat_le, List, [], ◌∷◌, ◌++◌, length, map, filter, find, get_or, set, slice_get, is_some, IfSome, Option, Some, None}
 use Rattle.std.specs.List.{list_any, filter_map, position, remove}
 use Rattle.std.specs.Str.{bytes_eq}
@@ -39,7 +39,7 @@ abbrev pub listens_at : Ends → Forwarding → Bool
 listens_at ends f = same_kind f.kind ends.kind
     && ((f.listen_port == ends.listen_port) && bytes_eq f.listen_host ends.listen_host.now)
 
--- whether it connects where this is to connect: where a dialog says that, whatever was asked
+-- whether it connects where this is to connect: where a dialog specifies that, whatever was asked
 abbrev pub connects_to : Ends → Forwarding → Bool
 connects_to ends f = not (connects_there f.kind)
     || ((f.connect_port == ends.connect_port) && bytes_eq f.connect_host ends.connect_host.now)
@@ -92,7 +92,7 @@ outcome_at Requested asked = None
 outcome_at (Live port) asked = Some (granted asked port)
 outcome_at (Cancelling port) asked = Some (granted asked port)
 
--- what those that ask for it come to, once that is known
+-- the outcome of those that request it, once that is known
 abbrev pub outcome_of : Forwarding → Option Outcome
 outcome_of f = outcome_at f.stage f.listen_port
 
@@ -162,15 +162,16 @@ abbrev pub as_first : Forwarding → Option Outcome → Asked
 as_first f None = Later f.serial
 as_first f (Some outcome) = Now outcome
 
--- what comes of an ask to open: another connect end is refused, and so is one that isn't the same ask
--- again while as many are asked or live as may be; else there is a new one with this serial
+-- the outcome of a request to open: another connect end is refused, and so is one that isn't the
+-- same request again while as many are requested or live as may be; else there is a new one with
+-- this serial
 abbrev pub opens_of : ℕ → Ends → List Forwarding → Option Forwarding → Asked
 opens_of serial ends fs None =
     if nat_lt (how_many fs) MOST_FORWARDINGS then Later serial else Now Refused
 opens_of serial ends fs (Some f) =
     if connects_to ends f then as_first f (outcome_of f) else Now Refused
 
--- what comes of an ask to close
+-- the outcome of a request to close
 abbrev pub closes_of : Option Forwarding → Asked
 closes_of None = Now Refused
 closes_of (Some f) = if f.closing then Now Refused else Later f.serial
@@ -188,7 +189,7 @@ requests_at Requested closing = false
 requests_at (Live port) closing = closing
 requests_at (Cancelling port) closing = false
 
--- whether a request is to be said for it: to listen, or to do so no longer
+-- whether a request is to be sent for it: to listen, or to do so no longer
 abbrev pub has_request : Forwarding → Bool
 has_request f = requests_at f.stage f.closing
 
@@ -201,7 +202,7 @@ request_at Requested serial = Listen serial
 request_at (Live port) serial = Cancel serial
 request_at (Cancelling port) serial = Listen serial
 
--- the request that is to be said for it: where the server listens it is to do so no longer
+-- the request that is to be sent for it: where the server listens it is to do so no longer
 abbrev pub request_of : Forwarding → ForwardingRequest
 request_of f = request_at f.stage f.serial
 
@@ -228,7 +229,7 @@ is_ordered_first (Some f) = ordered_at f.stage
 abbrev pub listens : List Forwarding → Bool
 listens fs = list_any (λ f. is_some (listener_of f)) fs
 
--- listeners were made in the order of asking: none that has one stands behind one that has none yet
+-- listeners were made in the order of asking: none that has one stands after one that has none yet
 abbrev pub is_in_order : List Forwarding → Bool
 is_in_order [] = true
 is_in_order (f ∷ fs) = not (to_listen f && listens fs) && is_in_order fs
@@ -363,17 +364,17 @@ changed c serial f = if f.serial == serial then record f {
   closing = closing_after c f.closing;
 } else f
 
--- an ask to close leaves one that closes
+-- a request to close leaves one that closes
 abbrev pub after_close : Asked → List Forwarding → List Forwarding
 after_close (Now outcome) fs = fs
 after_close (Later serial) fs = map (changed change.Close serial) fs
 
--- whether there is a new one for an ask to open
+-- whether there is a new one for a request to open
 abbrev pub is_new : Ends → List Forwarding → Option Forwarding → Bool
 is_new ends fs None = nat_lt (how_many fs) MOST_FORWARDINGS
 is_new ends fs (Some f) = false
 
--- an ask to open leaves the same, or one more behind them
+-- a request to open leaves the same, or one more after them
 abbrev pub Opens : Bool → Ends → ℕ → Option ℕ → List Forwarding → List Forwarding → Type 0
 Opens false ends serial start old new = new ≡ old
 Opens true ends serial start old new =
@@ -384,15 +385,15 @@ abbrev pub serials_after : Bool → ℕ → ℕ
 serials_after false serials = serials
 serials_after true serials = serials + 1
 
--- ---- what an ask comes to
+-- ---- the outcome of a request
 
--- what an ask leaves of the forwardings
+-- what a request leaves of the forwardings
 abbrev pub EndsLeave : Bool → ℕ → Ends → List Forwarding → List Forwarding → Type 0
 EndsLeave true serial ends old new =
     Opens (is_new ends old (standing ends old)) ends serial None old new
 EndsLeave false serial ends old new = new ≡ after_close (closes_of (standing ends old)) old
 
--- an ask that is refused whatever stands changes nothing; of another the two ends are looked at
+-- a request that is refused whatever stands changes nothing; of another the two ends are looked at
 abbrev pub ComesIf : Bool → Bool → Bool → StartAsk → ℕ → List Forwarding → List Forwarding → Asked → Type 0
 ComesIf true gateway opening ask serial old new asked = (asked ≡ Now Refused) × (new ≡ old)
 ComesIf false gateway opening ask serial old new asked = (ends : Ends) × AreEnds gateway ask ends
@@ -410,13 +411,13 @@ reply_to (Now (Port port)) = reply.Port port
 reply_to (Now Refused) = reply.Refused
 reply_to (Later serial) = reply.Later
 
--- an ask waits where it has no reply yet
+-- a request waits where it has no reply yet
 abbrev pub asks_after : Asked → ℕ → ℕ → Bool → List Waiting → List Waiting
 asks_after (Now outcome) client id opening waiting = waiting
 asks_after (Later serial) client id opening waiting =
     waiting ++ waiting_for client id opening serial ∷ []
 
--- a request that was said is unanswered
+-- a request that was sent is unanswered
 abbrev pub after_sending : ForwardingRequest → List Forwarding → List Forwarding
 after_sending (Listen serial) fs = map (changed change.ForwardingRequest serial) fs
 after_sending (Cancel serial) fs = map (changed change.Cancel serial) fs
@@ -426,7 +427,7 @@ abbrev pub first_refused : Option ℕ → Option ℕ → Option ℕ
 first_refused None start = start
 first_refused (Some first) start = Some first
 
--- the forwarding at a place can't be had
+-- the forwarding at a place isn't possible
 abbrev pub FailsAt : ℕ → List Forwarding → Option ℕ → Option ℕ → Type 0
 FailsAt i fs old new =
     (f : Forwarding) × (f ≡ get_or fs i f) × (new ≡ first_refused old f.start)
@@ -536,7 +537,7 @@ abbrev pub opened_done : Option Outcome → ℕ → ℕ
 opened_done None at = at
 opened_done (Some outcome) at = counted at
 
--- how many asks came to something after a reply
+-- how many requests had an outcome after a reply
 abbrev pub replied_done : Bool → Option ℕ → Option ForwardingRequest → List Forwarding → ℕ → ℕ
 replied_done success port None fs at = at
 replied_done true port (Some (Listen serial)) fs at =
@@ -567,12 +568,12 @@ abbrev pub first_of : List ForwardingRequest → Option ForwardingRequest
 first_of [] = None
 first_of (r ∷ rs) = Some r
 
--- what the asks came to as a listener was made, or couldn't be
+-- the outcome of the requests as a listener was made, or couldn't be
 abbrev pub ordered_asks : Option ℕ → ℕ → ℕ → List Waiting → List Waiting
 ordered_asks None serial at waiting = refused serial at waiting
 ordered_asks (Some listener) serial at waiting = settled serial true at Done waiting
 
--- how many asks came to something then
+-- how many requests had an outcome then
 abbrev pub ordered_done : Option ℕ → ℕ → ℕ
 ordered_done None at = counted (counted at)
 ordered_done (Some listener) at = counted at

@@ -1,4 +1,4 @@
--- What is known of the house by its own lists.
+-- What is known of the forwarder by its own lists.
 use Rattle.std.specs.Prelude.{ℕ, Bool, true, List, map, find, Option, Some, None}
 use Rattle.std.specs.List.{list_any}
 use Rattle.mux_outside.specs.House.{OpenAsk, Known, without_ask}
@@ -13,7 +13,7 @@ use Rattle.house_forward.specs.declared.link.Link.{Link}
 use Rattle.house_forward.specs.declared.ordering.Ordering.{Ordering}
 use Rattle.house_forward.specs.declared.ordering.Ordering.TheVariants.{Listen, Connect}
 
--- an ask that waits
+-- a request that waits
 abbrev pub open_ask : Waiting → OpenAsk
 open_ask w = record { client = w.client; id = w.id; opening = w.opening }
 
@@ -32,7 +32,7 @@ ordering_of None = None
 ordering_of (Some (Listen host port)) = Some (order.Listen host port)
 ordering_of (Some (Connect host port)) = Some (order.Connect host port)
 
--- what is known of the house
+-- what is known of the forwarder
 abbrev pub known_of : List Forwarding → List Link → List Waiting → Option Ordering → Known
 known_of forwardings links waiting ordering = record {
   present = true;

@@ -1,4 +1,4 @@
--- The relays of the house, each with its stream.
+-- The relays of the forwarder, each with its stream.
 use Rattle.std.specs.Prelude.{◌≡◌, ◌<◌, ◌^◌, ℕ, Bool, true, false, not, ◌&&◌, if◌then◌else◌, ◌==◌, nat_le, List, [], ◌∷◌, ◌++◌, length, map, filter, find, is_some, IfSome, Option, Some, None}
 use Rattle.mux_outside.specs.OwnStreams.{new_stream, is_one, is_finished}
 use Rattle.mux_outside.specs.declared.order.Order.{Order}
@@ -33,7 +33,7 @@ own_of Awaited = None
 own_of (Made own) = Some own
 own_of Gone = None
 
--- the streams of the house, in the order in which they were made
+-- the streams of the forwarder, in the order in which they were made
 abbrev pub streams_of : List Link → List OwnStream
 streams_of links = filter_map (λ l. own_of l.stream) links
 
@@ -85,7 +85,7 @@ abbrev pub queue_in : Option Link → List ℕ
 queue_in None = []
 queue_in (Some l) = l.relay.queue.waiting
 
--- what waits for a stream that is one of the house's and isn't finished
+-- what waits for a stream that is one of the forwarder's and isn't finished
 abbrev pub queue_at : List Link → ℕ → List ℕ
 queue_at links t = if is_one t (streams_of links) && not (is_finished t (streams_of links))
     then queue_in (find (is_of t) links) else []
@@ -126,7 +126,7 @@ is_channel l = counts l.relay.line
 abbrev pub channels : List Link → ℕ
 channels links = length (filter is_channel links)
 
--- whether the house has all channels that it may have
+-- whether the forwarder has all channels that it may have
 abbrev pub is_full : List Link → Bool
 is_full links = nat_le MOST_CHANNELS (channels links)
 
@@ -145,11 +145,11 @@ is_dialog l = dials l.relay.line
 abbrev pub dialogs : List Link → ℕ
 dialogs links = length (filter is_dialog links)
 
--- whether the house has all dialogs that it may have
+-- whether the forwarder has all dialogs that it may have
 abbrev pub has_full_dialogs : List Link → Bool
 has_full_dialogs links = nat_le MOST_DIALOGS (dialogs links)
 
--- whether the house's own number of a channel is this one
+-- whether the forwarder's own number of a channel is this one
 abbrev pub is_number_of : ℕ → List Link → Bool
 is_number_of number links = list_any (λ l. l.relay.number == number) links
 
@@ -174,7 +174,7 @@ relay_after Close r = record r { socket = socket.Closed }
 relay_after Writable r = record r { socket = connected r.socket }
 relay_after Failed r = record r { socket = failing r.socket }
 
--- the one that has this stream takes a step
+-- the one that has this stream makes a step
 abbrev pub link_after : LinkStep → ℕ → Link → Link
 link_after step t l = if has_number t l
     then record l { relay = relay_after step l.relay; stream = stream_after step l.stream } else l
@@ -213,7 +213,7 @@ OrdersIn o Gone r = ⊥
 abbrev pub IsOrderOf : Order → Link → Type 0
 IsOrderOf o l = OrdersIn o l.stream l.relay
 
--- they take the step that is ordered
+-- they make the step that is ordered
 abbrev pub obeyed : Order → List Link → List Link
 obeyed (Listen host port) links = links
 obeyed (Connect host port) links = links
@@ -265,19 +265,19 @@ pub record Offers (f : Forwarding) (remote window maximum : ℕ) (old new : List
     stream = stream;
   } ∷ []
 
--- ---- what is joined at a listener
+-- ---- what is accepted at a listener
 
--- one that is joined beyond what the house may have is closed
+-- one that is accepted beyond what the forwarder may have is closed
 abbrev pub HasNoChannelLeft : ℕ → Relay → Type 0
 HasNoChannelLeft t r = r ≡ fresh_relay r.number Over (socket.NoChannelLeft t)
 
--- a dialog is to say the channel's end; where the house has all dialogs that it may have, the socket is
--- closed
+-- a dialog is to give the channel's end; where the forwarder has all dialogs that it may have, the
+-- socket is closed
 abbrev pub IsDialed : Bool → ℕ → Relay → Type 0
 IsDialed true t r = HasNoChannelLeft t r
 IsDialed false t r = r ≡ fresh_relay r.number fresh_dialing (socket.Open t)
 
--- the channel is to be to where the forwarding connects, or to where a dialog says
+-- the channel is to be to where the forwarding connects, or to where a dialog requests
 abbrev pub IsJoinedAt : Kind → Bool → Forwarding → ℕ → Relay → Type 0
 IsJoinedAt Local dialogs_full f t r =
     r ≡ fresh_relay r.number (Asked f.connect_host f.connect_port None) (socket.Open t)
@@ -285,13 +285,14 @@ IsJoinedAt Remote dialogs_full f t r =
     r ≡ fresh_relay r.number (Asked f.connect_host f.connect_port None) (socket.Open t)
 IsJoinedAt Dynamic dialogs_full f t r = IsDialed dialogs_full t r
 
--- the relay of a socket that is joined: where the house has all channels that it may have, it is closed
+-- the relay of an accepted socket: where the forwarder has all channels that it may have, it is
+-- closed
 abbrev pub IsJoined : Bool → Bool → Option Forwarding → ℕ → Relay → Type 0
 IsJoined true dialogs_full f t r = HasNoChannelLeft t r
 IsJoined false dialogs_full None t r = HasNoChannelLeft t r
 IsJoined false dialogs_full (Some f) t r = IsJoinedAt f.kind dialogs_full f t r
 
--- one relay more, for a socket that is joined
+-- one relay more, for a socket that is accepted
 pub record Joins (f : Option Forwarding) (t : ℕ) (old new : List Link) : Type 0 where
   pub relay : Relay
   pub joined : IsJoined (is_full old) (has_full_dialogs old) f t relay

@@ -1,4 +1,4 @@
--- When the house has nothing to say, to order and to answer.
+-- When the forwarder has nothing to send, to order and to answer.
 use Rattle.std.specs.Prelude.{Bool, not, ◌&&◌, List, is_some, find}
 use Rattle.std.specs.List.{list_any}
 use Rattle.mux_outside.specs.House.{Quiet}
@@ -20,7 +20,7 @@ abbrev pub orders_none : List Forwarding → List Link → List Waiting → Bool
 orders_none forwardings links waiting = not (list_any has_order links)
     && (not (list_any is_offered links) && not (is_some (next_of waiting forwardings)))
 
--- no ask came to something
+-- no request has an outcome
 abbrev pub answers_none : List Waiting → Bool
 answers_none waiting = not (list_any has_outcome waiting)
 

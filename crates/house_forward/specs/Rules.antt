@@ -1,4 +1,5 @@
--- What is asked of the house, as it is compared, and why it is refused whatever stands already.
+-- What is requested of the forwarder, as it is compared, and why it is refused whatever stands
+-- already.
 use Rattle.std.specs.Prelude.{◌≡◌, ℕ, Bool, true, false, ◌&&◌, ◌||◌, if◌then◌else◌, ◌==◌, nat_lt, List, [], length, codes, Option, Some, None}
 use Rattle.std.specs.Str.{bytes_eq}
 use Rattle.mux_outside.specs.declared.start_ask.StartAsk.{StartAsk}
@@ -34,13 +35,13 @@ listen_host Dynamic gateway host = local_host gateway host
 
 -- ---- refusals
 
--- the house listens
+-- the forwarder listens
 abbrev pub listens_here : Kind → Bool
 listens_here Local = true
 listens_here Remote = false
 listens_here Dynamic = true
 
--- where it connects is said when it is asked for
+-- where it connects is specified when it is requested
 abbrev pub connects_there : Kind → Bool
 connects_there Local = true
 connects_there Remote = true
@@ -67,14 +68,14 @@ is_refused_of None ask = true
 is_refused_of (Some kind) ask = ask.path || (has_bad_port kind ask.listen_port ask.connect_port
     || (nat_lt LONGEST_HOST (length ask.listen_host) || nat_lt LONGEST_HOST (length ask.connect_host)))
 
--- an ask is refused whatever stands already: its kind isn't served, it has a path, a port is past the
--- last or none where one is needed, or a host is too long
+-- a request is refused whatever stands already: its kind isn't served, it has a path, a port is
+-- past the last or none where one is needed, or a host is too long
 abbrev pub is_refused_alone : StartAsk → Bool
 is_refused_alone ask = is_refused_of (kind_of ask.kind) ask
 
 -- ---- what is asked
 
--- an ask as it is handed on
+-- a request as it is handed on
 pub record IsAsk (asked : Asked) (ask : StartAsk) : Type 0 where
   pub kind : asked.kind ≡ ask.kind
   pub listens : asked.listen_host.now ≡ ask.listen_host

@@ -1,4 +1,4 @@
--- What the house says as a client, byte for byte.
+-- What the forwarder sends as a client, byte for byte.
 use Rattle.std.specs.Prelude.{ℕ, ◌+◌, Bool, true, false, List, [], ◌∷◌, ◌++◌, length, take, codes, Option, Some, None}
 use Rattle.ssh_fields.specs.Fields.{u32, str}
 use Rattle.ssh_grammar.specs.Messages.{To, Confirmation as Confirmed, Adjust as Adjusts, Data as GivesData, Eof as GivesEof, Failure as Fails}
@@ -59,12 +59,12 @@ request_port Requested asked = asked
 request_port (ServedOn port) asked = port
 request_port (Cancelling port) asked = asked
 
--- the request that is to be said for a forwarding
+-- the request that is to be sent for a forwarding
 abbrev pub request_payload : Forwarding → List ℕ
 request_payload f =
     requested (request_name f.stage) f.listen_host (request_port f.stage f.listen_port)
 
--- whether data is said
+-- whether data is sent
 abbrev pub is_data : Outgoing → Bool
 is_data (Data n) = true
 is_data Open = false
@@ -75,7 +75,7 @@ is_data Failure = false
 is_data Eof = false
 is_data (Adjust n) = false
 
--- in a channel that is confirmed: of the bytes that are held so many as are said
+-- in a channel that is confirmed: of the bytes that are held so many as are sent
 abbrev pub in_live : Outgoing → ℕ → List ℕ → List ℕ
 in_live Open remote held = []
 in_live Confirmation remote held = []
@@ -105,7 +105,7 @@ payload_in (Offered remote window maximum) r outgoing = in_offer outgoing remote
 payload_in (Live live) r outgoing = in_live outgoing live.remote r.held.waiting
 payload_in Over r outgoing = []
 
--- the payload of what a relay says
+-- the payload of what a relay sends
 abbrev pub payload_of : Relay → Outgoing → List ℕ
 payload_of r outgoing = payload_in r.line r outgoing
 
@@ -113,6 +113,6 @@ abbrev pub payload_if : Relay → Option Outgoing → List ℕ
 payload_if r None = []
 payload_if r (Some outgoing) = payload_of r outgoing
 
--- the payload of what it says next
+-- the payload of what it sends next
 abbrev pub sent_by : Relay → List ℕ
 sent_by r = payload_if r (sends_of r)

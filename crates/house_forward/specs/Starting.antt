@@ -1,4 +1,4 @@
--- What comes of the forwardings that are asked for at the start.
+-- The outcome of the forwardings that are requested at the start.
 use Rattle.std.specs.Prelude.{◌≡◌, ◌⊎◌, ◌≤◌, ℕ, true, List, [], ◌∷◌, ◌++◌, slice_get, Option, Some, None}
 use Rattle.mux_outside.specs.HouseCalls.{HouseCall}
 use Rattle.mux_outside.specs.declared.start_ask.StartAsk.{StartAsk}
@@ -17,7 +17,7 @@ use Rattle.house_forward.specs.declared.forwarding.Forwarding.{Forwarding}
 use Rattle.house_forward.specs.declared.forwarding.ForwardingRequest.TheVariants.{Listen}
 use Rattle.house_forward.specs.declared.rules.Ends.{Ends}
 
--- its listener was ordered, where it is to listen; or its request to listen was said
+-- its listener was ordered, where it is to listen; or its request to listen was sent
 pub data HasBegun (f : Forwarding) (forwarder_events : List ForwarderEvent) : Type 0 where
   WasOrdered : (number : Option ℕ) (later earlier : List ForwarderEvent)
       → forwarder_events ≡ later ++ Listens f.listen_host f.listen_port number ∷ earlier → HasBegun f forwarder_events
@@ -25,14 +25,14 @@ pub data HasBegun (f : Forwarding) (forwarder_events : List ForwarderEvent) : Ty
       → forwarder_events ≡ later ++ Requests first ∷ earlier → AreOne f first
       → request_of first ≡ Listen first.serial → HasBegun f forwarder_events
 
--- the ask at a place of the start was refused: whatever stands, or for those before it
+-- the request at a place of the start was refused: whatever stands, or for those before it
 pub record WasRefused (starts : Starts) (i : ℕ) (ask : StartAsk) : Type 0 where
   pub stood : Standing
   pub before : BeginsAt starts.gateway starts.asks i (standing_at empty_forwarding_state) stood
   pub cause : (is_refused_alone ask ≡ true) ⊎ ((ends : Ends) × AreEnds starts.gateway ask ends
       × (opens_of stood.serials ends stood.all (standing ends stood.all) ≡ Now Refused))
 
--- one is told as refused: this one, or one that was refused before it
+-- one is recorded as refused: this one, or one that was refused before it
 abbrev pub IsRecorded : Option ℕ → ℕ → Type 0
 IsRecorded None i = ⊥
 IsRecorded (Some first) i = first ≤ i
@@ -43,13 +43,13 @@ pub record WasServed (starts : Starts) (ask : StartAsk) (forwarder_events : List
   pub is_for : IsFor starts.gateway true ask forwarding
   pub begun : HasBegun forwarding forwarder_events
 
--- of a house that began with these forwardings: at rest each was refused or has begun
+-- of a forwarder that began with these forwardings: at rest each was refused or has begun
 abbrev pub EachStart : Type 0
 EachStart = (starts : Starts) (later : List ForwarderEvent) (d : ForwardingState) → Leave (later ++ Begins starts ∷ []) d → IsAtRest d
     → (i : ℕ) (ask : StartAsk) → slice_get starts.asks i ≡ Some ask
     → (WasRefused starts i ask × IsRecorded d.refused i) ⊎ WasServed starts ask (later ++ Begins starts ∷ [])
 
--- a house that has nothing to say, to order and to answer is at rest
+-- a forwarder that has nothing to send, to order and to answer is at rest
 abbrev pub EachQuiet : Type 0
 EachQuiet = (calls : List HouseCall) (h : Held) (lived : HasLived calls h)
     → quiet_of h.forwarding_state.greeted h.forwarding_state.all h.links h.forwarding_state.waiting ≡ record { says = true; orders = true; answers = true }

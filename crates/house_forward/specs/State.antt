@@ -1,4 +1,4 @@
--- What is known of the house, by all that it has but its notes.
+-- What is known of the forwarder, by all that it has except its notes.
 use Rattle.std.specs.Prelude.{◌≡◌, ◌≤◌, ◌+◌, ℕ, Bool, true, false, List, [], ◌∷◌, length, Option}
 use Rattle.mux_outside.specs.House.{HouseState, Known, Quiet}
 use Rattle.mux_outside.specs.HouseCalls.{HouseCall}
@@ -14,7 +14,7 @@ use Rattle.house_forward.specs.RelayTraces.{Held, held_of, GoesFurther, SendsIn,
 use Rattle.house_forward.specs.Quiet.{quiet_of}
 use Rattle.house_forward.specs.declared.forwarder_state.ForwarderState.{ForwarderState}
 
--- what it has of that which its calls tell
+-- what it has of that which its calls record
 abbrev pub held_in : ForwarderState → Held
 held_in has = held_of has.relays has.framer has.stage has.gateway has.greeted has.forwardings
     has.asks
@@ -36,13 +36,13 @@ abbrev pub most_due_in : ForwarderState → ℕ → ℕ → ℕ → ℕ
 most_due_in has forwardings relays asks = most_due (length has.forwardings.all.items + forwardings)
     (length has.relays.all.items + relays) (length has.asks.waiting.items + asks)
 
--- where it greeted, the first that it said is the greeting; else it said nothing
+-- where it greeted, the first that it sent is the greeting; else it sent nothing
 abbrev pub HasGreeted : Bool → List (List ℕ) → Type 0
 HasGreeted false said = said ≡ []
 HasGreeted true [] = ⊥
 HasGreeted true (first ∷ more) = first ≡ GREETING.now
 
--- the calls were made, and this is what they leave; and it greeted first, however much was taken
+-- the calls were made, and this is what they leave; and it greeted first, however much was accepted
 pub record StandsIn (has : ForwarderState) (calls : List HouseCall) : Type 0 where
   pub since : StandsSince has.ordering calls (held_in has)
   pub greeting : HasGreeted has.greeted (sent_in calls)
@@ -61,8 +61,8 @@ pub record KeepsWord (old new : ForwarderState) : Type 0 where
   pub greeted : new.greeted ≡ old.greeted
   pub must : new.must ≡ old.must
 
--- what it hears leaves what is known of it, whether it has greeted, no more forwardings, one relay more
--- at most, and as many asks
+-- what it receives leaves what is known of it, whether it has greeted, no more forwardings, one
+-- relay more at most, and as many requests
 pub record StaysKnown (old new : ForwarderState) : Type 0 where
   pub same : KnowsSame old new
   pub greeted : new.greeted ≡ old.greeted
@@ -92,7 +92,7 @@ pub record ChangesRelays (old new : ForwarderState) : Type 0 where
   pub ordering : new.ordering ≡ old.ordering
   pub must : new.must ≡ old.must
 
--- ---- what is said and ordered
+-- ---- what is sent and ordered
 
 -- a Connect is to the end of the first socket that is to be connected, and a Listen is that of the
 -- first forwarding that has no listener yet
@@ -100,13 +100,13 @@ pub record OrdersFirst (o : Option Order) (has : ForwarderState) : Type 0 where
   pub connects : ConnectsFirst o has.relays.all.items
   pub listens : ListensFirst o has.forwardings.all.items
 
--- it said this: it has greeted then, and where it had not this is the greeting
+-- it sent this: it has greeted then, and where it had not this is the greeting
 pub record HasSent (bytes : List ℕ) (old new : ForwarderState) : Type 0 where
   pub goes : GoesFurther (SendsIn bytes) (held_in old) (held_in new)
   pub greeted : new.greeted ≡ true
   pub first : old.greeted ≡ false → bytes ≡ GREETING.now
 
--- all that is known of it, with the marks that it told
+-- all that is known of it, with the marks that it recorded
 abbrev pub state_of : Option (List HouseMark) → ForwarderState → HouseState
 state_of recorded has = record {
   recorded = recorded;

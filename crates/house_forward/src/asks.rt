@@ -1,4 +1,4 @@
-//! The asks of clients that are to be answered later.
+//! The requests of clients that are to be answered later.
 ghost use Rattle.std.specs.Prelude.{◌≡◌, ◌≤◌, ◌<◌, ◌+◌, ◌++◌, ◌∷◌, [], length, OnOk, OnErr, None};
 ghost use Rattle.std.specs.List.{position};
 ghost use Rattle.house_forward.specs.Asks.{has_open, turns_away, waiting_for, settle_one, settled, refused, counted, owes_opening, earlier, earliest, stamp_of, reply_of, answer_of, after_answer, is_waiting};
@@ -9,7 +9,7 @@ use mux_outside::HouseReply;
 use ssh_fields::OutOfMemory;
 use std::alloc::Global;
 
-/// What an ask came to.
+/// The outcome of a request.
 #[derive(Clone, Copy, PartialEq, Eq)]
 pub enum Outcome {
     Done,
@@ -17,16 +17,16 @@ pub enum Outcome {
     Refused,
 }
 
-/// What comes of an ask at once.
+/// The immediate outcome of a request.
 #[derive(Clone, Copy)]
 pub enum Asked {
-    /// It came to this.
+    /// It has this outcome.
     Now(Outcome),
     /// It waits for the fate of this forwarding.
     Later(u64),
 }
 
-/// An ask that has no answer yet.
+/// A request that has no answer yet.
 #[derive(Clone, Copy)]
 pub struct Waiting {
     pub client: u64,
@@ -34,15 +34,15 @@ pub struct Waiting {
     pub opening: bool,
     /// The forwarding whose fate it waits for.
     pub forwarding: u64,
-    /// What it came to, and the how many-th that was.
+    /// Its outcome, and the how many-th that was.
     pub outcome: Option<(u64, Outcome)>,
 }
 
-/// The asks that have no answer yet, in order of asking.
+/// The requests that have no answer yet, in order of asking.
 #[derive(Drop)]
 pub struct Asks {
     waiting: Vec<Waiting>,
-    /// How many came to something.
+    /// How many had an outcome.
     done: u64,
     ghost few: { length waiting.items ≤ MOST_ASKS },
 }
@@ -65,7 +65,7 @@ impl Asks {
         self.waiting.len()
     }
 
-    /// Whether a client has an ask with this id.
+    // Whether a client has a request with this id.
     fn has(&self, client: u64, id: u32) -> bool
         ensures { result ≡ has_open client id self.now.waiting.items }
     {
@@ -74,8 +74,8 @@ impl Asks {
             .any(|w| w.client == client && w.id == id)
     }
 
-    /// Whether an ask is refused for those that wait: its client has one with its id, or they are as
-    /// many as may wait.
+    /// Whether a request is refused for those that wait: its client has one with its id, or they
+    /// are as many as may wait.
     pub fn turns_away(&self, client: u64, id: u32) -> bool
         ensures { result ≡ turns_away client id self.now.waiting.items }
     {
@@ -106,7 +106,7 @@ impl Asks {
         Ok(())
     }
 
-    /// The asks to open a forwarding, or those to close it, came to this.
+    /// The requests to open a forwarding, or those to close it, have this outcome.
     pub fn settle(&mut self, forwarding: u64, opening: bool, outcome: Outcome)
         ensures waiting { self.new.waiting.items
             ≡ settled forwarding opening self.old.done outcome self.old.waiting.items }
@@ -129,7 +129,7 @@ impl Asks {
         self.settle(forwarding, false, Outcome::Refused);
     }
 
-    /// Whether the answer to an ask to open this forwarding is still to be given.
+    /// Whether the answer to a request to open this forwarding is still to be given.
     pub fn owes_opening(&self, forwarding: u64) -> bool
         ensures { result ≡ owes_opening forwarding self.now.waiting.items }
     {
@@ -138,7 +138,7 @@ impl Asks {
             .any(|w| w.forwarding == forwarding && w.opening)
     }
 
-    /// The next answer, in the order in which the asks came to something.
+    /// The next answer, in the order in which the requests had their outcome.
     pub fn answer(&mut self) -> Option<(u64, u32, HouseReply)>
         ensures exact { result ≡ answer_of self.old.waiting.items }
         ensures taken { self.new.waiting.items ≡ after_answer result self.old.waiting.items }
@@ -151,7 +151,7 @@ impl Asks {
         Some((w.client, w.id, w.reply()))
     }
 
-    /// The place of the first that has this client and id.
+    // The place of the first that has this client and id.
     fn place_of(&self, client: u64, id: u32) -> Option<usize>
         ensures { result ≡ position (is_waiting client id) self.now.waiting.items }
     {
@@ -160,7 +160,7 @@ impl Asks {
             .position(|w| w.client == client && w.id == id)
     }
 
-    /// The one that came to something first.
+    // The one that had an outcome first.
     fn earliest(&self) -> Option<Waiting>
         ensures { result ≡ earliest self.now.waiting.items }
     {
@@ -171,7 +171,7 @@ impl Asks {
 }
 
 impl Waiting {
-    /// How many came to something before it did.
+    // How many had an outcome before it did.
     fn stamp(&self) -> u64
         ensures { result ≡ stamp_of self.now.outcome }
     {
@@ -181,7 +181,7 @@ impl Waiting {
         }
     }
 
-    /// Its answer.
+    // Its answer.
     fn reply(&self) -> HouseReply
         ensures { result ≡ reply_of self.now }
     {
@@ -199,7 +199,7 @@ impl Waiting {
     }
 }
 
-/// The one of both that came to something earlier.
+// The one of both that had an outcome earlier.
 fn earlier(first: Option<Waiting>, w: Waiting) -> Option<Waiting>
     ensures { result ≡ earlier first w }
 {
@@ -212,7 +212,7 @@ fn earlier(first: Option<Waiting>, w: Waiting) -> Option<Waiting>
     }
 }
 
-/// An ask, which came to this where it is one of these and came to nothing yet.
+// A request, which has this outcome if it is one of these and has none yet.
 fn settled(w: Waiting, forwarding: u64, opening: bool, at: u64, outcome: Outcome) -> Waiting
     ensures { result ≡ settle_one forwarding opening at outcome w }
 {

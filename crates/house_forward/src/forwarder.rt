@@ -1,4 +1,4 @@
-//! The house.
+//! The forwarder.
 ghost use Rattle.std.specs.Prelude.{◌≡◌, ◌≤◌, ◌+◌, OnOk, IfOk, Some};
 ghost use Rattle.std.specs.Option.{option_to_list};
 ghost use Rattle.mux_outside.specs.House.{IsBlank, IsFresh, NoMark, ask_of, order_marks};
@@ -23,7 +23,7 @@ pub struct Forwarder<N: Notes + Drop> {
 }
 
 impl<N: Notes + Drop> Forwarder<N> {
-    /// A house that has nothing yet.
+    /// A forwarder that has nothing yet.
     pub fn new(alloc: Global, notes: N) -> Result<Forwarder<N>, OutOfMemory>
         requires { NoMark (N.recorded notes) }
         ensures { IfOk result (λ f. IsFresh (state_of (N.recorded f.notes.notes) f.has)) }
@@ -42,8 +42,8 @@ impl<N: Notes + Drop> Forwarder<N> {
         &self.notes.notes
     }
 
-    /// Room for so many marks, and for those of all that so many forwardings, relays and asks more
-    /// can bring.
+    // Room for so many marks, and for those of all that so many forwardings, relays and asks more
+    // can bring.
     fn reserve(
         &mut self,
         forwardings: usize,
@@ -65,7 +65,7 @@ impl<N: Notes + Drop> Forwarder<N> {
     }
 }
 
-/// The mark of an order that makes nothing.
+// The mark of an order that makes nothing.
 fn mark_of(order: &Order) -> Option<HouseMark>
     ensures { option_to_list result ≡ order_marks (Some order.now) }
 {
@@ -83,7 +83,7 @@ fn mark_of(order: &Order) -> Option<HouseMark>
     })
 }
 
-// An ask of a client, for its mark.
+// A request of a client, for its mark.
 fn copy_of(alloc: Global, what: &FwdAsk<'_>) -> Result<StartAsk, OutOfMemory>
     ensures { IfOk result (λ ask. ask ≡ ask_of what.now) }
 {

@@ -1,4 +1,4 @@
-//! All that the house has but its notes.
+//! All that the forwarder has but its notes.
 ghost use Rattle.std.specs.Prelude.{◌≡◌, true};
 ghost use Rattle.house_forward.specs.Known.{is_there};
 
@@ -14,7 +14,7 @@ use crate::relays::Relays;
 use proxy_frames::Framer;
 use std::alloc::Global;
 
-/// How what is written to the house is read.
+/// How what is written to the forwarder is read.
 #[derive(Clone, Copy, PartialEq, Eq)]
 enum Stage {
     /// Control messages, until PROXY is granted.
@@ -23,7 +23,7 @@ enum Stage {
     Proxy,
 }
 
-/// All that the house has but its notes.
+/// All that the forwarder has but its notes.
 #[derive(Drop)]
 pub struct ForwarderState {
     alloc: Global,

@@ -1,4 +1,4 @@
-//! One forwarding of the house.
+//! One forwarding of the forwarder.
 ghost use Rattle.std.specs.Prelude.{◌≡◌, true, not, is_some, IfOk, OnOk, IfSome, None, Some};
 ghost use Rattle.house_forward.specs.Forwardings.{counts, listens_at, connects_to, outcome_of, bound_of, listener_of, is_first, as_first, has_request, request_of, IsAt, IsAskedFor};
 ghost use Rattle.house_forward.specs.Said.{request_name, request_port};
@@ -31,24 +31,24 @@ pub enum Stage {
     Ordered,
     /// This listener listens.
     Listening(u64),
-    /// The request to the server is to be said.
+    /// The request to the server is to be sent.
     ToRequest,
-    /// It is said and unanswered.
+    /// It is sent and unanswered.
     Requested,
     /// The server listens on this port.
     Live(u32),
-    /// The same, and the cancel is said and unanswered.
+    /// The same, and the cancel is sent and unanswered.
     Cancelling(u32),
 }
 
-/// How a forwarding changes by what is asked, said and heard.
+/// How a forwarding changes by what is requested, sent and received.
 #[derive(Clone, Copy)]
 pub enum Change {
     /// It is asked to close.
     Close,
-    /// The request to listen is said.
+    /// The request to listen is sent.
     ForwardingRequest,
-    /// The cancel is said.
+    /// The cancel is sent.
     Cancel,
     /// The server listens, on this port if it was to choose one.
     Live(Option<u32>),
@@ -277,7 +277,7 @@ impl Forwarding {
         }
     }
 
-    /// Its stage changes.
+    // Its stage changes.
     fn go(&mut self, change: Change)
         ensures { self.new ≡ record self.old {
           stage = stage_after change self.old.listen_port self.old.stage;
@@ -300,7 +300,7 @@ impl Forwarding {
         drop(mem::replace(&mut self.stage, stage));
     }
 
-    /// The port on which the server listens, if it chose this one where it was to choose.
+    // The port on which the server listens, if it chose this one where it was to choose.
     fn bound_to(&self, port: Option<u32>) -> u32
         ensures { result ≡ bound_to self.now.listen_port port }
     {
@@ -311,7 +311,7 @@ impl Forwarding {
         }
     }
 
-    /// What it comes to as the server listens.
+    /// Its outcome as the server listens.
     pub fn granted(&self, port: Option<u32>) -> Outcome
         ensures { result
             ≡ granted self.now.listen_port (bound_to self.now.listen_port port) }
@@ -339,7 +339,8 @@ impl Forwarding {
             && self.listen_host.as_bytes() == ends.listen_host
     }
 
-    /// Whether it connects where this is to connect: where a dialog says that, whatever was asked.
+    /// Whether it connects where this is to connect: where a dialog specifies that, whatever was
+    /// asked.
     pub fn connects_to(&self, ends: Ends<'_>) -> bool
         ensures { result ≡ connects_to ends.entry self.now }
     {
@@ -348,7 +349,7 @@ impl Forwarding {
                 && self.connect_host.as_bytes() == ends.connect_host)
     }
 
-    /// What those that ask for it come to, once that is known.
+    /// The outcome of those that request it, once that is known.
     pub fn outcome(&self) -> Option<Outcome>
         ensures { result ≡ outcome_of self.now }
     {
@@ -365,7 +366,7 @@ impl Forwarding {
         }
     }
 
-    /// What comes of the same ask again.
+    /// The outcome of the same request again.
     pub fn as_first(&self) -> Asked
         ensures { result ≡ as_first self.now (outcome_of self.now) }
     {
@@ -375,7 +376,7 @@ impl Forwarding {
         }
     }
 
-    /// Whether a request is to be said for it: to listen, or to do so no longer.
+    /// Whether a request is to be sent for it: to listen, or to do so no longer.
     pub fn has_request(&self) -> bool
         ensures { result ≡ has_request self.now }
     {
@@ -390,7 +391,7 @@ impl Forwarding {
         }
     }
 
-    /// The request that is to be said for it, where there is one.
+    /// The request that is to be sent for it, where there is one.
     pub fn request(&self) -> ForwardingRequest
         ensures { result ≡ request_of self.now }
     {
@@ -465,7 +466,7 @@ impl Forwarding {
     }
 }
 
-/// What is to be done first.
+// What is to be done first.
 fn first_stage(alloc: Global, ends: Ends<'_>) -> Result<Stage, OutOfMemory>
     ensures first { IfOk result (λ stage. is_first stage ≡ true) }
     ensures here { IfOk result (λ stage. waits_at stage ≡ listens_here ends.entry.kind) }

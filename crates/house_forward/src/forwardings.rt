@@ -1,4 +1,4 @@
-//! The forwardings of the house, in order of asking.
+//! The forwardings of the forwarder, in order of asking.
 ghost use Rattle.std.specs.Prelude.{◌≡◌, ◌≤◌, ◌<◌, ◌+◌, ◌++◌, ◌∷◌, [], None, true, false, not, length, map, IfOk, IfSome, OnOk, OnErr, IsSomeAnd, Some, find, filter, is_some};
 ghost use Rattle.std.specs.List.{All, position, remove};
 ghost use Rattle.std.specs.Option.{option_copied};
@@ -79,7 +79,7 @@ impl Forwardings {
         self.all.len()
     }
 
-    /// One of those asked for at the start is refused, if one is meant.
+    // One of those asked for at the start is refused, if one is meant.
     fn refuse_start(&mut self, start: Option<usize>)
         ensures { self.new ≡ record self.old {
           refused = first_refused self.old.refused start;
@@ -90,21 +90,21 @@ impl Forwardings {
         }
     }
 
-    /// The forwarding that listens there, asked or live.
+    // The forwarding that listens there, asked or live.
     fn standing(&self, ends: Ends<'_>) -> Option<&Forwarding>
         ensures { option_copied result ≡ standing ends.entry self.now.all.items }
     {
         self.all.iter().find(|f| f.counts() && f.listens_at(ends))
     }
 
-    /// How many are asked or live.
+    // How many are asked or live.
     fn how_many(&self) -> usize
         ensures { result ≡ how_many self.now.all.items }
     {
         self.all.iter().filter(|f| f.counts()).count()
     }
 
-    /// What comes of an ask to open a forwarding.
+    // The outcome of a request to open a forwarding.
     fn may_open(&self, ends: Ends<'_>) -> Asked
         ensures { result ≡ opens_of self.now.serials ends.entry self.now.all.items
             (standing ends.entry self.now.all.items) }
@@ -127,7 +127,7 @@ impl Forwardings {
         }
     }
 
-    /// An ask to open a forwarding.
+    /// A request to open a forwarding.
     #[tactic(auto, using(crate::proofs::InOrder::order_more, crate::proofs::InOrder::listeners_more, crate::proofs::InOrder::first_listens, crate::proofs::Placed::placed_more, crate::proofs::Numbered::numbered_more))]
     pub fn open(&mut self, ends: Ends<'_>, start: Option<usize>) -> Result<Asked, OutOfMemory>
         ensures exact { IfOk result (λ asked. asked ≡ opens_of self.old.serials ends.entry
@@ -173,7 +173,7 @@ impl Forwardings {
         Ok(())
     }
 
-    /// One that is asked for at the start, at this place.
+    // One that is asked for at the start, at this place.
     fn start(&mut self, ask: &StartAsk, gateway: bool, i: usize) -> Result<(), OutOfMemory>
         ensures starts { OnOk result (StartsIf (is_refused_alone ask.now) gateway ask.now i
             (what_stands self.old.all.items self.old.serials self.old.refused)
@@ -194,7 +194,7 @@ impl Forwardings {
         Ok(())
     }
 
-    /// An ask to close a forwarding.
+    /// A request to close a forwarding.
     pub fn close(&mut self, ends: Ends<'_>) -> Asked
         ensures exact { result ≡ closes_of (standing ends.entry self.old.all.items) }
         ensures all { self.new.all.items ≡ after_close result self.old.all.items }
@@ -207,7 +207,7 @@ impl Forwardings {
         asked
     }
 
-    /// The forwarding with this serial changes.
+    // The forwarding with this serial changes.
     fn change(&mut self, serial: u64, change: Change)
         ensures all { self.new.all.items ≡ map (changed change serial) self.old.all.items }
         ensures others { ChangesList self.old self.new }
@@ -215,7 +215,7 @@ impl Forwardings {
         change_all(&mut self.all, serial, change);
     }
 
-    /// What comes of an ask to close a forwarding.
+    // The outcome of a request to close a forwarding.
     fn may_close(&self, ends: Ends<'_>) -> Asked
         ensures { result ≡ closes_of (standing ends.entry self.now.all.items) }
     {
@@ -231,9 +231,9 @@ impl Forwardings {
         }
     }
 
-    /// Which order about a listener is next. Listeners are ordered and closed in the order of asking,
-    /// so a place is free before it is listened on again. One that is closed waits for the answers
-    /// of those that asked for it.
+    // Which order about a listener is next. Listeners are ordered and closed in the order of asking,
+    // so a place is free before it is listened on again. One that is closed waits for the answers
+    // of those that asked for it.
     #[tactic(auto, using(crate::proofs::InOrder::found_next))]
     fn next(&self, asks: &Asks) -> Option<ForwardingWant>
         ensures { result ≡ next_of asks.now.waiting.items self.now.all.items }
@@ -241,7 +241,7 @@ impl Forwardings {
         self.pending()?.wants(asks)
     }
 
-    /// The first that is to be ordered or closed.
+    // The first that is to be ordered or closed.
     fn pending(&self) -> Option<&Forwarding>
         ensures { option_copied result ≡ find is_pending self.now.all.items }
     {
@@ -267,7 +267,7 @@ impl Forwardings {
         }
     }
 
-    /// The listener of the first forwarding that has none yet is ordered.
+    // The listener of the first forwarding that has none yet is ordered.
     fn order_listen(&mut self) -> Option<ListenerOrder>
         requires { is_first_to_listen (find to_listen self.old.all.items) ≡ true }
         ensures listens { IsSomeAnd result
@@ -282,7 +282,7 @@ impl Forwardings {
         Some(ListenerOrder::Listen { host, port })
     }
 
-    /// That of the forwarding at this place is.
+    // That of the forwarding at this place is.
     fn ordered_at(&mut self, i: usize) -> Option<(TwoTexts, u32)>
         requires place { position to_listen self.old.all.items ≡ Some i }
         requires first { is_first_to_listen (find to_listen self.old.all.items) ≡ true }
@@ -294,7 +294,7 @@ impl Forwardings {
         self.all[i].ordered()
     }
 
-    /// The forwarding of a listener is no more.
+    // The forwarding of a listener is no more.
     fn unlisten(&mut self, listener: u64)
         ensures all { self.new.all.items
             ≡ filter (λ f. not (has_listener listener f)) self.old.all.items }
@@ -328,7 +328,7 @@ impl Forwardings {
         }
     }
 
-    /// A forwarding can't be had.
+    // A forwarding isn't possible.
     fn fail(&mut self, i: usize)
         requires { i < length self.old.all.items }
         ensures all { self.new.all.items ≡ remove self.old.all.items i }
@@ -340,14 +340,14 @@ impl Forwardings {
         self.refuse_start(f.start);
     }
 
-    /// The forwarding whose request is to be said next, if any.
+    /// The forwarding whose request is to be sent next, if any.
     pub fn to_send(&self) -> Option<&Forwarding>
         ensures { option_copied result ≡ find has_request self.now.all.items }
     {
         self.all.iter().find(|f| f.has_request())
     }
 
-    /// A request is said now.
+    /// A request is sent now.
     pub fn said(&mut self, request: ForwardingRequest) -> Result<(), OutOfMemory>
         ensures all { OnOk result
             (self.new.all.items ≡ after_sending request self.old.all.items) }
@@ -417,7 +417,7 @@ impl Forwardings {
         self.all.iter().position(|f| f.is_cancelled(serial))
     }
 
-    /// What a forwarding comes to as the server listens for it.
+    // The outcome of a forwarding as the server listens for it.
     fn granted(&self, serial: u64, port: Option<u32>) -> Option<Outcome>
         ensures { result ≡ live_in port (find (is_asked serial) self.now.all.items) }
     {
@@ -425,7 +425,7 @@ impl Forwardings {
         Some(f.granted(port))
     }
 
-    /// The server refused the request to listen for a forwarding.
+    // The server refused the request to listen for a forwarding.
     fn refuse(&mut self, serial: u64)
         ensures all { self.new.all.items
             ≡ removed_at (position (is_asked serial) self.old.all.items) self.old.all.items }
@@ -439,7 +439,7 @@ impl Forwardings {
         }
     }
 
-    /// The server listens for a forwarding no longer.
+    // The server listens for a forwarding no longer.
     fn forget(&mut self, serial: u64)
         ensures all { self.new.all.items ≡ removed_at
             (position (is_cancelled serial) self.old.all.items) self.old.all.items }
@@ -466,7 +466,7 @@ impl Forwardings {
     }
 }
 
-/// The forwarding with this serial changes.
+// The forwarding with this serial changes.
 fn change_all(forwardings: &mut Vec<Forwarding>, serial: u64, change: Change)
     ensures { forwardings.new.items ≡ map (changed change serial) forwardings.old.items }
 {

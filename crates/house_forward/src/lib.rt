@@ -1,24 +1,24 @@
-//! The master's own forwardings: a house that is an ordinary proxy client of the engine. What is
-//! joined at a listener becomes a channel, and what the server opens becomes a connection; between
-//! the two it relays.
+//! The master's own forwardings, by a forwarder that is an ordinary proxy client of the engine. A
+//! socket accepted at a listener becomes a channel, and an OPEN of the server becomes a connection;
+//! between the two the forwarder relays.
 //!
-//! A relay has two sides. Its line is the channel, as the connection protocol has it; its socket is
-//! the stream, as the wire has it. Neither side keeps a list of what it is still to do: what a relay
-//! says or orders next follows from how its sides stand. So a house at rest is one whose relays and
-//! forwardings want nothing, and no memory is taken for what waits.
+//! A relay has two sides: the channel, as the connection protocol has it, and the socket, as the
+//! wire has it. Neither side keeps a list of what it is still to do: what a relay sends or orders
+//! next follows from the states of its sides. So a forwarder at rest is one whose relays and
+//! forwardings have nothing to do, and no memory is allocated for what waits.
 //!
-//! - A socket that is joined is a relay whose OPEN is to be said; an OPEN of the server is a relay
-//!   whose socket is to be connected, and whose CONFIRMATION waits for that.
-//! - Bytes that were read from a socket are held until the channel takes them. While it takes none
-//!   the socket is paused.
-//! - Bytes that came in the channel are queued for the socket. The window is given back as the
-//!   socket takes them.
-//! - The end of a side goes on to the other behind all bytes. When both have ended and nothing
-//!   waits, or a side fails, the channel is closed, and the socket behind it.
+//! - An accepted socket is a relay whose OPEN is to be sent. An OPEN of the server is a relay whose
+//!   socket is to be connected, and whose CONFIRMATION waits for that.
+//! - Bytes read from a socket are held until the channel accepts them. While it accepts none, the
+//!   socket is paused.
+//! - Bytes received in the channel are queued for the socket. The window is given back as the
+//!   socket accepts them.
+//! - The end of a side goes on to the other after all bytes. When both have ended and nothing
+//!   waits, or a side fails, the channel is closed, and then the socket.
 //!
-//! What the calls of the house tell, call by call, is defined in specs/RelayTraces.antt, of its relays, and
-//! in specs/ForwardingState.antt, of all else that it has; the house stands for that. What holds of each relay,
-//! whatever the calls were, are the laws.
+//! What the calls of the forwarder record, call by call, is defined in specs/RelayTraces.antt for
+//! its relays, and in specs/ForwardingState.antt for everything else; the forwarder represents
+//! that. The laws are what holds of each relay, whatever the calls were.
 #![tactic(auto)]
 
 mod asks;

@@ -1,4 +1,4 @@
-//! A relay of the house and its stream.
+//! A relay of the forwarder and its stream.
 ghost use Rattle.std.specs.Prelude.{◌≡◌, is_some, true, IfSome, OnOk, None};
 ghost use Rattle.house_relay.specs.Relay.{stream_of, GoesOn};
 ghost use Rattle.house_relay.specs.Steps.{made_as};
@@ -164,7 +164,7 @@ impl Link {
         }
     }
 
-    /// It takes a step, if its stream has this number.
+    /// It makes a step, if its stream has this number.
     pub fn take(&mut self, stream: u64, step: LinkStep)
         ensures { self.new ≡ link_after step stream self.old }
     {
@@ -184,7 +184,7 @@ impl Link {
         }
     }
 
-    /// Its relay takes a step.
+    // Its relay takes a step.
     fn relay_takes(&mut self, step: LinkStep)
         ensures { self.new ≡ record self.old { relay = relay_after step self.old.relay } }
     {
@@ -229,7 +229,7 @@ impl Link {
         };
     }
 
-    /// Its relay hears a message in its channel.
+    /// Its relay receives a message in its channel.
     pub fn receives(&mut self, message: &Message<'_>) -> Result<(), OutOfMemory>
         ensures heard { OnOk result
             (self.new.relay ≡ received_of message.now self.old.relay) }

@@ -1,4 +1,4 @@
-//! What the house says as a client: whole frames, each in a piece of its own.
+//! What the forwarder sends as a client: whole frames, each in a piece of its own.
 ghost use Rattle.std.specs.Prelude.{◌≡◌, ◌<◌, ◌≤◌, ◌++◌, ◌∷◌, [], false, length, take, is_some, OnOk, IfOk, IfSome};
 ghost use Rattle.ssh_fields.specs.Fields.{str, u32};
 ghost use Rattle.ssh_grammar.specs.Messages.{To, Data as GivesData};
@@ -51,7 +51,7 @@ pub fn put_frame(into: &mut Piece, payload: &[u8]) -> Result<(), OutOfMemory>
     Ok(())
 }
 
-/// Puts the frame of data in a channel into the piece.
+// Puts the frame of data in a channel into the piece.
 fn put_data(into: &mut Piece, remote: u32, bytes: &[u8]) -> Result<(), OutOfMemory>
     ensures frame { OnOk result (into.new ≡ framed (spell (To remote (GivesData bytes.now)))) }
     ensures short { OnOk result (length into.new ≤ LONGEST_PIECE) }
@@ -68,7 +68,8 @@ fn put_data(into: &mut Piece, remote: u32, bytes: &[u8]) -> Result<(), OutOfMemo
     Ok(())
 }
 
-/// Puts what a relay has to say into the piece, and whether there was something. It has said it then.
+/// Puts what a relay has to send into the piece, and whether there was something. It has sent it
+/// then.
 pub fn send(alloc: Global, relay: &mut Relay, into: &mut Piece) -> Result<bool, OutOfMemory>
     ensures exact { IfOk result (λ said. said ≡ is_some (sends_of relay.old)) }
     ensures fits { SendsFits result into.new }
@@ -87,7 +88,7 @@ pub fn send(alloc: Global, relay: &mut Relay, into: &mut Piece) -> Result<bool, 
     Ok(true)
 }
 
-/// Puts the frame of what a relay says into the piece.
+// Puts the frame of what a relay sends into the piece.
 fn put_sending(
     alloc: Global,
     relay: &Relay,
@@ -120,7 +121,7 @@ fn put_sending(
     }
 }
 
-/// An OPEN of `direct-tcpip` (RFC 4254, section 7.2).
+// An OPEN of `direct-tcpip` (RFC 4254, section 7.2).
 fn open(alloc: Global, number: u32, host: &[u8], port: u32) -> Result<Vec<u8>, OutOfMemory>
     ensures { IfOk result (λ payload. payload.items ≡ direct number host.now port) }
 {
@@ -146,7 +147,7 @@ fn put_text(out: &mut Vec<u8>, text: &[u8]) -> Result<(), OutOfMemory>
     put_string(out, text)
 }
 
-/// A CONFIRMATION (RFC 4254, section 5.1).
+// A CONFIRMATION (RFC 4254, section 5.1).
 fn confirmation(alloc: Global, remote: u32, number: u32) -> Result<Vec<u8>, OutOfMemory>
     ensures { IfOk result (λ payload. payload.items ≡ confirmed remote number) }
 {
@@ -158,7 +159,7 @@ fn confirmation(alloc: Global, remote: u32, number: u32) -> Result<Vec<u8>, OutO
     Ok(payload)
 }
 
-/// The window of a channel, and the longest data of one message.
+// The window of a channel, and the longest data of one message.
 fn put_limits(out: &mut Vec<u8>) -> Result<(), OutOfMemory>
     ensures { OnOk result (out.new.items ≡ out.old.items ++ limits) }
 {
@@ -167,7 +168,7 @@ fn put_limits(out: &mut Vec<u8>) -> Result<(), OutOfMemory>
     Ok(())
 }
 
-/// The answer to the server's OPEN.
+// The answer to the server's OPEN.
 fn answer(
     alloc: Global,
     outgoing: Outgoing,
@@ -184,8 +185,8 @@ fn answer(
     Ok(payload)
 }
 
-/// Puts the frame of what a relay says in its confirmed channel into the piece. Data goes there at
-/// once.
+// Puts the frame of what a relay sends in its confirmed channel into the piece. Data goes there at
+// once.
 fn put_in_channel(
     alloc: Global,
     outgoing: Outgoing,
@@ -203,7 +204,7 @@ fn put_in_channel(
     put_frame(into, &payload)
 }
 
-/// What a relay says in its confirmed channel, but data.
+// What a relay sends in its confirmed channel, but data.
 fn besides_data(alloc: Global, outgoing: Outgoing, remote: u32) -> Result<Vec<u8>, OutOfMemory>
     requires { is_data outgoing ≡ false }
     ensures { IfOk result (λ payload. payload.items ≡ in_live outgoing remote []) }
@@ -229,7 +230,7 @@ fn besides_data(alloc: Global, outgoing: Outgoing, remote: u32) -> Result<Vec<u8
     Ok(payload)
 }
 
-/// The number of a message, and its recipient.
+// The number of a message, and its recipient.
 fn put_to(out: &mut Vec<u8>, number: u8, remote: u32) -> Result<(), OutOfMemory>
     ensures { OnOk result (out.new.items ≡ out.old.items ++ (number ∷ u32 remote)) }
 {
@@ -256,7 +257,7 @@ pub fn request(
     Ok(payload)
 }
 
-/// So many of the bytes, or all if there are fewer.
+// So many of the bytes, or all if there are fewer.
 fn first_of(bytes: &[u8], count: u32) -> &[u8]
     ensures { result.now ≡ take count bytes.now }
 {

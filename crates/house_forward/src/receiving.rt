@@ -1,4 +1,4 @@
-//! What the house hears as a client.
+//! What the forwarder receives as a client.
 ghost use Rattle.std.specs.Prelude.{◌≡◌, ◌≤◌, ◌+◌, length, OnOk, IfSome, None};
 ghost use Rattle.std.specs.Option.{option_copied};
 ghost use Rattle.house_forward.specs.Forwardings.{listeners_of};
@@ -18,7 +18,7 @@ use house_relay::Relay;
 use ssh_fields::{Cursor, OutOfMemory};
 use std::alloc::Global;
 
-/// Hears a payload. What doesn't fit is heard by nobody: the master lets nothing of the kind through.
+/// Receives a payload. What doesn't fit is ignored: the master lets nothing of the kind through.
 pub fn receive(
     alloc: Global,
     payload: &[u8],
@@ -77,8 +77,8 @@ pub fn receive(
     }
 }
 
-/// An OPEN of the server at an address and a port: for a forwarding that it listens for there a socket
-/// is to be connected, and for others none.
+// An OPEN of the server at an address and a port: for a forwarding that it listens for there a socket
+// is to be connected, and for others none.
 #[tactic(auto, using(crate::proofs::Changes::offered_more))]
 fn take_open(
     alloc: Global,

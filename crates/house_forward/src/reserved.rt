@@ -46,7 +46,7 @@ impl<N: Notes + Drop> Reserved<N> {
         self.marks -= 1;
     }
 
-    /// Takes the mark of what the house said, which is made only where marks are kept.
+    /// Notes the mark of what the forwarder sent, which is made only where marks are kept.
     pub fn note_sent(&mut self, alloc: Global, said: &[u8]) -> Result<(), OutOfMemory>
         requires { 1 ≤ self.old.marks }
         ensures recorded { OnOk result (N.recorded self.new.notes

@@ -1,4 +1,4 @@
-//! What is asked of the house, as it is compared and as it is refused at once.
+//! What is requested of the forwarder, as it is compared and as it is refused at once.
 ghost use Rattle.std.specs.Prelude.{◌≡◌, not, is_some, IfSome};
 ghost use Rattle.mux_outside.specs.House.{ask_of};
 ghost use Rattle.mux_outside.specs.declared.start_ask.StartAsk.{StartAsk};
@@ -9,7 +9,7 @@ use mux_outside::{FwdAsk, LONGEST_HOST, StartAsk as OneAsk};
 /// The most forwardings that are asked or live.
 pub const MOST_FORWARDINGS: usize = 64;
 
-/// The most asks that wait for their answer.
+/// The most requests that wait for their answer.
 pub const MOST_ASKS: usize = 1_024;
 
 /// The most channels of one client of the master.
@@ -28,16 +28,16 @@ const THIS_HOST: &[u8] = b"localhost";
 /// How a forwarding works.
 #[derive(Clone, Copy, PartialEq, Eq)]
 pub enum Kind {
-    /// The house listens, and the server connects.
+    /// The forwarder listens, and the server connects.
     Local,
-    /// The server listens, and the house connects.
+    /// The server listens, and the forwarder connects.
     Remote,
-    /// The house listens, and the server connects to the end that a dialog of SOCKS says.
+    /// The forwarder listens, and the server connects to the end that a SOCKS dialog requests.
     Dynamic,
 }
 
 impl Kind {
-    /// Whether the house listens.
+    /// Whether the forwarder listens.
     pub fn listens_here(self) -> bool
         ensures { result ≡ listens_here self }
     {
@@ -47,7 +47,7 @@ impl Kind {
         }
     }
 
-    /// Whether where it connects is said when it is asked for; else a dialog says it.
+    /// Whether where it connects is specified when it is requested; else a dialog specifies it.
     pub fn connects_there(self) -> bool
         ensures { result ≡ connects_there self }
     {
@@ -105,7 +105,7 @@ pub fn of_client<'a>(what: &FwdAsk<'a>) -> Asked<'a>
     }
 }
 
-/// An ask of the configuration.
+/// A request of the configuration.
 pub fn of_start(ask: &OneAsk) -> Asked<'_>
     ensures { IsAsk result ask.now }
 {
@@ -119,7 +119,7 @@ pub fn of_start(ask: &OneAsk) -> Asked<'_>
     }
 }
 
-/// The kinds that are served.
+// The kinds that are served.
 fn kind_of(kind: u32) -> Option<Kind>
     ensures { result ≡ kind_of kind }
 {
@@ -131,8 +131,8 @@ fn kind_of(kind: u32) -> Option<Kind>
     }
 }
 
-/// The host that is listened on for a host that was asked: `localhost` and nothing stand for this
-/// machine alone, and `*` for all its addresses, as nothing does where others may come in.
+// The host that is listened on for a host that was requested: `localhost` and nothing represent
+// this machine alone, and `*` for all its addresses, as nothing does where others may come in.
 fn local_host(host: &[u8], gateway: bool) -> &[u8]
     ensures { result.now ≡ local_host gateway host.now }
 {
@@ -145,7 +145,7 @@ fn local_host(host: &[u8], gateway: bool) -> &[u8]
     }
 }
 
-/// The address that the server is asked to listen on for a host that was asked.
+// The address that the server is asked to listen on for a host that was asked.
 fn remote_host(host: &[u8]) -> &[u8]
     ensures { result.now ≡ remote_host host.now }
 {
@@ -158,7 +158,7 @@ fn remote_host(host: &[u8]) -> &[u8]
     }
 }
 
-/// The host as it is used.
+// The host as it is used.
 fn listen_host(kind: Kind, host: &[u8], gateway: bool) -> &[u8]
     ensures { result.now ≡ listen_host kind gateway host.now }
 {
@@ -168,8 +168,8 @@ fn listen_host(kind: Kind, host: &[u8], gateway: bool) -> &[u8]
     }
 }
 
-/// Whether a port is past the last, or missing where one is needed. A dialog says where a dynamic
-/// forwarding connects.
+// Whether a port is past the last, or missing where one is needed. A dialog specifies where a
+// dynamic forwarding connects.
 fn has_bad_port(kind: Kind, listen: u32, connect: u32) -> bool
     ensures { result ≡ has_bad_port kind listen connect }
 {

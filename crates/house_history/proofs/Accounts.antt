@@ -1,4 +1,4 @@
--- What the house says in a channel that is confirmed is no breach, and its account goes on.
+-- What the forwarder sends in a channel that is confirmed is no breach, and its account goes on.
 use Rattle.std.proofs.Common.{◌≡◌, ◌≤◌, ◌+◌, ◌-◌, ℕ, Bool, true, false, Option, Some, None, ◌∷◌, refl, sym, ap, ◌∙◌, subst, arith}
 use Rattle.std.specs.Prelude.{◌==◌, nat_lt}
 use Rattle.std.proofs.lemmas.Bool.Decides.{nat_tests}
@@ -100,7 +100,7 @@ window-same Down act x p = by_side x.by
     by_side Up = refl
     by_side Down = refl
 
--- ---- what is said
+-- ---- what is sent
 
 pub says-account : (act : Act) (x : Channel) (a : Acct) → IsAccount x a → MaySend act a → IsAccount (with_act Up act x) (says act a)
 says-account (Carries n) x a is may = record {
@@ -187,9 +187,9 @@ says-account (Confirms w m) x a is may = absurd may
 says-account Fails x a is may = absurd may
 says-account (Asks wants) x a is may = absurd may
 
--- ---- what is heard
+-- ---- what is received
 
--- what a message that is no breach tells
+-- what a message that is no breach shows
 pub record IsLegal (act : Act) (x : Channel) : Type 0 where
   pub fine : breach Down act x ≡ None
   pub unclosed : any_by Down is_closes x.acts ≡ false

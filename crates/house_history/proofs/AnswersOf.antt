@@ -1,4 +1,5 @@
--- What the answers of a row are, how long what is heard is, and replies of a journal that come after their requests.
+-- What the answers of a row are, how long what is received is, and replies of a journal that come
+-- after their requests.
 use Rattle.std.proofs.Common.{◌≡◌, ◌≤◌, ◌+◌, ◌-◌, ℕ, zero, suc, Bool, true, false, Option, Some, None, List, [], ◌∷◌, ◌++◌, refl, sym, ap, ◌∙◌, subst, arith, map, take, drop, length, inl, inr}
 use Rattle.std.specs.Prelude.{◌⊎◌, nat_eq, nat_le, nat_lt}
 use Rattle.std.proofs.lemmas.Bool.Decides.{nat_tests}
@@ -127,7 +128,7 @@ failure-some = omega arith
 pub failure-short : length request_failure + 1 ≤ 262144
 failure-short = omega arith
 
--- ---- how long what is heard is
+-- ---- how long what is received is
 
 abbrev pub IsSizedItem : Item → Type 0
 IsSizedItem (Heard p) = (1 ≤ length p) × (length p + 1 ≤ 262144)

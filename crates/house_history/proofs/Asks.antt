@@ -1,4 +1,4 @@
--- The house greets, and says its requests: what the run has with it goes on.
+-- The forwarder greets, and sends its requests: what the run has with it goes on.
 use Rattle.std.proofs.Common.{◌≡◌, ◌≤◌, ◌+◌, ℕ, Bool, true, false, not, ◌&&◌, Some, None, Ok, List, [], ◌∷◌, ◌++◌, refl, sym, ap, ◌∙◌, subst, arith, map, append-nil, length, length-append}
 use Rattle.std.specs.Prelude.{find, nat_le, nat_lt}
 use Rattle.std.proofs.lemmas.Bool.Decides.{nat_tests}
@@ -50,13 +50,14 @@ use Rattle.house_history.proofs.Channels.{said-nothing, said-request}
 use Rattle.house_history.proofs.Records.{recorded-nothing}
 use Rattle.house_history.proofs.Going.{After, Going, IsOn, IsYoung, Phase, RightAt, SentSo, in-kept, more-recorded, own-more, recorded-all}
 
--- the house said this: the run is over and it wasn't dropped, or goes on with it; and all that it said are whole frames
+-- the forwarder sent this: the run is over and it wasn't dropped, or goes on with it; and all that
+-- it sent are whole frames
 pub record HasSent (setting : Setting) (rows : List Row) (before bytes : List ℕ) (new : Trace) : Type 0 where
   pub after : After (more_all setting rows (new_sayings HOUSE before (before ++ bytes))) new
   pub greeted : new.forwarding_state.greeted ≡ true
   pub said : SentSo true (before ++ bytes)
 
--- ---- a row of the house that goes on
+-- ---- a row of the forwarder that goes on
 
 -- what such a row leaves
 record Leaves (rows : List Row) (row : Row) : Type 0 where

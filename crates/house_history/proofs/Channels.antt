@@ -43,7 +43,7 @@ IsMine k x = x.client ≡ k
 abbrev IsHeld : Channel → Type 0
 IsHeld x = is_held x ≡ true
 
--- in front of the others, unless it is over
+-- before the others, unless it is over
 abbrev pub kept : Channel → List Channel → List Channel
 kept z bs = elim (is_held z) [ true ↦ z ∷ bs | false ↦ bs ]
 
@@ -166,7 +166,7 @@ still : (item : Item) (k : ℕ) (up down : List (List ℕ)) (own : List Row)
     → held_of (plain_row item k up down ∷ own) ≡ held_of own
 still item k up down own stay begun = none-changes item k up down own [] stay begun tt ∙ append-nil (held_of own)
 
--- ---- what is sent up and what is heard, by its gist
+-- ---- what is sent up and what is received, by its summary
 
 at-number : (o : Option ℕ) (n : ℕ) → o ≡ Some n → is_number o n ≡ true
 at-number o n e = ap (λ (p : Option ℕ). is_number p n) e ∙ self n
@@ -208,7 +208,7 @@ fresh-held : (way : Side) (w m : ℕ) (acts : List (Side × Act)) → acts ≡ [
 fresh-held Up w m acts e = ap (λ (l : List (Side × Act)). not (any_act is_fails ((Up, Confirms w m) ∷ l) || (any_by Up is_closes ((Up, Confirms w m) ∷ l) && any_by Down is_closes ((Up, Confirms w m) ∷ l)))) e
 fresh-held Down w m acts e = ap (λ (l : List (Side × Act)). not (any_act is_fails ((Down, Confirms w m) ∷ l) || (any_by Up is_closes ((Down, Confirms w m) ∷ l) && any_by Down is_closes ((Down, Confirms w m) ∷ l)))) e
 
--- ---- what the client says
+-- ---- what the client sends
 
 begun-said : (k : ℕ) (p : List ℕ) (given : Option HouseReply) (up : List (List ℕ)) (m : Summary) → read_summary p ≡ Ok m → begun_by k up (Says k (Payload p) given) ≡ opened_up k up m
 begun-said k p given up m reads = reading-ok p m (opened_up k up) [] reads
@@ -277,7 +277,7 @@ said-request k own p given down what wants reads =
     (each-any (λ (y : Channel). does item (p ∷ []) y ≡ y) (λ y. reading-ok p (Requests what wants) (λ m. with_up (own_of item) m y) y reads) (held_of own))
     (begun-said k p given (p ∷ []) (Requests what wants) reads)
 
--- ---- what it hears
+-- ---- what it receives
 
 begun-heard : (k : ℕ) (p : List ℕ) (up : List (List ℕ)) (m : Summary) (zs : List Channel) → read_summary p ≡ Ok m → opened_down k up m ≡ zs → (k == 0) ≡ false → begun_by k up (Heard p) ≡ zs
 begun-heard k p up m zs reads opened real =

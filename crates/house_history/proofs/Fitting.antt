@@ -1,4 +1,4 @@
--- The channels that the history has of the house fit those that the house has.
+-- The channels that the history has of the forwarder fit those that the forwarder has.
 use Rattle.std.proofs.Common.{◌≡◌, ℕ, Bool, true, false, not, ◌&&◌, Option, Some, None, List, [], ◌∷◌, ◌++◌, refl, sym, ap, ◌∙◌, subst, arith, map}
 use Rattle.std.specs.Prelude.{◌==◌, find}
 use Rattle.std.proofs.lemmas.Bool.{eqb-true}
@@ -9,11 +9,11 @@ use Rattle.mux_history.specs.Rows.{any_of}
 use Rattle.house_history.proofs.Lists.{Each, each-append, each-behind, each-front, each-of, find-past}
 use Rattle.house_history.proofs.Views.{IsAccount, IsLive, IsOffered, IsOpened, NoChannel, View}
 
--- a channel of the house by its own number, where that is known, and how it stands
+-- a channel of the forwarder by its own number, where that is known, and its state
 abbrev pub Entry : Type 0
 Entry = Option ℕ × View
 
--- opened by the house, and unanswered
+-- opened by the forwarder, and unanswered
 pub record IsFreshUp (x : Channel) : Type 0 where
   pub by : x.by ≡ Up
   pub remote : x.remote ≡ None
@@ -52,7 +52,7 @@ FitsAs hs o (IsLive a) = (x : Channel) × Owns hs o x × IsAccount x a
 abbrev pub Fits : List Channel → Entry → Type 0
 Fits hs e = FitsAs hs e.0 e.1
 
--- the house has a channel of this number
+-- the forwarder has a channel of this number
 abbrev pub numbers : List Entry → List (Option ℕ)
 numbers es = map (λ (e : Entry). e.0) es
 
@@ -213,7 +213,7 @@ without fs bs x es gs e looks fit =
       known = each-append (KnownBy ns) fs bs (each-front (KnownBy ns) fs (x ∷ bs) fit.known) (each-behind (KnownBy ns) fs (x ∷ bs) fit.known).1;
     }
 
--- an entry that has no channel: nothing is taken out
+-- an entry that has no channel: nothing is removed
 pub without-none : (hs : List Channel) (es gs : List Entry) (e : Entry) → Fit hs (es ++ e ∷ gs) → Without hs es e gs
 without-none hs es gs e fit = record {
   front = each-front (Fits hs) es (e ∷ gs) fit.fits;

@@ -1,4 +1,4 @@
--- What the house hears of replies: one request less is unanswered for each.
+-- What the forwarder receives of replies: one request less is unanswered for each.
 use Rattle.std.proofs.Common.{◌≡◌, ◌+◌, ◌-◌, ℕ, Bool, true, false, Option, Some, None, List, [], ◌∷◌, refl, sym, ap, ◌∙◌, subst, arith, length, inl, inr}
 use Rattle.std.specs.Prelude.{drop, find, Result, Ok, Err}
 use Rattle.ssh_grammar.specs.Messages.{Message as Said}
@@ -18,7 +18,7 @@ use Rattle.house_forward.specs.declared.forwarding.Forwarding.{Forwarding}
 use Rattle.house_history.proofs.Receiving.{ReceivesAll}
 use Rattle.house_history.proofs.AnswersOf.{replies-in}
 
--- so many replies were heard
+-- so many replies were received
 pub record ForwardingStateReceived (replies : ℕ) (old new : Trace) : Type 0 where
   pub greeted : new.forwarding_state.greeted ≡ old.forwarding_state.greeted
   pub requests : length new.forwarding_state.requests ≡ length old.forwarding_state.requests - replies

@@ -1,4 +1,4 @@
--- A run goes on with its house: what the history has of it, and what it has heard.
+-- A run goes on with its forwarder: what the history has of it, and what it has received.
 use Rattle.std.proofs.Common.{◌≡◌, ◌≤◌, ◌<◌, ◌+◌, ℕ, Bool, true, false, ◌||◌, Some, List, [], ◌∷◌, ◌++◌, refl, sym, ap, ◌∙◌, subst, map, append-nil, length}
 use Rattle.std.specs.Prelude.{◌==◌}
 use Rattle.mux_history.specs.declared.limits.TheConstants.{HOUSE}
@@ -21,20 +21,21 @@ use Rattle.house_history.proofs.Turns.{Good}
 use Rattle.house_history.proofs.Seen.{Seen, note-in}
 use Rattle.house_history.proofs.AnswersOf.{replies-in}
 
--- nothing was said yet: no channel, no request and no forwarding
+-- nothing was sent yet: no channel, no request and no forwarding
 pub record IsYoung (own : List Row) : Type 0 where
   pub channels : channels_of own ≡ []
   pub asked : asks own ≡ []
   pub forwardings : forwardings_of own ≡ []
   pub silent : greeted own ≡ false
 
--- whether the house greeted
+-- whether the forwarder greeted
 abbrev pub Phase : Bool → Stage → Recorded → List Row → Type 0
 Phase false stage recorded own = Ungranted stage recorded × IsYoung own
 Phase true stage recorded own = GrantedOrProxy stage recorded
 
--- a run goes on, with its house: what waits for that and what it has not read yet is what it was told and didn't hear; once it hears
--- it, its relays fit its channels; and its unanswered requests are those of the history and those whose reply it didn't hear
+-- a run goes on, with its forwarder: what waits for that and what it has not read yet is what it
+-- was sent and didn't receive; once it receives it, its relays fit its channels; and its unanswered
+-- requests are those of the history and those whose reply it didn't receive
 pub record Going (rows : List Row) (trace : Trace) (recorded : Recorded) : Type 0 where
   pub on : is_ended rows ≡ false
   pub inside : is_out (rows_of HOUSE rows) ≡ false
@@ -62,7 +63,7 @@ own-more row rows e = filter-yes (λ (r : Row). r.client == HOUSE) row rows e
 ended-more : (row : Row) (rows : List Row) → is_end row.fate ≡ false → is_ended rows ≡ false → is_ended (row ∷ rows) ≡ false
 ended-more row rows e f = ap (λ (b : Bool). b || is_ended rows) e ∙ f
 
--- what a run has by the house's rows and what waits for it alone
+-- what a run has by the forwarder's rows and what waits for it alone
 pub going-by : (rows more : List Row) (trace : Trace) (recorded : Recorded) → is_ended more ≡ false → rows_of HOUSE more ≡ rows_of HOUSE rows → Going rows trace recorded → Going more trace recorded
 going-by rows more trace recorded on same g = record {
   on = on;
@@ -76,7 +77,7 @@ going-by rows more trace recorded on same g = record {
 pub going-others : (row : Row) (rows : List Row) (trace : Trace) (recorded : Recorded) → (row.client == HOUSE) ≡ false → is_end row.fate ≡ false → Going rows trace recorded → Going (row ∷ rows) trace recorded
 going-others row rows trace recorded other unended g = going-by rows (row ∷ rows) trace recorded (ended-more row rows unended g.on) (others-stay row rows other) g
 
--- ---- a row that tells the house payloads
+-- ---- a row that records payloads for the forwarder
 
 abbrev pub more-recorded : Recorded → List (List ℕ) → Recorded
 more-recorded t qs = record t { payloads = t.payloads ++ qs }
@@ -111,17 +112,19 @@ pub record RightAt (rows : List Row) : Type 0 where
   pub owned : Each (λ (x : Channel). (n : ℕ) → x.number ≡ Some n → (c : ℕ) × (x.own ≡ Some c) × (c < 4294967296)) (held_of (rows_of HOUSE rows))
   pub used : is_ended rows ≡ false → AllUsed (rows_of HOUSE rows)
 
--- the run ends by a row, and the house isn't dropped; or it goes on, and not much more waits for the house
+-- the run ends by a row, and the forwarder isn't dropped; or it goes on, and not much more waits
+-- for the forwarder
 pub data Next (rows more : List Row) (trace : Trace) (most : ℕ) : Type 0 where
   Ends : is_ended more ≡ true → is_lost (rows_of HOUSE more) ≡ false → Next rows more trace most
   GoesOn : (recorded : Recorded) → Going more trace recorded → length (pending HOUSE more) ≤ length (pending HOUSE rows) + most → Next rows more trace most
 
--- what is so behind some rows and calls: the run is over, and the house wasn't dropped; or it goes on
+-- what is so after some rows and calls: the run is over, and the forwarder wasn't dropped; or it
+-- goes on
 pub data After (more : List Row) (trace : Trace) : Type 0 where
   IsOver : is_ended more ≡ true → is_lost (rows_of HOUSE more) ≡ false → After more trace
   IsOn : (recorded : Recorded) → Going more trace recorded → After more trace
 
--- all bytes that the house said: none before it greets, and whole frames behind
+-- all bytes that the forwarder sent: none before it greets, and whole frames after
 abbrev pub SentSo : Bool → List ℕ → Type 0
 SentSo false bytes = bytes ≡ []
 SentSo true bytes = ((parse InControl bytes).mode ≡ InProxy) × ((parse InControl bytes).rest ≡ [])

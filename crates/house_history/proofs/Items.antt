@@ -1,4 +1,4 @@
--- Items of others leave the house's run as it is, and what the server says at once.
+-- Items of others leave the forwarder's run as it is, and what the server sends at once.
 use Rattle.std.proofs.Common.{◌≡◌, ◌≤◌, ◌+◌, ◌*◌, ℕ, zero, suc, Bool, true, false, ◌||◌, Some, None, List, [], ◌∷◌, ◌++◌, refl, sym, ap, ◌∙◌, subst, arith, map, length}
 use Rattle.std.specs.Prelude.{◌==◌, ◌&&◌, drop}
 use Rattle.mux_outside.specs.declared.house.HouseReply.{HouseReply}
@@ -75,7 +75,7 @@ other-row policy pid pick rows item o =
     let c = other-client item o in
     ap (λ (k : ℕ). k == HOUSE) (client-is policy pid pick rows item c.0) ∙ c.1
 
--- the reply of the house doesn't change whose item it is
+-- the reply of the forwarder doesn't change whose item it is
 reply-other : (picks : List ℕ) (given : List HouseReply) (rows : List Row) (item : Item) → IsOther item → IsOther (with_reply (FromLists picks given) rows item)
 reply-other picks given rows (Says k (Body body) reply) o = elim (greeted (rows_of k rows) && body_asks body) as (λ b. IsOther (elim b as (λ _. Item) [ true ↦ Says k (Body body) (Some (reply_at given (replies_given rows))) | false ↦ Says k (Body body) None ])) [ true ↦ o | false ↦ o ]
 reply-other picks given rows (Says k (Payload p) reply) o = o
@@ -110,19 +110,19 @@ others-items policy pid picks given (item ∷ items) rows trace all after =
     others-items policy pid picks given items (more_of (by_lists policy pid picks given) rows item) trace all.1
     (others-item policy pid picks given item rows trace all.0 after)
 
--- ---- what the server says at once
+-- ---- what the server sends at once
 
 abbrev pub IsReceivedItem : Item → Type 0
 IsReceivedItem (Heard p) = Unit {0}
 IsReceivedItem (BadServer fault) = Unit {0}
 IsReceivedItem item = ⊥
 
--- what is heard are bytes
+-- what is received are bytes
 abbrev pub IsBytesItem : Item → Type 0
 IsBytesItem (Heard p) = AreBytes p
 IsBytesItem item = Unit {0}
 
--- as After, and so much more may wait for the house
+-- as After, and so much more may wait for the forwarder
 pub data AfterWith (rows : List Row) (trace : Trace) (most : ℕ) : Type 0 where
   OverWith : is_ended rows ≡ true → is_lost (rows_of HOUSE rows) ≡ false → AfterWith rows trace most
   OnWith : (recorded : Recorded) → Going rows trace recorded → length (pending HOUSE rows) + most ≤ 33554432 → AfterWith rows trace most
@@ -137,7 +137,7 @@ module _ (policy : Policy) (pid : ℕ) (picks : List ℕ) (given : List HouseRep
   abbrev setting : Setting
   setting = by_lists policy pid picks given
 
-  -- behind the end nothing is heard
+  -- after the end nothing is received
   over-stays : (item : Item) (rows : List Row) → is_took item ≡ false → is_ended rows ≡ true → more_of setting rows item ≡ rows
   over-stays item rows none ended =
       ap (λ (b : Bool). elim (elim b as (λ _. Bool) [ true ↦ is_took item | false ↦ makes_row rows item ]) as (λ _. List Row) [ false ↦ rows | true ↦ next_row setting rows item ∷ rows ]) ended

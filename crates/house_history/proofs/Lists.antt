@@ -40,7 +40,7 @@ find-past {X} test (a ∷ fs) bs x e = choose (find-past test fs bs x e) (test a
     choose later true h = find-yes test a (fs ++ x ∷ bs) h ∙ sym (find-yes test a (fs ++ bs) h)
     choose later false h = find-no test a (fs ++ x ∷ bs) h ∙ (later ∙ sym (find-no test a (fs ++ bs) h))
 
--- the first that passes, behind some that don't
+-- the first that passes, after some that don't
 pub find-at : {X : Type 0} (test : X → Bool) (fs bs : List X) (x : X) → Each (λ y. test y ≡ false) fs → test x ≡ true → find test (fs ++ x ∷ bs) ≡ Some x
 find-at test [] bs x none e = find-yes test x bs e
 find-at test (a ∷ fs) bs x none e = find-no test a (fs ++ x ∷ bs) none.0 ∙ find-at test fs bs x none.1 e

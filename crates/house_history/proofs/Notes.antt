@@ -1,4 +1,5 @@
--- What the house was told and didn't hear yet: once it is heard, what the house has fits the history.
+-- What the forwarder was sent and didn't receive yet: once it is received, what the forwarder has
+-- fits the history.
 use Rattle.std.proofs.Common.{◌≡◌, ◌≤◌, ◌+◌, ℕ, Bool, true, false, ◌||◌, Option, Some, None, List, [], ◌∷◌, ◌++◌, refl, sym, ap, ◌∙◌, subst, map}
 use Rattle.std.proofs.lemmas.List.{map-append}
 use Rattle.mux_history.specs.Channels.{Channel, is_number}
@@ -9,10 +10,10 @@ use Rattle.mux_history.specs.Rows.{any_of}
 use Rattle.house_history.proofs.Fitting.{AllOther, Entry, Fit, Fits, KnownBy, Other, numbers, other-back}
 use Rattle.house_history.proofs.Shifts.{AreFree, fit-named, fit-with, fit-without, has}
 
--- ---- what is told
+-- ---- what is recorded
 
--- an open of the server; a confirmation, or what else is done in a channel, by the house's number of
--- it; or nothing of a channel
+-- an open of the server; a confirmation, or what else is done in a channel, by the forwarder's
+-- number of it; or nothing of a channel
 pub data Note : Type 0 where
   Offers : (remote window maximum : ℕ) → Note
   Accepts : (number remote window maximum : ℕ) → Note
@@ -116,7 +117,7 @@ Bound (Accepts n s w m) e = Unit {0}
 Bound (Does n act) e = is_number e.0 n ≡ true → BoundView act e.1
 Bound Nothing e = Unit {0}
 
--- once all of it is heard it fits, and nothing of it passes a bound
+-- once all of it is received it fits, and nothing of it passes a bound
 abbrev pub Later : List Channel → List Entry → List Note → Type 0
 Later hs vs [] = Fit hs vs
 Later hs vs (note ∷ notes) = Each (Bound note) vs × Later hs (noted note vs) notes
@@ -127,7 +128,7 @@ pub later-more : (hs hs' : List Channel) (note : Note) → ((vs : List Entry) �
 later-more hs hs' note step [] vs l = step vs l
 later-more hs hs' note step (n ∷ notes) vs l = (l.0, later-more hs hs' note step notes (noted n vs) l.1)
 
--- a row that tells nothing of a channel, or all that is told is heard
+-- a row that records nothing of a channel, or all that is recorded is received
 pub later-same : (hs hs' : List Channel) → ((vs : List Entry) → Fit hs vs → Fit hs' vs) → (notes : List Note) (vs : List Entry) → Later hs vs notes → Later hs' vs notes
 later-same hs hs' step [] vs l = step vs l
 later-same hs hs' step (n ∷ notes) vs l = (l.0, later-same hs hs' step notes (noted n vs) l.1)
@@ -167,7 +168,7 @@ append-three [] ys zs = refl
 append-three (x ∷ xs) ys zs = ap (λ (l : List Entry). x ∷ l) (append-three xs ys zs)
 
 -- what a note leaves of a list: what stands before an entry that no note changes, and what stands
--- behind it
+-- after it
 abbrev pub front-of : Note → List Entry → List Entry
 front-of (Offers s w m) fs = fs
 front-of (Accepts n s w m) fs = map (at-number n (view-accepts s w m)) fs
@@ -280,7 +281,7 @@ noted-swapped (Accepts n s w m) vs ws h = swapped-map (at-number n (view-accepts
 noted-swapped (Does n act) vs ws h = swapped-map (at-number n (view-receives act)) vs ws h
 noted-swapped Nothing vs ws h = h
 
--- it moves behind the others
+-- it moves after the others
 pub to-end : (e : Entry) (bs : List Entry) → Swapped (e ∷ bs) (bs ++ e ∷ [])
 to-end e [] = Same (e ∷ [])
 to-end e (b ∷ bs) = Then (e ∷ b ∷ bs) (b ∷ e ∷ bs) (b ∷ (bs ++ e ∷ [])) (Swap e b bs) (Next b (e ∷ bs) (bs ++ e ∷ []) (to-end e bs))

@@ -1,4 +1,4 @@
--- What the house says reads as what it is meant to say.
+-- What the forwarder sends reads as what it is meant to send.
 use Rattle.std.proofs.Common.{◌≡◌, ◌≤◌, ◌<◌, ◌-◌, ◌/◌, ◌%◌, ◌^◌, ℕ, min, Bool, true, false, Option, Some, None, List, [], ◌∷◌, ◌++◌, refl, sym, ap, ◌∙◌, subst, arith, map, append-nil, length, length-append, length-take, take, drop, Result, Ok, Err}
 use Rattle.std.specs.Prelude.{codes, nat_lt, if◌then◌else◌, ◌&&◌, not}
 use Rattle.std.proofs.lemmas.List.{drop_at}
@@ -58,7 +58,7 @@ as-four n =
       same = sym (u32-of_four a b c d (byte (n / 16777216)) (byte (n / 65536)) (byte (n / 256)) (byte n));
     }
 
--- a payload of a message has its gist
+-- a payload of a message has its summary
 reads-as : (m : Message) (p : List ℕ) → Spells m p → read_summary p ≡ Ok (summary m)
 reads-as m p is = ap (λ (r : Result Message Bad). elim r as (λ _. Result Summary Bad) [ Ok m ↦ Ok (summary m) | Err e ↦ Err e ]) (spelled_reads m p is)
 

@@ -1,4 +1,5 @@
--- A payload of the server, and the house: what a run has with its house goes on by its row, or the run ends.
+-- A payload of the server, and the forwarder: what a run has with its forwarder goes on by its row,
+-- or the run ends.
 use Rattle.std.proofs.Common.{◌≡◌, ◌≤◌, ◌<◌, ◌+◌, ◌*◌, ℕ, Bool, true, false, not, ◌||◌, Option, Some, None, Result, Ok, Err, IfOk, List, [], ◌∷◌, ◌++◌, refl, sym, ap, ◌∙◌, subst, arith, map, append-nil, append_assoc, take, length, length-append, inl, inr, ◌⊎◌}
 use Rattle.std.specs.Prelude.{◌==◌, filter, find, nat_lt, slice_get}
 use Rattle.std.proofs.lemmas.Bool.Decides.{nat_tests}
@@ -107,7 +108,7 @@ others-go row rows trace recorded most other unended going =
     let same : length (pending HOUSE (row ∷ rows)) ≡ length (pending HOUSE rows) = ap (λ (own : List Row). length (pending_down own)) (others-stay row rows other) in
     GoesOn recorded (going-others row rows trace recorded other unended going) (omega (arith, same))
 
--- ---- a house that said nothing yet hears nothing
+-- ---- a forwarder that sent nothing yet receives nothing
 
 holder-local : (k : ℕ) (rows : List Row) (n : ℕ) (x : Channel) → holder rows n ≡ Some x → x.client ≡ k → holder (rows_of k rows) n ≡ Some x
 holder-local k rows n x is mine =
@@ -234,7 +235,7 @@ record ForwarderEvent (own : List Row) (p : List ℕ) : Type 0 where
   quiet : replies-in first ≡ 0
   later : (down : List (List ℕ)) (notes : List Note) (vs : List Entry) → Later (held_of own) vs notes → Later (held_of (plain_row (Heard p) HOUSE sent down ∷ own)) vs (notes ++ map note-in first)
 
--- the row of the house
+-- the row of the forwarder
 abbrev outcome-of : (own : List Row) (p : List ℕ) → ForwarderEvent own p → Outcome
 outcome-of own p d = record { sent = d.sent; recorded = map frame_payload d.first; ends = Goes }
 
@@ -424,7 +425,7 @@ reads-shortage : (s : ℕ) → s < 4294967296 → read_summary (open_failure s R
 reads-shortage s small = summary-ok (open_failure s RESOURCE_SHORTAGE too_many_channels) (full.To s (full.OpenFailure RESOURCE_SHORTAGE too_many_channels []))
     (spelled_reads (full.To s (full.OpenFailure RESOURCE_SHORTAGE too_many_channels [])) (open_failure s RESOURCE_SHORTAGE too_many_channels) (record { is_message = (small, (omega arith, omega arith, omega arith)); flag = 0; boolean = refl; spelled = refl }))
 
--- ---- what a payload does, by what it tells
+-- ---- what a payload does, by what it records
 
 for-house : (own : List Row) (p : List ℕ) (m : Summary) → is_lost own ≡ false → read_summary p ≡ Ok m → received_for own p ≡ for_client own p m
 for-house own p m lost reads =
@@ -667,7 +668,7 @@ heard-row policy pid pick rows p trace recorded right going bytes few some short
     by_dest Disconnects e = Ends refl lost
     by_dest (Breaks cause) e = Ends refl lost
 
--- nothing that is heard is for a house that has no rows
+-- nothing that is received is for a forwarder that has no rows
 pub heard-client : (rows : List Row) (p : List ℕ) → rows_of HOUSE rows ≡ [] → ((received_row rows p (dest rows p)).client == HOUSE) ≡ false
 heard-client rows p none = by_dest (dest rows p) refl
   where

@@ -1,4 +1,4 @@
--- What the house hears of what it is told: control messages, and behind the grant payloads.
+-- What the forwarder receives of what it is sent: control messages, and after the grant payloads.
 use Rattle.std.proofs.Common.{◌≡◌, ◌≤◌, ◌+◌, ℕ, Bool, true, false, Option, Some, None, List, [], ◌∷◌, ◌++◌, refl, sym, ap, ◌∙◌, subst, map, append-nil, append_assoc, length, take, drop, inl, inr}
 use Rattle.std.specs.Prelude.{◌≢◌, ◌⊎◌, if◌then◌else◌, find, Result, Ok, Err}
 use Rattle.std.proofs.lemmas.List.{take-append-drop}
@@ -29,9 +29,9 @@ use Rattle.house_forward.specs.declared.forwarder_state.Stage.{Stage}
 use Rattle.house_forward.specs.declared.forwarder_state.Stage.TheVariants.{Control, Proxy}
 use Rattle.house_history.proofs.Lists.{Each, each-append}
 
--- ---- what it is told
+-- ---- what it is sent
 
--- the bodies of control messages, and payloads behind them
+-- the bodies of control messages, and payloads after them
 pub record Recorded : Type 0 where
   pub answers : List (List ℕ)
   pub payloads : List (List ℕ)
@@ -55,7 +55,7 @@ grants a = is_grant (take_u32 a)
 abbrev pub Plain : List ℕ → Type 0
 Plain a = grants a ≡ false
 
--- no grant is among the answers, and no payload behind them
+-- no grant is among the answers, and no payload after them
 pub record NoGrant (t : Recorded) : Type 0 where
   pub none : t.payloads ≡ []
   pub plain : Each Plain t.answers
@@ -86,7 +86,7 @@ abbrev pub framing-of : Stage → Framing
 framing-of Control = framing.Control
 framing-of Proxy = framing.Proxy
 
--- what waits is all that it is told, and is not cut yet
+-- what waits is all that it is sent, and is not cut yet
 pub record Waits (trace : Trace) (pending : List ℕ) (t : Recorded) : Type 0 where
   pub fault : trace.framer.fault ≡ None
   pub framing : trace.framer.framing ≡ framing-of trace.stage
@@ -95,7 +95,7 @@ pub record Waits (trace : Trace) (pending : List ℕ) (t : Recorded) : Type 0 wh
   pub sized : IsSized t
   pub whole : answer_to (front_of trace.framer) ≢ next.Frame
 
--- ---- what is heard
+-- ---- what is received
 
 pub record SameHouse (a b : Trace) : Type 0 where
   pub relay_traces : b.relay_traces ≡ a.relay_traces
@@ -109,7 +109,7 @@ same-house a = record { relay_traces = refl; past = refl; joins = refl; forwardi
 pub house-then : (a b c : Trace) → SameHouse a b → SameHouse b c → SameHouse a c
 house-then a b c s t = record { relay_traces = t.relay_traces ∙ s.relay_traces; past = t.past ∙ s.past; joins = t.joins ∙ s.joins; forwarding_state = t.forwarding_state ∙ s.forwarding_state }
 
--- it hears these payloads, one behind the other
+-- it receives these payloads, one after the other
 abbrev pub ReceivesAll : List (List ℕ) → Trace → Trace → Type 0
 ReceivesAll [] a b = SameHouse a b
 ReceivesAll (p ∷ ps) a b = (a' : Trace) × (m : Trace) × SameHouse a a' × ReceivesReading (reading p) a' m × ReceivesAll ps m b
@@ -118,7 +118,7 @@ pub receives-from : (ps : List (List ℕ)) (a b c : Trace) → SameHouse a b →
 receives-from [] a b c s h = house-then a b c s h
 receives-from (p ∷ ps) a b c s h = (h.0, h.1, house-then a b h.0 s h.2, h.3, h.4)
 
--- it hears the first payloads, and the others wait
+-- it receives the first payloads, and the others wait
 pub record Heard (trace new : Trace) (pending : List ℕ) (t : Recorded) : Type 0 where
   pub heard : List (List ℕ)
   pub left : Recorded
@@ -128,7 +128,7 @@ pub record Heard (trace new : Trace) (pending : List ℕ) (t : Recorded) : Type 
   pub granted : GrantedOrProxy trace.stage t → GrantedOrProxy new.stage left
   pub ungranted : Ungranted trace.stage t → Ungranted new.stage left
 
--- ---- the front of what it is told
+-- ---- the front of what it is sent
 
 abbrev stage-by : Bool → Stage
 stage-by true = Proxy
@@ -285,7 +285,7 @@ empty-front (x ∷ a) b e = absurd cc
 nothing-bytes : (t : Recorded) → Nothing t → bytes-of t ≡ []
 nothing-bytes t n = ap (λ (l : List (List ℕ)). joined (map frame_body l) ++ joined (map frame_payload t.payloads)) n.answers ∙ ap (λ (l : List (List ℕ)). joined (map frame_payload l)) n.payloads
 
--- a front that is there is that of all that it is told
+-- a front that is there is that of all that it is sent
 record IsRecorded (s : Stage) (t : Recorded) (content rest : List ℕ) : Type 0 where
   comes : Comes s t
   same : comes.content ≡ content
@@ -347,7 +347,7 @@ stays c new pending t r whole e = by_front (front_of c.framer) refl
     by_front More f = heard new (e ∙ ap (λ (g : Front). cut_off g c) f)
     by_front (Faulty bad) f = absurd (no-fault c pending t bad r f)
 
--- one frame is heard, and then others
+-- one frame is received, and then others
 record Step (c middle : Trace) (pending : List ℕ) (t : Recorded) : Type 0 where
   heard : List (List ℕ)
   left : Recorded
@@ -437,7 +437,7 @@ runs (content ∷ more) c new pending t r h =
       ungranted = λ u. on.ungranted (s.ungranted u);
     }
 
--- what it is given of what waits it hears, as far as frames are whole
+-- what it is given of what waits it receives, as far as frames are whole
 pub receives : (trace new : Trace) (n : ℕ) (pending : List ℕ) (t : Recorded) → Waits trace pending t → Follows (Receives (take n pending)) trace new → Heard trace new (drop n pending) t
 receives trace new n pending t w h =
     let ready : Ready (with_received (take n pending) trace) (drop n pending) t = record {
@@ -477,7 +477,7 @@ rest-none trace t w =
     let n = none-left trace t w in
     empty-front trace.framer.rest [] (w.bytes ∙ nothing-bytes t (record { answers = n.0; payloads = n.1 }))
 
--- ---- more is told
+-- ---- more is sent to it
 
 joined-one : (to : List ℕ → List ℕ) (xs : List (List ℕ)) (x : List ℕ) → joined (map to (xs ++ x ∷ [])) ≡ joined (map to xs) ++ to x
 joined-one to [] x = append-nil (to x)

@@ -1,4 +1,4 @@
--- What the server says to the channels of the house fits once it is heard.
+-- What the server sends to the channels of the forwarder fits once it is received.
 use Rattle.std.proofs.Common.{◌≡◌, ◌≤◌, ◌+◌, ℕ, Bool, true, false, not, ◌&&◌, ◌||◌, Option, Some, None, List, [], ◌∷◌, ◌++◌, refl, sym, ap, ◌∙◌, subst, arith, map}
 use Rattle.std.specs.Prelude.{find}
 use Rattle.std.proofs.lemmas.Bool.Decides.{nat_tests}
@@ -137,7 +137,7 @@ through note hs fs bs x c hs' step good are own vs fit =
 
 -- ---- an act in a channel that is confirmed
 
--- a CLOSE of the server ends the channel where the house said CLOSE
+-- a CLOSE of the server ends the channel where the forwarder sent CLOSE
 held-closes : (f u d : Bool) → not (f || (u && d)) ≡ true → not (f || (u && true)) ≡ not u
 held-closes true u d h = absurd (let bad : false ≡ true = h in cc)
 held-closes false true d h = refl
@@ -202,13 +202,13 @@ act-at act fs bs x c plain fails fine es gs (IsLive a) m = (
   subst (λ (l : List Entry). Fit (fs ++ kept (with_act Down act x) bs) l) (sym (map-one c (view-receives act) es gs (IsLive a) m.front m.behind)) (recorded-live act fs bs x c es gs a m plain fails fine),
 )
 
--- what the server does in a channel of the house
+-- what the server does in a channel of the forwarder
 pub recorded-act : (hs fs bs : List Channel) (x : Channel) (c : ℕ) (act : Act) → Good hs → hs ≡ fs ++ x ∷ bs → x.own ≡ Some c → is_confirms act ≡ false → is_fails act ≡ false → breach Down act x ≡ None
     → (vs : List Entry) → Fit hs vs → Each (Bound (Does c act)) vs × Fit (fs ++ kept (with_act Down act x) bs) (noted (Does c act) vs)
 recorded-act hs fs bs x c act good are own plain fails fine vs fit =
     through (Does c act) hs fs bs x c (fs ++ kept (with_act Down act x) bs) (λ es gs v m. act-at act fs bs x c plain fails fine es gs v m) good are own vs fit
 
--- ---- the server refuses a channel that the house opened
+-- ---- the server refuses a channel that the forwarder opened
 
 failed-at : (fs bs : List Channel) (x : Channel) (c : ℕ) → is_confirmed x ≡ false → (es gs : List Entry) (v : View) → Meets fs bs x c es gs v
     → Each (Bound (Does c Fails)) (es ++ (Some c, v) ∷ gs) × Fit (fs ++ kept (with_act Down Fails x) bs) (noted (Does c Fails) (es ++ (Some c, v) ∷ gs))
@@ -227,7 +227,7 @@ pub recorded-failed : (hs fs bs : List Channel) (x : Channel) (c : ℕ) → Good
 recorded-failed hs fs bs x c good are own up none vs fit =
     through (Does c Fails) hs fs bs x c (fs ++ kept (with_act Down Fails x) bs) (λ es gs v m. failed-at fs bs x c none es gs v m) good are own vs fit
 
--- ---- the server confirms a channel that the house opened
+-- ---- the server confirms a channel that the forwarder opened
 
 fresh-accounted : (y : Channel) (w m : ℕ) → y.acts ≡ (Down, Confirms w m) ∷ [] → Accounted y
 fresh-accounted y w m acts Up =

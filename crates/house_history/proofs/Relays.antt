@@ -1,4 +1,4 @@
--- A relay of the house speaks: what the history and the house have behind it.
+-- A relay of the forwarder sends: what the history and the forwarder have after it.
 use Rattle.std.proofs.Common.{◌≡◌, ◌≤◌, ◌<◌, ◌+◌, ◌^◌, ℕ, Bool, true, false, not, None, List, [], ◌∷◌, ◌++◌, refl, sym, ap, ◌∙◌, subst, arith, map, length, append-nil}
 use Rattle.mux_outside.specs.declared.house.HouseReply.{HouseReply}
 use Rattle.ssh_fields.specs.Fields.{AreBytes, u32}
@@ -131,7 +131,7 @@ asks-none line.Over n s p h = absurd h
 
 -- ---- the row
 
--- that client says a payload
+-- that client sends a payload
 abbrev item-of : List ℕ → Item
 item-of p = Says HOUSE (Payload p) None
 
@@ -163,11 +163,11 @@ pub record RelaySent (more : List Row) (new : Trace) (bytes : List ℕ) : Type 0
   pub greeted : new.forwarding_state.greeted ≡ true
   pub so : SentSo true bytes
 
--- all that the house was told is heard
+-- all that the forwarder was sent is received
 seen-all : (trace : Trace) (recorded : Recorded) (own : List Row) → Waits trace [] recorded → Seen (held_of own) trace.relay_traces (map note-in recorded.payloads) → Seen (held_of own) trace.relay_traces []
 seen-all trace recorded own w s = subst (λ (ps : List (List ℕ)). Seen (held_of own) trace.relay_traces (map note-in ps)) (none-left trace recorded w).1 s
 
--- a row that goes on, and what it tells
+-- a row that goes on, and what it records
 relay-goes : (rows : List Row) (trace new : Trace) (recorded : Recorded) (p : List ℕ) (o : Outcome) (tolds : List (List ℕ))
     → Going rows trace recorded → trace.forwarding_state.greeted ≡ true → Waits trace [] recorded → pending HOUSE rows ≡ [] → AsksNone p
     → o.ends ≡ Goes → o.recorded ≡ map frame_payload tolds → length tolds ≤ 1 → Each (λ (q : List ℕ). (1 ≤ length q) × (length q ≤ 200)) tolds → Each (λ (q : List ℕ). reading q is_reply false ≡ false) tolds

@@ -1,4 +1,4 @@
--- The server's numbers of the house's channels, and their windows, are numbers of four bytes.
+-- The server's numbers of the forwarder's channels, and their windows, are numbers of four bytes.
 use Rattle.std.proofs.Common.{◌≡◌, ◌<◌, ℕ, zero, suc, true, false, Option, Some, None, List, [], ◌∷◌, ◌++◌, length, drop, Result, Ok, Err, IfOk, refl, sym, subst, arith, map}
 use Rattle.std.specs.Prelude.{◌==◌, ◌&&◌, filter}
 use Rattle.mux_outside.specs.declared.house.HouseReply.{HouseReply}
@@ -39,7 +39,7 @@ use Rattle.house_history.proofs.Lists.{Each, each-append, each-filter}
 abbrev pub IsSmallChannel : Channel → Type 0
 IsSmallChannel x = ((s : ℕ) → x.remote ≡ Some s → s < 4294967296) × (x.window < 4294967296)
 
--- ---- what is said in a lawful journal are bytes
+-- ---- what is sent in a lawful journal are bytes
 
 abbrev pub SentBytes : Outgoing → Type 0
 SentBytes (Payload p) = AreBytes p
@@ -266,7 +266,7 @@ small-begun k up (Says client (Payload p) reply) bytes = begun-read p (opened_up
 small-begun k up (Heard p) bytes = elim (k == 0) as (λ b. Each IsSmallChannel (elim b as (λ _. List Channel) [ true ↦ [] | false ↦ reading p (opened_down k up) [] ])) [ true ↦ tt | false ↦ begun-read p (opened_down k up) (λ m e. small-opened-down k up p m bytes e) ]
 small-begun k up item bytes = tt
 
--- ---- all channels, and those of the house
+-- ---- all channels, and those of the forwarder
 
 each-map : (P : Channel → Type 0) (f : Channel → Channel) → ((x : Channel) → P x → P (f x)) → (xs : List Channel) → Each P xs → Each P (map f xs)
 each-map P f step [] all = tt

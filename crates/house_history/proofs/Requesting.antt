@@ -1,4 +1,4 @@
--- The house has few requests that have no reply, and its channels have small numbers.
+-- The forwarder has few requests that have no reply, and its channels have small numbers.
 use Rattle.std.proofs.Common.{◌≡◌, ◌∙◌, refl, sym, ap, subst, arith, ℕ, zero, suc, ◌<◌, ◌≤◌, Bool, true, false, List, [], ◌∷◌, ◌++◌, length, get_or, set, drop, map, Option, Some, None, inl, inr}
 use Rattle.std.specs.Prelude.{◌==◌, ◌&&◌, not, if◌then◌else◌, filter, slice_get}
 use Rattle.std.specs.List.{position, remove}
@@ -216,7 +216,7 @@ few-said : (r : ForwardingRequest) (fs : List Forwarding) → how_many (after_se
 few-said (Listen serial) fs = few-changed change.ForwardingRequest serial fs (λ f h is e. e)
 few-said (Cancel serial) fs = few-changed change.Cancel serial fs (λ f h is e. e)
 
--- ---- an ask
+-- ---- a request
 
 ends-few : (opening : Bool) (serial : ℕ) (ends : Ends) (old new : List Forwarding) → EndsLeave opening serial ends old new
     → how_many old ≤ 64 → how_many new ≤ 64
@@ -281,7 +281,7 @@ replied-few false port forwarder_events d (Cancel serial ∷ rs) e k t w =
     let one : its.0 ≡ f = one-serial d.all its.0 f 0 d.serials t.numbered its.1 h (its.2 ∙ sym is) in
     other-counts f.closing (listens_here f.kind) (subst (λ (x : Forwarding). listens_here x.kind ≡ false) one there))
 
--- ---- a request is said
+-- ---- a request is sent
 
 none-yet : (d : ForwardingState) (f : Forwarding) (s : Stage) → f.stage ≡ s → requests_at s f.closing ≡ true → In f d.all → Tracks d → Wants d
     → In (request_at s f.serial) d.requests → ⊥

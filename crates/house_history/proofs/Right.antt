@@ -1,4 +1,4 @@
--- What is known of the house's channels at each row of a right log.
+-- What is known of the forwarder's channels at each row of a right log.
 use Rattle.std.proofs.Common.{◌≡◌, ◌<◌, ℕ, Some, List, [], ◌∷◌, subst}
 use Rattle.std.specs.Prelude.{filter}
 use Rattle.mux_outside.specs.declared.house.HouseReply.{HouseReply}

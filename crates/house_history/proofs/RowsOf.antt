@@ -1,4 +1,4 @@
--- The row of a client that is told little: all of it fits, and what the answers of a row come to.
+-- The row of a client that is sent little: all of it fits, and the total of the answers of a row.
 use Rattle.std.proofs.Common.{◌≡◌, ◌≤◌, ◌<◌, ◌+◌, ◌-◌, ◌*◌, ℕ, zero, suc, Bool, true, false, Option, Some, None, List, [], ◌∷◌, ◌++◌, refl, sym, ap, ◌∙◌, subst, arith, map, drop, length, length-append}
 use Rattle.std.specs.Prelude.{nat_le}
 use Rattle.std.proofs.Math.Seq.{drop-append_seam}
@@ -40,7 +40,7 @@ is_gone_item item = false
 fits-one : (n m : ℕ) → n + m ≤ 33554432 → nat_le (n + m) 33554432 ≡ true
 fits-one n m le = grind (arith, nat_tests)
 
--- what fits in all is told in all
+-- what fits in all is recorded in all
 pub none-over : (n : ℕ) (fs : List (List ℕ)) → n + length (joined fs) ≤ MAX_QUEUE → overflow n fs ≡ None
 none-over n [] le = refl
 none-over n (f ∷ fs) le =
@@ -303,7 +303,7 @@ pub reply-some : (p : List ℕ) → reading p is_reply false ≡ true → 1 ≤ 
 reply-some [] e = absurd (let h : false ≡ true = e in cc)
 reply-some (b ∷ p) e = omega arith
 
--- any bound of the asks without an answer bounds them
+-- any bound of the requests without an answer bounds them
 pub heard-within : (n k : ℕ) (p : List ℕ) (o : Outcome) (own : List Row) → unanswered_asks own ≤ n → length (joined (new_answers (bare (Heard p) k o) own)) ≤ n * (length p + 5)
 heard-within n k p o own few = by_case (reading p is_reply false) refl
   where
@@ -329,7 +329,7 @@ heard-within n k p o own few = by_case (reading p is_reply false) refl
 pub heard-little : (k : ℕ) (p : List ℕ) (o : Outcome) (own : List Row) → AllUsed own → unanswered_asks own ≤ 64 → length (joined (new_answers (bare (Heard p) k o) own)) ≤ 64 * (length p + 5)
 heard-little k p o own used few = heard-within 64 k p o own few
 
--- ---- how long what is heard at once is
+-- ---- how long what is received at once is
 
 abbrev pub item_size : Item → ℕ
 item_size (Heard p) = length p + 5

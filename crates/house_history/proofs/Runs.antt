@@ -1,4 +1,4 @@
--- No row drops the house in a run of the program.
+-- No row drops the forwarder in a run of the program.
 use Rattle.std.proofs.Common.{List, [], ◌∷◌, refl, ap, ◌∙◌, subst}
 use Rattle.mux_outside.specs.House.{HouseState}
 use Rattle.mux_outside.specs.HouseCalls.{Begins}
@@ -30,6 +30,6 @@ run-stays May state house leads present starts policy pid turns before start see
       reached = trace.1;
     }
 
--- a house stands for its calls since the last order, or since before it
+-- a forwarder represents its calls since the last order, or since before it
 pub leads-on : (has : ForwarderState) → LeadsOn (StandsIn has)
 leads-on has calls stands small = let lived = stands.since.1 small in (lived.trace, lived.reached)

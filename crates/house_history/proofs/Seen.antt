@@ -1,4 +1,4 @@
--- The relays of the house as the history sees them.
+-- The relays of the forwarder as the history sees them.
 use Rattle.std.proofs.Common.{◌≡◌, ◌≤◌, ℕ, false, Some, None, List, [], ◌∷◌, ◌++◌}
 use Rattle.std.specs.Prelude.{length, Ok, Err}
 use Rattle.house_relay.specs.Acts.{Act, adjusted, delivered}
@@ -53,11 +53,12 @@ AreViews [] (e ∷ es) = ⊥
 AreViews (l ∷ ls) [] = ⊥
 AreViews (l ∷ ls) (e ∷ es) = IsView l e × AreViews ls es
 
--- opens of the server that the house doesn't take have no number of the house
+-- opens of the server that the forwarder doesn't accept have no number of the forwarder
 abbrev pub Unnumbered : Entry → Type 0
 Unnumbered e = e.0 ≡ None
 
--- once the house has heard these notes, its relays fit the channels that the history has of it
+-- once the forwarder has received these notes, its relays fit the channels that the history has of
+-- it
 pub record Seen (hs : List Channel) (relay_traces : List Life) (notes : List Note) : Type 0 where
   pub entries : List Entry
   pub orphans : List Entry
@@ -81,7 +82,7 @@ act-of (outgoing.Data n) = summary.Carries n
 act-of outgoing.Eof = summary.Ends
 act-of (outgoing.Adjust n) = summary.Grants n
 
--- the view of a channel behind it
+-- the view of a channel after it
 abbrev pub said-view : summary.Act → Acct → View
 said-view summary.Closes a = unless-over a.close_received (says summary.Closes a)
 said-view (summary.Carries n) a = IsLive (says (summary.Carries n) a)
@@ -108,7 +109,7 @@ abbrev pub SendsOpen : Outgoing → View → View → Type 0
 SendsOpen outgoing.Open v v' = (v ≡ NoChannel) × (v' ≡ IsOpened)
 SendsOpen s v v' = ⊥
 
--- a view goes on by what is said
+-- a view goes on by what is sent
 abbrev pub SentAs : ChannelState → Outgoing → View → View → Type 0
 SentAs (Asked host port version) s v v' = SendsOpen s v v'
 SentAs (Offered remote w m) s v v' = SendsOffer remote w m s v v'
@@ -117,7 +118,7 @@ SentAs (Dialing dialog) s v v' = ⊥
 SentAs (Opened version) s v v' = ⊥
 SentAs Over s v v' = ⊥
 
--- a relay said this, where all that the house was told is heard
+-- a relay sent this, where all that the forwarder was sent is received
 pub record Spoken (hs : List Channel) (bytes : List ℕ) (relay_traces : List Life) : Type 0 where
   pub relay : Relay
   pub said : Outgoing

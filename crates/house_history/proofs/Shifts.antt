@@ -1,4 +1,4 @@
--- What the house has of its channels may be listed otherwise, and more may come to it.
+-- What the forwarder has of its channels may be listed otherwise, and more may be added to it.
 use Rattle.std.proofs.Common.{◌≡◌, ℕ, Bool, true, false, not, ◌&&◌, ◌||◌, Option, Some, None, List, [], ◌∷◌, ◌++◌, refl, sym, ap, ◌∙◌, subst, arith, append-nil}
 use Rattle.std.specs.Prelude.{◌==◌, find}
 use Rattle.std.proofs.lemmas.Bool.Decides.{nat_tests}

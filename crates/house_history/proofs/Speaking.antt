@@ -1,4 +1,5 @@
--- What a relay of the house says, where all that the house was told is heard, may be said.
+-- What a relay of the forwarder sends, where all that the forwarder was sent is received, may be
+-- sent.
 use Rattle.std.proofs.Common.{◌≡◌, ◌≤◌, ◌<◌, ◌+◌, ◌-◌, ◌^◌, ℕ, Bool, true, false, not, min, ◌&&◌, Option, Some, None, List, [], ◌∷◌, ◌++◌, refl, sym, ap, ◌∙◌, subst, arith, length, length-append, append_assoc, IsTrue}
 use Rattle.std.specs.Prelude.{nat_lt, is_some, if◌then◌else◌}
 use Rattle.std.proofs.lemmas.Bool.{ltb-true}
@@ -132,7 +133,7 @@ seen-kept hs relay_traces notes s =
       later = w.later hs notes [] s.orphans s.later;
     }
 
--- ---- what may be said in a channel that is confirmed
+-- ---- what may be sent in a channel that is confirmed
 
 abbrev LiveSends : Relay → LiveState → Option Outgoing → Type 0
 LiveSends r live None = Unit {0}
@@ -172,7 +173,7 @@ live-says r live =
 abbrev with-line : ChannelState → Relay → Relay
 with-line line r = record r { line = line }
 
--- the view goes on by what is said, and is that of the line behind it
+-- the view goes on by what is sent, and is that of the channel state after it
 record Does (line : ChannelState) (r : Relay) (s : Outgoing) (acts : List Act) (v : View) : Type 0 where
   now : View
   does : SentAs line s v now
@@ -183,7 +184,7 @@ eof-unsaid : (held : List ℕ) (said : Bool) → (IsTrue said → held ≡ []) �
 eof-unsaid held true none some = absurd (let e : length held ≡ 0 = ap length (none refl) in omega (arith, e, some))
 eof-unsaid held false none some = refl
 
--- CLOSE is said, and the channel is over where it was heard
+-- CLOSE is sent, and the channel is over where it was received
 over-both : (b : Bool) (live : LiveState) (acts : List Act) (a : Acct) → LiveIs live acts a → ViewOf (over_if b live) acts (unless-over b a)
 over-both true live acts a h = refl
 over-both false live acts a h = (a, refl, h)

@@ -1,4 +1,4 @@
--- What the house says drops it not, and what it has of its channels fits those behind it.
+-- What the forwarder sends drops it not, and what it has of its channels fits those after it.
 use Rattle.std.proofs.Common.{◌≡◌, ◌≤◌, ◌<◌, ◌+◌, ◌^◌, ℕ, Bool, true, false, not, ◌&&◌, ◌||◌, Option, Some, None, Ok, List, [], ◌∷◌, ◌++◌, refl, sym, ap, ◌∙◌, subst, arith, map, length, length-append}
 use Rattle.std.specs.Prelude.{find, nat_lt}
 use Rattle.std.proofs.lemmas.Bool.Decides.{nat_tests}
@@ -46,7 +46,8 @@ use Rattle.house_history.proofs.Channels.{IsMine, kept, kept-held, kept-over, sa
 abbrev pub said-held : Outcome → List Row → List ℕ → Option HouseReply → List (List ℕ) → List Channel
 said-held o own p given down = held_of (plain_row (Says HOUSE (Payload p) given) HOUSE o.sent down ∷ own)
 
--- it goes on; what the house is told of it is little, and no reply; and what it has fits once that is heard
+-- it goes on; what the forwarder is sent of it is little, and no reply; and what it has fits once
+-- that is received
 pub record SendsBy (o : Outcome) (own : List Row) (p : List ℕ) (given : Option HouseReply) (number : ℕ) (now : View) (front behind : List Entry) : Type 0 where
   pub ends : o.ends ≡ Goes
   pub recorded : List (List ℕ)
@@ -59,7 +60,7 @@ pub record SendsBy (o : Outcome) (own : List Row) (p : List ℕ) (given : Option
 abbrev pub SendsRow : Policy → List Row → ℕ → List ℕ → Option HouseReply → ℕ → View → List Entry → List Entry → Type 0
 SendsRow policy own pick p given number now front behind = SendsBy (sent_payload policy HOUSE own pick p) own p given number now front behind
 
--- nothing is told
+-- nothing is recorded
 says-quiet : (q : List ℕ) (own : List Row) (p : List ℕ) (given : Option HouseReply) (n : ℕ) (now : View) (front behind : List Entry)
     → ((down : List (List ℕ)) → Fit (said-held (sends q) own p given down) (front ++ (Some n, now) ∷ behind)) → SendsBy (sends q) own p given n now front behind
 says-quiet q own p given n now front behind fit = record {
@@ -304,7 +305,7 @@ held-is (Confirms w m) x a may h = absurd may
 held-is Fails x a may h = absurd may
 held-is (Asks wants) x a may h = absurd may
 
--- it is behind what is said as that says
+-- it is after what is sent as that sends
 fits-said : (act : Act) (x : Channel) (a : Acct) (fs bs : List Channel) (front behind : List Entry) (n : ℕ) → x.own ≡ Some n → IsAccount x a → MaySend act a → is_held x ≡ true
     → Each (λ (y : Channel). owned-at n y ≡ false) fs → Each (λ (y : Channel). owned-at n y ≡ false) bs
     → Fit (fs ++ x ∷ bs) (front ++ (Some n, IsLive a) ∷ behind) → Fit (fs ++ kept (with_act Up act x) bs) (front ++ (Some n, said-view act a) ∷ behind)

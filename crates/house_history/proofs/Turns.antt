@@ -1,4 +1,4 @@
--- One channel of the house goes on, and fits what the house has of it.
+-- One channel of the forwarder goes on, and fits what the forwarder has of it.
 use Rattle.std.proofs.Common.{◌≡◌, ℕ, Bool, true, false, not, ◌&&◌, ◌||◌, Option, Some, None, List, [], ◌∷◌, ◌++◌, refl, sym, ap, ◌∙◌, subst, arith, append-nil}
 use Rattle.std.specs.Prelude.{◌==◌, find}
 use Rattle.std.proofs.lemmas.Bool.Decides.{nat_tests}
@@ -46,7 +46,7 @@ far-behind (f ∷ fs) bs x a = far-behind fs bs x a.1
 
 -- ---- what an entry looks at
 
--- a channel of the house's own number that no offer is
+-- a channel of the forwarder's own number that no offer is
 pub looks-own : (x : Channel) (n : ℕ) (e : Entry) → x.own ≡ Some n → ((s : ℕ) → offered-at s x ≡ false) → e.0 ≡ Some n → LooksAt x e
 looks-own x n e own plain its = λ f o. record {
   number = λ j h. by_test j (n == j) refl (subst (λ (p : Option ℕ). is_number p n ≡ false) h (o.number n (ap (λ (p : Option ℕ). is_number p n) its ∙ same-at n)));
@@ -95,7 +95,7 @@ knows es gs e x n own its c h =
     let same : n ≡ c = let both : Some n ≡ Some c = sym own ∙ h in cc in
     known-here es gs e c (ap (λ (p : Option ℕ). is_number p c) its ∙ subst (λ (j : ℕ). (n == j) ≡ true) same (same-at n))
 
--- ---- the house opens one
+-- ---- the forwarder opens one
 
 pub opens-one : (hs : List Channel) (es gs : List Entry) (n : ℕ) (x : Channel) → x.own ≡ Some n → IsFreshUp x
     → Fit hs (es ++ (Some n, NoChannel) ∷ gs) → Fit (hs ++ x ∷ []) (es ++ (Some n, IsOpened) ∷ gs)
@@ -156,7 +156,7 @@ live-over fs bs x es gs n v plain own none more fit =
     let w = without fs bs x es gs e (looks-own x n e own plain refl) fit in
     put-none (fs ++ bs) es gs e (Some n, NoChannel) (record { number = refl; offer = λ s h. absurd (let bad : false ≡ true = h in cc) }) w (find-none (owned-at n) fs bs none more)
 
--- the server confirms one that the house opened
+-- the server confirms one that the forwarder opened
 pub confirmed-one : (fs bs : List Channel) (x x' : Channel) (es gs : List Entry) (n : ℕ) (a : Acct) → x.own ≡ Some n → x.by ≡ Up → x'.own ≡ Some n → IsAccount x' a
     → Each (λ (y : Channel). owned-at n y ≡ false) fs → Fit (fs ++ x ∷ bs) (es ++ (Some n, IsOpened) ∷ gs) → Fit (fs ++ x' ∷ bs) (es ++ (Some n, IsLive a) ∷ gs)
 confirmed-one fs bs x x' es gs n a own up own' is none fit =
@@ -168,7 +168,7 @@ confirmed-one fs bs x x' es gs n a own up own' is none fit =
 
 -- ---- one that the server opened
 
--- the house confirms it
+-- the forwarder confirms it
 pub accepts-one : (fs bs : List Channel) (x x' : Channel) (es gs : List Entry) (n s w m : ℕ) (a : Acct) → x.own ≡ None → x.remote ≡ Some s → x'.own ≡ Some n → IsAccount x' a
     → Fit (fs ++ x ∷ bs) (es ++ (Some n, IsOffered s w m) ∷ gs) → Fit (fs ++ x' ∷ bs) (es ++ (Some n, IsLive a) ∷ gs)
 accepts-one fs bs x x' es gs n s w m a own remote own' is fit =
@@ -180,7 +180,7 @@ accepts-one fs bs x x' es gs n s w m a own remote own' is fit =
     (x', find-at (owned-at n) fs bs x' (each-front (λ (y : Channel). owned-at n y ≡ false) fs (x ∷ bs) none) (ap (λ (p : Option ℕ). is_number p n) own' ∙ same-at n), is)
     (knows es gs e x' n own' refl)
 
--- the house refuses it
+-- the forwarder refuses it
 pub refuses-one : (fs bs : List Channel) (x : Channel) (es gs : List Entry) (o : Option ℕ) (s w m : ℕ) → x.own ≡ None → x.remote ≡ Some s
     → Fit (fs ++ x ∷ bs) (es ++ (o, IsOffered s w m) ∷ gs) → Fit (fs ++ bs) (es ++ (o, NoChannel) ∷ gs)
 refuses-one fs bs x es gs o s w m own remote fit =

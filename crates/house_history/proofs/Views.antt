@@ -1,4 +1,5 @@
--- How a channel of the house stands, by what the house said and heard: no more than its account needs.
+-- The state of a channel of the forwarder, by what the forwarder sent and received: no more than
+-- its account needs.
 use Rattle.std.proofs.Common.{◌≡◌, ◌≤◌, ◌<◌, ◌+◌, ◌-◌, ℕ, Bool, true, false, Some}
 use Rattle.ssh_grammar.specs.declared.side.Side.TheVariants.{Up, Down}
 use Rattle.mux_history.specs.Channels.{Channel, any_by, is_closes, is_confirmed, is_ends}
@@ -6,9 +7,9 @@ use Rattle.mux_history.specs.Summary.{Act, Answers, Asks, Carries, Closes, Ends,
 use Rattle.mux_history.proofs.RoomActs.{Accounted}
 use Rattle.mux_history.specs.Ledger.{carried, granted, initial, maximum_of, room, sum_of, unanswered}
 
--- a channel that is confirmed: the server's number, how much data the server takes and at most in one
--- message, whether EOF and CLOSE were said, whether CLOSE was heard, how many of its requests want a
--- reply, for how many bytes room was given back, and how many came
+-- a channel that is confirmed: the server's number, how much data the server accepts and at most in
+-- one message, whether EOF and CLOSE were sent, whether CLOSE was received, how many of its
+-- requests want a reply, for how many bytes room was given back, and how many came
 pub record Acct : Type 0 where
   pub remote : ℕ
   pub room : ℕ
@@ -20,8 +21,8 @@ pub record Acct : Type 0 where
   pub given : ℕ
   pub came : ℕ
 
--- no channel, or one that is opened by the house or by the server and unanswered, or one that is
--- confirmed
+-- no channel, or one that is opened by the forwarder or by the server and unanswered, or one that
+-- is confirmed
 pub data View : Type 0 where
   NoChannel : View
   IsOpened : View
@@ -45,7 +46,7 @@ pub record IsAccount (x : Channel) (a : Acct) : Type 0 where
   pub came : a.came ≤ sum_of carried Down x.acts
   pub accounted : Accounted x
 
--- ---- what may be said, and what that leaves
+-- ---- what may be sent, and what that leaves
 
 abbrev pub MaySend : Act → Acct → Type 0
 MaySend (Carries n) a = (a.close_sent ≡ false) × (a.eof_sent ≡ false) × (n ≤ a.room) × (n ≤ a.maximum)
@@ -63,7 +64,7 @@ says (Grants n) a = record a { given = a.given + n }
 says Answers a = record a { failures = a.failures - 1 }
 says act a = a
 
--- ---- what is heard
+-- ---- what is received
 
 abbrev pub more_asks : Bool → Bool → ℕ → ℕ
 more_asks true false n = n + 1

@@ -1,4 +1,4 @@
--- What the history has of the house: no row drops it.
+-- What the history has of the forwarder: no row drops it.
 use Rattle.std.specs.Prelude.{ℕ, ◌≡◌, ◌≢◌, ◌<◌, ◌^◌, Bool, false, List, ◌∷◌, Option}
 use Rattle.mux_outside.specs.House.{HouseState}
 use Rattle.mux_outside.specs.HouseCalls.{Begins, HouseCall}
@@ -27,9 +27,10 @@ use Rattle.ssh_mux.specs.Starts.{BeganWith, BegunRests}
 
 -- ---- journals
 
--- a journal that a wire can give; what is promised of its waits, of what the house says and of what
--- it answers; nothing happens to a stream with its number; each number was fresh; and the house began
--- with some forwardings, behind which its calls that the journal has lead to this course
+-- a journal that a wire can give; what is promised of its waits, of what the forwarder sends and of
+-- what it answers; nothing happens to a stream with its number; each number was fresh; and the
+-- forwarder began with some forwardings, after which its calls that the journal has lead to this
+-- trace
 pub record IsHoused (setting : Setting) (journal : List Mark) (trace : Trace) : Type 0 where
   pub lawful : IsLawful journal
   pub asked : Throughout ReadsWhenAsked journal
@@ -41,7 +42,8 @@ pub record IsHoused (setting : Setting) (journal : List Mark) (trace : Trace) : 
   pub starts : Starts
   pub reached : Reaches first_trace (Begins starts ∷ calls_in setting journal) trace
 
--- then no row drops the house, whatever is permitted, numbers are picked, clients and the server say
+-- then no row drops the forwarder, whatever is permitted, numbers are picked, clients and the
+-- server send
 abbrev pub HouseStays : Type 0
 HouseStays = (policy : Policy) (pid : ℕ) (picks : List ℕ) (replies : List HouseReply) (journal : List Mark) (trace : Trace)
     → IsHoused (by_lists policy pid picks replies) journal trace
@@ -49,14 +51,14 @@ HouseStays = (policy : Policy) (pid : ℕ) (picks : List ℕ) (replies : List Ho
 
 -- ---- runs of the program
 
--- whatever calls the house stands for, they lead to a course, unless its own streams took 2^64 bytes
--- or more in all
+-- whatever calls the forwarder represents, they lead to a trace, unless its own streams accepted
+-- 2^64 bytes or more in all
 abbrev pub LeadsOn : (List HouseCall → Type 0) → Type 0
 LeadsOn stands = (calls : List HouseCall) → stands calls → taken_in calls < 2 ^ 64
     → (trace : Trace) × Reaches first_trace calls trace
 
--- no row drops the house in a run that it began with some forwardings, unless memory was wanting or
--- its own streams took so much
+-- no row drops the forwarder in a run that it began with some forwardings, unless memory ran out or
+-- its own streams accepted so much
 abbrev pub RunsKeep : {T : Type 0} → (HouseReply → Type 0) → (T → HouseState) → T → Type 0
 RunsKeep May state house = (present : Bool) (starts : Starts) (policy : Policy) (pid turns : ℕ)
     (before : Option (List HouseMark)) (start : Option (List Mark)) (seen : Seen)

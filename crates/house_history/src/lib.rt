@@ -1,4 +1,4 @@
-//! What the history has of the house: no row drops it.
+//! What the history has of the forwarder: no row drops it.
 #![tactic(auto)]
 
 pub mod laws;

@@ -1,4 +1,4 @@
--- What becomes of a relay by what its dialog comes to.
+-- What becomes of a relay by the outcome of its dialog.
 use Rattle.std.proofs.Common.{◌≡◌, ◌⊎◌, inl, inr, refl, sym, subst, ℕ, Bool, true, false, List, ◌++◌, Some, if◌then◌else◌}
 use Rattle.proxy_frames.specs.State.{QueueState}
 use Rattle.socks_dialog.specs.State.{State}

@@ -1,4 +1,4 @@
--- A dialog gives its replies, and hears more bytes.
+-- A dialog gives its replies, and receives more bytes.
 use Rattle.std.proofs.Common.{◌≡◌, ◌≢◌, ◌∙◌, refl, sym, ap, subst, arith, ℕ, ◌+◌, ◌-◌, ◌≤◌, List, [], ◌∷◌, ◌++◌, length, take, drop, append_assoc, length-append, length-drop, drop_of_length-le}
 use Rattle.std.proofs.Math.Seq.{drop-append_seam, take-length}
 use Rattle.std.proofs.lemmas.List.{append-nil}
@@ -100,7 +100,7 @@ gives_outcome d queue some not_reply = by_left (drop d.given all) refl
 
 -- ---- more bytes
 
--- the first byte of a dialog that came to something is that of all bytes
+-- the first byte of a dialog that has an outcome is that of all bytes
 first_in : (kept rest all : List ℕ) → all ≡ kept ++ rest → outcome_in kept ≢ Wants → slice_index kept 0 ≡ slice_index all 0
 unfolding outcome_in
 first_in [] rest all e ne = absurd (ne refl)
@@ -112,7 +112,7 @@ not_wanting bytes host port e w = no_wants (sym e ∙ w)
     no_wants : Connects host port ≡ Wants → ⊥
     no_wants f = cc
 
--- what a step comes to, where it is the outcome of all bytes
+-- the outcome of a step, where it is the outcome of all bytes
 came_to : (o : Outcome) (version first : ℕ) (came : Came) (bytes : List ℕ) (new : State) (queue queue' : QueueState)
     → outcome_in bytes ≡ o → IsCame (step_to o) version came queue queue'
     → (o ≢ Wants → version ≡ slice_index bytes 0)

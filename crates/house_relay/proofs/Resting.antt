@@ -48,7 +48,7 @@ ends-said false true true x o s e is = refl
 ends-said false true false x o s e is = cc
 ends-said false false said x o s e is = cc
 
--- where bytes are held and none is said, the channel takes none
+-- where bytes are held and none is sent, the channel accepts none
 takes-none : (r : Relay) (live : LiveState) → sends_held r live ≡ None → 0 < length r.held.waiting → takes live ≡ 0
 takes-none r live e some =
     let is = lt-ltb 0 (length r.held.waiting) some in

@@ -22,8 +22,8 @@ receives_end (Offered remote window maximum) = false
 receives_end (Live live) = live.eof_received
 receives_end Over = false
 
--- whether nothing more comes of it: it has ended, or the client ended before its dialog asked for an
--- end
+-- whether nothing more comes from it: it has ended, or the client ended before its dialog asked for
+-- an end
 abbrev pub has_no_more : Bool → ChannelState → Bool
 has_no_more ended (Dialing dialog) = ended
 has_no_more ended (Asked host port version) = false
@@ -65,7 +65,7 @@ fresh_live remote window maximum replies = record {
   replies = replies;
 }
 
--- how many bytes of data the server takes in one message now
+-- how many bytes of data the server accepts in one message now
 abbrev pub takes : LiveState → ℕ
 takes live = min live.room live.maximum
 
@@ -103,13 +103,13 @@ abbrev pub receives_request : Bool → LiveState → LiveState
 receives_request want live = if want && not live.close_sent
     then record live { failures = min (live.failures + 1) (2 ^ 32 - 1) } else live
 
--- the replies are taken first, and aren't owed
+-- the replies are accepted first, and aren't owed
 abbrev pub takes_more : ℕ → LiveState → LiveState
 takes_more n live = if live.close_sent then live else record live {
   owed = live.owed + (n - live.replies);
   replies = live.replies - n;
 }
 
--- the socket took so many bytes
+-- the socket accepted so many bytes
 abbrev pub takes_in : ℕ → ChannelState → ChannelState
 takes_in n = in_live (λ live. Live (takes_more n live))

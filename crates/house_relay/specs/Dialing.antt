@@ -28,7 +28,7 @@ pub record GivesAll (old new : State) (step : Step) (queue queue' : QueueState) 
 abbrev pub GaveSome : State → Type 0
 GaveSome dialog = dialog.given ≤ length (before_in dialog.bytes)
 
--- what it comes to by a step, in this version; the reply to a fault goes into the queue
+-- its outcome by a step, in this version; the reply to a fault goes into the queue
 abbrev pub IsCame : Step → ℕ → Came → QueueState → QueueState → Type 0
 IsCame step.More version came queue queue' = (came ≡ Nothing) × (queue' ≡ queue)
 IsCame (step.Reply reply) version came queue queue' = (came ≡ Nothing) × (queue' ≡ queue)
@@ -42,7 +42,7 @@ pub record IsReading (dialog : State) : Type 0 where
   pub given : dialog.given ≡ length (before_in dialog.bytes)
   pub wants : outcome_in dialog.bytes ≡ Wants
 
--- what it comes to by all bytes
+-- its outcome by all bytes
 abbrev pub CameTo : Came → List ℕ → State → Type 0
 CameTo Nothing bytes new =
     (outcome_in bytes ≡ Wants) × (new.bytes ≡ bytes) × (new.given ≡ length (before_in bytes))
@@ -50,7 +50,7 @@ CameTo (Connect host port version) bytes new =
     (outcome_in bytes ≡ Connects host port) × (version ≡ slice_index bytes 0)
 CameTo Fault bytes new = (reply : List ℕ) × (outcome_in bytes ≡ Breaks reply)
 
--- more bytes were heard: what it comes to is that, all bytes but so many of them are behind it, and as
+-- more bytes were received: its outcome is that, all bytes but so many of them are after it, and as
 -- many bytes wait in the queue as there are more of its replies
 pub record IsReceived (old new : State) (bytes : List ℕ) (heard : Heard) (queue queue' : QueueState) : Type 0 where
   pub came : CameTo heard.came (old.bytes ++ bytes) new

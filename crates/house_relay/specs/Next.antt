@@ -1,4 +1,4 @@
--- What a relay says and orders next, as a function of how it stands.
+-- What a relay says and orders next, as a function of its state.
 use Rattle.std.specs.Prelude.{◌-◌, ◌^◌, ◌&&◌, ◌==◌, ℕ, not, min, nat_lt, if◌then◌else◌, length, Option, Some, None}
 use Rattle.mux_outside.specs.declared.order.Order.{Order}
 use Rattle.mux_outside.specs.declared.order.Order.TheVariants as order
@@ -15,13 +15,13 @@ use Rattle.house_relay.specs.declared.relay.Outgoing.TheVariants as outgoing
 use Rattle.house_relay.specs.declared.relay.Socket.{Socket}
 use Rattle.house_relay.specs.declared.relay.Socket.TheVariants as socket
 
--- ---- says
+-- ---- sends
 
 -- how many of the held bytes go into the next message
 abbrev pub chunk : Relay → LiveState → ℕ
 chunk r live = min (min (takes live) MAXIMUM) (length r.held.waiting)
 
--- the held bytes first, and behind them the end
+-- the held bytes first, and after them the end
 abbrev pub sends_held : Relay → LiveState → Option Outgoing
 sends_held r live = if nat_lt 0 (length r.held.waiting)
     then (if nat_lt 0 (chunk r live) then Some (outgoing.Data (chunk r live)) else None)

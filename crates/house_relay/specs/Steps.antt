@@ -44,7 +44,7 @@ is_gone r = is_closed r.socket && not (counts r.line)
 
 -- ---- the channel
 
--- the OPEN was said
+-- the OPEN was sent
 abbrev pub sent_open : ChannelState → ChannelState
 sent_open (Dialing dialog) = Dialing dialog
 sent_open (Asked host port version) = Opened version
@@ -65,7 +65,7 @@ sent_confirmation Over = Over
 abbrev pub on_line : (ChannelState → ChannelState) → Relay → Relay
 on_line step r = record r { line = step r.line }
 
--- this was said
+-- this was sent
 abbrev pub sent_of : Outgoing → Relay → Relay
 sent_of Open r = on_line sent_open r
 sent_of Confirmation r = on_line sent_confirmation r
@@ -79,7 +79,7 @@ sent_of (Data n) r = record r {
 sent_of Eof r = on_line (in_live (λ live. Live (ends live))) r
 sent_of (Adjust n) r = on_line (in_live (λ live. Live (grants n live))) r
 
--- room, EOF, CLOSE or a request was heard
+-- room, EOF, CLOSE or a request was received
 abbrev pub room_received : ℕ → ChannelState → ChannelState
 room_received n = in_live (λ live. Live (receives_room n live))
 
@@ -114,14 +114,14 @@ refused_in (Offered remote window maximum) reason r = r
 refused_in (Live live) reason r = r
 refused_in Over reason r = r
 
--- data was heard, which is for the socket or not
+-- data was received, which is for the socket or not
 abbrev pub data_received : Bool → List ℕ → Relay → Relay
 data_received true bytes r = record r { queue = with_bytes bytes r.queue }
 data_received false bytes r = r
 
 -- ---- the socket
 
--- the socket took so many bytes
+-- the socket accepted so many bytes
 abbrev pub taken_of : ℕ → Relay → Relay
 taken_of n r = record r {
   line = takes_in n r.line;
@@ -133,7 +133,7 @@ abbrev pub made_as : Option ℕ → Socket
 made_as (Some stream) = socket.Connecting stream
 made_as None = socket.Closed
 
--- it takes bytes, or is connected
+-- it accepts bytes, or is connected
 abbrev pub connected : Socket → Socket
 connected (socket.Connecting stream) = socket.Open stream
 connected (socket.Open stream) = socket.Open stream
@@ -170,7 +170,7 @@ IsToDial (Offered remote window maximum) = ⊥
 IsToDial (Live live) = ⊥
 IsToDial Over = ⊥
 
--- an OPEN to this end is to be said
+-- an OPEN to this end is to be sent
 abbrev pub IsAskedFor : List ℕ → ℕ → ChannelState → Type 0
 IsAskedFor host port (Dialing dialog) = ⊥
 IsAskedFor host port (Asked host' port' version) = (host' ≡ host) × (port' ≡ port)
@@ -179,8 +179,8 @@ IsAskedFor host port (Offered remote window maximum) = ⊥
 IsAskedFor host port (Live live) = ⊥
 IsAskedFor host port Over = ⊥
 
--- it goes on while the dialog wants more bytes; where that asks for an end, it is asked for in a channel,
--- if one is free; and where it breaks, nothing more comes of it
+-- it goes on while the dialog wants more bytes; where that asks for an end, it is asked for in a
+-- channel, if one is free; and where it breaks, nothing more comes from it
 abbrev pub ComesOf : Outcome → Bool → Relay → Relay → Type 0
 ComesOf Wants free old new = IsToDial new.line × (new.socket ≡ old.socket)
 ComesOf (Connects host port) true old new =

@@ -1,4 +1,4 @@
-//! The dialog of SOCKS in front of a relay.
+//! The dialog of SOCKS before a relay.
 ghost use Rattle.std.specs.Prelude.{◌≡◌, ◌≤◌, length, IfOk, OnOk};
 ghost use Rattle.socks_dialog.specs.State.{HasConnect, GivesConnect, version_of};
 ghost use Rattle.house_relay.specs.Dialing.{GivesAll, GaveSome, IsCame, IsReading, IsReceived, grant_of, refusal_of};
@@ -8,7 +8,7 @@ use proxy_frames::Queue;
 use socks_dialog::{Dialog, Step, granted_in, refused_in};
 use ssh_fields::{OutOfMemory, Small};
 
-/// What a dialog came to by more bytes.
+/// The outcome of a dialog by more bytes.
 #[derive(Drop)]
 pub enum Came {
     /// It wants more bytes.
@@ -27,7 +27,7 @@ pub struct Heard {
     pub came: Came,
 }
 
-/// The replies that a dialog gives now go into the queue; and what it comes to then.
+// The replies that a dialog gives now go into the queue; and its outcome then.
 fn next(dialog: &mut Dialog, queue: &mut Queue) -> Result<Step, OutOfMemory>
     ensures gives { IfOk result (λ step. GaveSome dialog.old
         → GivesAll dialog.old dialog.new step queue.old queue.new) }
@@ -42,7 +42,7 @@ fn next(dialog: &mut Dialog, queue: &mut Queue) -> Result<Step, OutOfMemory>
     }
 }
 
-/// What a dialog came to by this step. The reply to a fault goes into the queue.
+// The outcome of a dialog by this step. The reply to a fault goes into the queue.
 fn came_by(step: Step, dialog: &Dialog, queue: &mut Queue) -> Result<Came, OutOfMemory>
     requires { GivesConnect step → HasConnect dialog.now }
     ensures { IfOk result (λ came. IsCame step (version_of dialog.now) came queue.old queue.new) }
@@ -73,7 +73,7 @@ pub fn receive(dialog: &mut Dialog, bytes: &[u8], queue: &mut Queue) -> Result<H
     Ok(Heard { count, came })
 }
 
-/// A dialog of this version, if one waits, is told that its end is reached.
+/// A dialog of this version, if one waits, is sent the reply that its end is reached.
 pub fn grant(version: Option<u8>, queue: &mut Queue) -> Result<(), OutOfMemory>
     ensures { OnOk result (queue.new ≡ with_bytes (grant_of version) queue.old) }
 {
@@ -83,7 +83,8 @@ pub fn grant(version: Option<u8>, queue: &mut Queue) -> Result<(), OutOfMemory>
     }
 }
 
-/// It is told that its end isn't reached, for a reason of an open failure (RFC 4254, section 5.1).
+/// It is sent the reply that its end isn't reached, for a reason of an open failure (RFC 4254,
+/// section 5.1).
 pub fn refuse(version: Option<u8>, reason: u32, queue: &mut Queue) -> Result<(), OutOfMemory>
     ensures { OnOk result (queue.new ≡ with_bytes (refusal_of version reason) queue.old) }
 {

@@ -1,18 +1,18 @@
-//! One relay of the master's own forwardings: a channel and a socket, and what is under way between
-//! them. Its line is the channel, as the connection protocol has it; its socket is the stream, as the
-//! wire has it. Neither side keeps a list of what it is still to do: what a relay says or orders next
-//! follows from how its sides stand. So a relay at rest is one that wants nothing, and no memory is
-//! taken for what waits.
+//! One relay of the master's own forwardings: a channel and a socket, and the bytes between them.
+//! The channel side is as the connection protocol has it, the socket side as the wire has it.
+//! Neither side keeps a list of what it is still to do: what a relay sends or orders next follows
+//! from the states of its sides. So a relay at rest has nothing to do, and no memory is allocated
+//! for what waits.
 //!
-//! - A relay of a dynamic forwarding begins with a dialog of SOCKS, which says to which end the channel
-//!   is. The replies to it stand before what comes in the channel, and the bytes behind it are the first
-//!   that go into the channel.
-//! - Bytes that were read from the socket are held until the channel takes them. While it takes none
-//!   the socket is paused.
-//! - Bytes that came in the channel are queued for the socket. The window is given back as the
-//!   socket takes them.
-//! - The end of a side goes on to the other behind all bytes. When both have ended and nothing
-//!   waits, or a side fails, the channel is closed, and the socket behind it.
+//! - A relay of a dynamic forwarding begins with a SOCKS dialog, which gives the end that the
+//!   channel is for. The replies to it are queued before what is received in the channel, and the
+//!   bytes after the dialog are the first that go into the channel.
+//! - Bytes read from the socket are held until the channel accepts them. While it accepts none, the
+//!   socket is paused.
+//! - Bytes received in the channel are queued for the socket. The window is given back as the
+//!   socket accepts them.
+//! - The end of a side goes on to the other after all bytes. When both have ended and nothing
+//!   waits, or a side fails, the channel is closed, and then the socket.
 #![tactic(auto)]
 
 mod dialing;

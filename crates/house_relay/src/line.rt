@@ -11,9 +11,9 @@ use ssh_fields::Text;
 pub struct Live {
     /// The server's number.
     pub remote: u32,
-    /// How many bytes of data the server takes for now.
+    /// How many bytes of data the server accepts for now.
     pub room: u32,
-    /// The longest data that it takes in one message.
+    /// The longest data that it accepts in one message.
     pub maximum: u32,
     pub eof_sent: bool,
     pub eof_received: bool,
@@ -21,7 +21,7 @@ pub struct Live {
     pub close_received: bool,
     /// Channel requests of the server that want a reply and have none.
     pub failures: u32,
-    /// Bytes that the socket took and that weren't given back to the window.
+    /// Bytes that the socket accepted and that weren't given back to the window.
     pub owed: u64,
     /// How many of the bytes that wait for the socket are replies to its dialog.
     pub replies: usize,
@@ -30,16 +30,16 @@ pub struct Live {
 /// How a channel stands.
 #[derive(Drop)]
 pub enum ChannelState {
-    /// A dialog is read, which says to which end the OPEN is.
+    /// A dialog is read, which requests the end that the OPEN is for.
     Dialing(Dialog),
-    /// The OPEN to this end is to be said.
+    /// The OPEN to this end is to be sent.
     Asked {
         host: Text,
         port: u32,
         /// The version of the dialog that waits for the answer, if one does.
         version: Option<u8>,
     },
-    /// The OPEN is said and unanswered.
+    /// The OPEN is sent and unanswered.
     Opened {
         /// The version of the dialog that waits for the answer, if one does.
         version: Option<u8>,
@@ -70,7 +70,7 @@ impl ChannelState {
         }
     }
 
-    /// Whether nothing more comes of it, where the socket has given its end or not.
+    /// Whether nothing more comes from it, where the socket has given its end or not.
     pub fn has_no_more(&self, ended: bool) -> bool
         ensures { result ≡ has_no_more ended self.now }
     {
@@ -98,7 +98,7 @@ impl ChannelState {
         }
     }
 
-    /// The socket took so many bytes.
+    /// The socket accepted so many bytes.
     pub fn takes_more(&mut self, n: usize)
         ensures taken { owed_in self.old + n < 2 ^ 64 → self.new ≡ takes_in n self.old }
         ensures stuck { stuck_in self.new ≡ stuck_in self.old }
@@ -128,16 +128,16 @@ impl Live {
         }
     }
 
-    /// How many bytes of data the server takes in one message now.
+    /// How many bytes of data the server accepts in one message now.
     pub fn takes(&self) -> u32
         ensures { result ≡ takes self.now }
     {
         self.room.min(self.maximum)
     }
 
-    // ---- what is said
+    // ---- what is sent
 
-    /// CLOSE is said.
+    /// CLOSE is sent.
     pub fn closes(self) -> ChannelState
         ensures { result ≡ closes self }
     {
@@ -163,7 +163,7 @@ impl Live {
         }
     }
 
-    /// So many bytes of data are said.
+    /// So many bytes of data are sent.
     pub fn sends(self, len: u32) -> Live
         requires { len ≤ self.room }
         ensures { result ≡ sends len self }
@@ -174,7 +174,7 @@ impl Live {
         }
     }
 
-    /// EOF is said.
+    /// EOF is sent.
     pub fn ends(self) -> Live
         ensures { result ≡ ends self }
     {
@@ -195,7 +195,7 @@ impl Live {
         }
     }
 
-    // ---- what is heard
+    // ---- what is received
 
     /// Room for so many bytes more, of which there is never too much.
     pub fn receives_room(self, n: u32) -> Live
@@ -207,7 +207,7 @@ impl Live {
         }
     }
 
-    /// EOF is heard.
+    /// EOF is received.
     pub fn receives_eof(self) -> Live
         ensures { result ≡ receives_eof self }
     {
@@ -217,7 +217,7 @@ impl Live {
         }
     }
 
-    /// CLOSE is heard.
+    /// CLOSE is received.
     pub fn receives_close(self) -> ChannelState
         ensures { result ≡ receives_close self }
     {
@@ -231,7 +231,7 @@ impl Live {
         }
     }
 
-    /// A request is heard, and whether it wants a reply.
+    /// A request is received, and whether it wants a reply.
     pub fn receives_request(self, want: bool) -> Live
         ensures { result ≡ receives_request want self }
     {
@@ -245,7 +245,7 @@ impl Live {
         }
     }
 
-    /// The socket took so many bytes: the replies first, and room is owed for those behind them.
+    /// The socket accepted so many bytes: the replies first, and room is owed for those after them.
     pub fn takes_more(self, n: usize) -> Live
         ensures taken { self.owed + (n - self.replies) < 2 ^ 64 → result ≡ takes_more n self }
         ensures others { result

@@ -1,4 +1,4 @@
--- Items that add nothing to what waits for the server: those that come behind the end, and those
+-- Items that add nothing to what waits for the server: those that come after the end, and those
 -- that cost nothing.
 use Rattle.std.proofs.Common.{◌≡◌, ℕ, ◌≤◌, List, [], ◌∷◌, length, true, false, Bool, refl, ◌∙◌, ap, arith, sym, zero, suc, take}
 use Rattle.std.specs.Prelude.{◌==◌}
@@ -18,7 +18,7 @@ waits rows = length (pending_up rows)
 
 -- ---- after the end
 
--- only what is taken makes rows
+-- only what is accepted makes rows
 abbrev pub Over : List Row → List Row → Type 0
 Over rows after = (waits after ≤ waits rows) × (is_ended after ≡ true)
 

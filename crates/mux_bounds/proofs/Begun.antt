@@ -50,7 +50,7 @@ opened-down-not k [] (Confirmation n s w max) not = refl
 opened-down-not k [] (Within n act) not = refl
 opened-down-not k (q ∷ qs) m not = refl
 
--- what the server says begins nothing, where it opens nothing
+-- what the server sends begins nothing, where it opens nothing
 pub heard-begins-none : (k : ℕ) (p : List ℕ) (up : List (List ℕ)) → ((what : Opens) (s w max : ℕ) → read_summary p ≡ Ok (Open what s w max) → ⊥) → begun_by k up (Heard p) ≡ []
 heard-begins-none k p up never = by_zero (k == 0)
   where

@@ -78,7 +78,7 @@ lost-out (row ∷ own) lost = by_case (loses row) (is_refusal row.fate) lost (λ
     by_case false true lost ih = refl
     by_case false false lost ih = ih lost
 
--- a lost client says nothing, and what the server says ends no end
+-- a lost client sends nothing, and what the server sends ends no end
 forwarded-done : (policy : Policy) (pid pick : ℕ) (before : List Row) (k : ℕ) (item : Item) (row : Row) (own : List Row) → row.client ≡ k → row.item ≡ item → (treat policy pid pick before item).client ≡ k → makes_row before item ≡ true → is_lost (rows_of k before) ≡ true → (fs : List Forwarding) → EachF is_done fs → EachF is_done (forwarded row own fs)
 forwarded-done policy pid pick before k item row own client is mine makes lost fs done = subst (λ (i : Item). EachF is_done (forwarded (record row { item = i }) own fs)) (sym is) (by_item item mine makes)
   where

@@ -1,4 +1,4 @@
--- What a client says itself comes after it was let in.
+-- What a client sends itself comes after it was admitted.
 use Rattle.std.proofs.Common.{◌≡◌, ℕ, List, [], ◌∷◌, ◌++◌, map, true, false, Bool, refl, ◌∙◌, ap, arith, sym, subst, Option, Some, None, inl, inr, zero, suc, take, length}
 use Rattle.std.specs.Prelude.{◌==◌, ◌⊎◌, ◌||◌, ◌&&◌, not, IsTrue, if◌then◌else◌}
 use Rattle.std.proofs.lemmas.Bool.Decides.{nat_tests}

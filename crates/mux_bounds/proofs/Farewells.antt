@@ -1,4 +1,4 @@
--- A row that loses its client says a farewell of at most 28,928 bytes; another says none.
+-- A row that loses its client sends a farewell of at most 28,928 bytes; another sends none.
 use Rattle.std.proofs.Common.{◌≡◌, ℕ, ◌+◌, ◌≤◌, List, [], ◌∷◌, length, true, false, Bool, refl, ap, arith, subst}
 use Rattle.std.specs.Prelude.{filter, flat_map}
 use Rattle.mux_history.specs.Controls.{house_sends}
@@ -85,7 +85,7 @@ bounds-of policy pid before row known each few fits = record {
 pub row-bounds : (policy : Policy) (pid : ℕ) (before : List Row) (row : Row) → RowKnown policy pid before row → ForEach (RowKnown policy pid) before → Bounds (rows_of row.client before) row
 row-bounds policy pid before row known each = bounds-of policy pid before row known each (few-rows policy pid (row ∷ before) (known, each)).0 (fits-rows policy pid (row ∷ before) (known, each)).0
 
--- what each row leaves behind
+-- what each row leaves after
 abbrev pub LeavesLittle : List Row → Row → Type 0
 LeavesLittle before row = weight row.farewell ≤ if_lost (loses row)
 

@@ -1,4 +1,4 @@
--- What the server says goes to clients that were let in.
+-- What the server sends goes to clients that were admitted.
 use Rattle.std.proofs.Common.{◌≡◌, ℕ, zero, suc, List, [], ◌∷◌, ◌++◌, map, take, length, true, false, Bool, refl, ◌∙◌, ap, arith, sym, subst, Some, None, Ok, Err}
 use Rattle.std.specs.Prelude.{◌==◌, ◌||◌, not, filter, find, slice_get, Result}
 use Rattle.std.proofs.lemmas.Bool.Decides.{nat_tests}
@@ -117,7 +117,7 @@ quiet-channels policy pid k (row ∷ before) each quiet = by_case (λ h. quiet-c
         same_client a k e = grind (arith, nat_tests)
     by_case ih false e quiet = ap channels_of (filter-no (λ (r : Row). r.client == k) row before e) ∙ ih (sym (ap greeted (filter-no (λ (r : Row). r.client == k) row before e)) ∙ quiet)
 
--- ---- so what the server says goes to one that said something
+-- ---- so what the server sends goes to one that sent something
 
 never-asked : (before : List Row) (k : ℕ) → greeted (rows_of k before) ≡ false → Asked before k → ⊥
 never-asked before k quiet asked =

@@ -1,4 +1,4 @@
--- How many bytes what is said by new bytes holds.
+-- How many bytes what is sent by new bytes holds.
 use Rattle.std.proofs.Common.{◌≡◌, ℕ, zero, suc, ◌+◌, ◌-◌, ◌≤◌, List, [], ◌∷◌, ◌++◌, length, true, false, Bool, refl, ◌∙◌, ap, arith, sym, subst, take, drop, length-take, length-drop, length-append}
 use Rattle.std.specs.Prelude.{nat_le, nat_lt, nat_eq}
 use Rattle.std.proofs.lemmas.Bool.Decides.{nat_tests}
@@ -20,7 +20,7 @@ not-there n m e = grind (arith, nat_tests)
 
 -- ---- the payload of a frame, with its header
 
--- what is cut from so many bytes, behind a header of so many more
+-- what is cut from so many bytes, after a header of so many more
 abbrev Within : ℕ → ℕ → Front → Type 0
 Within head total (Frame content rest) = length content + head + length rest ≤ total
 Within head total More = Unit {0}
@@ -56,7 +56,7 @@ first-within (w ∷ x ∷ []) = tt
 first-within (w ∷ x ∷ y ∷ []) = tt
 first-within (w ∷ x ∷ y ∷ z ∷ rest) = length-within (of_four w x y z) rest (length (w ∷ x ∷ y ∷ z ∷ rest)) (omega arith)
 
--- ---- what is said in payloads
+-- ---- what is sent in payloads
 
 -- the payloads as frames
 abbrev pub payload_bytes : Outgoing → ℕ
@@ -173,7 +173,7 @@ new-bytes mode before bytes = subst (λ ss. payloads_bytes ss ≤ 262147 + lengt
     by_mode InControl rest few = let a = parse-within (length (rest ++ bytes)) InControl (rest ++ bytes) in let b = length-append rest bytes in omega (arith, a, b, few)
     by_mode InProxy rest few = let a = parse-within (length (rest ++ bytes)) InProxy (rest ++ bytes) in let b = length-append rest bytes in omega (arith, a, b, few)
 
--- ---- the server says payloads alone
+-- ---- the server sends payloads alone
 
 abbrev pub NoBody : Outgoing → Type 0
 NoBody (Body body) = ⊥

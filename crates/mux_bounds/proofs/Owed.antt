@@ -23,7 +23,7 @@ use Rattle.mux_bounds.proofs.SentRequests.{flag}
 use Rattle.mux_bounds.proofs.Weights.{EachOf}
 use Rattle.mux_history.proofs.Bools.{self}
 
--- ---- what a request that is sent tells
+-- ---- what a request that is sent records
 
 sends-yes : (b : Bool) (p : List ℕ) → flag (sends_if b p).sent ≡ true → b ≡ true
 sends-yes true p e = refl

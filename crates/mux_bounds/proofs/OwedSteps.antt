@@ -1,4 +1,5 @@
--- What the server says is paid for by its length, and a late cancel by the request that it answers.
+-- What the server sends is paid for by its length, and a late cancel by the request that it
+-- answers.
 use Rattle.std.proofs.Common.{◌≡◌, ℕ, zero, suc, ◌+◌, ◌*◌, ◌≤◌, List, [], ◌∷◌, ◌++◌, drop, length, true, false, Bool, refl, ◌∙◌, ap, arith, sym, subst, Some, Ok, Err}
 use Rattle.std.specs.Prelude.{nat_lt, slice_get, Result}
 use Rattle.std.proofs.lemmas.List.{append-nil}

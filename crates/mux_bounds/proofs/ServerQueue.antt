@@ -82,7 +82,7 @@ module _ (policy : Policy) (pid : ℕ) (picks : List ℕ) (given : List HouseRep
     fresh = tails policy pid picks given AreFresh (λ row rs h. h.1) (log before) (take n (items_in before mark)) known.fresh;
   }
 
-  -- what a mark does: no one reads, the server says something, or a client does or comes
+  -- what a mark does: nothing is read, the server sends something, or a client does or comes
   abbrev Still : List Mark → Mark → ℕ → Type 0
   Still before mark n = with_owed (cut before mark n) ≤ with_owed (log before)
 
@@ -106,7 +106,7 @@ module _ (policy : Policy) (pid : ℕ) (picks : List ℕ) (given : List HouseRep
   unless-cost : (stream : ℕ) (xs : List Item) → total live_cost (unless_own stream xs) ≤ total live_cost xs
   unless-cost stream xs = elim (is_own_stream stream) as (λ b. total live_cost (elim b as (λ _. List Item) [ true ↦ [] | false ↦ xs ]) ≤ total live_cost xs) [ true ↦ omega arith | false ↦ omega arith ]
 
-  -- what the house says
+  -- what the forwarder sends
   house-mark : (before : List Mark) (bytes : List ℕ) (n : ℕ) → length bytes ≤ 65536 → Facts policy pid (cut before (wire.House (HouseSaid bytes)) n) → Moves before (wire.House (HouseSaid bytes)) n
   house-mark before bytes n short facts = inr (inr (record {
     reads = refl;
@@ -252,7 +252,7 @@ module _ (policy : Policy) (pid : ℕ) (picks : List ℕ) (given : List HouseRep
   nothing-yet rows (inl whole) = whole
   nothing-yet rows (inr part) = part
 
-  -- an ask of a client adds nothing: the rows are those of the mark before
+  -- a request of a client adds nothing: the rows are those of the mark before
   asked-log : (k id : ℕ) (opening : Bool) (ask : StartAsk) (answer : HouseReply) (before : List Mark) (rows : List Row) → IsLog (setting policy pid picks given) (wire.House (HouseAsked k id opening ask answer) ∷ before) rows → IsLog (setting policy pid picks given) before rows
   asked-log k id opening ask answer before rows (inl whole) = inl whole
   asked-log k id opening ask answer before rows (inr part) = inr part
@@ -276,7 +276,7 @@ module _ (policy : Policy) (pid : ℕ) (picks : List ℕ) (given : List HouseRep
 
   -- ---- at each row
 
-  -- what holds at each row, and of the log behind each of some items, holds at each row behind them
+  -- what holds at each row, and of the log after each of some items, holds at each row after them
   each-row : (P : List Row → Type 0) (rows : List Row) (n : ℕ) (xs : List Item) → ((m : ℕ) → P (more_all (setting policy pid picks given) rows (take m xs))) → AtEach P rows → AtEach P (more_all (setting policy pid picks given) rows (take n xs))
   each-row P rows zero xs all each = each
   each-row P rows (suc n) [] all each = each

@@ -191,7 +191,7 @@ wants-true (Requests other true) what e = let same : other ≡ what = cc in ap (
 wants-true (Requests other false) what e = cc
 wants-true m what e = cc
 
--- what is asked for is said in a payload
+-- what is asked for is sent in a payload
 pub record Wanted (row : Row) (what : Global) : Type 0 where
   pub k : ℕ
   pub payload : List ℕ

@@ -1,4 +1,4 @@
--- What is said in one payload has at most 262,143 bytes.
+-- What is sent in one payload has at most 262,143 bytes.
 use Rattle.std.proofs.Common.{◌≡◌, ℕ, zero, suc, ◌-◌, ◌≤◌, List, [], ◌∷◌, ◌++◌, length, true, false, Bool, refl, arith, map, sym, subst, take, drop, length-take}
 use Rattle.std.specs.Prelude.{◌==◌, nat_le, nat_lt, nat_eq, reverse}
 use Rattle.std.proofs.lemmas.Bool.Decides.{nat_tests}
@@ -68,7 +68,7 @@ first-small (w ∷ x ∷ []) = tt
 first-small (w ∷ x ∷ y ∷ []) = tt
 first-small (w ∷ x ∷ y ∷ z ∷ rest) = length-small (of_four w x y z) rest
 
--- ---- what is said
+-- ---- what is sent
 
 abbrev pub SmallSending : Outgoing → Type 0
 SmallSending (Payload p) = IsSmall p

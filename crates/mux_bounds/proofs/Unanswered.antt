@@ -33,7 +33,7 @@ Fits before row =
     loses row ≡ false → unanswered_asks (rows_of row.client before) ≤ 1024
     → unanswered_asks (rows_of row.client before) + length (sent_flags (is_sent row) (wanted_by row)) ≤ 1024
 
--- ---- what a client says
+-- ---- what a client sends
 
 module _ (own : List Row) (k : ℕ) (p : List ℕ) (reply : Option HouseReply) (fw down : List (List ℕ)) (full : Option Why) where
   abbrev Fitting : Outcome → Option Global → Type 0

@@ -1,4 +1,4 @@
--- What a row sends for its item: a payload of the client as long as it was said, or one message of
+-- What a row sends for its item: a payload of the client as long as it was sent, or one message of
 -- the master.
 use Rattle.std.proofs.Common.{◌≡◌, ℕ, zero, suc, ◌+◌, ◌≤◌, List, [], ◌∷◌, length, true, false, Bool, refl, ap, arith, sym, subst, Option, Some, None, Ok, Err, inl, inr}
 use Rattle.std.specs.Prelude.{filter, nat_lt, slice_get, IfSome, Result}
@@ -33,7 +33,7 @@ use Rattle.mux_history.proofs.Sends.{Sent, admits-sent, body-sent, house-sent, r
 use Rattle.mux_bounds.proofs.Shorts.{AskShort, EachAsk, IsBrief, asks-brief}
 use Rattle.mux_bounds.proofs.Weights.{bound-brief, cancel-weight, close-weight, failure-weight, weight-one}
 
--- ---- what a client says
+-- ---- what a client sends
 
 with-length : (p : List ℕ) (o : Option ℕ) (n : ℕ) → IfSome o (λ at. at + 4 ≤ length p) → length (with_number p o n) ≡ length p
 with-length p None n fits = refl
@@ -54,7 +54,7 @@ payload-weight policy k own pick p bytes = by_case (read_summary p)
     by_case (Err bad) = omega arith
     by_case (Ok m) = sent-weight own pick p m (sent_summary policy k own pick p m).sent bytes (sent-by policy k own pick p m)
 
--- ---- what the server says
+-- ---- what the server sends
 
 pub get-each : (P : Ask → Type 0) (xs : List Ask) (n : ℕ) (a : Ask) → EachAsk P xs → slice_get xs n ≡ Some a → P a
 get-each P [] n a all got = cc

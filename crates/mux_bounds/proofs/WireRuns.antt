@@ -1,4 +1,4 @@
--- Where what is read comes right behind a wait for it, it is read where there is room.
+-- Where what is read comes right after a wait for it, it is read where there is room.
 use Rattle.std.proofs.Common.{◌≡◌, ℕ, ◌≤◌, ◌<◌, List, [], ◌∷◌, refl, sym, subst, true, arith}
 use Rattle.std.proofs.lemmas.Bool.Decides.{nat_tests}
 use Rattle.mux_outside.specs.declared.house.HouseReply.{HouseReply}

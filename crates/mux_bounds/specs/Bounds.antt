@@ -90,18 +90,18 @@ abbrev pub longest_mark : ℕ
 longest_mark = longest_farewells + MAX_CLIENTS * (MAX_FORWARDINGS * longest_cancel) + 3 *
     (LONGEST_FRAME + 3 + longest_piece)
 
--- the log of all marks, or one that want of memory cut
+-- the log of all marks, or one that was cut as memory ran out
 abbrev pub IsLog : Setting → List Mark → List Row → Type 0
 IsLog setting marks rows = (rows ≡ log_of_journal setting marks) ⊎ IsCut setting marks rows
 
--- of every log of a lawful journal, whatever numbers are picked and whatever the house replies
+-- of every log of a lawful journal, whatever numbers are picked and whatever the forwarder replies
 abbrev pub OverJournals : (Setting → List Mark → List Row → Type 0) → Type 0
 OverJournals P =
     (policy : Policy) (pid : ℕ) (picks : List ℕ) (given : List HouseReply) (marks : List Mark)
     (rows : List Row) → IsLawful marks → IsLog (by_lists policy pid picks given) marks rows
     → AreFresh rows → P (by_lists policy pid picks given) marks rows
 
--- the rows of the newest mark add no more, where the asks of a client count to the mark before
+-- the rows of the newest mark add no more, where the requests of a client count to the mark before
 abbrev pub AddsAtOnce : Setting → List Mark → List Row → Type 0
 AddsAtOnce setting [] rows = pending 0 rows ≡ []
 AddsAtOnce setting (House mark ∷ before) rows = let earlier = AddsAtOnce setting before rows in
@@ -115,14 +115,14 @@ MarksAddLittle = OverJournals AddsAtOnce
 
 -- ---- all marks
 
--- the house is let in, or says something
+-- the forwarder is admitted, or sends something
 abbrev pub speaks : Mark → Bool
 speaks (House HouseIn) = true
 speaks (House (HouseSaid bytes)) = true
 speaks mark = false
 
--- bytes are read, clients accepted and the house heard only while less than 4,194,304 bytes wait for
--- the server
+-- bytes are read, clients accepted and the forwarder read only while less than 4,194,304 bytes wait
+-- for the server
 abbrev pub ReadsWithRoom : Setting → List Mark → Mark → Type 0
 ReadsWithRoom setting before mark =
     (reads mark || speaks mark) ≡ true → waiting_up setting before < READING_STOPS_AT
@@ -144,9 +144,9 @@ ServerQueueIsBounded =
 
 -- ---- all marks of a wire
 
--- where what is read and accepted comes right behind a wait for it, as every wire keeps it, and
--- where each wait, and all that the house says, keeps what a run promises of it, so much waits for
--- the server at no row
+-- where what is read and accepted comes right after a wait for it, as every wire keeps it, and
+-- where each wait, and all that the forwarder sends, keeps what a run promises of it, so much waits
+-- for the server at no row
 abbrev pub RunsAreBounded : Type 0
 RunsAreBounded =
     OverJournals (λ setting marks rows. Throughout ReadsWhenAsked marks

@@ -1,5 +1,5 @@
 -- How many channels, forwardings, requests and clients there are at most: each holds of every right
--- log of a lawful wire, whatever numbers are picked and whatever the house replies.
+-- log of a lawful wire, whatever numbers are picked and whatever the forwarder replies.
 use Rattle.std.specs.Prelude.{ℕ, ◌+◌, ◌≡◌, ◌≤◌, List, [], false, length}
 use Rattle.mux_history.specs.declared.limits.TheConstants.{MAX_CHANNELS, MAX_CLIENTS, MAX_FORWARDINGS, MAX_GLOBAL_REQUESTS}
 use Rattle.mux_history.specs.Rows.{Row, rows_of, is_lost}
@@ -49,7 +49,7 @@ abbrev pub RequestsAreFew : Type 0
 RequestsAreFew = OverRight (λ setting rows. AtEach RequestsBounded rows)
 
 -- at most 1,024 global requests of a client that is not lost have no answer, those among them that
--- were refused and wait behind one that was sent
+-- were refused and wait after one that was sent
 abbrev pub UnansweredBounded : List Row → Type 0
 UnansweredBounded rows = (k : ℕ) → is_lost (rows_of k rows) ≡ false
     → unanswered_asks (rows_of k rows) ≤ MAX_GLOBAL_REQUESTS

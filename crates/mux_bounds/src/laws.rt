@@ -26,7 +26,7 @@ pub fn requests_are_few()
 {}
 
 /// At no row have more than 1,024 global requests of a client that is not lost no answer, those
-/// among them that were refused and wait behind one that was sent.
+/// among them that were refused and wait after one that was sent.
 pub fn unanswered_are_few()
     ensures { UnansweredAreFew }
 {}
@@ -58,7 +58,7 @@ pub fn rows_add_little()
 {}
 
 /// The rows of one mark of at most 65,536 bytes add at most 4,096,009 bytes to what waits for the
-/// server, also where want of memory cut them.
+/// server, also if they were cut as memory ran out.
 pub fn marks_add_little()
     ensures { MarksAddLittle }
 {}
@@ -69,7 +69,7 @@ pub fn server_queue_is_bounded()
     ensures { ServerQueueIsBounded }
 {}
 
-/// Over any wire, which reads and accepts only right behind a wait for that, and where each wait
+/// Over any wire, which reads and accepts only right after a wait for that, and where each wait
 /// keeps what a run promises of it, less than 8,388,608 bytes wait for the server at every row.
 pub fn runs_are_bounded()
     ensures { RunsAreBounded }

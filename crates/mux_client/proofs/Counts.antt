@@ -130,7 +130,7 @@ pub decided-answered : (s : ClientState) (r : Result (Unit {0}) Talked) (a b : C
 decided-answered s (Ok x) a b h heard = tt
 decided-answered s (Err answer) a b h heard = at-answered answer s.stage s.queue a b h heard
 
--- where some calls came before, or behind
+-- where some calls came before, or after
 pub answered-later : (n : ℕ) (answer : Talked) (a b c : CallCounts) → Well n a b → AnsweredBy answer b c → AnsweredBy answer a c
 answered-later n talked.Done a b c w h = up-later a.server_pieces b.server_pieces c.server_pieces w.server_pieces h
 answered-later n (talked.Refused id) a b c w h = up-later a.server_pieces b.server_pieces c.server_pieces w.server_pieces h

@@ -24,7 +24,7 @@ pub forward_frame : (opening : Bool) (id : ℕ) (a : StartAsk)
 forward_frame true id a = ap (λ n. u32 n ++ fields_of number.OPEN_FWD id a) (size number.OPEN_FWD id a)
 forward_frame false id a = ap (λ n. u32 n ++ fields_of number.CLOSE_FWD id a) (size number.CLOSE_FWD id a)
 
--- one part behind the other
+-- one part after the other
 joined : (out a b c d e f g h : List ℕ)
     → (((((((out ++ a) ++ b) ++ c) ++ d) ++ e) ++ f) ++ g) ++ h
     ≡ out ++ (a ++ (b ++ (c ++ (d ++ (e ++ (f ++ (g ++ h)))))))

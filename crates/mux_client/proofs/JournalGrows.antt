@@ -55,7 +55,7 @@ journal-more asks marks m j right opens front = record {
   opens = each-more (WaitOpen asks) [] marks m j.opens opens;
 }
 
--- ---- what is told
+-- ---- what is recorded
 
 pub recorded-one : (start recorded : Option (List Mark)) (marks : List Mark) (m : Mark) → recorded ≡ option_map (λ l. l ++ marks) start → option_map (λ l. l ++ m ∷ []) recorded ≡ option_map (λ l. l ++ (marks ++ m ∷ [])) start
 recorded-one None recorded marks m e = ap (option_map (λ (l : List Mark). l ++ m ∷ [])) e

@@ -1,4 +1,4 @@
--- A client reads a frame: what it stands for then.
+-- A client reads a frame: what it represents then.
 use Rattle.std.proofs.Common.{◌≡◌, ◌≢◌, ◌≤◌, ◌<◌, ◌∙◌, refl, sym, ap, subst, ℕ, zero, suc, ◌+◌, ◌-◌, Bool, true, false, List, [], ◌∷◌, ◌++◌, length, drop, Option, Some, None, append_assoc, arith}
 use Rattle.std.specs.Prelude.{IsSome, IsTrue, ◌↔◌, slice_get}
 use Rattle.std.proofs.lemmas.List.{append-nil}
@@ -27,7 +27,7 @@ regroup a b c d t =
     stop : List ℕ → List ℕ → Talk
     stop s o = record { sent = s; out = o; outcome = t.outcome }
 
--- where what is to come of the old client begins with what the new one has added
+-- where what is still to come for the old client begins with what the new one has added
 pub stands-on : (asks : Asks) (bytes taken shown added line : List ℕ) (old new : ClientState) → new.queue ≡ old.queue ++ added
     → ((more : List ℕ) (ended : Bool) → later old asks more ended ≡ sending added (showing line (later new asks more ended)))
     → HasRequest asks new.stage → Stands asks bytes taken shown old → Stands asks bytes taken (shown ++ line) new
@@ -110,7 +110,7 @@ has-due asks id at = by_case (request_at asks id) refl
     by_case None e = tt
     by_case (Some r) e = (r, e)
 
--- ---- behind a fault, or while more is wanted
+-- ---- after a fault, or while more is wanted
 
 pub replied-none : (asks : Asks) (id at : ℕ) (broken : Bool) (request : Request) → request_at asks id ≡ Some request → replied (drop id (requests_of asks)) id at [] broken ≡ stops (tail_outcome broken at)
 replied-none asks id at broken request e = ap (λ rs. replied rs id at [] broken) (drop-some (requests_of asks) id request e)
@@ -156,7 +156,7 @@ not-cut asks old new at place e none = subst (λ s. ReadsNextTo asks old s None)
       over = λ z. absurd (let w : Some at ≡ None = sym place ∙ z in cc);
     }
 
--- the same, as the code tells it
+-- the same, as the code has it
 pub none-cut : (asks : Asks) (old new : ClientState) (at : ℕ) (b : Bool) → place_of old.stage ≡ Some at → new ≡ after_cut (first_frame Control old.framer.rest) at old
     → IsTrue b ↔ IsSome new.framer.current → b ≡ false → ReadsNextTo asks old new None
 none-cut asks old new at true place e frame empty = absurd (let z : true ≡ false = empty in cc)
@@ -229,7 +229,7 @@ breaks asks old id at body is means = record {
 
 -- ---- the next request is due
 
--- where the talk goes on with it, behind this line
+-- where the talk goes on with it, after this line
 pub record Goes (asks : Asks) (old : ClientState) (body : List ℕ) (id at : ℕ) (line : List ℕ) : Type 0 where
   pub on : (bodies : List (List ℕ)) (broken : Bool) → HasRequest asks old.stage
       → later_at old.stage (requests_of asks) (body ∷ bodies) broken ≡ showing line (talk_on (drop id (requests_of asks)) id at bodies broken)

@@ -53,7 +53,7 @@ last-then {a = a} {b = b} {c = c} f s = record {
   holds = s.holds;
 }
 
--- the same behind what was shown before
+-- the same after what was shown before
 pub shows-behind : {V : Type 0} {a b c : Option (List ℕ)} {x y z : V} {First : List ℕ → Type 0} (Then : List ℕ → Type 0) (shown : List ℕ) (f : ShowsOn a b x y First) → ShowsOn b c y z (λ more. Then ((shown ++ f.more) ++ more))
     → ShowsOn a c x z (λ more. Then (shown ++ more))
 shows-behind {a = a} {b = b} {c = c} Then shown f s = record {

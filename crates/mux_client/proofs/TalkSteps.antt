@@ -25,7 +25,7 @@ use Rattle.mux_client.specs.Talking.{IsGoing, IsAnswerAt, IsOffered, IsJournal, 
 use Rattle.mux_client.proofs.JournalGrows.{given-more, taken-more, ended-more, held-more, journal-more, recorded-one}
 use Rattle.mux_client.proofs.ReadFrames.{replied-none}
 
--- want of memory that a `?` hands on
+-- out of memory that a `?` hands on
 pub want-of-memory : {A : Type 0} (r : Result A Talked) (On : A → Type 0) (Over : Talked → Type 0) → IsErrAnd r (λ e. e ≡ talked.OutOfMemory) → Over talked.OutOfMemory → TalksOn r On Over
 want-of-memory (Ok x) On Over h o = absurd h
 want-of-memory (Err e) On Over h o = subst Over (sym h) o
@@ -35,7 +35,7 @@ pub handed-on : {A : Type 0} (r : Result A Talked) (answer : Talked) (On : A →
 handed-on (Ok x) answer On Over h o = absurd h
 handed-on (Err e) answer On Over h o = subst Over (sym h) o
 
--- ---- the talk that a client stands for
+-- ---- the talk that a client represents
 
 pub talk-now : {asks : Asks} {bytes taken shown : List ℕ} {s : ClientState} (h : Stands asks bytes taken shown s) (ended : Bool)
     → talk asks bytes ended ≡ sending (taken ++ s.queue) (showing shown (later s asks [] ended))
@@ -126,7 +126,7 @@ talking-next {asks} {start} {recorded} v held' shown' s' m n ended held = record
   held_is = held ∙ ap held_streams (sym (held-more v.marks m));
 }
 
--- a mark that is no wait and of which the client hears nothing
+-- a mark that is no wait and of which the client receives nothing
 abbrev IsOther : Mark → Type 0
 IsOther (Waits waiting want streams listens) = ⊥
 IsOther (Accepts k) = Unit {0}
@@ -153,7 +153,7 @@ open-other asks marks m o = tt
 pub next-other : {asks : Asks} {marks : List Mark} {shown : List ℕ} {s : ClientState} (m : Mark) → IsOther m → Stands asks (bytes_given marks ++ given_at m) (bytes_taken 0 marks ++ taken_at 0 m) shown s → NextMark asks marks shown s m
 next-other {asks} {marks} m o h = record { right = right-other asks marks m o; opens = open-other asks marks m o; stands = h }
 
--- nothing came, and nothing was taken
+-- nothing came, and nothing was accepted
 pub same-stands : {asks : Asks} {bytes taken shown : List ℕ} {s : ClientState} → Stands asks bytes taken shown s → Stands asks (bytes ++ []) (taken ++ []) shown s
 same-stands {asks} {bytes} {taken} {shown} {s} h =
     subst (λ b. Stands asks b (taken ++ []) shown s) (sym (append-nil bytes)) (subst (λ t. Stands asks bytes t shown s) (sym (append-nil taken)) h)
@@ -176,7 +176,7 @@ talk-holds {shown = shown} {s = s} v = talking-next v (0 ∷ []) shown s (Holds 
 
 -- ---- it is over
 
--- for want of memory, whatever was shown of what was due
+-- if memory runs out, whatever was shown of what was due
 pub talk-starved : {asks : Asks} {start recorded : Option (List Mark)} {held shown : List ℕ} {s : ClientState} → Talking asks start recorded held shown s → (more rest : List ℕ) → shown ≡ more ++ rest
     → IsTalk asks talked.OutOfMemory start recorded more shown
 talk-starved {asks} {shown = shown} {s = s} v more rest e = let l = later s asks [] (has_ended v.marks) in
@@ -220,7 +220,7 @@ talk-failed {asks} {shown = shown} {s = s} v settled =
       offered = λ z. absurd (let w : talked.ServerFailed ≡ talked.Spent = z in cc);
     }
 
--- by what the master said
+-- by what the master sent
 answers-at : (asks : Asks) (marks : List Mark) (answer : Talked) (queue shown : List ℕ) (stage : TalkStage) → talk_of asks marks ≡ talk_at (bytes_taken 0 marks ++ queue) shown (outcome_of stage) → IsAnswerAt answer stage queue
     → Answers answer asks marks × (Shows answer shown (talk_of asks marks).out) × (answer ≢ talked.WriteFault) × (answer ≢ talked.Spent)
 answers-at asks marks talked.Done queue shown stage t a =
@@ -263,7 +263,7 @@ held-true : (b : Bool) → held_streams b ≡ 0 ∷ [] → b ≡ true
 held-true true e = refl
 held-true false e = absurd (let z : [] ≡ 0 ∷ [] = e in cc)
 
--- what was offered was taken, or stream 0 is blocked
+-- what was offered was accepted, or stream 0 is blocked
 talk-offered : {asks : Asks} {start recorded : Option (List Mark)} {held shown : List ℕ} {s : ClientState} (v : Talking asks start recorded held shown s) → IsSettled s → IsOffered held s → TookAll asks v.marks ⊎ (is_held v.marks ≡ true)
 talk-offered v settled (inl none) =
     inl (sym (ap (λ (k : Talk). k.sent) (settled-talk v.stands (has_ended v.marks) settled v.ended) ∙ ap (λ q. bytes_taken 0 v.marks ++ q) none ∙ append-nil (bytes_taken 0 v.marks)))

@@ -127,7 +127,7 @@ ends-greeted requests (f ∷ fs) =
 
 -- ---- by the bytes
 
--- behind a fault nothing is cut
+-- after a fault nothing is cut
 pub cut-fault : (rest more : List ℕ) (f : BadFrame) → first_frame framing.Control rest ≡ Faulty f
     → cut framing.Control (rest ++ more) ≡ record { frames = []; rest = rest ++ more; fault = Some f }
 cut-fault rest more f e =

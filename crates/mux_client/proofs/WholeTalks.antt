@@ -56,7 +56,7 @@ pub decided-talk : {asks : Asks} {start recorded : Option (List Mark)} {held sho
 decided-talk v settled offered (Ok x) d = talk-spent v settled d (λ some. offered)
 decided-talk v settled offered (Err answer) d = talk-decided v settled answer d
 
--- ---- where the wire tells, and the sink
+-- ---- if the wire records, and the sink
 
 pub talks-recorded : (asks : Asks) (answer : Talked) (start recorded : Option (List Mark)) (shown due : List ℕ) → IsTalk asks answer start recorded shown due → TalksRecorded asks answer start recorded
 talks-recorded asks answer None None shown due t = tt

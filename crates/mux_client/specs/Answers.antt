@@ -4,7 +4,7 @@ use Rattle.ssh_grammar.specs.Control.{Answer, Greets, Okay, PermissionDenied, Fa
 use Rattle.mux_client.specs.declared.answer.Answer.{Answer as Read}
 use Rattle.mux_client.specs.declared.answer.Answer.TheVariants as read
 
--- the code tells no reason, and no message that answers nothing
+-- the code keeps no reason, and no message that answers nothing
 abbrev pub shown_of : Answer → Read
 shown_of (Okay id) = read.Okay id
 shown_of (PermissionDenied id reason) = read.Refusal id

@@ -1,4 +1,4 @@
--- What contracts see of a client, and the talk that it stands for.
+-- What contracts see of a client, and the talk that it represents.
 use Rattle.std.specs.Prelude.{◌≡◌, ◌≤◌, ◌<◌, ℕ, ◌+◌, ◌*◌, Bool, ⊤, List, [], ◌∷◌, ◌++◌, length, drop, Option, Some, None, IsSome, Result, Ok, Err}
 use Rattle.ssh_fields.specs.declared.out_of_memory.OutOfMemory.{OutOfMemory}
 use Rattle.ssh_grammar.specs.declared.fault.BadFrame.{BadFrame}
@@ -23,7 +23,7 @@ pub record ClientState : Type 0 where
 
 -- ---- each client
 
--- while a reply is awaited its place is not far behind: a frame has 262,148 bytes at most
+-- while a reply is awaited its place is not far from it: a frame has 262,148 bytes at most
 abbrev pub IsPlaced : TalkStage → Type 0
 IsPlaced (Asked id at) = at ≤ (id + 1) * 262148
 IsPlaced Greets = ⊤
@@ -31,7 +31,7 @@ IsPlaced Granted = ⊤
 IsPlaced (Refused id) = ⊤
 IsPlaced (Broken at) = ⊤
 
--- and no fault was told
+-- and no fault was reported
 abbrev pub IsFaultless : TalkStage → Option BadFrame → Type 0
 IsFaultless Greets fault = fault ≡ None
 IsFaultless (Asked id at) fault = fault ≡ None
@@ -49,7 +49,7 @@ place_of (Broken at) = None
 
 -- ---- what the calls leave
 
--- a client that heard nothing
+-- a client that received nothing
 abbrev pub new_client : ClientState
 new_client = record { framer = new_framer Control; queue = hello_frame; stage = Greets }
 
@@ -61,13 +61,13 @@ heard piece s = record s { framer = pushed piece s.framer }
 abbrev pub without_sent : ℕ → ClientState → ClientState
 without_sent n s = record s { queue = drop n s.queue }
 
--- the stage behind a front: a fault breaks the talk at this place
+-- the stage after a front: a fault breaks the talk at this place
 abbrev pub stage_behind : Front → ℕ → TalkStage → TalkStage
 stage_behind (Frame content rest) at stage = stage
 stage_behind More at stage = stage
 stage_behind (Faulty fault) at stage = Broken at
 
--- behind the next front, whose place this is
+-- after the next front, whose place this is
 abbrev pub after_cut : Front → ℕ → ClientState → ClientState
 after_cut front at s = record s {
   framer = after_front front s.framer;

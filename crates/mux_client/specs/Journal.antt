@@ -1,5 +1,5 @@
--- A talk over a wire that tells its marks: what stream 0 gave and took, and what it must have taken
--- at each wait.
+-- A talk over a wire that records its marks: what stream 0 gave and accepted, and what it must have
+-- accepted at each wait.
 use Rattle.std.specs.Prelude.{◌≡◌, ◌⊎◌, ℕ, ◌==◌, Bool, true, false, ◌||◌, List, [], ◌∷◌, ◌++◌, flat_map, Option, Some, None}
 use Rattle.std.specs.List.{list_any}
 use Rattle.mux_outside.specs.Marks.{bytes_taken}
@@ -30,7 +30,7 @@ ends_at _ = false
 abbrev pub has_ended : List Mark → Bool
 has_ended marks = list_any ends_at marks
 
--- whether it takes nothing for now: by the last mark that says so, or that it takes again
+-- whether it accepts nothing for now: by the last mark that records so, or that it accepts again
 abbrev pub held_by : Bool → Mark → Bool
 held_by held (Holds t) = t == 0 || held
 held_by held (Frees t) = elim (t == 0) [ true ↦ false | false ↦ held ]
@@ -48,38 +48,38 @@ is_held marks = is_held_from false marks
 abbrev pub talk_of : Asks → List Mark → Talk
 talk_of asks marks = talk asks (bytes_given marks) (has_ended marks)
 
--- what it took is a front of what is sent
+-- what it accepted is a front of what is sent
 pub record TookFront (asks : Asks) (marks : List Mark) : Type 0 where
   pub rest : List ℕ
   pub whole : (talk_of asks marks).sent ≡ bytes_taken 0 marks ++ rest
 
--- it took all of it
+-- it accepted all of it
 abbrev pub TookAll : Asks → List Mark → Type 0
 TookAll asks marks = bytes_taken 0 marks ≡ (talk_of asks marks).sent
 
--- at one mark: at a wait all was taken that is sent for the bytes read so far, or stream 0 is
+-- at one mark: at a wait all was accepted that is sent for the bytes read so far, or stream 0 is
 -- blocked
 abbrev pub WaitsRight : Asks → List Mark → Mark → Type 0
 WaitsRight asks before (Waits waiting want streams listens) =
     TookAll asks before ⊎ (is_held before ≡ true)
 WaitsRight asks before _ = Unit {0}
 
--- at each mark behind some others
+-- at each mark after some others
 abbrev pub Throughout : Asks → List Mark → List Mark → Type 0
 Throughout asks before [] = Unit {0}
 Throughout asks before (mark ∷ marks) =
     WaitsRight asks before mark × TookFront asks (before ++ mark ∷ [])
     × Throughout asks (before ++ mark ∷ []) marks
 
--- at each mark, behind some others
+-- at each mark, after some others
 abbrev pub AtEach : (List Mark → Mark → Type 0) → List Mark → List Mark → Type 0
 AtEach P before [] = Unit {0}
 AtEach P before (mark ∷ marks) = P before mark × AtEach P (before ++ mark ∷ []) marks
 
 -- ---- how it ended
 
--- this answer is that of the talk: the last reply came and all was taken, a refusal, or a breach;
--- with any other answer the talk has no outcome, or not all was taken
+-- this answer is that of the talk: the last reply came and all was accepted, a refusal, or a
+-- breach; with any other answer the talk has no outcome, or not all was accepted
 abbrev pub Answers : Talked → Asks → List Mark → Type 0
 Answers Done asks marks = ((talk_of asks marks).outcome ≡ Some Finished) × TookAll asks marks
 Answers (Refused id) asks marks = (talk_of asks marks).outcome ≡ Some (RefusedAt id)
@@ -95,8 +95,8 @@ abbrev pub held_streams : Bool → List ℕ
 held_streams true = 0 ∷ []
 held_streams false = []
 
--- a call of wait behind these marks: it reads, and waits for stream 0 where that is blocked; and a
--- talk that is over waits no more, so it has no outcome yet, or not all was taken
+-- a call of wait after these marks: it reads, and waits for stream 0 where that is blocked; and a
+-- talk that is over waits no more, so it has no outcome yet, or not all was accepted
 pub record IsOpenWait (asks : Asks) (before : List Mark) (waiting : List ℕ) (want : Want) : Type 0
   where
     pub opens : Answers Spent asks before
@@ -107,7 +107,7 @@ abbrev pub WaitOpen : Asks → List Mark → Mark → Type 0
 WaitOpen asks before (Waits waiting want streams listens) = IsOpenWait asks before waiting want
 WaitOpen asks before _ = Unit {0}
 
--- a front of what is shown, and all of it but for a fault of the sink and want of memory
+-- a front of what is shown, and all of it, except at a fault of the sink and if memory runs out
 pub record ShowsFront (shown out : List ℕ) : Type 0 where
   pub rest : List ℕ
   pub whole : out ≡ shown ++ rest
@@ -117,7 +117,7 @@ Shows WriteFault shown out = ShowsFront shown out
 Shows OutOfMemory shown out = ShowsFront shown out
 Shows _ shown out = shown ≡ out
 
--- a whole talk, where the wire tells: the marks and the bytes of the sink before it and after it
+-- a whole talk, if the wire records: the marks and the bytes of the sink before it and after it
 pub record Talks (asks : Asks) (answer : Talked) (old new : List Mark) : Type 0 where
   pub marks : List Mark
   pub added : new ≡ old ++ marks
@@ -129,7 +129,7 @@ TalksRecorded asks answer (Some old) (Some new) = Talks asks answer old new
 TalksRecorded asks answer None None = Unit {0}
 TalksRecorded asks answer _ _ = ⊥
 
--- the same of the sink, where both tell
+-- the same of the sink, if both record
 pub record ShowsTalk (asks : Asks) (answer : Talked) (old new : List Mark) (before now : List ℕ)
     : Type 0 where
   pub marks : List Mark

@@ -33,7 +33,7 @@ is_hello body = elim (read_control body) [ Ok c ↦ is_hello_control c | Err e �
 
 -- ---- a reply
 
--- the request is done, with these bytes to be shown; it is refused; or the master said something
+-- the request is done, with these bytes to be shown; it is refused; or the master sent something
 -- else
 pub data ReplyVerdict : Type 0 where
   Grants : (line : List ℕ) → ReplyVerdict
@@ -63,7 +63,7 @@ id_of (Alive n pid) = Some n
 id_of (RemotePort n port) = Some n
 id_of _ = None
 
--- a refusal can come to each request
+-- a refusal can be the reply to each request
 abbrev pub meaning : Request → Answer → ReplyVerdict
 meaning request (PermissionDenied n reason) = Refuses
 meaning request (Failed n reason) = Refuses

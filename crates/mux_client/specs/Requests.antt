@@ -1,4 +1,4 @@
--- What a control client asks of a master, one request after the other (PROTOCOL.mux).
+-- What a control client requests of a master, one request after the other (PROTOCOL.mux).
 use Rattle.std.specs.Prelude.{◌≤◌, ℕ, Bool, true, false, List, [], ◌∷◌, ◌++◌, length, map, Option, Some, None, slice_get}
 use Rattle.std.specs.List.{AllByRecursion}
 use Rattle.ssh_fields.specs.Fields.{u32}
@@ -19,7 +19,7 @@ pub data Request : Type 0 where
   Opens : (what : ForwardAsk) → Request
   Closes : (what : ForwardAsk) → Request
 
--- a forwarding, as it is said
+-- a forwarding, as it is sent
 abbrev pub forward_of : StartAsk → ForwardAsk
 forward_of a = record {
   kind = a.kind;

@@ -35,13 +35,13 @@ sending bytes t = record { sent = bytes ++ t.sent; out = t.out; outcome = t.outc
 abbrev pub showing : List ℕ → Talk → Talk
 showing line t = record { sent = t.sent; out = line ++ t.out; outcome = t.outcome }
 
--- the place behind a frame
+-- the place after a frame
 abbrev pub behind : ℕ → List ℕ → ℕ
 behind at body = at + (4 + length body)
 
 -- ---- frame by frame
 
--- behind the last whole frame: broken where a fault stands there or the bytes ended, and else it
+-- after the last whole frame: broken where a fault stands there or the bytes ended, and else it
 -- waits
 abbrev pub broken_by : Option BadFrame → Bool → Bool
 broken_by (Some fault) ended = true
@@ -58,7 +58,7 @@ on_reply Refuses id at later = stops (Some (RefusedAt id))
 on_reply Breaks id at later = stops (Some (BrokenAt at))
 
 -- the requests from this one on, with its id, the place of the next frame, the frames from there
--- on, and whether the talk is broken behind them
+-- on, and whether the talk is broken after them
 abbrev pub talk_on : List Request → ℕ → ℕ → List (List ℕ) → Bool → Talk
 talk_on [] id at bodies broken = stops (Some Finished)
 talk_on (request ∷ requests) id at [] broken =

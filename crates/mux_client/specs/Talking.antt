@@ -34,7 +34,7 @@ pub record AcceptsNone (old new : Seen) : Type 0 where
 abbrev pub IsHeld : List ℕ → Type 0
 IsHeld held = (held ≡ []) ⊎ (held ≡ 0 ∷ [])
 
--- right behind `join`: stream 0 alone is open, and it takes bytes
+-- right after `join`: stream 0 alone is open, and it accepts bytes
 pub record IsJoined (seen : Seen) : Type 0 where
   pub alone : IsAlone seen
   pub none_blocked : seen.blocked ≡ []
@@ -53,7 +53,7 @@ pub record IsBetween (s : ClientState) (held : List ℕ) (seen : Seen) : Type 0 
   pub blocked : seen.blocked ≡ held
   pub is_held : IsHeld held
 
--- the talk isn't over: a reply is awaited, or not all was taken
+-- the talk isn't over: a reply is awaited, or not all was accepted
 abbrev pub IsGoing : TalkStage → List ℕ → Type 0
 IsGoing stage.Greets queue = ⊤
 IsGoing (stage.Asks id at) queue = ⊤
@@ -80,11 +80,11 @@ abbrev pub BreaksOff : ClientState → Result (Unit {0}) Talked → Type 0
 BreaksOff s (Ok x) = place_of s.stage ≡ None
 BreaksOff s (Err answer) = (at : ℕ) × (place_of s.stage ≡ Some at) × (answer ≡ BadMaster at)
 
--- all was taken that is to be sent, or stream 0 takes no more for now
+-- all was accepted that is to be sent, or stream 0 accepts no more for now
 abbrev pub IsOffered : List ℕ → ClientState → Type 0
 IsOffered held s = (s.queue ≡ []) ⊎ (held ≡ 0 ∷ [])
 
--- some of it was taken, and stream 0 takes more; or it was offered
+-- some of it was accepted, and stream 0 accepts more; or it was offered
 abbrev pub TookOrOffered : Bool → List ℕ → ClientState → ClientState → Type 0
 TookOrOffered true held old new = (held ≡ []) × (length new.queue < length old.queue)
 TookOrOffered false held old new = IsOffered held new
@@ -110,7 +110,7 @@ IsOfSink Spent = ⊥
 
 -- ---- the marks
 
--- the wire told these marks more
+-- the wire recorded these marks more
 abbrev pub Records : Option (List Mark) → Option (List Mark) → List Mark → Type 0
 Records start recorded marks = recorded ≡ option_map (λ m. m ++ marks) start
 
@@ -119,7 +119,7 @@ pub record IsJournal (asks : Asks) (marks : List Mark) : Type 0 where
   pub throughout : Throughout asks [] marks
   pub opens : AtEach (WaitOpen asks) [] marks
 
--- the client stands for what the wire told since the start, and for what was shown
+-- the client represents what the wire recorded since the start, and for what was shown
 pub record Talking (asks : Asks) (start recorded : Option (List Mark)) (held shown : List ℕ)
     (s : ClientState) : Type 0 where
   pub marks : List Mark
@@ -129,9 +129,9 @@ pub record Talking (asks : Asks) (start recorded : Option (List Mark)) (held sho
   pub ended : has_ended marks ≡ true → place_of s.stage ≡ None
   pub held_is : held ≡ held_streams (is_held marks)
 
--- a talk that is over: these bytes were shown, and these were to be shown until then; a fault of the
--- sink comes at a line; and with its turns spent the master took all that is sent by then, or takes
--- no more for now
+-- a talk that is over: these bytes were shown, and these were to be shown until then; a fault of
+-- the sink comes at a line; and with its turns spent the master accepted all that is sent by then,
+-- or accepts no more for now
 pub record IsTalk (asks : Asks) (answer : Talked) (start recorded : Option (List Mark))
     (shown due : List ℕ) : Type 0 where
   pub marks : List Mark
@@ -150,7 +150,7 @@ TalksOn (Err answer) On Over = Over answer
 
 -- ---- the sink
 
--- it took these bytes more, and where there are none it wasn't called
+-- it accepted these bytes more, and where there are none it wasn't called
 pub record ShowsOn {V : Type 0} (before now : Option (List ℕ)) (old new : V)
     (Holds : List ℕ → Type 0) : Type 0 where
   pub more : List ℕ
@@ -158,7 +158,7 @@ pub record ShowsOn {V : Type 0} (before now : Option (List ℕ)) (old new : V)
   pub quiet : more ≡ [] → new ≡ old
   pub holds : Holds more
 
--- it took these bytes more of those that were to be shown, and where there are none of these it
+-- it accepted these bytes more of those that were to be shown, and where there are none of these it
 -- wasn't called
 pub record ShowsLast {V : Type 0} (before now : Option (List ℕ)) (old new : V)
     (Holds : List ℕ → List ℕ → Type 0) : Type 0 where
@@ -190,7 +190,7 @@ abbrev pub talked_of : Result (Unit {0}) Talked → Talked
 talked_of (Ok x) = Spent
 talked_of (Err answer) = answer
 
--- the same, and what follows from it where the wire tells, and the sink
+-- the same, and what follows from it if the wire records, and the sink
 pub record HasTalked {V : Type 0} (asks : Asks) (answer : Talked) (start recorded : Option (List Mark))
     (before now : Option (List ℕ)) (old new : V) : Type 0 where
   pub whole : WholeTalk asks answer start recorded before now old new

@@ -40,7 +40,7 @@ impl Model for Client {
 }
 
 impl Client {
-    /// A client that has heard nothing, and has the hello to send.
+    /// A client that has received nothing, and has the hello to send.
     pub fn new(alloc: Global) -> Result<Client, OutOfMemory>
         ensures new { IfOk result (λ client. client ≡ new_client) }
         ensures stands { IfOk result (λ client. (asks : TheAsks) → Stands asks [] [] [] client) }
@@ -72,7 +72,7 @@ impl Client {
         self.queue.front()
     }
 
-    /// So many of the first bytes were taken.
+    /// So many of the first bytes were accepted.
     pub fn took(&mut self, n: usize)
         requires { n ≤ length self.old.queue }
         ensures exact { self.new ≡ without_sent n self.old }

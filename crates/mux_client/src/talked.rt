@@ -11,7 +11,7 @@ pub enum Talked {
     /// The request with this id was refused.
     Refused { id: u32 },
     /// The master broke the protocol: the place of the frame in its bytes, and at an end the place
-    /// behind its last whole frame.
+    /// after its last whole frame.
     BadMaster { at: usize },
     /// The sink failed.
     WriteFault,

@@ -17,9 +17,9 @@ use crate::verdict::{OutLine, text_of};
 use mux_outside::{FileError, Piece, Sink, Streams, Turn, Want, Wire, Wrote};
 use std::alloc::Global;
 
-// In what follows an `Err` says how the talk is over.
+// In what follows an `Err` is how the talk is over.
 
-// Offers the master what is to be sent, once: whether it took some and can be offered the rest.
+// Offers the master what is to be sent, once: whether it accepted some and can be offered the rest.
 fn offer_once<W: Wire>(
     client: &mut Client,
     wire: &mut W,
@@ -59,8 +59,8 @@ fn offer_once<W: Wire>(
     }
 }
 
-// Offers the master what is to be sent, until all is taken, or it takes no more for now, or its
-// stream fails.
+// Offers the master what is to be sent, until all is accepted, or it accepts no more for now, or
+// its stream fails.
 fn offer<W: Wire>(client: &mut Client, wire: &mut W, held: &mut Streams) -> Result<(), Talked>
     requires alone { IsAlone (W.state wire.old).seen }
     requires between { IsBetween client.old held.old (W.state wire.old).seen }
@@ -259,8 +259,8 @@ fn converse<W: Wire, S: Sink>(
 }
 
 /// Asks a master over stream 0, and shows what it answers, for so many turns at most: how it ended.
-/// What the wire tells of it is the talk by the master's bytes: what stream 0 took is a front of
-/// what is sent, and at each wait all of it, or the stream is blocked.
+/// What the wire records of it is the talk by the master's bytes: what stream 0 accepted is a front
+/// of what is sent, and at each wait all of it, or the stream is blocked.
 pub fn talk<W: Wire, S: Sink>(
     alloc: Global,
     wire: &mut W,

@@ -1,4 +1,4 @@
--- A request for a forwarding, and one that cancels one, are sent: the list stands for the
+-- A request for a forwarding, and one that cancels one, are sent: the list represents the
 -- forwardings after them.
 use Rattle.std.proofs.Common.{◌≡◌, ◌≤◌, ◌<◌, ℕ, List, [], ◌∷◌, ◌++◌, length, true, false, Bool, refl, ◌∙◌, ap, sym, subst, Some, None, arith, suc, zero}
 use Rattle.std.specs.Prelude.{filter, ◌==◌, ◌&&◌, ◌||◌, ◌⊎◌, slice_get}
@@ -79,7 +79,7 @@ count-last : (test : Forward → Bool) (f : Forward) (fs : List Forward) (b : Bo
 count-last test f fs true h = ap length (filter-append test fs (f ∷ []) ∙ ap (λ ys. filter test fs ++ ys) (filter-yes test f [] h)) ∙ length-last (filter test fs) f
 count-last test f fs false h = ap length (filter-append test fs (f ∷ []) ∙ (ap (λ ys. filter test fs ++ ys) (filter-no test f [] h) ∙ append-nil (filter test fs)))
 
--- what each place of a client has, with more forwardings behind
+-- what each place of a client has, with more forwardings after
 has-append : (place : ℕ) (what : full.Global) (k : ℕ) (gs hs : List Forwarding) → HasAt place what (filter (λ g. g.client == k) gs) → HasAt place what (filter (λ g. g.client == k) (gs ++ hs))
 has-append place (full.Forward key) k gs hs h = find-any (λ (g : Forwarding). g.client == k) (is_asked_at place) (gs ++ hs) ∙ (any-append (λ (g : Forwarding). (g.client == k) && is_asked_at place g) gs hs ∙ or-first (any_of (λ (g : Forwarding). (g.client == k) && is_asked_at place g) gs) (any_of (λ (g : Forwarding). (g.client == k) && is_asked_at place g) hs) (sym (find-any (λ (g : Forwarding). g.client == k) (is_asked_at place) gs) ∙ h))
 has-append place (full.Cancel key) k gs hs h = find-any (λ (g : Forwarding). g.client == k) (is_leaving_at place) (gs ++ hs) ∙ (any-append (λ (g : Forwarding). (g.client == k) && is_leaving_at place g) gs hs ∙ or-first (any_of (λ (g : Forwarding). (g.client == k) && is_leaving_at place g) gs) (any_of (λ (g : Forwarding). (g.client == k) && is_leaving_at place g) hs) (sym (find-any (λ (g : Forwarding). g.client == k) (is_leaving_at place) gs) ∙ h))

@@ -1,4 +1,4 @@
--- The number that an open or a confirmation of a client takes is the one that goes up.
+-- The number that an open or a confirmation of a client uses is the one that goes up.
 use Rattle.std.proofs.Common.{◌≡◌, ℕ, List, [], ◌∷◌, true, false, Bool, refl, ◌∙◌, ap, sym, Option, None, Result, Ok, Err, inl, inr}
 use Rattle.std.specs.Prelude.{◌&&◌, is_some}
 use Rattle.ssh_grammar.specs.declared.fault.Bad.{Bad}
@@ -15,7 +15,7 @@ use Rattle.mux_core.specs.Calls.{row_sent}
 use Rattle.mux_core.specs.Laws.{CarriesPick}
 use Rattle.mux_core.proofs.SendsWithin.{said-ok}
 
--- a row takes a number where these go up, and this number is said
+-- a row uses a number where these go up, and this number is sent
 abbrev takes : List (List ℕ) → Option ℕ → Bool
 takes ups own = (elim ups as (λ _. Bool) [ [] ↦ false | p ∷ ps ↦ true ]) && is_some own
 

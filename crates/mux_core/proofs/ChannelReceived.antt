@@ -1,4 +1,4 @@
--- A message that the server says in a channel: which one, its row, and the table after it.
+-- A message that the server sends in a channel: which one, its row, and the table after it.
 use Rattle.std.proofs.Common.{◌≡◌, ℕ, List, [], ◌∷◌, ◌++◌, length, map, true, false, Bool, refl, ◌∙◌, ap, sym, subst, Option, Some, None, Ok}
 use Rattle.std.specs.Prelude.{filter, find, ◌==◌, ◌&&◌, option_map}
 use Rattle.std.specs.List.{AllByRecursion}
@@ -33,7 +33,7 @@ use Rattle.mux_core.proofs.Found.{at-number, find-filter, find-narrow, held-loca
 use Rattle.mux_core.proofs.OpensJudged.{all-unit}
 use Rattle.mux_core.proofs.Quiet.{IsQuiet}
 
--- ---- the channel that a number stands for
+-- ---- the channel that a number represents
 
 pub shown-number : (n : ℕ) (e : Entry) → shown_at n e ≡ is_number (shown_number e) n
 shown-number n e = by_shown (is_shown e.channel)

@@ -110,7 +110,7 @@ closed-channels k n s w m p o rows e small sent =
 
 -- ---- the entry and its channel
 
--- a ledger that waits stands for a channel in which nothing was done
+-- a ledger that waits represents a channel in which nothing was done
 pub fresh-acts : (st : State) (x : Channel) → IsStateOf st x → is_answered st ≡ false → x.acts ≡ []
 fresh-acts (Opened by window maximum) x is h = is.fresh
 fresh-acts (Confirmed up down) x is h = absurd (cc)

@@ -1,4 +1,4 @@
--- What a client says, by its message.
+-- What a client sends, by its message.
 use Rattle.std.proofs.Common.{◌≡◌, ◌<◌, ℕ, List, [], ◌∷◌, true, false, Bool, refl, ◌∙◌, ap, sym, subst, Some, None, Ok, Result, Err, IfOk, zero, suc, slice_index_or}
 use Rattle.std.specs.Prelude.{◌==◌, is_some}
 use Rattle.mux_history.specs.Requests.{wanted_in}

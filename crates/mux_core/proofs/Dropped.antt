@@ -1,4 +1,4 @@
--- Forwardings that are taken out of both lists at the same places.
+-- Forwardings that are removed of both lists at the same places.
 use Rattle.std.proofs.Common.{◌≡◌, ◌<◌, ℕ, List, [], ◌∷◌, length, true, false, Bool, refl, ◌∙◌, ap, sym, subst, None, arith, suc}
 use Rattle.std.specs.Prelude.{filter, ◌==◌, ◌&&◌, is_some}
 use Rattle.std.specs.List.{AllByRecursion}
@@ -13,7 +13,7 @@ use Rattle.mux_core.proofs.Asked.{all-map}
 use Rattle.mux_core.proofs.Pairs.{find-any, or-first, or-found, or-second}
 use Rattle.mux_core.proofs.Removed.{all-by, count-by, kept_by, listed-by, order-by, two-by}
 
--- a fact of each that is taken out
+-- a fact of each that is removed
 abbrev pub Drops : (Forwarding → Type 0) → List Bool → List Forwarding → Type 0
 Drops P [] gs = Unit {0}
 Drops P (b ∷ bs) [] = Unit {0}

@@ -152,6 +152,6 @@ each-left (y ∷ ys) known differ = (first, both-all (λ x. Differ y x × Differ
     later : (x : Channel) → Differ y x × Differ x y → with_ups None (flat_map leave_channel ys) x ≡ left x → with_ups None (flat_map leave_channel (y ∷ ys)) x ≡ left x
     later x d ih = ups-append (leave_channel y) (flat_map leave_channel ys) x ∙ (ap (with_ups None (flat_map leave_channel ys)) (leave-other y x known.0.small d.0) ∙ ih)
 
--- with the cancels behind
+-- with the cancels after
 pub all-left : (ys : List Channel) (gs : List Forwarding) → AllByRecursion Leaving ys → AllDiffer ys → AllByRecursion (λ x. with_ups None (flat_map leave_channel ys ++ flat_map leave_forwarding gs) x ≡ left x) ys
 all-left ys gs known differ = all-same (λ x. with_ups None (flat_map leave_channel ys) x ≡ left x) (λ x. with_ups None (flat_map leave_channel ys ++ flat_map leave_forwarding gs) x ≡ left x) (λ x h. ups-append (flat_map leave_channel ys) (flat_map leave_forwarding gs) x ∙ (cancels-none gs (with_ups None (flat_map leave_channel ys) x) ∙ h)) ys (each-left ys known differ)

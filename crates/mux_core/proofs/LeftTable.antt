@@ -1,4 +1,4 @@
--- The table after a farewell stands for the channels after it, and what is known of each of them.
+-- The table after a farewell represents the channels after it, and what is known of each of them.
 use Rattle.std.proofs.Common.{◌≡◌, ◌<◌, ℕ, List, [], ◌∷◌, map, true, false, Bool, refl, ◌∙◌, ap, sym, subst, Option, Some, None, arith}
 use Rattle.std.specs.Prelude.{◌==◌, ◌&&◌, is_some, is_none}
 use Rattle.std.specs.List.{AllByRecursion}

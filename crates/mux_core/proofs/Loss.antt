@@ -203,7 +203,7 @@ length-lost : (k : ℕ) (cs : List MemberState) → length (lost_clients k cs) �
 length-lost k [] = refl
 length-lost k (c ∷ cs) = ap suc (length-lost k cs)
 
--- a client stands for the log with the loss
+-- a client represents the log with the loss
 client-lost : (k : ℕ) (old new : List Row) (c : MemberState) → IsLoss k old new → ClientFits (look old) c → ClientFits (look new) (lose k c)
 client-lost k old new c loss fits = record {
   nonzero = fits.nonzero;

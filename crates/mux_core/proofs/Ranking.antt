@@ -43,7 +43,7 @@ pub record RankOf (k place : ℕ) (fs : List Forward) (gs : List Forwarding) : T
 some-is : (a b : ℕ) → (let x : Option ℕ = Some a in x) ≡ Some b → a ≡ b
 some-is a b h = cc
 
--- those behind the one that is meant
+-- those after the one that is meant
 behind : (k place rank : ℕ) (f : Forward) (g : Forwarding) → g.client ≡ k → f.cancel ≡ Some rank → g.cancel ≡ Some place → (fs : List Forward) (gs : List Forwarding) → AreListed fs gs → InOrderWith f g fs gs → AllByRecursion (AreTwo g) gs → AllPairs (Sits k place rank) fs gs
 behind k place rank f g mine cf cg [] [] listed order two = tt
 behind k place rank f g mine cf cg [] (h ∷ hs) listed order two = absurd listed

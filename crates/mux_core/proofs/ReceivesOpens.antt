@@ -56,7 +56,7 @@ open-used s new r w m what p p' up rows st used e = by_live (is-live s r rows st
     by_live : IsLive rows r → ReceivesAs new p p' up up (heard.Broke (broke.NumberInUse r)) rows (dest rows p)
     by_live (live x g) = subst (ReceivesAs new p p' up up (heard.Broke (broke.NumberInUse r)) rows) (sym (dest-used r w m what p rows x e g)) (record { sent = refl; to = refl })
 
--- ---- nobody's: the master answers
+-- ---- for no client: the master answers
 
 pub open-refused : (s : CoreState) (r w m : ℕ) (what : Opens) (p p' : List ℕ) (up up' : QueueState) (rows : List Row) → Stands s rows → is_some (number_of_remote s.channels r) ≡ false → owner_for what s.forwards ≡ None → read_summary p ≡ Ok (Open what r w m) → read_summary (open_failure r ADMINISTRATIVELY_PROHIBITED not_permitted) ≡ Ok (Within r Fails) → up'.waiting ≡ up.waiting ++ frame_payload (open_failure r ADMINISTRATIVELY_PROHIBITED not_permitted) → ReceivesAs s p p' up up' heard.Master rows (dest rows p)
 open-refused s r w m what p p' up up' rows st free nobody e f sent =

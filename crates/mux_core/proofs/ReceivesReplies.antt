@@ -1,4 +1,5 @@
--- The server's replies: where each goes, what it tells, and what follows for a client that is lost.
+-- The server's replies: where each goes, what it records, and what follows for a client that is
+-- lost.
 use Rattle.std.proofs.Common.{◌≡◌, ℕ, List, [], ◌∷◌, ◌++◌, length, map, true, false, Bool, refl, ◌∙◌, ap, sym, subst, Option, Some, None, Result, Ok, Err, IfOk, OnOk}
 use Rattle.std.specs.Prelude.{filter, not}
 use Rattle.std.specs.List.{AllByRecursion}

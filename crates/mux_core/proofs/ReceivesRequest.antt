@@ -1,4 +1,4 @@
--- The server asks of all: the master refuses.
+-- The server sends a global request: the master refuses.
 use Rattle.std.proofs.Common.{◌≡◌, ℕ, List, [], ◌∷◌, ◌++◌, length, map, true, false, Bool, refl, ◌∙◌, ap, sym, subst, None, Ok}
 use Rattle.std.specs.Prelude.{filter, ◌==◌}
 use Rattle.std.proofs.lemmas.List.{append-nil}
@@ -81,7 +81,7 @@ request-passed s what p p' up rows st e =
     } in
     subst (ReceivesAs s p p' up up heard.Master rows) (sym (dest-ok rows p (Requests what false) e)) recorded
 
--- ---- a message of the transport is for nobody
+-- ---- a message of the transport is for no client
 
 quiet-transport : (n : ℕ) (p : List ℕ) → read_summary p ≡ Ok (Transport n) → IsQuiet (bare (Heard p) 0 silent)
 quiet-transport n p e = record {

@@ -1,4 +1,4 @@
--- A message that the server says in a channel: where it goes, to a client that is served or lost.
+-- A message that the server sends in a channel: where it goes, to a client that is served or lost.
 use Rattle.std.proofs.Common.{◌≡◌, ℕ, List, [], ◌∷◌, ◌++◌, map, true, false, Bool, refl, ◌∙◌, ap, sym, subst, Option, Some, None, Ok}
 use Rattle.std.specs.Prelude.{find, ◌==◌, ◌&&◌, ◌||◌, not, unwrap_or}
 use Rattle.std.specs.List.{AllByRecursion}

@@ -1,4 +1,4 @@
--- A client that is told something was let in; and each answer is that of the row.
+-- A client for which something is recorded was admitted; and each answer is that of the row.
 use Rattle.std.proofs.Common.{◌≡◌, ℕ, List, [], ◌∷◌, length, true, false, Bool, refl, ◌∙◌, ap, sym, subst, Option, Some, None, Result, Ok, Err, IfOk}
 use Rattle.std.specs.Prelude.{find, ◌==◌, ◌&&◌, not, option_map}
 use Rattle.std.specs.List.{AllByRecursion}
@@ -178,7 +178,7 @@ dest-known s k p rows st h = by_read (read_summary p) refl
     by_read (Err bad) e = absurd (let x : Breaks (broke.Message bad) ≡ ToClient k = sym (rw (e, dest) refl) ∙ h in cc)
     by_read (Ok m) e = by_summary m (sym (dest-ok rows p m e) ∙ h)
 
--- ---- a client that is told something was let in
+-- ---- a client for which something is recorded was admitted
 
 recorded-known : (s new : CoreState) (p p' : List ℕ) (up up' : QueueState) (h : recorded.Delivery) (rows : List Row) → Stands s rows → ReceivesAs new p p' up up' h rows (dest rows p) → IsLetIn s h
 recorded-known s new p p' up up' (heard.Client k refusals) rows st receives = by_dest (dest rows p) refl receives

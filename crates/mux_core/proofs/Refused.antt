@@ -1,4 +1,4 @@
--- A request that wants a reply and is refused: the refusal goes out at once, or behind what waits.
+-- A request that wants a reply and is refused: the refusal goes out at once, or after what waits.
 use Rattle.std.proofs.Common.{◌≡◌, ◌≤◌, ℕ, List, [], ◌∷◌, ◌++◌, length, drop, map, true, false, Bool, refl, ◌∙◌, ap, sym, subst, None, Ok, arith, suc}
 use Rattle.std.specs.Prelude.{filter, ◌==◌, ◌&&◌, ◌||◌, not, is_some}
 use Rattle.std.specs.List.{AllByRecursion}
@@ -152,7 +152,7 @@ refused-stands s k p what rows st serves e =
       };
     }
 
--- ---- what it tells
+-- ---- what it records
 
 recorded-if : (k : ℕ) (p : List ℕ) (what : Global) (own : List Row) (w : List Bool) → read_summary p ≡ Ok (Requests what true) → is_lost own ≡ false → Waits (wanted own) (replies own) w → all_recorded (refused_row k p) own ≡ map frame_payload (if_none w)
 recorded-if k p what own w e here waits =

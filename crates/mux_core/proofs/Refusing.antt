@@ -77,7 +77,7 @@ asked-out k place key own (f ∷ fs) (g ∷ gs) listed waits two at asked there 
 
 -- ---- the others don't wait there
 
--- those behind it
+-- those after it
 later-idle : (k place : ℕ) (key : Key) (own : ℕ → Places) (g : Forwarding) (gs : List Forwarding) → asks_at k place g ≡ true → slice_get (own k).asked place ≡ Some (record { client = k; what = full.Forward key }) → AllByRecursion (AreTwo g) gs → AllByRecursion (λ h. IsAwaited (own h.client) h) gs → AllByRecursion (IsBystander k place) gs
 later-idle k place key own g [] at asked two waits = tt
 later-idle k place key own g (h ∷ hs) at asked two waits = ((λ mine. (never (is_request h place) (λ r. both mine r), no-cancel-at k place key own h mine waits.0 asked)), later-idle k place key own g hs at asked two.1 waits.1)

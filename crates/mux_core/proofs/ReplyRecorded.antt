@@ -1,4 +1,4 @@
--- What a reply tells its asker: the reply, and the refusals that waited behind it.
+-- What a reply records its asker: the reply, and the refusals that waited after it.
 use Rattle.std.proofs.Common.{◌≡◌, ℕ, List, [], ◌∷◌, ◌++◌, length, drop, map, true, false, Bool, refl, ◌∙◌, ap, Ok, zero, suc}
 use Rattle.std.specs.Prelude.{not, replicate}
 use Rattle.std.proofs.lemmas.List.{append-nil}

@@ -1,4 +1,4 @@
--- What a client asks of all, by the message.
+-- A client's global request, by the message.
 use Rattle.std.proofs.Common.{◌≡◌, ◌<◌, ℕ, List, [], ◌∷◌, ◌++◌, length, drop, map, true, false, Bool, refl, ◌∙◌, ap, sym, subst, None, Ok, arith, suc}
 use Rattle.std.specs.Prelude.{filter, ◌==◌, ◌&&◌, ◌||◌, not, nat_le, nat_lt, is_some, is_none}
 use Rattle.std.proofs.lemmas.List.{append-nil}

@@ -1,4 +1,4 @@
--- The verdicts of a message that a client says in a channel.
+-- The verdicts of a message that a client sends in a channel.
 use Rattle.std.proofs.Common.{◌≡◌, ℕ, List, [], ◌∷◌, ◌++◌, true, false, Bool, refl, ◌∙◌, ap, sym, subst, Option, Some, None, Ok}
 use Rattle.std.specs.Prelude.{is_some, ◌&&◌}
 use Rattle.std.proofs.lemmas.List.{append-nil}
@@ -35,7 +35,7 @@ use Rattle.mux_core.proofs.Served.{IsServed, served}
 use Rattle.mux_core.proofs.Silent.{records-nothing}
 use Rattle.mux_core.proofs.Within.{quiet, within-stands}
 
--- what is said in a confirmed channel, by its message
+-- what is sent in a confirmed channel, by its message
 pub said-ok : (policy : Policy) (k pick : ℕ) (own : List Row) (p : List ℕ) (m : Summary) → read_summary p ≡ Ok m → sent_payload policy k own pick p ≡ sent_summary policy k own pick p m
 said-ok policy k pick own p m e = rw (e, sent_payload) refl
 

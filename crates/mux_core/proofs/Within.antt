@@ -1,4 +1,4 @@
--- A message that a client says in a confirmed channel.
+-- A message that a client sends in a confirmed channel.
 use Rattle.std.proofs.Common.{◌≡◌, ℕ, List, [], ◌∷◌, ◌++◌, length, map, true, false, Bool, refl, ◌∙◌, ap, sym, subst, Some, None, Ok}
 use Rattle.std.specs.Prelude.{filter, find, ◌==◌, ◌&&◌}
 use Rattle.std.proofs.lemmas.List.{append-nil}
@@ -83,7 +83,7 @@ theirs-found s k r n l rows st c =
     right true d h = h
     right false d h = cc
 
--- the core after it stands for the log with its row
+-- the core after it represents the log with its row
 pub within-stands : (s : CoreState) (k r n : ℕ) (a : Act) (p : List ℕ) (old new : Ledger) (over : Bool) (rows : List Row) → Stands s rows → IsServed k (look rows) → read_summary p ≡ Ok (Within r a) → (c : ConfirmedEntry s.channels k r n old) → ActsOn Up a c.entry.ledger new over → Stands (record s { channels = acted c.entry.number new over s.channels }) (sent_row k p ∷ rows)
 within-stands s k r n a p old new over rows st serves e c acts =
     quiet-stands s (acted c.entry.number new over s.channels) (sent_row k p) rows st (quiet k r a p e) serves

@@ -1,4 +1,4 @@
--- What each call of a core does, from every log that the core stood for.
+-- What each call of a core does, from every log that the core represented.
 use Rattle.std.specs.Prelude.{◌≡◌, ◌≢◌, ◌<◌, ℕ, Bool, true, false, List, [], ◌∷◌, nat_lt, is_some, None, Ok, replicate}
 use Rattle.ssh_grammar.specs.Messages.{Opens}
 use Rattle.ssh_grammar.specs.declared.framing.Framing.TheVariants.{Proxy}
@@ -34,7 +34,7 @@ pub record IsNew (k : ℕ) (rows : List Row) : Type 0 where
   pub nonzero : k ≢ 0
   pub fresh : rows_of k rows ≡ []
 
--- it is let in exactly where fewer than 64 clients have open matters
+-- it is admitted exactly where fewer than 64 clients have open matters
 pub record Admits (old new : CoreState) (k : ℕ) (let_in : Bool) (rows : List Row) : Type 0 where
   pub exact : let_in ≡ nat_lt (open_matters rows) MAX_CLIENTS
   pub stands : Stands new (bare (Admit k) k (admits rows) ∷ rows)
@@ -43,9 +43,9 @@ abbrev pub AdmitsOn : CoreState → CoreState → ℕ → Bool → Type 0
 AdmitsOn old new k let_in = (rows : List Row) → Stands old rows → IsNew k rows
     → Admits old new k let_in rows
 
--- ---- said
+-- ---- sent
 
--- the row of what a client says, as far as the item goes
+-- the row of what a client sends, as far as the item goes
 abbrev pub row_sent : CoreState → ℕ → List ℕ → ℕ → List Row → Row
 row_sent s k p pick rows =
     bare (Says k (Payload p) None) k (sent_payload s.policy k (rows_of k rows) pick p)
@@ -85,7 +85,7 @@ abbrev pub SendsIn : CoreState → CoreState → ℕ → List ℕ → ℕ → Qu
 SendsIn old new k p pick up up' v rows =
     SendsRow old new (row_sent old k p pick rows) pick up up' v rows
 
--- of all logs, where this message is said by a client that is served
+-- of all logs, where this message is sent by a client that is served
 abbrev pub SendsAs : CoreState → CoreState → ℕ → List ℕ → Summary → ℕ → QueueState → QueueState
     → Verdict → Type 0
 SendsAs old new k p m pick up up' v =
@@ -117,9 +117,9 @@ abbrev pub AnswerFits : Verdict → Type 0
 AnswerFits (verdict.Answer payload) = IsContent Proxy payload
 AnswerFits v = Unit {0}
 
--- ---- heard
+-- ---- received
 
--- what a client is told by an answer
+-- what is recorded for a client by an answer
 abbrev pub recorded_by : declared.Delivery → List ℕ → List (List ℕ)
 recorded_by (heard.Client k refusals) p =
     frame_payload p ∷ replicate refusals (frame_payload request_failure)
@@ -133,7 +133,7 @@ GoesTo k lost (heard.Client j refusals) = (lost ≡ false) × (j ≡ k)
 GoesTo k lost (heard.Lost j) = (lost ≡ true) × (j ≡ k)
 GoesTo k lost h = ⊥
 
--- the row of what the server says to a client, as far as the item goes
+-- the row of what the server sends to a client, as far as the item goes
 abbrev pub received_row_of : ℕ → List ℕ → List Row → Row
 received_row_of k p rows = bare (Heard p) k (received_for (rows_of k rows) p)
 
@@ -163,7 +163,7 @@ ReceivesAs new p p' up up' h rows (ToClient k) = ReceivesClient new k p p' up up
 ReceivesAs new p p' up up' h rows Disconnects = ReceivesEnd heard.Disconnect up up' h
 ReceivesAs new p p' up up' h rows (Breaks why) = ReceivesEnd (heard.Broke why) up up' h
 
--- a client that is told something was let in
+-- a client for which something is recorded was admitted
 abbrev pub IsLetIn : CoreState → declared.Delivery → Type 0
 IsLetIn s (heard.Client k refusals) = is_known s.clients k ≡ true
 IsLetIn s (heard.Lost k) = is_known s.clients k ≡ true
@@ -182,7 +182,7 @@ ReceivesOn old new p p' up up' h = (rows : List Row) → Stands old rows
 -- ---- gone
 
 -- a row that loses its client and sent nothing: its stream is gone, or it is dropped for what it
--- says
+-- sends
 abbrev pub IsUnsent : Item → ℕ → Type 0
 IsUnsent (Gone j) k = j ≡ k
 IsUnsent (Says j outgoing given) k = j ≡ k
@@ -194,21 +194,21 @@ pub record Leaves (new : CoreState) (row : Row) (up up' : QueueState) (rows : Li
   pub sent : up'.waiting ≡ (with_payloads (farewell row (rows_of row.client rows)) up).waiting
   pub stands : Stands new (with_farewell row (rows_of row.client rows) ∷ rows)
 
--- of a row that the core was told nothing of, or that changed nothing
+-- of a row that wasn't reported to the core, or that changed nothing
 abbrev pub LeavesUnsent : CoreState → CoreState → ℕ → QueueState → QueueState → Type 0
 LeavesUnsent old new k up up' =
     (rows : List Row) (row : Row) → Stands old rows → is_served old.clients k ≡ true
     → IsUnsent row.item k → row.client ≡ k → row.up ≡ [] → row.farewell ≡ [] → loses row ≡ true
     → Leaves new row up up' rows
 
--- of a row that the core stands for, and that drops its client after all
+-- of a row that the core represents, and that drops its client after all
 abbrev pub LeavesRecorded : CoreState → CoreState → ℕ → QueueState → QueueState → Type 0
 LeavesRecorded old new k up up' =
     (rows : List Row) (row : Row) (down : List (List ℕ)) (why : Why) → Stands old (row ∷ rows)
     → is_served old.clients k ≡ true → row.client ≡ k → row.fate ≡ Goes → loses row ≡ false
     → row.farewell ≡ [] → Leaves new (record row { down = down; fate = Drop why }) up up' rows
 
--- of all logs, where the server says this message and nothing goes up
+-- of all logs, where the server sends this message and nothing goes up
 abbrev pub ReceivesSummary : CoreState → CoreState → List ℕ → List ℕ → Summary → declared.Delivery → Type 0
 ReceivesSummary old new p p' m h = (rows : List Row) (up : QueueState) → Stands old rows
     → read_summary p ≡ Ok m → ReceivesAs new p p' up up h rows (dest rows p)

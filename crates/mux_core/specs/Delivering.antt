@@ -1,4 +1,4 @@
--- Where what the server says in a channel goes.
+-- Where what the server sends in a channel goes.
 use Rattle.std.specs.Prelude.{◌≡◌, Bool, true, false, ℕ, List, unwrap_or}
 use Rattle.ssh_grammar.specs.SpellMessage.{with_recipient}
 use Rattle.channel_table.specs.declared.channel.Channel.{Channel}

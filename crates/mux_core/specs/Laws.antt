@@ -1,4 +1,4 @@
--- What a caller of a core needs to know of the log that a core stands for.
+-- What a caller of a core needs to know of the log that a core represents.
 use Rattle.std.specs.Prelude.{◌≡◌, ◌<◌, ◌^◌, ℕ, true, false, List, ◌∷◌}
 use Rattle.ssh_fields.specs.Fields.{AreBytes}
 use Rattle.mux_history.specs.Rows.{Row, loses, is_admit}
@@ -9,8 +9,8 @@ use Rattle.mux_core.specs.State.{CoreState}
 use Rattle.mux_core.specs.Stands.{Stands}
 use Rattle.mux_core.specs.Calls.{row_sent}
 
--- a row of what neither a client in proxy mode nor the server says, which loses nobody and lets
--- nobody in
+-- a row of what neither a client in proxy mode nor the server sends, which loses no client and
+-- admits no client
 pub record IsIdle (row : Row) : Type 0 where
   pub plain : IsPlain row
   pub keeps : loses row ≡ false
@@ -21,7 +21,7 @@ abbrev pub IdleRowsStay : Type 0
 IdleRowsStay = (s : CoreState) (row : Row) (rows : List Row) → Stands s rows → IsIdle row
     → Stands s (row ∷ rows)
 
--- what a row tells its client is nothing to a core
+-- what a row records for its client is nothing to a core
 abbrev pub DownIsFree : Type 0
 DownIsFree =
     (s : CoreState) (row : Row) (rows : List Row) (down : List (List ℕ)) → Stands s (row ∷ rows)

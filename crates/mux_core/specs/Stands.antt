@@ -1,4 +1,4 @@
--- A core stands for a log, the newest row first: one clause a part.
+-- A core represents a log, the newest row first: one clause a part.
 use Rattle.std.specs.Prelude.{◌≡◌, ◌≢◌, ◌≤◌, ◌<◌, ℕ, ◌==◌, ◌&&◌, Bool, true, false, List, [], ◌∷◌, Option, Some, is_some, is_none, map, filter, drop, length}
 use Rattle.std.specs.List.{AllByRecursion}
 use Rattle.ssh_grammar.specs.declared.side.Side.{Side}
@@ -33,7 +33,7 @@ is_whole e = has_numbers (confirmed e.ledger) e.channel.by e.channel.own e.chann
 abbrev pub HasSmall : Entry → Type 0
 HasSmall e = (s : ℕ) → e.channel.remote ≡ Some s → s < 4294967296
 
--- the table stands for the channels that are held; no number names two of them, and no client holds
+-- the table represents the channels that are held; no number names two of them, and no client holds
 -- more than 256
 pub record TableFits (es : List Entry) (held : List Channel) : Type 0 where
   pub fit : ChannelsFit es held
@@ -46,8 +46,8 @@ pub record TableFits (es : List Entry) (held : List Channel) : Type 0 where
 -- ---- what is looked up besides
 
 -- all requests and those of each client, the forwardings that are asked or live, the clients that
--- were let in, and of each client whether it was let in, whether it is lost, and what it is still
--- to be answered
+-- were admitted, and of each client whether it was admitted, whether it is lost, and what it is
+-- still to be answered
 pub record Look : Type 0 where
   pub all : Places
   pub own : ℕ → Places
@@ -87,7 +87,7 @@ pub record AsksFit (queue : List Ask) (l : Look) : Type 0 where
 
 -- ---- clients
 
--- a client stands for its rows: while it isn't lost, what it is still to be answered is what they
+-- a client represents its rows: while it isn't lost, what it is still to be answered is what they
 -- leave unanswered
 pub record ClientFits (l : Look) (c : MemberState) : Type 0 where
   pub nonzero : c.number ≢ 0
@@ -103,7 +103,7 @@ AreOnce (c ∷ cs) = AllByRecursion (λ d. (c.number == d.number) ≡ false) cs 
 abbrev pub has_matters : List Row → ℕ → Bool
 has_matters rows k = has_open_matters (rows_of k rows)
 
--- those that were let in and have open matters, in order, at most 64
+-- those that were admitted and have open matters, in order, at most 64
 pub record ClientsFit (cs : List MemberState) (matters : ℕ → Bool) (l : Look) : Type 0 where
   pub numbers : map (λ c. c.number) cs ≡ filter matters l.entered
   pub each : AllByRecursion (ClientFits l) cs

@@ -1,4 +1,4 @@
--- The gist of a message, as the history has it.
+-- The summary of a message, as the history has it.
 use Rattle.mux_history.specs.Summary as history
 use Rattle.window_ledger.specs.Act.{act_of}
 use Rattle.conn_messages.specs.Message.{opening_of, request_of}

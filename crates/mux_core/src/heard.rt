@@ -25,7 +25,7 @@ use proxy_frames::Queue;
 use ssh_fields::{Cursor, OutOfMemory, Small};
 use ssh_grammar::numbers::*;
 
-/// Where what the server said goes.
+/// Where what the server sent goes.
 #[derive(Clone, Copy, PartialEq, Eq)]
 pub enum Delivery {
     /// Nothing goes to a client.
@@ -50,7 +50,7 @@ fn misses_port(request: Request<'_>, rest: &[u8]) -> bool
     }
 }
 
-// The port that a success tells, where it does (RFC 4254, section 7.1).
+// The port that a success contains, if it does (RFC 4254, section 7.1).
 fn recorded_port(rest: &[u8]) -> u32
     ensures { result ≡ u32_at 0 rest.now }
 {
@@ -70,7 +70,7 @@ fn late_success(request: Request<'_>, rest: &[u8]) -> Option<Small>
     }
 }
 
-// And where it fails: a cancel is said again.
+// And where it fails: a cancel is sent again.
 fn late_refusal(request: Request<'_>) -> Option<Small>
     requires { IsShort (request_of request) }
     ensures exact { listed result ≡ late_refusal (request_of request.entry) }
@@ -83,7 +83,7 @@ fn late_refusal(request: Request<'_>) -> Option<Small>
 }
 
 impl Core {
-    /// The server says a payload. Where it goes to a client it has the client's own number for the
+    /// The server sends a payload. Where it goes to a client it has the client's own number for the
     /// channel afterwards.
     pub fn heard(&mut self, payload: &mut [u8], up: &mut Queue) -> Result<Delivery, OutOfMemory>
         requires { length payload.old ≤ LONGEST_PAYLOAD }
@@ -126,7 +126,7 @@ impl Core {
 
     // ---- global requests and their replies
 
-    // The server asks of all: the master refuses.
+    // The server sends a global request: the master refuses.
     fn receive_request(
         &self,
         payload: &[u8],
@@ -178,7 +178,7 @@ impl Core {
     }
 
     // A failure: to the client whose request waits longest, and where that is lost its cancel is
-    // said again.
+    // sent again.
     fn receive_refusal(&mut self, payload: &[u8], up: &mut Queue) -> Result<Delivery, OutOfMemory>
         ensures stands { IfOk result (λ h.
             ReceivesWith self.old self.new payload.now payload.now Refuses up.old up.new h) }
@@ -218,7 +218,7 @@ impl Core {
         Ok(Delivery::Lost { client })
     }
 
-    // A reply goes to its client, and so many refusals after it as waited behind it.
+    // A reply goes to its client, and so many refusals after it as waited after it.
     pub(crate) fn pass_on(&mut self, client: u64) -> Delivery
         ensures to { result ≡ Client client (refusals_behind (waiting_of client self.old.clients)) }
         ensures left { self.new

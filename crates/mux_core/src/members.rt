@@ -94,7 +94,7 @@ fn place_in(clients: &[Member], client: u64) -> usize
 }
 
 impl Members {
-    /// Nobody is there.
+    /// No client is there.
     pub fn new(alloc: Global) -> Members
         ensures { result ≡ [] }
     {
@@ -111,7 +111,7 @@ impl Members {
         u32::try_from(self.listed.len()).unwrap_or(u32::MAX)
     }
 
-    /// A client comes, where fewer than 64 are there: whether it is let in.
+    /// A client comes, where fewer than 64 are there: whether it is admitted.
     pub fn enter(&mut self, client: u64) -> Result<bool, OutOfMemory>
         ensures exact { IfOk result (λ b. b ≡ nat_lt (length self.old) MAX_CLIENTS) }
         ensures ok { IfOk result (λ b. self.new ≡ with_client b client self.old) }
@@ -168,7 +168,7 @@ impl Members {
         Ok(())
     }
 
-    /// A request of a client is refused: whether at once, or behind what waits.
+    /// A request of a client is refused: whether at once, or after what waits.
     pub fn refused(&mut self, client: u64) -> Result<bool, OutOfMemory>
         ensures now { IfOk result (λ now. now ≡ is_none_left (waiting_of client self.old)) }
         ensures ok { OnOk result (self.new ≡ with_waiting client or_behind self.old) }

@@ -105,7 +105,7 @@ fn summary_of<'a>(message: Message<'a>) -> Summary<'a>
     }
 }
 
-/// The gist of what a payload says, or why it doesn't read.
+/// The summary of a payload, or why it doesn't read.
 pub fn read_summary(payload: &[u8]) -> Result<Summary<'_>, Bad>
     ensures { MatchResult result (λ m. read_summary payload.now ≡ Ok (summary_of m)) (λ e.
         read_summary payload.now ≡ Err e) }

@@ -1,4 +1,4 @@
-//! What the server says of channels.
+//! What the server sends of channels.
 
 ghost use Rattle.std.specs.Prelude.{◌≡◌, IfOk, OnErr};
 ghost use Rattle.mux_history.specs.Summary.{Confirmation, Fails, Open, Within};
@@ -75,8 +75,8 @@ impl Core {
         }
     }
 
-    // The server confirms a client's open: the client is told, and for one that is lost the master
-    // closes the channel.
+    // The server confirms a client's open: the confirmation goes to the client, and for one that is
+    // lost the master closes the channel.
     pub(crate) fn receive_confirmation(
         &mut self,
         payload: &mut [u8],
@@ -134,7 +134,7 @@ impl Core {
         self.deliver(&channel, payload)
     }
 
-    // What the server says in a channel that both sides have confirmed.
+    // What the server sends in a channel that both sides have confirmed.
     pub(crate) fn receive_within(&mut self, payload: &mut [u8], number: u32, act: Act) -> Delivery
         ensures stands { ReceivesSummary self.old self.new payload.old payload.new
             (Within number (act_of act)) result }
@@ -150,7 +150,7 @@ impl Core {
         self.deliver(&channel, payload)
     }
 
-    // What the server says in a channel goes to its client. One that is lost is forgotten, where
+    // What the server sends in a channel goes to its client. One that is lost is forgotten, where
     // nothing of it is left.
     fn deliver(&mut self, channel: &Channel, payload: &mut [u8]) -> Delivery
         ensures goes { DeliversAs (is_lost_in self.old.clients channel.now.client)

@@ -1,4 +1,4 @@
-//! What a client asks of the server beside its channels.
+//! What a client requests of the server beside its channels.
 
 ghost use Rattle.std.specs.Prelude.{◌≡◌, true, IfOk, OnOk, OnErr};
 ghost use Rattle.ssh_grammar.specs.declared.framing.Framing.TheVariants.{Proxy};
@@ -22,7 +22,7 @@ use ssh_fields::OutOfMemory;
 use ssh_grammar::numbers::*;
 
 impl Core {
-    // What a client asks of all.
+    // A global request of a client.
     pub(crate) fn send_request(
         &mut self,
         client: u64,

@@ -1,7 +1,7 @@
--- Frames that are written one behind the other.
+-- Frames that are written one after the other.
 use Rattle.std.proofs.Common.{◌≡◌, ◌∙◌, sym, ap, ℕ, List, ◌++◌, append_assoc}
 
--- three parts behind a text
+-- three parts after a text
 pub three_parts : (text first second third one two : List ℕ) → one ≡ text ++ first → two ≡ one ++ second
     → two ++ third ≡ text ++ ((first ++ second) ++ third)
 three_parts text first second third one two first_is second_is =

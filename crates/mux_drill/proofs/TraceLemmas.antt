@@ -33,7 +33,7 @@ adds : (seed i : ℕ) → i < 100000
     → min (total_length seed i + length_of (drawn seed (suc i))) (2 ^ 64 - 1) ≡ total_length seed (suc i)
 adds seed i low = omega (arith, total_short seed i, length_short (drawn seed (suc i)))
 
--- the course at a stage, for what is drawn and counted
+-- the trace at a stage, for what is drawn and counted
 abbrev At : Plan → ℕ → Tally → DrillStage → Type 0
 At plan x counted_so stage = IsTrace plan stage x counted_so
 
@@ -54,7 +54,7 @@ at_first plan sound =
           ∙ ap (λ n. tally plan.clients (plan.messages - 1) (total_length plan.seed n) (total_length plan.seed n) 0) zero_is;
     })
 
--- behind message i
+-- after message i
 at_next : (plan : Plan) (i : ℕ) → IsPlan plan → i < plan.messages
     → At plan (drawn plan.seed (suc i)) (tally plan.clients i (total_length plan.seed (suc i)) (total_length plan.seed (suc i)) 0)
     (from_message plan (i + 1))
@@ -117,7 +117,7 @@ later_close : (plan : Plan) (c : ℕ) → 1 ≤ c
     → plan.messages ≡ (if c + 1 == 1 then plan.messages - 1 else plan.messages)
 later_close plan c low = grind (arith, nat_tests)
 
--- so many messages are finished, and so many heard
+-- so many messages are finished, and so many received
 abbrev sums : Plan → ℕ → ℕ → Tally
 sums plan i n = tally plan.clients n (total_length plan.seed i) (total_length plan.seed i) 0
 

@@ -4,7 +4,7 @@ use Rattle.std.proofs.lemmas.Bool.Decides.{nat_tests}
 use Rattle.std.proofs.lemmas.List.{append-nil}
 use Rattle.conf_rules.specs.Texts.{split_at_each, onto_first}
 
--- a word in front of the first part
+-- a word before the first part
 abbrev pub onto : List ℕ → List (List ℕ) → List (List ℕ)
 onto word [] = word ∷ []
 onto word (t ∷ ts) = (word ++ t) ∷ ts
@@ -13,7 +13,7 @@ onto_nothing-onto_first : (b : ℕ) (parts : List (List ℕ)) → onto [] (onto_
 onto_nothing-onto_first b [] = refl
 onto_nothing-onto_first b (t ∷ ts) = refl
 
--- nothing in front of the first part, of which there is one
+-- nothing before the first part, of which there is one
 pub onto_nothing : (text : List ℕ) → onto [] (split_at_each 32 text) ≡ split_at_each 32 text
 onto_nothing [] = refl
 onto_nothing (b ∷ bs) = by_case (b == 32)
@@ -30,7 +30,7 @@ pub onto-onto_first : (word : List ℕ) (b : ℕ) (parts : List (List ℕ))
 onto-onto_first word b [] = refl
 onto-onto_first word b (t ∷ ts) = ap (λ w. w ∷ ts) (append_assoc word (b ∷ []) t)
 
--- behind a space a word begins
+-- after a space a word begins
 pub at_space : (words : List (List ℕ)) (word : List ℕ) (b : ℕ) (bs : List ℕ) → b ≡ 32
     → (words ++ word ∷ []) ++ onto [] (split_at_each 32 bs) ≡ words ++ onto word (split_at_each 32 (b ∷ bs))
 at_space words word b bs here =

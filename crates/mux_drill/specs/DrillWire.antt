@@ -46,7 +46,7 @@ pub record ReadsNone (plan : Option Plan) (old new : DrillWire) : Type 0 where
   pub plan_is : plan ≡ None
   pub same : SamePlay old new
 
--- a call of open succeeds exactly where its transport reads as a plan, but for want of memory
+-- a call of open succeeds exactly where its transport reads as a plan, unless memory runs out
 abbrev pub Opens : Result (Unit {0}) FileError → Option Plan → DrillWire → DrillWire → Type 0
 Opens (Ok x) plan old new = Begins plan new new.play.trace.plan
 Opens (Err FailedFile) plan old new = ReadsNone plan old new
@@ -58,8 +58,8 @@ pub record PlaysNext (old new : DrillWire) (turn : Turn) (bytes : List ℕ) : Ty
   pub piece_is : (t : ℕ) → turn ≡ Got t → bytes ≡ next_piece old.play
   pub play_is : new.play ≡ next_play old.play old.log.state.seen
 
--- what a wait plays: the next turn where streams are read, and nothing where none is or for want of
--- memory
+-- what a wait plays: the next turn where streams are read, and nothing if none is or if memory runs
+-- out
 pub record Plays (want : Want) (turn : Turn) (bytes : List ℕ) (old new : DrillWire) : Type 0 where
   pub given : want ≡ Read → turn ≢ NoMemory → PlaysNext old new turn bytes
   pub idle : want ≡ WriteOnly → SamePlay old new
@@ -72,7 +72,7 @@ pub record CountsToTheEnd (turn : Turn) (old new : DrillWire) : Type 0 where
   pub ends : turn ≡ End 0 → IsOver new
   pub over : IsOver old → tally_of new ≡ tally_of old
 
--- a write took all bytes, and they wait to be read
+-- a write accepted all bytes, and they wait to be read
 pub record TakesAll (stream : ℕ) (bytes : List ℕ) (old new : DrillWire) (wrote : Wrote) :
     Type 0 where
   pub wrote_is : wrote ≡ Took (length bytes)

@@ -29,7 +29,7 @@ data_frame recipient len byte = frame_payload (spell (To recipient (Data (replic
 unfoldable pub close_frame : ℕ → List ℕ
 close_frame recipient = frame_payload (spell (To recipient Close))
 
--- what a client says first: HELLO, PROXY and an open
+-- what a client sends first: HELLO, PROXY and an open
 unfoldable pub greeting : List ℕ
 greeting = (frame_body (spell_control (Hello 4 [])) ++ frame_body (spell_control (Proxy 0)))
     ++ open_frame 0
@@ -39,7 +39,7 @@ unfoldable pub welcome : ℕ → List ℕ
 welcome number = (frame_answer (Greets 4) ++ frame_answer (Proxies 0))
     ++ confirmation_frame 0 number
 
--- the sender's number in an open of a session, which stands behind its length, its padding length,
+-- the sender's number in an open of a session, which stands after its length, its padding length,
 -- its number and its type
 unfoldable pub opener_in : List ℕ → ℕ
 opener_in bytes = u32_at 17 bytes

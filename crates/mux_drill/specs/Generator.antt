@@ -11,11 +11,11 @@ abbrev pub drawn : ℕ → ℕ → ℕ
 drawn seed zero = seed
 drawn seed (suc n) = draw (drawn seed n)
 
--- the length that a number stands for
+-- the length that a number represents
 unfoldable pub length_of : ℕ → ℕ
 length_of x = (x / 2 ^ 33) % 1025
 
--- the client, of so many, that a number stands for
+-- the client, of so many, that a number represents
 unfoldable pub client_of : ℕ → ℕ → ℕ
 client_of clients x = 1 + ((x / 2 ^ 33) / 1025) % clients
 

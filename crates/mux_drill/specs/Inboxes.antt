@@ -15,7 +15,7 @@ with_more stream bytes unread = slice_set unread stream (unread_at stream unread
 abbrev pub without_first : ℕ → ℕ → List (List ℕ) → List (List ℕ)
 without_first stream count unread = slice_set unread stream (drop count (unread_at stream unread))
 
--- so many of a stream, those that were written last, are taken away
+-- so many of a stream, those that were written last, are removed
 abbrev pub without_last : ℕ → ℕ → List (List ℕ) → List (List ℕ)
 without_last stream count unread =
     slice_set unread stream

@@ -1,4 +1,4 @@
--- What is being said.
+-- What is being sent.
 use Rattle.std.specs.Prelude.{ℕ, List, drop}
 
 -- a stream, and the bytes that it still has to give

@@ -77,7 +77,7 @@ abbrev pub picks_after : DrillStage → ℕ → List ℕ → List ℕ
 picks_after (Confirming c) number picks = slice_set picks c number
 picks_after _ number picks = picks
 
--- after a step was begun: its bytes were read, and a piece of what it says was given
+-- after a step was begun: its bytes were read, and a piece of what it sends was given
 abbrev pub begun : DrillStep → Play → Play
 begun step play = record play {
   trace = spot_after play.trace;
@@ -117,14 +117,14 @@ pub record GivesNext (play : Play) (seen : Seen) (given : Given) : Type 0 where
 abbrev pub next_play : Play → Seen → Play
 next_play play seen = changed (next_change play seen) play
 
--- a play at the start of a plan: nothing is said, written or picked
+-- a play at the start of a plan: nothing is sent, written or picked
 pub record Starts (plan : Plan) (play : Play) : Type 0 where
   pub trace_is : play.trace ≡ record { plan = plan; stage = Accepting 1 }
   pub sent_is : play.said ≡ record { stream = 0; rest = [] }
   pub unread_is : play.unread ≡ replicate (plan.clients + 1) []
   pub picks_are : play.picks ≡ replicate 65 0
 
--- no play: nothing is opened, said, written or picked
+-- no play: nothing is opened, sent, written or picked
 pub record IsNothing (play : Play) : Type 0 where
   pub stage_is : play.trace.stage ≡ Unopened
   pub sent_is : play.said ≡ record { stream = 0; rest = [] }

@@ -12,7 +12,7 @@ use Rattle.mux_drill.specs.declared.step.DrillStep.{DrillStep}
 
 -- ---- what is needed and given
 
--- a turn, before which nothing is needed and which says nothing
+-- a turn, before which nothing is needed and which sends nothing
 abbrev pub bare : Turn → DrillStep
 bare turn = record { up = []; client = 0; down = []; turn = turn; says = [] }
 
@@ -77,7 +77,7 @@ adjusting m = record {
   says = adjust_frame (m.client - 1) m.len;
 }
 
--- a client sends CLOSE, the first behind so many messages
+-- a client sends CLOSE, the first after so many messages
 abbrev pub closing : ℕ → ℕ → Message → ℕ → DrillStep
 closing clients messages before client = record {
   up = if client == 1 then settled_up before messages else [];

@@ -10,7 +10,7 @@ pub fn draw(x: u64) -> u64
         .wrapping_add(1442695040888963407)
 }
 
-/// The length that a number stands for.
+/// The length that a number represents.
 #[tactic(auto, unfolding(crate::specs::Generator::length_of))]
 pub fn len_of(x: u64) -> u64
     ensures { result ≡ length_of x }

@@ -136,7 +136,7 @@ pub fn add_close(text: &mut Text, recipient: u32) -> Result<(), OutOfMemory>
     add_frame(text, close(recipient).as_bytes())
 }
 
-/// Adds what a client says first.
+/// Adds what a client sends first.
 #[tactic(auto, unfolding(crate::specs::Frames::greeting))]
 pub fn add_greeting(text: &mut Text) -> Result<(), OutOfMemory>
     ensures { OnOk result (text.new ≡ text.old ++ greeting) }

@@ -60,7 +60,7 @@ impl Inbox {
         self.read += count.min(self.bytes.len() - self.read);
     }
 
-    // Takes so many bytes at the end away, or all that aren't read. It takes no memory.
+    // Removes so many bytes at the end, or all that aren't read. It allocates no memory.
     fn take_back(&mut self, count: usize)
         ensures { self.new ≡ take (length self.old - count) self.old }
     {
@@ -144,8 +144,8 @@ impl Inboxes {
         }
     }
 
-    /// Takes so many bytes of a stream away that were written last. It takes no memory, so an `add`
-    /// can come before what may fail and be taken back.
+    /// Removes so many bytes of a stream that were written last. It allocates no memory, so an
+    /// `add` can come before what may fail and be taken back.
     pub fn take_back(&mut self, stream: u64, count: usize)
         ensures { self.new ≡ without_last stream count self.old }
     {

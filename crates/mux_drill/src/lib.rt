@@ -1,9 +1,9 @@
 //! The outside of a drill: a wire in memory that plays the clients and the server of a run, and
-//! tells everything. `open` reads the seed of a generator, the number of clients and that of
+//! records everything. `open` reads the seed of a generator, the number of clients and that of
 //! messages from the transport, as in `7 3 100`. Each `wait` gives the next turn of these steps,
 //! where all that it needs was written; else it fails.
 //!
-//! 1. The clients come in order. Each says HELLO, PROXY and an open of a session.
+//! 1. The clients come in order. Each sends HELLO, PROXY and an open of a session.
 //! 2. The server confirms each open that it reads, to the number that the master picked for it.
 //! 3. Message by message, a client that the generator picks sends data of the length that it picks.
 //! 4. The server answers by an adjustment of that length and the same data, the client by an

@@ -29,7 +29,7 @@ impl Model for Outgoing {
 impl Outgoing {
     ghost use Rattle.mux_drill.specs.Outgoing.{gone_on};
 
-    /// A stream says a text.
+    /// A stream sends a text.
     pub fn new(stream: u64, text: Text) -> Outgoing
         ensures { result ≡ record { stream = stream; rest = text } }
     {
@@ -40,7 +40,7 @@ impl Outgoing {
         }
     }
 
-    /// Nothing is said.
+    /// Nothing is sent.
     pub fn nothing(alloc: Global) -> Outgoing
         ensures { result ≡ record { stream = 0; rest = [] } }
     {

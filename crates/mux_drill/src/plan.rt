@@ -17,7 +17,7 @@ pub struct Plan {
 }
 
 impl Plan {
-    /// The plan that a text says, if it says one.
+    /// The plan that a text spells, if it spells one.
     pub fn read(alloc: Global, text: &[u8]) -> Result<Option<Plan>, OutOfMemory>
         ensures exact { IfOk result (λ plan. plan ≡ plan_of text.now) }
         ensures sound { IfOk result (λ plan. IfSome plan IsPlan) }

@@ -21,7 +21,7 @@ use mux_outside::{LAST_CLIENT, Turn, WireLog};
 use ssh_fields::OutOfMemory;
 use std::alloc::Global;
 
-/// What is played: how far it has come, what is being said, the bytes that aren't read yet, and the
+/// What is played: how far it has come, what is being sent, the bytes that aren't read yet, and the
 /// numbers that the master picked.
 #[derive(Drop)]
 pub struct Play {
@@ -136,7 +136,7 @@ impl Play {
         }
     }
 
-    // The next piece of what is being said.
+    // The next piece of what is being sent.
     fn go_on(&self, log: &WireLog) -> Given
         requires server { IsTrue (among 0 log.now.state.seen.streams) }
         requires speaks { speaks self.now.said ≡ true }

@@ -5,7 +5,7 @@ pub enum DrillStage {
     Unopened,
     /// A client comes.
     Accepting(u64),
-    /// A client says HELLO, PROXY and its open.
+    /// A client sends HELLO, PROXY and its open.
     Entering(u64),
     /// The server confirms the open of a client.
     Confirming(u64),

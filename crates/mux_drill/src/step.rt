@@ -14,7 +14,7 @@ use ssh_fields::{OutOfMemory, Text};
 use std::alloc::Global;
 
 /// A step: what has to be written before it to the server and to a client, and the turn that it
-/// gives, with all bytes that it says.
+/// gives, with all bytes that it sends.
 #[derive(Drop)]
 pub struct DrillStep {
     pub up: Text,
@@ -25,7 +25,7 @@ pub struct DrillStep {
 }
 
 impl DrillStep {
-    /// A turn, before which nothing is needed and which says nothing.
+    /// A turn, before which nothing is needed and which sends nothing.
     pub fn bare(alloc: Global, turn: Turn) -> DrillStep
         ensures { result ≡ bare turn }
     {
@@ -38,7 +38,7 @@ impl DrillStep {
         }
     }
 
-    /// A client says HELLO, PROXY and its open.
+    /// A client sends HELLO, PROXY and its open.
     pub fn entering(alloc: Global, client: u64) -> Result<DrillStep, OutOfMemory>
         ensures { IfOk result (λ step. step ≡ record (bare (Got client)) { says = greeting }) }
     {
@@ -113,7 +113,7 @@ impl DrillStep {
         Ok(step)
     }
 
-    /// A client sends CLOSE, the first behind so many messages.
+    /// A client sends CLOSE, the first after so many messages.
     pub fn closing(
         alloc: Global,
         clients: u64,

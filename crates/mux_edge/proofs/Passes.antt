@@ -1,4 +1,4 @@
--- What is looked for while the master's own streams are held back tells nothing of them.
+-- What is looked for while the master's own streams are held back reports nothing of them.
 use Rattle.std.proofs.Common.{◌≡◌, ℕ, Bool, true, false, List, Option, Some, None, inl, inr, IfSome, IsSomeAnd, slice_get, sym, ap, ◌∙◌, subst}
 use Rattle.mux_outside.specs.OwnStreams.{is_own}
 use Rattle.mux_outside.specs.declared.turn.Turn.{Turn}

@@ -15,7 +15,7 @@ one_more false b bs m first others e f o =
     let k : 1 + m ≡ suc m = omega arith in
     rw (e, k, f, o) refl
 
--- the first line stands before its end, and the other lines behind it
+-- the first line stands before its end, and the other lines after it
 first_line : (b : ℕ) (bs : List ℕ) → lines_of (b ∷ bs) ≡ take (line_end (b ∷ bs)) (b ∷ bs) ∷ lines_of (drop 1 (drop (line_end (b ∷ bs)) (b ∷ bs)))
 first_line b [] = elim (eqb b 10) as (λ t. cond t ([] ∷ []) (in_front b []) ≡ take (cond (not t) (1 + 0) 0) (b ∷ []) ∷ lines_of (drop 1 (drop (cond (not t) (1 + 0) 0) (b ∷ [])))) [ true ↦ refl | false ↦ refl ]
 first_line b (c ∷ cs) = one_more (eqb b 10) b (c ∷ cs) (line_end (c ∷ cs)) (take (line_end (c ∷ cs)) (c ∷ cs)) (lines_of (drop 1 (drop (line_end (c ∷ cs)) (c ∷ cs)))) (first_line c cs) refl refl
@@ -24,7 +24,7 @@ first_of : (text : List ℕ) → (length text == 0) ≡ false → lines_of text 
 first_of [] some = cc
 first_of (b ∷ bs) some = first_line b bs
 
--- a line and the lines behind it add what the whole text adds
+-- a line and the lines after it add what the whole text adds
 pub one_row : (text line behind rest : List ℕ) (n : ℕ) (found now all : List IpAddr)
     → (length text == 0) ≡ false → n ≡ line_end text → line ≡ take n text → behind ≡ drop n text → rest ≡ drop 1 behind
     → AddsRow line found now → AddsRows (lines_of rest) now all → AddsRows (lines_of text) found all

@@ -1,5 +1,5 @@
 -- Names of hosts, and what a look-up writes of one: a row for each address and kind of socket, with
--- the address in its first column and the kind behind it.
+-- the address in its first column and the kind after it.
 use Rattle.std.specs.Prelude.{◌≡◌, ◌==◌, ◌⊎◌, ◌&&◌, ◌||◌, not, if◌then◌else◌, ℕ, Bool, true, false, List, [], ◌∷◌, ◌++◌, length, take, drop, nat_le, nat_eq, codes}
 use Rattle.std.specs.List.{list_all, prefix_len, starts_with}
 use Rattle.std.specs.Char.{is_ascii_alphanumeric}
@@ -31,7 +31,7 @@ column line = take (prefix_len (λ b. not (b == 32)) line) line
 abbrev pub behind_column : List ℕ → List ℕ
 behind_column line = drop (prefix_len (λ b. not (b == 32)) line) line
 
--- what stands behind the blanks
+-- what stands after the blanks
 abbrev pub kind : List ℕ → List ℕ
 kind line = drop (prefix_len (λ b. b == 32) (behind_column line)) (behind_column line)
 

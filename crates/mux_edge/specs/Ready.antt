@@ -42,7 +42,7 @@ is_of number (Read stream) = stream == number
 is_of number (Write stream) = stream == number
 is_of number (Connect stream) = stream == number
 
--- a round is over where nothing may be served, and where it is to be served behind what the round
+-- a round is over where nothing may be served, and where it is to be served after what the round
 -- has gone over twice
 abbrev pub is_round_over : Option ℕ → ReadyQueue → Bool
 is_round_over None queue = true

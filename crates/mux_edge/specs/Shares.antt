@@ -24,7 +24,7 @@ shares_after stream bytes shares =
     if is_own stream then record shares { own = added shares.own bytes } else
     if stream == 0 then shares else record shares { clients = added shares.clients bytes }
 
--- a turn tells neither bytes nor the end of one of the master's own streams
+-- a turn reports neither bytes nor the end of one of the master's own streams
 abbrev pub PassesOwn : Turn → Type 0
 PassesOwn (Accepted k) = Unit {0}
 PassesOwn (Got t) = is_own t ≡ false

@@ -12,13 +12,13 @@ use Rattle.mux_edge.specs.declared.numbers.Numbers.{Numbers}
 use Rattle.mux_edge.specs.declared.table.ready.Ready.{Ready}
 use Rattle.mux_edge.specs.declared.table.ready.Ready.TheVariants.{Accept, Join, Read, Write, Connect}
 
--- the numbers that may be given now, to a client and to a stream that is joined
+-- the numbers that may be given now, to a client and to a stream that is accepted
 pub record MayBeGiven (numbers : Numbers) (want : Want) (seen : Seen) : Type 0 where
   pub client : IfSome numbers.client (λ k. (want ≡ WantsAll) × (seen.listens ≡ true)
       × (k ≡ seen.last + 1) × (seen.last < LAST_CLIENT))
   pub own : IfSome numbers.own (λ t. (want ≡ WantsAll) × IsNewOwn seen.last_own t)
 
--- a client and a stream that is joined have the number that was given, bytes are at most a piece
+-- a client and a stream that is accepted have the number that was given, bytes are at most a piece
 -- and not none, and nothing else changes the piece
 abbrev pub FoundFits : Turn → Numbers → List ℕ → List ℕ → Type 0
 FoundFits (Accepted k) numbers before now = (numbers.client ≡ Some k) × (now ≡ before)
@@ -39,7 +39,7 @@ IsOf number (Failed t) = t ≡ number
 IsOf number (Joined l t) = ⊥
 IsOf number NoMemory = ⊥
 
--- what was ready is what the turn tells of
+-- what was ready is what the turn is about
 abbrev pub Serves : Ready → Numbers → Turn → Type 0
 Serves Accept numbers turn = IsSomeAnd numbers.client (λ k. turn ≡ Accepted k)
 Serves (Join listener) numbers turn = IsSomeAnd numbers.own (λ t. turn ≡ Joined listener t)
@@ -47,7 +47,7 @@ Serves (Read number) numbers turn = IsOf number turn
 Serves (Write number) numbers turn = turn ≡ Writable number
 Serves (Connect number) numbers turn = (turn ≡ Writable number) ⊎ (turn ≡ Failed number)
 
--- what was found is told as it is, but for a client or a stream that is joined for which there is
+-- what was found is reported as it is, except for a client or an accepted stream for which there is
 -- no memory
 abbrev pub Records : Turn → Turn → Type 0
 Records (Accepted k) recorded = (recorded ≡ Accepted k) ⊎ (recorded ≡ NoMemory)

@@ -8,7 +8,7 @@ use mux_outside::{FaultCounts, FileError, Whose, raised};
 use std::io;
 use std::io::ErrorKind;
 
-/// What an error is: want of memory, or a fault.
+/// What an error is: out of memory, or a fault.
 pub fn file_error(e: &io::Error) -> FileError
     ensures { (result ≡ FileError.OutOfMemory) ↔ (error_kind e.now ≡ ErrorKind.OutOfMemory) }
 {

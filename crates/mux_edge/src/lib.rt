@@ -1,5 +1,6 @@
-//! What is made of what a system gives and takes, whichever system it is: which streams are ready,
-//! what a read and a write of one come to, the turn that it makes, and the names of hosts.
+//! What is made of what a system gives and accepts, whichever system it is: which streams are
+//! ready, the outcome of a read and of a write of one, the turn that it makes, and the names of
+//! hosts.
 #![tactic(auto)]
 
 mod address;

@@ -1,4 +1,4 @@
-//! A look-up of a name, by a child that writes its addresses, so that nobody waits for it.
+//! A look-up of a name, by a child that writes its addresses, so that no thread waits for it.
 ghost use Rattle.std.specs.Prelude.{◌≡◌, [], IfOk, IsNone, OnOk, false, true};
 
 use mio::net::UnixStream;
@@ -25,7 +25,7 @@ pub struct Lookup {
     pub name: Vec<u8>,
     /// what the child wrote
     pub heard: Vec<u8>,
-    /// the system told of what it wrote
+    /// the system reported that it wrote
     pub noted: bool,
     pub over: bool,
     since: Instant,
@@ -33,7 +33,7 @@ pub struct Lookup {
 }
 
 impl Lookup {
-    /// A look-up of a name, of which nothing is heard so far. The system tells of what its child
+    /// A look-up of a name, of which nothing is received so far. The system reports what its child
     /// writes under this number.
     pub fn new(
         alloc: Global,
@@ -62,7 +62,7 @@ impl Lookup {
         })
     }
 
-    /// Goes on with it: it is over where it takes too long, and then nothing that was heard counts.
+    /// Goes on with it: it is over if it lasts too long, and then nothing that was received counts.
     pub fn go_on(&mut self, now: Option<Instant>) -> Result<(), AllocError>
         ensures name { self.new.name ≡ self.old.name }
         ensures late { OnOk result (IsNone now → self.new.over ≡ true) }

@@ -174,7 +174,7 @@ impl Lookups {
         Ok(())
     }
 
-    /// Takes out a look-up that is over, and tells its addresses: its number, where there was one.
+    /// Removes a look-up that is over, and reports its addresses: its number, where there was one.
     pub fn end_one(&mut self, now: Option<Instant>) -> Result<Option<u64>, AllocError>
         ensures gone { IfOk result (λ over. IfSome over
             (λ number. get nat_eq self.new.running number ≡ None)) }
@@ -232,7 +232,7 @@ impl Lookups {
             .map(|(number, _)| *number)
     }
 
-    // Tells the addresses of a name, of which its look-up wrote this.
+    // Reports the addresses of a name, of which its look-up wrote this.
     fn report(
         &mut self,
         name: Vec<u8>,

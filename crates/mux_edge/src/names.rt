@@ -59,7 +59,7 @@ pub fn addresses_of(alloc: Global, output: &[u8]) -> Result<Vec<IpAddr>, AllocEr
     Ok(found)
 }
 
-// What stands behind the end of a line, where it has one.
+// What stands after the end of a line, where it has one.
 fn behind_end(behind: &[u8]) -> &[u8]
     ensures rest { result.now ≡ drop 1 behind.now }
     ensures len { length result.now ≡ length behind.now - 1 }

@@ -54,7 +54,7 @@ pub fn write<C: Children + Drop>(
     }
 }
 
-/// Lets go of a stream's socket.
+/// Drops a stream's socket.
 pub fn drop_socket<C: Children + Drop>(sockets: &mut Option<Sockets<C>>, stream: u64)
     ensures gone { IfSome sockets.new (λ s. get nat_eq s.table.entries stream ≡ None) }
     ensures listener { option_map (λ s. s.table.listener) sockets.new

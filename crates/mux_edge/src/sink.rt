@@ -6,7 +6,7 @@ use crate::faults::count_failed;
 use mux_outside::{FileError, Sink, counted};
 use std::io::{ErrorKind, Write};
 
-/// A writer of the system, as standard output or standard error. It takes no memory.
+/// A writer of the system, as standard output or standard error. It allocates no memory.
 #[derive(Drop)]
 pub struct RealSink<W: Write + Drop> {
     out: W,
@@ -50,7 +50,7 @@ impl<W: Write + Drop> Sink for RealSink<W> {
     }
 }
 
-// Writes until all is taken. A write that takes nothing is a fault.
+// Writes until all is accepted. A write that accepts nothing is a fault.
 fn write_whole<W: Write>(out: &mut W, bytes: &[u8]) -> Result<(), FileError>
     ensures written { WritesWhole result (W.contents out.old) (W.contents out.new) bytes.now }
     ensures no_memory { result ≢ Err FileError.OutOfMemory }

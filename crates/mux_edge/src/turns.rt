@@ -51,7 +51,7 @@ fn gives(state: &WireState, stream: u64) -> bool
     state.streams().contains(stream) && !(is_own(stream) && state.own().is_silent(stream))
 }
 
-/// The turn of an error at a wait: a fault of the server's stream, or want of memory.
+/// The turn of an error at a wait: a fault of the server's stream, or out of memory.
 pub fn failure_of(e: &io::Error) -> Turn
     ensures memory { error_kind e.now ≡ ErrorKind.OutOfMemory → result ≡ Turn.NoMemory }
     ensures other { error_kind e.now ≢ ErrorKind.OutOfMemory → result ≡ Turn.Failed 0 }

@@ -1,4 +1,4 @@
--- A whole run, behind its turns and what is offered at its end.
+-- A whole run, after its turns and what is offered at its end.
 use Rattle.std.proofs.Common.{◌≡◌, ◌≢◌, ◌≤◌, ◌+◌, ℕ, Bool, true, false, List, [], ◌∷◌, Option, Some, None, refl, sym, ap, ◌∙◌, subst, ◌||◌, arith, inl, inr}
 use Rattle.std.specs.Prelude.{Result, Ok, Err, IsErr}
 use Rattle.std.specs.Result.{result_unwrap_or}
@@ -33,11 +33,11 @@ use Rattle.mux_engine.proofs.Spending.{spent-then, stops-spent}
 
 -- ---- the answer
 
--- the answer with a house that is present just so
+-- the answer with a forwarder that is present just so
 pub answer-is : (answer : Ended) (o : Option Ended) (p q must : Bool) (refused : Option ℕ) → p ≡ q → answer ≡ ended_as o (refused_if p must refused) → answer ≡ ended_as o (refused_if q must refused)
 answer-is answer o p q must refused e is = is ∙ ap (λ b. ended_as o (refused_if b must refused)) e
 
--- what was refused when the turns were over, with a house that is not asked behind them
+-- what was refused when the turns were over, with a forwarder that receives no request after them
 pub over-still : {T : Type 0} (present must : T → Bool) (refused : T → Option ℕ) (h h' : T) (p : Bool) → h' ≡ h → present h ≡ p → refused_if (present h) (must h) (refused h) ≢ None → refused_if p (must h') (refused h') ≢ None
 over-still present must refused h h' p e f some none = some (refused-same (present h) p (must h) (must h') (refused h) (refused h') f (ap must (sym e)) (ap refused (sym e)) ∙ none)
 
@@ -73,7 +73,7 @@ failed-whole answer mid new f g h i r le le' rose stays is e = rose-behind f.ser
 
 -- ---- what is promised
 
--- no stream but that of the house
+-- no stream but that of the forwarder
 only-house : (t : ℕ) → is_own t ≡ false → among t (HOUSE ∷ []) ≡ false
 only-house t other = ap (λ b. b || false) (test-other HOUSE t (λ q. true-false (ap is_own q ∙ other)))
 
@@ -95,14 +95,14 @@ module _ {May : HouseReply → Type 0} {Rest : Resting} {before : Option (List H
       (ends-run May Rest stands stands' before policy pid turns start refused now seen held failed (given + 0) (HOUSE ∷ []) s (ended_as s.ended refused) v noted hands only-house (none-more given turns le)
       (ends-so turns v.journal s.ended refused (λ on none. v.turns ∙ let g : given ≡ turns = given-all all given turns mid refused every over (fails-on mid s.ended m n stays on) none in (omega (arith, g)))))
 
-  -- one that want of memory cut short
+  -- one that was cut short as memory ran out
   pub ran-starved : {E : Type 0} {now : Option (List HouseMark)} {seen : Seen} {refused : Option ℕ} (stands stands' : List HouseCall → Type 0) (turns given : ℕ) (r : Result Ended E) → IsErr r → given ≤ turns → Promised May Rest before now policy pid start seen.recorded given → IsRun May Rest.rests stands stands' Rest.present policy pid turns before now start seen refused (result_unwrap_or r ended.OutOfMemory)
   ran-starved stands stands' turns given (Ok x) h le p = absurd (let z : false ≡ true = h in cc)
   ran-starved {E} {now} {seen} {refused} stands stands' turns given (Err e) h le p = ends-starved May Rest stands stands' before policy pid turns start refused now seen (promised-more given turns le p)
 
 -- ---- what is counted
 
--- behind calls that left the counts as they were
+-- after calls that left the counts as they were
 pub spent-from : (present all : Bool) (turns : ℕ) (a b c : CallCounts) → b ≡ a → Spent present all turns b c → Spent present all turns a c
 spent-from present all turns a b c e s = subst (λ (x : CallCounts). Spent present all turns x c) e s
 
@@ -116,7 +116,7 @@ stops-whole present all must turns answer a b c d mid new m n refused same spent
 
 -- ---- the start
 
--- a house that knows of nothing, at a wire that has but the server's stream
+-- a forwarder that knows of nothing, at a wire that has but the server's stream
 pub housed-blank : (known : Known) (seen : Seen) → known ≡ nothing_known known.present → seen.streams ≡ 0 ∷ [] → seen.own ≡ [] → seen.listeners ≡ [] → Housed known seen []
 housed-blank known seen blank streams own listeners = record {
   ordering = ap (λ (k : Known). k.ordering) blank;

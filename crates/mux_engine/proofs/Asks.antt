@@ -1,4 +1,5 @@
--- Who asks the house by a mark: whoever says something by it, and nobody by others.
+-- Who makes a request of the forwarder by a mark: whoever sends something by it, and no client by
+-- others.
 use Rattle.std.proofs.Common.{◌≡◌, ◌≢◌, ℕ, Bool, true, false, List, [], ◌∷◌, ◌++◌, length, drop, Option, Some, Ok, refl, sym, ap, ◌∙◌, subst, append_assoc, append-nil, arith, length-append, inl, inr, ◌+◌}
 use Rattle.std.specs.Prelude.{◌==◌, All, IsTrue, Result, map}
 use Rattle.std.proofs.lemmas.Bool.Decides.{eqb_tells}
@@ -31,7 +32,7 @@ use Rattle.mux_state.specs.Stands.{GoesBy, Stands, log}
 use Rattle.mux_engine.specs.Sides.{asks_in}
 use Rattle.mux_engine.proofs.Marks.{asks-more, log-same}
 
--- asks of clients of which this holds
+-- requests of clients of which this holds
 abbrev pub AskedBy : (ℕ → Type 0) → HouseMark → Type 0
 AskedBy P (HouseAsked client id opening ask reply) = P client
 AskedBy P mark = ⊥
@@ -68,10 +69,10 @@ each-front : (P : ℕ → Type 0) (a b : List HouseMark) → EachAsked P (a ++ b
 each-front P [] b x = tt
 each-front P (mark ∷ a) b x = (x.0, each-front P a b x.1)
 
--- ---- the asks of rows
+-- ---- the requests of rows
 
 module _ (P : ℕ → Type 0) where
-  -- an item that a client says of which it holds, or that no client says
+  -- an item that a client sends of which it holds, or that no client sends
   abbrev Speaks : Item → Type 0
   Speaks (Says k outgoing given) = P k
   Speaks item = Unit {0}
@@ -115,7 +116,7 @@ module _ (P : ℕ → Type 0) where
 
   -- ---- the items of a mark
 
-  -- of a mark by which a client says something
+  -- of a mark by which a client sends something
   abbrev pub SentBy : Mark → Type 0
   SentBy (Gets k bytes) = k ≢ 0 → P k
   SentBy (House (HouseSaid bytes)) = P HOUSE
@@ -162,7 +163,7 @@ module _ (P : ℕ → Type 0) where
   mark-speaks before (House (HouseAnswer client id reply)) p = (tt, tt)
   mark-speaks before (House (HouseOrder order number)) p = tt
 
-  -- ---- the asks of an event
+  -- ---- the requests of an event
 
   pub goes-asked : {May : HouseReply → Type 0} {recorded recorded' : Option (List HouseMark)} {picked : List ℕ} {replies : List HouseReply} {s s' : State} {mark : Mark} {marks : List Mark} {closed : List ℕ} (g : GoesBy May recorded recorded' picked replies s s' mark marks closed)
       → s'.core.policy ≡ s.core.policy → s'.pid ≡ s.pid → SentBy mark → EachAsked P g.asks
@@ -206,7 +207,7 @@ pub unasked-none : (May : HouseReply → Type 0) {May' : HouseReply → Type 0} 
 unfolding goes-unasked
 unasked-none May st g none = none
 
--- ---- the open asks behind these
+-- ---- the open requests after these
 
 pub asked-accepted : (journal : List Mark) (asks : List HouseMark) (known : Known) → EachAsked (λ k. is_accepted k journal ≡ true) asks → All (λ (a : OpenAsk). IsTrue (is_accepted a.client journal)) known.asks → All (λ (a : OpenAsk). IsTrue (is_accepted a.client journal)) (known_after asks known).asks
 asked-accepted journal [] known each all = all

@@ -1,4 +1,4 @@
--- How an event ends a run, by the rows that it makes, and what came where a turn told it.
+-- How an event ends a run, by the rows that it makes, and what came where a turn reported it.
 use Rattle.std.proofs.Common.{◌≡◌, ◌≢◌, ℕ, Bool, true, false, List, [], ◌∷◌, ◌++◌, length, drop, Option, Some, None, refl, sym, ap, ◌∙◌, subst, append_assoc}
 use Rattle.std.specs.Prelude.{◌==◌, ◌&&◌, not}
 use Rattle.std.proofs.lemmas.Bool.{eq-eqb, eqb-true}
@@ -30,7 +30,7 @@ use Rattle.mux_engine.proofs.Comes.{over-live, up-if}
 use Rattle.mux_engine.proofs.Fates.{EndsCut, EndsReceived, Uncut, end-cuts, receives-ends, says-for}
 use Rattle.mux_engine.proofs.Marks.{log-same}
 
--- what a client said may end the run for it, what the server said by its own words, and its end so
+-- what a client sent may end the run for it, what the server sent by its own words, and its end so
 abbrev ByEvent : Event → Option Ended → Type 0
 ByEvent (FromClient k bytes) o = EndsFor k o
 ByEvent (FromServer bytes) o = EndsReceived o
@@ -94,7 +94,7 @@ module _ {May : HouseReply → Type 0} {recorded recorded' : Option (List Asked)
   event-by (HouseSays k id reply) t = tt
   event-by ServerFailed t = tt
 
--- ---- the turn that told it
+-- ---- the turn that reported it
 
 abbrev stream-of : Mark → ℕ
 stream-of (Gets k bytes) = k

@@ -1,4 +1,4 @@
--- What comes at a wire: its counts over calls, and how they stand behind a run's end.
+-- What comes at a wire: its counts over calls, and their state after a run's end.
 use Rattle.std.proofs.Common.{◌≡◌, ◌≤◌, ◌⊎◌, ℕ, Bool, true, false, Option, Some, None, refl, sym, ◌∙◌, subst, inl, inr, arith}
 use Rattle.mux_outside.specs.Counts.{Rose, counted}
 use Rattle.mux_outside.specs.CallCounts.{CallCounts, calls_after_one, calls_after_wait, counted_if, is_accept, is_client_piece, is_server_end, is_server_piece}
@@ -140,7 +140,7 @@ over-same p old new a b c e f over = subst (λ (o : Option Ended). OverBy p o a 
 pub over-live : (p : Bool) (o : Option Ended) (a b : CallCounts) → o ≡ None → OverBy p o a b
 over-live p o a b e = subst (λ (x : Option Ended). OverBy p x a b) (sym e) tt
 
--- one that ended by what the house said
+-- one that ended by what the forwarder sent
 pub over-house : (p : Bool) (o : Option Ended) (a b : CallCounts) → p ≡ true → EndsFor HOUSE o → OverBy p o a b
 over-house p None a b there h = tt
 over-house p (Some (ended.Terminated client id)) a b there h = λ other. absurd (other there h)

@@ -39,7 +39,7 @@ wants-wait false c = omega arith
 pub cut-wait : (t : Turn) (c : CallCounts) → Cut 1 c (calls_after_wait t c)
 cut-wait t c = record { few = counted-most c.waits; wants = wants-wait (is_starved t) c; late = late-wait t c; came = came-wait t c }
 
--- one that found memory, where its turn told an event
+-- one that found memory, where its turn reported an event
 records-event : (e : Event) (t : Turn) (bytes : List ℕ) → IsEventOf e t bytes → is_starved t ≡ false
 records-event e (turn.Accepted k) bytes next = refl
 records-event e (turn.Got k) bytes next = refl

@@ -1,4 +1,4 @@
--- What is left for want of memory.
+-- What is left if memory runs out.
 use Rattle.std.proofs.Common.{◌≡◌, ◌≤◌, ℕ, false, List, [], ◌∷◌, ◌++◌, length, Option, refl, sym, ap, ◌∙◌, subst, inl, arith, append_assoc, append-nil}
 use Rattle.std.specs.Prelude.{All, IsTrue}
 use Rattle.std.specs.Option.{option_map}
@@ -40,7 +40,7 @@ of-streams streams blocked last journal of = record { lawful = of.lawful; asked 
 pub rows-left : (setting : Setting) (journal : List Mark) (taken : ℕ) (drawn : List HouseMark) (s : State) (closed : List ℕ) (rows : List Row) → Kept setting journal → IsLog setting journal rows → RowsFit taken drawn s closed rows → IsLeft setting journal taken drawn
 rows-left setting journal taken drawn s closed rows k l fit = record { kept = k; rows = rows; is_log = l; fresh = fit.fresh; taken_is = fit.taken_is; given_is = fit.drawn_is; asked_is = fit.asked_is }
 
--- the asks of the house's marks with some more
+-- the requests in the forwarder's marks with some more
 pub asks-left : (old more : List HouseMark) (asks : List HouseMark) → asks_in old ≡ asks → asks_in (old ++ more) ≡ asks ++ asks_in more
 asks-left old more asks e = filter-append is_asked old more ∙ ap (λ l. l ++ asks_in more) e
 
@@ -48,7 +48,7 @@ asks-left old more asks e = filter-append is_asked old more ∙ ap (λ l. l ++ a
 pub now-asked : {May : HouseReply → Type 0} {Rest : Resting} {before : Option (List HouseMark)} {now : Side} {policy : Policy} {pid : ℕ} {start : Option (List Mark)} {seen : Seen} {held failed : List ℕ} {given : ℕ} {todo : List ℕ} {s : State} (v : Serving May Rest before now policy pid start seen held failed given todo s) (picks : List ℕ) (later : List HouseReply) → asked_of (log_of_journal (by_lists policy pid (v.picked ++ picks) (v.replies ++ later)) v.journal) ≡ v.stands.asks
 now-asked {May} {Rest} {before} {now} {policy} {pid} {start} {seen} {held} {failed} {given} {todo} {s} v picks later = ap asked_of (sym (log-is s policy pid (v.picked ++ picks) (v.replies ++ later) v.journal v.policy_is v.pid_is)) ∙ (v.stands.at picks later).rows.asked_is
 
--- nothing more was asked: where the wire told no mark, and where it told one
+-- nothing more was asked: where the wire recorded no mark, and where it recorded one
 pub on-here : {May : HouseReply → Type 0} {Rest : Resting} {before : Option (List HouseMark)} {now : Side} {policy : Policy} {pid : ℕ} {start : Option (List Mark)} {seen : Seen} {held failed : List ℕ} {given : ℕ} {todo : List ℕ} {s : State} (v : Serving May Rest before now policy pid start seen held failed given todo s) → AsksOn May policy pid v.picked v.replies v.journal v.stands.asks []
 on-here v = record { more_picks = []; more_replies = []; may = tt; begins = record { rest = []; all_is = now-asked v [] [] ∙ sym (append-nil v.stands.asks) } }
 
@@ -62,7 +62,7 @@ on-next {May} {Rest} {before} {now} {policy} {pid} {start} {seen} {held} {failed
       begins = subst (λ (l : List HouseMark). BeginsWith l [] (asked_of (log_of_journal set (mark ∷ v.journal)))) (now-asked v [] []) (all-begin set (log_of_journal set v.journal) (items_in v.journal mark));
     }
 
--- the rows before the mark are left, whatever the house told at the mark
+-- the rows before the mark are left, whatever the forwarder recorded at the mark
 unfoldable pub cut-next : {May : HouseReply → Type 0} {Rest : Resting} {before : Option (List HouseMark)} {now : Side} {policy : Policy} {pid : ℕ} {start : Option (List Mark)} {seen : Seen} {held failed : List ℕ} {given : ℕ} {todo : List ℕ} {s : State} (v : Serving May Rest before now policy pid start seen held failed given todo s) (now' : Option (List HouseMark)) (recorded' : Option (List Mark)) (given' : ℕ) (mark : Mark) (more left : List HouseMark)
     → recorded' ≡ option_map (λ m. m ++ mark ∷ []) seen.recorded → RecordsAsks now.recorded now' more → house_mark mark ++ left ≡ now.unnoted ++ more → IsOfWire (mark ∷ v.journal) → IsPlaced v.journal mark → turns_in (mark ∷ v.journal) ≤ given' → ((set : Setting) → RestedAt Rest.rests set before v.journal mark) → (Rest.present ≡ false → is_by_house mark ≡ false) → AsksOn May policy pid v.picked v.replies (mark ∷ v.journal) v.stands.asks (asks_in more)
     → ((set : Setting) → IsLog set (mark ∷ v.journal) (log_of_journal set v.journal)) → ((picks : List ℕ) (later : List HouseReply) → PromiseAt (by_lists policy pid (v.picked ++ picks) (v.replies ++ later)) v.journal mark) → Promised May Rest before now' policy pid start recorded' given'
@@ -93,7 +93,7 @@ cut-next {May} {Rest} {before} {now} {policy} {pid} {start} {seen} {held} {faile
           (subst (RowsFit (length v.picked) v.stands.asks s v.closed) (log-is s policy pid (v.picked ++ picks) (v.replies ++ later) v.journal v.policy_is v.pid_is) (v.stands.at picks later).rows);
     }
 
--- all rows are left where the wire told no mark
+-- all rows are left where the wire recorded no mark
 unfoldable pub cut-here : {May : HouseReply → Type 0} {Rest : Resting} {before : Option (List HouseMark)} {now : Side} {policy : Policy} {pid : ℕ} {start : Option (List Mark)} {seen : Seen} {held failed : List ℕ} {given : ℕ} {todo : List ℕ} {s : State} (v : Serving May Rest before now policy pid start seen held failed given todo s) (now' : Option (List HouseMark)) (recorded' : Option (List Mark)) (given' : ℕ) (more : List HouseMark)
     → recorded' ≡ seen.recorded → RecordsAsks now.recorded now' more → asks_in more ≡ [] → given ≤ given' → Promised May Rest before now' policy pid start recorded' given'
 cut-here {May} {Rest} {before} {now} {policy} {pid} {start} {seen} {held} {failed} {given} {todo} {s} v now' recorded' given' more e h none le = record {
@@ -121,11 +121,11 @@ cut-here {May} {Rest} {before} {now} {policy} {pid} {start} {seen} {held} {faile
       (subst (RowsFit (length v.picked) v.stands.asks s v.closed) (log-is s policy pid (v.picked ++ picks) (v.replies ++ later) v.journal v.policy_is v.pid_is) (v.stands.at picks later).rows);
 }
 
--- where the house told nothing meanwhile
+-- where the forwarder recorded nothing meanwhile
 pub cut-still : {May : HouseReply → Type 0} {Rest : Resting} {before : Option (List HouseMark)} {now : Side} {policy : Policy} {pid : ℕ} {start : Option (List Mark)} {seen : Seen} {held failed : List ℕ} {given : ℕ} {todo : List ℕ} {s : State} (v : Serving May Rest before now policy pid start seen held failed given todo s) (recorded' : Option (List Mark)) → recorded' ≡ seen.recorded → Promised May Rest before now.recorded policy pid start recorded' given
 cut-still {now = now} {given = given} v recorded' e = cut-here v now.recorded recorded' given [] e (records-none now.recorded) refl (omega arith)
 
--- what the house tells is not noted yet
+-- what the forwarder records is not noted yet
 pub serve-recorded : {May : HouseReply → Type 0} {Rest : Resting} {before : Option (List HouseMark)} {now : Side} {policy : Policy} {pid : ℕ} {start : Option (List Mark)} {seen : Seen} {held failed : List ℕ} {given : ℕ} {todo : List ℕ} {s : State} (v : Serving May Rest before now policy pid start seen held failed given todo s) (now' : Side) (more : List HouseMark) → RecordsAsks now.recorded now'.recorded more → now'.unnoted ≡ now.unnoted ++ more → asks_in more ≡ [] → now'.asks ≡ now.asks → now'.let_in ≡ now.let_in → now'.calls ≡ now.calls ++ calls_of more → Serving May Rest before now' policy pid start seen held failed given todo s
 serve-recorded {May} {Rest} {before} {now} {policy} {pid} {start} {seen} {held} {failed} {given} {todo} {s} v now' more h is none asks within calls =
     let same : (house_marks v.journal ++ now.unnoted) ++ more ≡ house_marks v.journal ++ now'.unnoted = append_assoc (house_marks v.journal) now.unnoted more ∙ ap (λ l. house_marks v.journal ++ l) (sym is) in

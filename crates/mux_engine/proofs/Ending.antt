@@ -1,4 +1,4 @@
--- How a run ends behind its turns.
+-- How a run ends after its turns.
 use Rattle.std.proofs.Common.{◌≡◌, ◌≢◌, ℕ, Bool, true, false, List, Option, Some, None, refl, sym, ap, ◌∙◌, inl, inr, subst}
 use Rattle.std.specs.Prelude.{◌≤◌, IsErr, IsOk, Result, Ok, Err}
 use Rattle.mux_outside.specs.Counts.{Rose}
@@ -29,7 +29,7 @@ pub fails-on : (old new : Option Ended) (a b : Faults) → StaysOrFails old new 
 fails-on old new a b (inl s) is = sym s.0 ∙ is
 fails-on old new a b (inr f) is = let z : Some ended.ServerFailed ≡ None = sym f.0 ∙ is in absurd (let h = z in cc)
 
--- the answer behind the turns
+-- the answer after the turns
 pub ends-so : (turns : ℕ) (marks : List Mark) (o : Option Ended) (r : Option ℕ) → (o ≡ None → r ≡ None → turns_in marks ≡ turns) → EndsAs turns marks r o (ended_as o r)
 ends-so turns marks (Some cause) r all = refl
 ends-so turns marks None (Some index) all = refl
@@ -71,7 +71,7 @@ pub ends-cut : {A E : Type 0} (r : Result A E) (p : Bool) (o : Option Ended) (a 
 ends-cut (Ok x) p o a b f g is still = absurd (let z : false ≡ true = is in cc)
 ends-cut (Err x) p o a b f g is still = record { failed = tt; by_row = tt; by_count = tt; unopened = still }
 
--- behind calls that ended no run, with a house that is present just so
+-- after calls that ended no run, with a forwarder that is present just so
 pub ends-later : {A E : Type 0} (r : Result A E) (p q : Bool) (o : Option Ended) (a b c : WireState) (f g h : Faults) → q ≡ p → f.server ≤ g.server → Came a.calls b.calls → (p ≡ false → b.seen.last_own ≡ a.seen.last_own) → EndsSo r q o b c g h → EndsSo r p o a c f h
 ends-later (Ok x) p q o a b c f g h same later came still so = record {
   failed = λ over. rose-behind f.server g.server h.server later (so.failed over);
@@ -81,7 +81,7 @@ ends-later (Ok x) p q o a b c f g h same later came still so = record {
 }
 ends-later (Err x) p q o a b c f g h same later came still so = record { failed = tt; by_row = tt; by_count = tt; unopened = λ out. so.unopened (same ∙ out) ∙ still out }
 
--- with another result where memory was not wanting, and behind what only closes streams
+-- with another result where memory did not run out, and after what only closes streams
 pub ends-closed : {A B E : Type 0} (x : A) (y : B) (p : Bool) (o o' : Option Ended) (a b c : WireState) (f g h : Faults) → o' ≡ o → Untouched b c g h → c.seen.last_own ≡ b.seen.last_own → EndsSo {E = E} (Ok x) p o a b f g → EndsSo {E = E} (Ok y) p o' a c f h
 ends-closed x y p o o' a b c f g h same idle still so = record {
   failed = λ over. subst (λ (n : ℕ). Rose f.server n) (sym idle.no_fault.server) (so.failed (sym same ∙ over));
@@ -90,7 +90,7 @@ ends-closed x y p o o' a b c f g h same idle still so = record {
   unopened = λ out. still ∙ so.unopened out;
 }
 
--- a run that want of memory ended
+-- a run that ended as memory ran out
 pub ended-starved : (p : Bool) (refused : Option ℕ) (a b : WireState) (f g : Faults) → HasEnded p refused ended.OutOfMemory a b f g
 ended-starved p refused a b f g = record {
   permitted = λ index e. let z : ended.OutOfMemory ≡ ended.StartRefused index = e in absurd (let h = z in cc);

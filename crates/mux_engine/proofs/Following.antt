@@ -21,16 +21,16 @@ use Rattle.mux_engine.proofs.Runs.{promised-more}
 use Rattle.mux_engine.proofs.Stepping.{handed-again, to-flush}
 
 module _ {T : Type 0} (May : HouseReply → Type 0) (state : T → HouseState) (a b : T) (old new : Scene) where
-  -- a call that went well, of a house of which all was noted, with so many turns more
+  -- a call that went well, of a forwarder of which all was noted, with so many turns more
   pub record Ran (more : ℕ) (todo rest : List ℕ) : Type 0 where
     pub runs : RunsOn {A = Unit {0}} {E = Unit {0}} {T = T} (Ok tt) May state a b old new more (λ x. more) todo (λ x. rest)
 
-  -- one that want of memory cut short, with so many turns at most
+  -- one that was cut short as memory ran out, with so many turns at most
   pub record WasCut (most : ℕ) (todo : List ℕ) : Type 0 where
     pub runs : RunsOn {A = Unit {0}} {E = Unit {0}} {T = T} (Err tt) May state a b old new most (λ x. 0) todo (λ x. [])
 
 module _ {T : Type 0} (May : HouseReply → Type 0) (state : T → HouseState) where
-  -- a call, where a house is there so
+  -- a call, where a forwarder is there so
   abbrev RunsIf : {A E : Type 0} → Bool → Result A E → T → T → Scene → Scene → ℕ → (A → ℕ) → List ℕ → (A → List ℕ) → Type 0
   RunsIf there r a b old new most more todo rest = (first : T) (calls : List HouseCall) (before : Option (List HouseMark)) (policy : Policy) (pid : ℕ) (start : Option (List Mark)) (given : ℕ) → HandsOn (state first).stands (state a).stands calls
       → Serving May (RestsOf state there first) before (noted (state a).recorded (state a).known calls) policy pid start old.seen old.held old.failed given todo old.engine
@@ -56,12 +56,12 @@ module _ {T : Type 0} {May : HouseReply → Type 0} {state : T → HouseState} w
   pub ran-as : {A E : Type 0} (r : Result A E) {a b : T} {old new : Scene} (most : ℕ) (more : A → ℕ) {todo : List ℕ} (rest : A → List ℕ) (x : A) → r ≡ Ok x → RunsOn r May state a b old new most more todo rest → Ran May state a b old new (more x) todo (rest x)
   ran-as r {a} {b} {old} {new} most more {todo} rest x is h = record { runs = subst (λ (q : Result _ _). RunsOn q May state a b old new most more todo rest) is h }
 
-  -- want of memory cuts all short
+  -- running out of memory cuts all short
   pub runs-cut : {A E : Type 0} (r : Result A E) {a b : T} {old new : Scene} {most : ℕ} (most' : ℕ) (more : A → ℕ) {todo : List ℕ} (rest : A → List ℕ) → IsErr r → WasCut May state a b old new most todo → most ≤ most' → RunsOn r May state a b old new most' more todo rest
   runs-cut r {most = most} most' more rest e cut le first calls before policy pid start given hands v =
       on-err r _ _ e (promised-more (given + most) (given + most') (omega arith) (cut.runs first calls before policy pid start given hands v))
 
-  -- ---- the house is not called, or only told what its streams took
+  -- ---- the forwarder is not called, or only handed what its streams accepted
 
   -- nothing happened
   pub ran-none : (a : T) (old : Scene) (todo : List ℕ) → Ran May state a a old old 0 todo todo

@@ -1,4 +1,4 @@
--- A house that replies: of what is known of it only its asks change meanwhile.
+-- A forwarder that replies: of what is known of it only its requests change meanwhile.
 use Rattle.std.proofs.Common.{◌≡◌, List, ℕ, refl, ◌∙◌}
 use Rattle.mux_outside.specs.Faults.{Faults}
 use Rattle.mux_outside.specs.House.{HouseState}

@@ -1,4 +1,4 @@
--- A house that greets first ends no run.
+-- A forwarder that greets first ends no run.
 use Rattle.std.proofs.Common.{◌≡◌, ◌≢◌, ℕ, Bool, true, false, List, [], ◌∷◌, ◌++◌, length, map, drop, Option, Some, None, sym, ◌∙◌, subst}
 use Rattle.std.specs.Prelude.{◌==◌, nat_lt}
 use Rattle.std.specs.List.{list_any}
@@ -40,7 +40,7 @@ use Rattle.mux_engine.proofs.Fates.{EndsAs, EndsReceived, Fine, fine-payload, he
 use Rattle.mux_engine.proofs.Greeting.{AllSo, Greeting, greets-before, greets-behind, hello, journal-greets, proxy, so-drop, so-said}
 use Rattle.mux_engine.proofs.Lists.{true-false}
 
--- ---- what is said so
+-- ---- what is sent so
 
 -- a control message that ends no run, whether or not the client has greeted
 abbrev Calm : Outgoing → Type 0
@@ -61,7 +61,7 @@ AllCalm = AllSo Calm
 calm-said : (bytes : List ℕ) → Greeting bytes → AllCalm (said bytes)
 calm-said = so-said Calm calm-hello calm-proxying (λ p. tt) (λ fault. tt)
 
--- ---- rows that don't end the run for the house
+-- ---- rows that don't end the run for the forwarder
 
 abbrev pub ByOther : Option Ended → Type 0
 ByOther (Some (ended.Terminated k id)) = k ≢ HOUSE
@@ -127,12 +127,12 @@ module _ (policy : Policy) (pid : ℕ) (picks : List ℕ) (given : List HouseRep
   all-other [] rows spare h = h
   all-other (item ∷ items) rows spare h = all-other items (more_of set rows item) spare.1 (one-ends ByOther policy pid picks given item rows (spare.0 rows) h)
 
-  -- what another client says
+  -- what another client sends
   spare-client : (k : ℕ) → k ≢ HOUSE → (xs : List Outgoing) → AllSpare (map (sent_item k) xs)
   spare-client k ne [] = tt
   spare-client k ne (x ∷ xs) = (λ rows. for-other k (next_row set rows (sent_item k x)).fate ne (said-for policy pid picks given k x rows), spare-client k ne xs)
 
-  -- what the house says calmly
+  -- what the forwarder sends calmly
   calm-says : (x : Outgoing) → Calm x → (own : List Row) (pick : ℕ) (reply : Option HouseReply) → Fine (sent_by_client policy pid HOUSE own pick x reply)
   calm-says (Body body) h own pick reply = h pid HOUSE reply (greeted own)
   calm-says (Payload p) h own pick reply = fine-payload policy HOUSE own pick p
@@ -143,7 +143,7 @@ module _ (policy : Policy) (pid : ℕ) (picks : List ℕ) (given : List HouseRep
   spare-house (x ∷ xs) h =
       (said-as ByOther policy pid picks given HOUSE x (λ own pick reply. relay_traces-as ByOther (sent_by_client policy pid HOUSE own pick x reply).ends (calm-says x h.0 own pick reply)), spare-house xs h.1)
 
-  -- what the server says
+  -- what the server sends
   spare-heard : (xs : List Outgoing) → AllSpare (map received_item xs)
   spare-heard [] = tt
   spare-heard (x ∷ xs) = (λ rows. heard-other (next_row set rows (received_item x)).fate (heard-ends policy pid picks given x rows), spare-heard xs)
@@ -209,7 +209,7 @@ module _ (policy : Policy) (pid : ℕ) (picks : List ℕ) (given : List HouseRep
   spare-in before (mark.Joins l k) others calm = tt
   spare-in before (mark.House m) others calm = spare-marked before m calm
 
-  -- where the calls of the house greet first, no row ends the run for the house
+  -- where the calls of the forwarder greet first, no row ends the run for the forwarder
   pub other-ends : (journal : List Mark) → Throughout IsOfOthers journal → GreetsFirst (calls_in set journal) → ByOther (end_of (log_of_journal set journal))
   other-ends [] others greets = tt
   other-ends (m ∷ before) others greets =
@@ -224,7 +224,7 @@ answered-other turns marks refused (Some cause) answer e h = subst (λ (x : Ende
 answered-other turns marks (Some index) None answer e h = subst (λ (x : Ended). ByOther (Some x)) (sym e) tt
 answered-other turns marks None None answer e h = subst (λ (x : Ended). ByOther (Some x)) (sym e.0) tt
 
--- what came where no house ended it
+-- what came where no forwarder ended it
 counted-other : (present : Bool) (answer : Ended) (a b : CallCounts) → (answer ≢ ended.OutOfMemory → present ≡ true → ByOther (Some answer)) → OverBy present (Some answer) a b → EndedBy answer a b
 counted-other present (ended.Terminated client id) a b other over = over (other (λ e. absurd (let z : ended.Terminated client id ≡ ended.OutOfMemory = e in cc)))
 counted-other present ended.ServerEnd a b other over = over
@@ -235,7 +235,8 @@ counted-other present (ended.StartRefused index) a b other over = over
 counted-other present ended.Spent a b other over = over
 counted-other present ended.OutOfMemory a b other over = over
 
--- behind calls without a piece the calls of a house greet first, where it greets first by all of them
+-- after calls without a piece the calls of a forwarder greet first, where it greets first by all of
+-- them
 greets-since : (present : Bool) (stands stands' : List HouseCall → Type 0) (since : List HouseCall) (calls : List HouseCall) → list_any is_piece calls ≡ false → stands calls → HandsOn stands stands' since → StandsGreeting present stands' → present ≡ true → GreetsFirst since
 greets-since present stands stands' since calls none stood hands greets p = greets-behind calls since none (greets p (calls ++ since) (hands calls stood))
 

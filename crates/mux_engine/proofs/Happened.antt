@@ -126,7 +126,7 @@ module _ {May : HouseReply → Type 0} {Rest : Resting} {before : Option (List H
       no-client j (inl free) q = true-false (sym free.0 ∙ (ap is_own (sym q) ∙ client))
       no-client j (inr house) q = true-false (sym (ap is_own (q ∙ house)) ∙ client)
 
-  -- the house was let in
+  -- the forwarder was admitted
   pub placed-house-in : (seen' : Seen) (s' : State) → OfWire seen'.streams seen'.blocked seen'.last (House HouseIn ∷ v.journal) → seen'.streams ≡ seen.streams → seen'.blocked ≡ seen.blocked → seen'.last ≡ seen.last → seen'.last_own ≡ seen.last_own → seen'.listens ≡ seen.listens → here s' ≡ here s ++ HOUSE ∷ [] → Owns v.journal seen' (House HouseIn) → Placed s' v.journal seen seen' held failed (House HouseIn)
   placed-house-in seen' s' of streams blocked last last_own listens more owns = record {
     of_wire = of;

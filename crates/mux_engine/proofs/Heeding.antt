@@ -1,4 +1,4 @@
--- The asks of an event are noted one by one, right behind it.
+-- The requests of an event are noted one by one, right after it.
 use Rattle.std.proofs.Common.{◌≡◌, ◌<◌, ◌+◌, ℕ, List, [], ◌∷◌, ◌++◌, length, take, get_or, Option, Some, None, refl, sym, ap, ◌∙◌, subst, inl, inr, append_assoc, append-nil}
 use Rattle.std.specs.Prelude.{map, Result, Ok, Err, IsErr}
 use Rattle.std.specs.Option.{option_map}
@@ -61,7 +61,7 @@ pub applied-some : {A E : Type 0} (r : Result A E) {May : HouseReply → Type 0}
 applied-some (Ok x) e s s' asks recorded recorded' known known' seen seen' n h so = true-false (sym h)
 applied-some (Err x) e s s' asks recorded recorded' known known' seen seen' n h so = inr (n, so)
 
--- the house stands for all asks, where none was there before
+-- the forwarder represents all requests, where none was there before
 pub hands-so : {A E : Type 0} {x : A} (none asks : List HouseMark) (old new : HouseState) → none ≡ [] → Applies {A = A} {E = E} (Ok x) none asks old new → HandsOn old.stands new.stands (calls_of asks)
 hands-so none asks old new empty h = subst (λ (l : List HouseMark). HandsOn old.stands new.stands (calls_of l)) (sym (all-asked none asks old new empty h)) h.stands
 

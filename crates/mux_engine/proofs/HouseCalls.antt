@@ -1,4 +1,4 @@
--- The house is let in, is handed what waits for it, and answers.
+-- The forwarder is admitted, is handed what waits for it, and answers.
 use Rattle.std.proofs.Common.{◌≡◌, ◌≢◌, ◌≤◌, ◌<◌, ◌+◌, ℕ, Bool, true, false, ◌||◌, List, [], ◌∷◌, ◌++◌, length, Option, None, refl, sym, ap, ◌∙◌, subst, inl, arith, append-nil}
 use Rattle.std.specs.Prelude.{◌==◌, All, IsTrue, Result, Ok, Err}
 use Rattle.std.specs.List.{list_any}
@@ -38,7 +38,7 @@ use Rattle.mux_engine.proofs.Turned.{came, stayed}
 
 -- ---- lists of streams
 
--- what is not among those that are here and the house is not among those that are here
+-- what is not among those that are here and the forwarder is not among those that are here
 pub let-in-covers : (xs ys : List ℕ) → ys ≡ xs ++ HOUSE ∷ [] → (t : ℕ) → among t (0 ∷ ys) ≡ false → among t (0 ∷ xs) ≡ false
 let-in-covers xs ys e t a = by_test (0 == t) (among t xs) (sym (ap (λ b. (0 == t) || b) (ap (among t) e ∙ list_any-append (λ (i : ℕ). i == t) xs (HOUSE ∷ []))) ∙ a)
   where
@@ -47,7 +47,7 @@ let-in-covers xs ys e t a = by_test (0 == t) (among t xs) (sym (ap (λ b. (0 == 
     by_test false true h = h
     by_test false false h = refl
 
--- all but the house are left as they were
+-- all but the forwarder are left as they were
 pub took-covers : (xs ys : List ℕ) → ys ≡ xs → (t : ℕ) → HOUSE ≢ t → among t (0 ∷ without HOUSE ys) ≡ false → among t (0 ∷ xs) ≡ false
 took-covers xs ys e t ne a = ap (λ b. (0 == t) || b) (sym (without-other HOUSE t xs ne) ∙ ap (λ l. among t (without HOUSE l)) (sym e)) ∙ a
 
@@ -58,7 +58,7 @@ reply-covers xs ys e t a = by_test (0 == t) (sym (ap (λ l. among t (0 ∷ l)) e
     by_test true h = h
     by_test false h = among-less HOUSE t xs h
 
--- ---- what is known of the house and seen of the wire stays
+-- ---- what is known of the forwarder and seen of the wire stays
 
 pub housed-still : (known known' : Known) (seen seen' : Seen) (own : List ℕ) → Housed known seen own → SameHouse known known' → SamePlaces seen seen' → Housed known' seen' own
 housed-still known known' seen seen' own o same places = record {
@@ -110,7 +110,7 @@ module _ {May : HouseReply → Type 0} {Rest : Resting} {before : Option (List H
   pub no-turns-left : {now : Option (List HouseMark)} {recorded : Option (List Mark)} → Promised May Rest before now policy pid start recorded given → Promised May Rest before now policy pid start recorded (given + 0)
   no-turns-left {now} {recorded} p = subst (λ (n : ℕ). Promised May Rest before now policy pid start recorded n) (sym (more-none given)) p
 
--- the house told nothing meanwhile, and as much is known of it
+-- the forwarder recorded nothing meanwhile, and as much is known of it
 pub same-noted : {May : HouseReply → Type 0} {Rest : Resting} {before : Option (List HouseMark)} {policy : Policy} {pid : ℕ} {start : Option (List Mark)} {seen : Seen} {held failed : List ℕ} {given : ℕ} {todo : List ℕ} {s : State} {calls : List HouseCall} (recorded recorded' : Option (List HouseMark)) (known known' : Known) → recorded' ≡ recorded → known' ≡ known → Serving May Rest before (noted recorded known calls) policy pid start seen held failed given todo s → Serving May Rest before (noted recorded' known' calls) policy pid start seen held failed given todo s
 same-noted {May} {Rest} {before} {policy} {pid} {start} {seen} {held} {failed} {given} {todo} {s} {calls} recorded recorded' known known' t k v =
     subst (λ (x : Option (List HouseMark)). Serving May Rest before (noted x known' calls) policy pid start seen held failed given todo s) (sym t)
@@ -130,26 +130,26 @@ module _ {May : HouseReply → Type 0} {Rest : Resting} {before : Option (List H
     house_there = v.house_there;
   } v.receives (λ t a. inl a)
 
-  -- ---- it was told something
+  -- ---- something was reported to it
 
-  -- it told this and asked nothing
+  -- it recorded this and requested nothing
   pub took-recorded : {recorded recorded' : Option (List HouseMark)} {known : Known} {calls : List HouseCall} (known' : Known) (n : ℕ) → Serving May Rest before (noted recorded known calls) policy pid start seen held failed given todo s → RecordsAsks recorded recorded' (HouseTook n ∷ []) → known' ≡ known → Serving May Rest before (noting (HouseTook n ∷ []) recorded' known' calls) policy pid start seen held failed given todo s
   took-recorded {recorded} {recorded'} {known} {calls} known' n v h e =
       subst (λ (k : Known). Serving May Rest before (noting (HouseTook n ∷ []) recorded' k calls) policy pid start seen held failed given todo s) (sym e)
       (serve-recorded v (noting (HouseTook n ∷ []) recorded' known calls) (HouseTook n ∷ []) h refl refl refl refl (sym (append-nil calls)))
 
-  -- it told nothing
+  -- it recorded nothing
   pub recorded-nothing : {recorded recorded' : Option (List HouseMark)} {known : Known} {calls : List HouseCall} (known' : Known) → Serving May Rest before (noted recorded known calls) policy pid start seen held failed given todo s → RecordsAsks recorded recorded' [] → known' ≡ known → Serving May Rest before (noted recorded' known' calls) policy pid start seen held failed given todo s
   recorded-nothing {recorded} {recorded'} {known} {calls} known' v h e =
       subst (λ (k : Known). Serving May Rest before (noted recorded' k calls) policy pid start seen held failed given todo s) (sym e)
       (serve-recorded v (noted recorded' known calls) [] h refl refl refl refl (sym (append-nil calls)))
 
-  -- nothing came of a call
+  -- a call had no outcome
   pub still-handed : {stands mid stands' : List HouseCall → Type 0} {recorded recorded' : Option (List HouseMark)} {known : Known} {calls : List HouseCall} (known' : Known) → HandsOn stands mid calls → HandsOn mid stands' [] → RecordsAsks recorded recorded' [] → known' ≡ known → Serving May Rest before (noted recorded known calls) policy pid start seen held failed given todo s
       → Handed stands stands' (λ all. Serving May Rest before (noted recorded' known' all) policy pid start seen held failed (given + 0) todo s)
   still-handed {stands} {mid} {stands'} {calls = calls} known' hands step h e v = record { all = calls; hands = subst (HandsOn stands stands') (append-nil calls) (hands-then stands mid stands' calls [] hands step); so = no-turns (recorded-nothing known' v h e) }
 
-  -- it told an answer
+  -- it recorded an answer
   pub answer-recorded : {recorded recorded' : Option (List HouseMark)} {calls : List HouseCall} (known : Known) (client id : ℕ) (reply : HouseReply) → Serving May Rest before (noted recorded known calls) policy pid start seen held failed given todo s → RecordsAsks recorded recorded' (HouseAnswer client id reply ∷ [])
       → Serving May Rest before (noting (HouseAnswer client id reply ∷ []) recorded' (record known { asks = without_ask client id known.asks }) (calls ++ calls_of (HouseAnswer client id reply ∷ []))) policy pid start seen held failed given todo s
   answer-recorded {recorded} {recorded'} {calls} known client id reply v h =
@@ -164,7 +164,7 @@ module _ {May : HouseReply → Type 0} {Rest : Resting} {before : Option (List H
       let w = serve-recorded v (noting (HouseAnswer client id reply ∷ []) recorded' known (calls ++ calls_of (HouseAnswer client id reply ∷ []))) (HouseAnswer client id reply ∷ []) h refl refl refl refl refl in
       reply-asked w.journal reply client id known.asks fits w.askers
 
-  -- to an ask that was put off
+  -- to a request that was deferred
   pub answer-deferred : {recorded recorded' : Option (List HouseMark)} {calls : List HouseCall} (known : Known) (client id : ℕ) (reply : HouseReply) (v : Serving May Rest before (noted recorded known calls) policy pid start seen held failed given todo s) (h : RecordsAsks recorded recorded' (HouseAnswer client id reply ∷ [])) → ReplyFits reply client id known.asks → list_any (is_deferred client id) (answer-recorded known client id reply v h).stands.asks ≡ true
   unfolding answer-recorded serve-asks serve-as
   answer-deferred {recorded} {recorded'} {calls} known client id reply v h fits =

@@ -1,4 +1,4 @@
--- The house takes what waits for it, and speaks.
+-- The forwarder accepts what waits for it, and sends.
 use Rattle.std.proofs.Common.{◌≡◌, ◌≢◌, ◌≤◌, ◌<◌, ◌+◌, ℕ, Bool, true, false, ◌||◌, List, [], ◌∷◌, ◌++◌, length, drop, take, Option, None, refl, sym, ap, ◌∙◌, subst, inl, inr, ◌⊎◌, append-nil}
 use Rattle.std.specs.Prelude.{◌==◌}
 use Rattle.std.proofs.lemmas.Bool.Decides.{eqb_tells}
@@ -53,7 +53,7 @@ take-all : (xs : List ℕ) → take (length xs) xs ≡ xs
 take-all [] = refl
 take-all (x ∷ xs) = ap (λ (l : List ℕ). x ∷ l) (take-all xs)
 
--- all but the house are left as they were
+-- all but the forwarder are left as they were
 left-of-house : (t : ℕ) (xs : List ℕ) → HOUSE ≢ t → among t (0 ∷ without HOUSE xs) ≡ false → among t (0 ∷ xs) ≡ false
 left-of-house t xs ne a = ap (λ b. (0 == t) || b) (sym (without-other HOUSE t xs ne)) ∙ a
 
@@ -71,7 +71,7 @@ module _ {May : HouseReply → Type 0} {Rest : Resting} {before : Option (List H
           ∙ (sym (waiting (at-stream v.stands HOUSE e).not_closed picks later ∙ ap (pending HOUSE) (log-is s policy pid (v.picked ++ picks) (v.replies ++ later) v.journal v.policy_is v.pid_is)) ∙ none)))
       by_open t q false e = inl (ap (λ i. among i (0 ∷ here s)) (sym q) ∙ (among-open s HOUSE ∙ e))
 
-  -- ---- it took all
+  -- ---- it accepted all
 
   pub house-takes : {todo : List ℕ} (v : Serving May Rest before now policy pid start seen held failed given todo s) (s' : State) (bytes : List ℕ) → now.unnoted ≡ HouseTook (length bytes) ∷ [] → now.let_in ≡ true → ((t : ℕ) → HOUSE ≢ t → among t (0 ∷ without HOUSE (here s')) ≡ false → among t todo ≡ false)
       → bytes ≡ queue_in s HOUSE → 0 < length bytes → Waiting bytes HOUSE s v.picked v.replies v.journal → s' ≡ taken s HOUSE (length bytes) → GoesAlone s s' (Takes HOUSE bytes) → Serving May Rest before (record now { unnoted = []; calls = now.calls ++ Receives bytes ∷ [] }) policy pid start (seen-with (HouseTook (length bytes) ∷ []) seen) held failed given (0 ∷ without HOUSE (here s')) s'
@@ -115,7 +115,7 @@ module _ {May : HouseReply → Type 0} {Rest : Resting} {before : Option (List H
             };
       }
 
-  -- ---- it said something
+  -- ---- it sent something
 
   pub house-said : (v : Serving May Rest before now policy pid start seen held failed given [] s) (live : s.ended ≡ None) (e : Event) (bytes : List ℕ) → now.unnoted ≡ HouseSaid bytes ∷ [] → now.let_in ≡ true → Records e (Gets HOUSE bytes) → 0 < length bytes → length bytes ≤ 65536 → AreBytes bytes → length (queue_in s 0) < READING_STOPS_AT
       → EventAt v live e (seen-with (HouseSaid bytes ∷ []) seen) (given + 1)

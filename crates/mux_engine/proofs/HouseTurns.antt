@@ -1,4 +1,5 @@
--- What the house makes of what holds while a wire is served: it is let in, takes, speaks and answers.
+-- What the forwarder makes of what holds while a wire is served: it is admitted, accepts, sends and
+-- answers.
 use Rattle.std.proofs.Common.{◌≡◌, ◌≢◌, ◌<◌, ℕ, Bool, true, false, ◌||◌, ◌&&◌, List, [], ◌∷◌, ◌++◌, length, Option, None, refl, sym, ap, ◌∙◌, subst, inr, cond, arith, append-nil}
 use Rattle.std.specs.Prelude.{◌==◌, All, IsTrue}
 use Rattle.std.specs.List.{list_any}

@@ -52,7 +52,7 @@ fewer-left k failed failed' own e a n =
     subst (λ (l : List ℕ). left_of l own + length l ≤ left_of failed own + length failed) (sym e)
     (let less : left_of (failed ++ k ∷ []) own < left_of failed own = left-less k failed own a n in let l : length (failed ++ k ∷ []) ≡ length failed + 1 = length-append failed (k ∷ []) in omega (arith, less, l))
 
--- ---- the streams of a house
+-- ---- the streams of a forwarder
 
 pub own-one : (known : Known) (seen : Seen) (own : List ℕ) → Housed known seen own → (t : ℕ) → among t own ≡ true → IsTrue (is_one t seen.own)
 own-one known seen own h t a = sym (among-one t seen.own) ∙ (ap (among t) (sym h.own_is) ∙ a)

@@ -120,7 +120,7 @@ among-filter P t (x ∷ xs) = by_head (among-filter P t xs) (x == t) refl (P x) 
 pub among-not-own : (t : ℕ) (xs : List ℕ) → is_own t ≡ false → among t (not_own xs) ≡ among t xs
 among-not-own t xs e = among-filter (λ (i : ℕ). not (is_own i)) t xs ∙ ap (λ b. not b && among t xs) e
 
--- a number of the master's own is that of one of its streams, or of the house
+-- a number of the master's own is that of one of its streams, or of the forwarder
 pub own-or-house : (t : ℕ) → is_own_stream t ≡ false → t ≢ HOUSE → is_own t ≡ false
 own-or-house t e ne = by_own (is_own t) refl
   where
@@ -136,7 +136,7 @@ not-own-stream t e = ap (λ b. b && not (t == HOUSE)) e
 
 -- ---- the streams that are open
 
--- the head of a list is there, or else one behind it
+-- the head of a list is there, or else one after it
 abbrev pub either : Bool → Bool → Bool
 either b rest = elim b as (λ _. Bool) [ true ↦ true | false ↦ rest ]
 

@@ -64,7 +64,7 @@ or-last false b e = e
 pub log-live : (set : Setting) (mark : Mark) (before : List Mark) → is_ended (log_of_journal set (mark ∷ before)) ≡ false → is_ended (log_of_journal set before) ≡ false
 log-live set mark before = log-keeps (λ rows. is_ended rows ≡ false → is_ended (log_of_journal set before) ≡ false) (λ row rows h e. h (or-last (is_end row.fate) (is_ended rows) e)) set mark before (λ e. e)
 
--- ---- bytes that are taken
+-- ---- bytes that are accepted
 
 -- they make a row
 pub took-log : (policy : Policy) (pid : ℕ) (picks : List ℕ) (replies : List HouseReply) (rows : List Row) (t n : ℕ) → more_of (by_lists policy pid picks replies) rows (Took t n) ≡ take_row t n ∷ rows
@@ -168,7 +168,7 @@ mark_stream (WriteFails k) = k
 mark_stream (Joins l k) = k
 mark_stream (House m) = 0
 
--- it is no mark of the house
+-- it is no mark of the forwarder
 abbrev pub NotHouse : Mark → Type 0
 NotHouse (House m) = ⊥
 NotHouse mark = Unit {0}

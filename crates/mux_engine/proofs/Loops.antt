@@ -123,11 +123,11 @@ waiting-present t (c ∷ cs) a = by_empty (waiting-present t cs) (is_empty c.pee
 pub more-left : {May : HouseReply → Type 0} {Rest : Resting} {before : Option (List HouseMark)} {now : Side} {policy : Policy} {pid : ℕ} {start : Option (List Mark)} {seen : Seen} {held failed : List ℕ} {given : ℕ} {s : State} (left : List ℕ) (v : Serving May Rest before now policy pid start seen held failed given left s) → Serving May Rest before now policy pid start seen held failed given (0 ∷ (without HOUSE (here s) ++ left)) s
 more-left {s = s} left v = serve-todo v (0 ∷ (without HOUSE (here s) ++ left)) (λ t a. inl (neither t (without HOUSE (here s)) left (apart-or-left 0 t (without HOUSE (here s) ++ left) a).1).1)
 
--- the server is not the house
+-- the server is not the forwarder
 pub no-zero : 0 ≢ HOUSE
 no-zero e = absurd (omega (arith, e))
 
--- a client that waits is here, and is not the house
+-- a client that waits is here, and is not the forwarder
 pub record IsClient (s : State) (t : ℕ) : Type 0 where
   pub opened : is_open s t ≡ true
   pub no_server : t ≢ 0

@@ -97,13 +97,13 @@ kept-more setting journal mark k p = record {
   answers = (p.answers, k.answers);
 }
 
--- and who is out and settled behind it
+-- and who is out and settled after it
 pub record SoundAt (setting : Setting) (journal : List Mark) (mark : Mark) (todo : List ℕ) (s : State) : Type 0 where
   pub promise : PromiseAt setting journal mark
   pub failed_out : (t : ℕ) → is_own_stream t ≡ false → write_failed t (mark ∷ journal) ≡ true → s.ended ≡ None → is_out (rows_of t (log_of_journal setting (mark ∷ journal))) ≡ true
   pub settled : (t : ℕ) → is_own_stream t ≡ false → among t todo ≡ false → IsSettled setting (mark ∷ journal) t
 
--- where the streams are behind it
+-- the state of the streams after it
 pub record Placed (s' : State) (journal : List Mark) (seen seen' : Seen) (held' failed' : List ℕ) (mark : Mark) : Type 0 where
   pub of_wire : OfWire seen'.streams seen'.blocked seen'.last (mark ∷ journal)
   pub open_are : not_own seen'.streams ≡ 0 ∷ not_own (here s')
@@ -116,14 +116,14 @@ pub record Placed (s' : State) (journal : List Mark) (seen seen' : Seen) (held' 
   pub listens : seen.listens ≡ true → seen'.listens ≡ true
   pub owns : Owns journal seen' mark
 
--- what the house told with it, and what is noted of it: it was asked this
+-- what the forwarder recorded with it, and what is noted of it: this was requested of it
 pub record Notes (now now' : Side) (mark : Mark) (asks : List HouseMark) : Type 0 where
   pub more : List HouseMark
   pub recorded_is : RecordsAsks now.recorded now'.recorded more
   pub noted_is : house_mark mark ++ now'.unnoted ≡ now.unnoted ++ more
   pub asks_are : asks_in more ≡ asks
 
--- how the wire, the house and the engine, which was `s` and is `s'`, stand behind it, with the
+-- how the wire, the forwarder and the engine, which was `s` and is `s'`, stand after it, with the
 -- numbers and replies of now
 pub record NextEvent (Rest : Resting) (before : Option (List HouseMark)) (now now' : Side) (policy : Policy) (pid : ℕ) (picked : List ℕ) (replies : List HouseReply) (asks : List HouseMark) (s s' : State) (journal : List Mark) (seen seen' : Seen) (held' failed' : List ℕ) (given' : ℕ) (todo' : List ℕ) (mark : Mark) : Type 0 where
   pub recorded : seen'.recorded ≡ option_map (λ m. m ++ mark ∷ []) seen.recorded
@@ -165,11 +165,11 @@ receives-before {s = s} {marks = marks} {closed = closed} st s' mark p r picked'
     let new = st'.at [] [] in
     old.rows.listening_is ∙ log-listens (by_lists s.core.policy s.pid (picked' ++ []) (replies' ++ [])) mark marks (ap Rattle.mux_history.specs.Promises.listens (sym (log-same s s' (picked' ++ []) (replies' ++ []) (mark ∷ marks) g h)) ∙ (sym new.rows.listening_is ∙ l))
 
--- the marks of the house with those that are not noted
+-- the marks of the forwarder with those that are not noted
 pub noted-more : (old mark unnoted' unnoted more : List HouseMark) → mark ++ unnoted' ≡ unnoted ++ more → (old ++ unnoted) ++ more ≡ (old ++ mark) ++ unnoted'
 noted-more old mark unnoted' unnoted more e = append_assoc old unnoted more ∙ (ap (λ l. old ++ l) (sym e) ∙ sym (append_assoc old mark unnoted'))
 
--- with so many numbers and replies more, where the house was asked this
+-- with so many numbers and replies more, where this was requested of the forwarder
 unfoldable pub serve-on : {May : HouseReply → Type 0} {Rest : Resting} {before : Option (List HouseMark)} {now : Side} {policy : Policy} {pid : ℕ} {start : Option (List Mark)} {seen : Seen} {held failed : List ℕ} {given : ℕ} {todo : List ℕ} {s : State} (v : Serving May Rest before now policy pid start seen held failed given todo s) (now' : Side) (seen' : Seen) (held' failed' : List ℕ) (given' : ℕ) (todo' : List ℕ) (s' : State) (mark : Mark) (p : List ℕ) (r : List HouseReply) (asks : List HouseMark) (picked' : List ℕ) (replies' : List HouseReply)
     → picked' ≡ v.picked ++ p → replies' ≡ v.replies ++ r → MayGive May r → (st : Stands picked' replies' s' (mark ∷ v.journal) v.closed) → st.asks ≡ v.stands.asks ++ asks
     → NextEvent Rest before now now' policy pid picked' replies' asks s s' v.journal seen seen' held' failed' given' todo' mark → Serving May Rest before now' policy pid start seen' held' failed' given' todo' s'
@@ -217,19 +217,19 @@ serve-on {May} {Rest} {before} {now} {policy} {pid} {start} {seen} {held} {faile
           };
     }
 
--- the asks of what stands now
+-- the requests of what stands now
 pub asks-more : {May : HouseReply → Type 0} {recorded recorded' : Option (List HouseMark)} {old new : State} {mark : Mark} {picked : List ℕ} {replies : List HouseReply} {marks : List Mark} {closed : List ℕ} (st : Stands picked replies old marks closed) (g : GoesBy May recorded recorded' picked replies old new mark marks closed) → g.stands.asks ≡ st.asks ++ g.asks
 asks-more {picked = picked} {replies = replies} st g =
     let was = stood-at st g.picks g.replies (picked ++ g.picks) (replies ++ g.replies) refl refl [] [] in
     sym (g.stands.at [] []).rows.asked_is ∙ (g.asked [] [] ∙ ap (λ l. l ++ g.asks) was.rows.asked_is)
 
--- with what an event picks and the house replies to it
+-- with what an event picks and the forwarder replies to it
 unfoldable pub serve-next : {May : HouseReply → Type 0} {Rest : Resting} {before : Option (List HouseMark)} {now : Side} {policy : Policy} {pid : ℕ} {start : Option (List Mark)} {seen : Seen} {held failed : List ℕ} {given : ℕ} {todo : List ℕ} {s : State} (v : Serving May Rest before now policy pid start seen held failed given todo s) (now' : Side) (seen' : Seen) (held' failed' : List ℕ) (given' : ℕ) (todo' : List ℕ) (s' : State) (mark : Mark) {recorded recorded' : Option (List HouseMark)}
     → (g : GoesBy May recorded recorded' v.picked v.replies s s' mark v.journal v.closed) → NextEvent Rest before now now' policy pid (v.picked ++ g.picks) (v.replies ++ g.replies) g.asks s s' v.journal seen seen' held' failed' given' todo' mark → Serving May Rest before now' policy pid start seen' held' failed' given' todo' s'
 serve-next v now' seen' held' failed' given' todo' s' mark g n =
     serve-on v now' seen' held' failed' given' todo' s' mark g.picks g.replies g.asks (v.picked ++ g.picks) (v.replies ++ g.replies) refl refl g.may g.stands (asks-more v.stands g) n
 
--- where nothing is picked and the house isn't asked
+-- where nothing is picked and nothing is requested of the forwarder
 unfoldable pub serve-alone : {May : HouseReply → Type 0} {Rest : Resting} {before : Option (List HouseMark)} {now : Side} {policy : Policy} {pid : ℕ} {start : Option (List Mark)} {seen : Seen} {held failed : List ℕ} {given : ℕ} {todo : List ℕ} {s : State} (v : Serving May Rest before now policy pid start seen held failed given todo s) (now' : Side) (seen' : Seen) (held' failed' : List ℕ) (given' : ℕ) (todo' : List ℕ) (s' : State) (mark : Mark)
     → Stands v.picked v.replies s' (mark ∷ v.journal) v.closed → ((picks : List ℕ) (replies : List HouseReply) → asked_of (log s' picks replies (mark ∷ v.journal)) ≡ asked_of (log s picks replies v.journal))
     → NextEvent Rest before now now' policy pid v.picked v.replies [] s s' v.journal seen seen' held' failed' given' todo' mark → Serving May Rest before now' policy pid start seen' held' failed' given' todo' s'

@@ -1,4 +1,4 @@
--- What is noted of a house.
+-- What is noted of a forwarder.
 use Rattle.std.proofs.Common.{◌≡◌, ℕ, zero, suc, Bool, List, [], ◌∷◌, ◌++◌, take, drop, Option, Some, None, refl, sym, ap, ◌∙◌, subst, append_assoc, append-nil}
 use Rattle.std.specs.Prelude.{map}
 use Rattle.std.specs.Option.{option_map}
@@ -22,12 +22,12 @@ use Rattle.mux_engine.proofs.Places.{placed-still}
 use Rattle.mux_engine.proofs.Quiet.{serve-quiet}
 use Rattle.mux_engine.proofs.Recorded.{records-none, recorded-none}
 
--- what is seen with these marks of a house
+-- what is seen with these marks of a forwarder
 abbrev pub seen-with : List HouseMark → Seen → Seen
 seen-with marks seen = record seen { recorded = option_map (λ (m : List Mark). m ++ map (λ (a : HouseMark). House a) marks) seen.recorded }
 
 module _ {May : HouseReply → Type 0} {Rest : Resting} {before : Option (List HouseMark)} {policy : Policy} {pid : ℕ} {start : Option (List Mark)} {held failed : List ℕ} {given : ℕ} {todo : List ℕ} {s : State} where
-  -- the first of the asks that are not noted
+  -- the first of the requests that are not noted
   note-one : {now : Side} {seen : Seen} (v : Serving May Rest before now policy pid start seen held failed given todo s) (client id : ℕ) (opening : Bool) (ask : StartAsk) (reply : HouseReply) (rest : List HouseMark) → now.unnoted ≡ HouseAsked client id opening ask reply ∷ rest
       → Serving May Rest before (record now { unnoted = rest }) policy pid start (seen-with (HouseAsked client id opening ask reply ∷ []) seen) held failed given todo s
   note-one {now} {seen} v client id opening ask reply rest e =

@@ -1,4 +1,4 @@
--- What one call of wait makes of a run, by what it told.
+-- What one call of wait makes of a run, by what it reported.
 use Rattle.std.proofs.Common.{◌≡◌, ◌+◌, ℕ, Bool, true, false, List, [], ◌∷◌, ◌++◌, Option, refl, sym, ap, ◌∙◌, subst, arith, MatchResult, OnOk}
 use Rattle.std.specs.Prelude.{IsErr, Result, Ok, Err, filter}
 use Rattle.mux_outside.specs.CallCounts.{CallCounts, calls_after_wait, is_starved}
@@ -55,9 +55,9 @@ together-of : {A E : Type 0} (r : Result A E) (house : HouseState) (wire : WireS
 together-of (Ok x) house wire lists housed alone held = record { housed = housed; alone = alone; held_is = held }
 together-of (Err e) house wire lists housed alone held = tt
 
--- ---- a turn that was taken
+-- ---- a turn that was given
 
--- what is so behind it; the lists are then those whose streams are these
+-- what is so after it; the lists are then those whose streams are these
 pub record TurnDone {A E T : Type 0} (result : Result A E) (May : HouseReply → Type 0) (state : T → HouseState) (house house' : T) (wire wire' : WireState) (faults faults' : Faults) (lists : Lists) (held own failed : List ℕ) (s s' : State) : Type 0 where
   pub serving : RunsOn result May state house house' (scene wire lists s) (scene_of wire' held failed s') 1 (λ x. 1) [] (λ x. 0 ∷ here s')
   pub together : (lists' : Lists) → lists'.own ≡ own → lists'.held ≡ held → OnOk result (Together (state house') wire' lists')
@@ -90,7 +90,7 @@ pub works-unlisted : {A E : Type 0} (r : Result A E) (w : WireState) (f : Faults
 works-unlisted (Ok x) w f is = absurd (let z : false ≡ true = is in cc)
 works-unlisted (Err x) w f is = record { keeps = keeps-none w f; calls = cut-none 1 w.calls }
 
--- the wait told an event, which was taken in
+-- the wait reported an event, which was applied
 pub works-event : {A E : Type 0} (r : Result A E) {old mid new : WireState} {f g h : Faults} (e : Event) (t : Turn) (waiting : List ℕ) (want : Want) (bytes : List ℕ) → IsEventOf e t bytes → mid ≡ state_after_wait t waiting want bytes mid.tally old → TurnFaults t f g → IsIdle mid new g h → Works 1 r old new f h
 works-event r {old = old} {mid = mid} e t waiting want bytes next after cause applied =
     let waited : Works 1 r old mid _ _ = record {
@@ -98,7 +98,7 @@ works-event r {old = old} {mid = mid} e t waiting want bytes next after cause ap
       calls = subst (λ (x : CallCounts). Counts 1 r old.calls x) (sym (ap (λ (x : WireState). x.calls) after)) (counts-event r e t bytes old.calls next);
     } in works-recorded r waited applied
 
--- it told something of the master's own
+-- it reported something of the master's own
 own-fed : (o : OwnTurn) (t : Turn) (bytes : List ℕ) → IsOwnOf o t bytes → is_starved t ≡ false
 own-fed (recorded.Joined l k) t bytes next = ap is_starved next
 own-fed (recorded.Got k got) t bytes next = ap is_starved next.1
@@ -114,7 +114,7 @@ module _ {T : Type 0} {May : HouseReply → Type 0} {state : T → HouseState} {
   at : (first : T) (calls : List HouseCall) → HandsOn (state first).stands (state house).stands calls → AtWait (RestsOf state (state house).known.present first) (noted (state house).recorded (state house).known calls) wire.seen lists.own lists.held lists.failed (state house).queue s
   at first calls hands = at-wait state first house calls wire lists s b hands
 
-  -- where there is no house no stream was joined
+  -- where there is no forwarder no stream was accepted
   unjoined : (state house).known.present ≡ false → wire1.seen.last_own ≡ wire.seen.last_own
   unjoined = wait-opens t (s.waiting ++ filter (waits_for (state house).queue lists.failed) lists.own) (want_of s) bytes (state house).known wire.seen wire1.seen lists.own b.together.housed b.together.alone w.own_fits w.seen_is
 
@@ -176,7 +176,7 @@ module _ {T : Type 0} {May : HouseReply → Type 0} {state : T → HouseState} {
       ended = ends-live {E = E} (Ok x) (state house).known.present s.ended wire wire1 faults faults1 b.on unjoined;
     }
 
-  -- ---- a stream takes bytes again
+  -- ---- a stream accepts bytes again
 
   pub turn-freed : {A E : Type 0} (x : A) (k : ℕ) (held : List ℕ) → is_own k ≡ false → t ≡ turn.Writable k → held ≡ without k lists.held → TurnDone {E = E} (Ok x) May state house house wire wire1 faults faults1 lists held lists.own lists.failed s s
   turn-freed {E = E} x k held client is held_is = record {

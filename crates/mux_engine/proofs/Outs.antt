@@ -37,7 +37,7 @@ use Rattle.mux_state.specs.State.{State}
 use Rattle.mux_state.specs.Stands.{RowsFit}
 use Rattle.mux_engine.proofs.Lists.{true-false}
 
--- ---- a row of a client that was lost tells it nothing
+-- ---- a row of a client that was lost records it nothing
 
 farewell-down : (row : Row) (own : List Row) → (with_farewell row own).down ≡ row.down
 farewell-down row own = by_loss (loses row)
@@ -69,7 +69,7 @@ pub record ReceivesNothing (k : ℕ) (rows : List Row) : Type 0 where
   pub out : is_out (rows_of k rows) ≡ true
   pub silent : (is_lost (rows_of k rows) ≡ true) ⊎ (greeted (rows_of k rows) ≡ false)
 
--- it takes nothing, and does not let this client in
+-- it accepts nothing, and does not let this client in
 abbrev pub Passes : ℕ → Item → Type 0
 Passes k (Took stream size) = ⊥
 Passes k (Admit j) = j ≢ k
@@ -244,7 +244,7 @@ waits-on policy pid k real picks given mark before spares is known = (stays-item
 
 -- ---- a client that was closed
 
--- it hears nothing more
+-- it receives nothing more
 closed-receives : {taken : ℕ} {drawn : List HouseMark} {s : State} {closed : List ℕ} {rows : List Row} → RowsFit taken drawn s closed rows → ForEach LetFirst rows → (k : ℕ) → among k closed ≡ true → ReceivesNothing k rows
 closed-receives {rows = rows} fit first k c = record { out = fit.closed_out k c; silent = by_admitted (any_of is_admit (rows_of k rows)) refl }
   where

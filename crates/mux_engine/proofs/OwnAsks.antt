@@ -1,4 +1,4 @@
--- The asks that are noted behind an event are no orders.
+-- The requests that are noted after an event are no orders.
 use Rattle.std.proofs.Common.{◌≡◌, ◌≢◌, ◌≤◌, ◌<◌, ◌+◌, ℕ, true, false, List, [], length, Option, Some, refl, sym, ap, subst, inl, inr, arith}
 use Rattle.std.specs.Prelude.{Result, Ok, Err}
 use Rattle.ssh_fields.specs.Fields.{AreBytes}
@@ -63,7 +63,7 @@ asks-are asks more e = held e
     held : Some asks ≡ Some more → asks ≡ more
     held h = cc
 
--- an event that a mark tells which may come now
+-- an event that a mark records which may come now
 pub record MayCome (e : Event) (s : State) (journal : List Mark) : Type 0 where
   pub mark : Mark
   pub records : Records e mark
@@ -81,7 +81,7 @@ module _ {picked : List ℕ} {replies : List HouseReply} {s : State} {journal : 
   applied-counted (Err x) May s' asks recorded recorded' known known' seen seen' faults faults' same (inl u) = own-still seen.recorded seen'.recorded faults faults' (ap (λ (y : Seen). y.recorded) u.seen_is) (omega (arith, same))
   applied-counted (Err x) May s' asks recorded recorded' known known' seen seen' faults faults' same (inr p) = applies-counted s' asks recorded recorded' known known' seen seen' p.0 faults faults' same p.1
 
--- what the house says as a client
+-- what the forwarder sends as a client
 pub house-comes : (e : Event) (s : State) (journal : List Mark) (bytes : List ℕ) → is_accepted HOUSE journal ≡ true → AreBytes bytes → Records e (Gets HOUSE bytes) → MayCome e s journal
 house-comes e s journal bytes within are records = record { mark = Gets HOUSE bytes; records = records; allowed = ((λ nz. within), are, refl) }
 

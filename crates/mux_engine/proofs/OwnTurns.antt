@@ -1,5 +1,5 @@
--- What a turn makes of what holds while a wire is served, where it tells something of the master's own
--- streams, or that a stream takes bytes again.
+-- What a turn makes of what holds while a wire is served, where it reports something of the
+-- master's own streams, or that a stream accepts bytes again.
 use Rattle.std.proofs.Common.{◌≡◌, ◌≢◌, ◌≤◌, ◌<◌, ℕ, Bool, true, false, not, ◌||◌, List, [], ◌∷◌, ◌++◌, Option, refl, sym, ap, ◌∙◌, subst, inl, inr, cond, arith, append-nil}
 use Rattle.std.specs.Prelude.{◌==◌, IsTrue}
 use Rattle.std.specs.Option.{option_map}
@@ -104,7 +104,7 @@ module _ {May : HouseReply → Type 0} {Rest : Resting} {before : Option (List H
         (ap (among k) m.blocked ∙ (none-without k seen.blocked ∙ sym (freed k k v.journal true (test-same k)))) (λ t ne. ap (among t) m.blocked ∙ without-other k t seen.blocked ne) (λ t ne. freed k t v.journal false (test-other k t ne)) (λ t. refl) (λ t ne. refl)
         (λ own f. v.failed_are k own found f) (λ t a. a) (owns-plain v.journal seen seen' (Frees k) (house-other v k found) v.places m.streams m.own m.listeners)
 
-    -- it takes bytes again
+    -- it accepts bytes again
     pub own-frees : IsTrue (is_own k) → now.unnoted ≡ [] → Same (Frees k) (without k seen.blocked) → Serving May Rest before (calling now (Turns (Writable k) ∷ [])) policy pid start seen' (without k held) failed given [] s
     own-frees own none m = let alike = frees-alike k v.journal in
         serve-quiet v (calling now (Turns (Writable k) ∷ [])) seen' (without k held) failed given (Frees k)

@@ -1,5 +1,5 @@
--- What offers to the master's own streams leave, in the words of their contracts: of one, and of one
--- behind another.
+-- What offers to the master's own streams leave, in the words of their contracts: of one, and of
+-- one after another.
 use Rattle.std.proofs.Common.{◌≡◌, ◌<◌, ◌+◌, ℕ, Bool, true, false, ◌||◌, List, [], ◌∷◌, ◌++◌, length, refl, sym, ap, ◌∙◌, arith, le_trans, le_refl, length-append}
 use Rattle.std.specs.Prelude.{◌==◌, IsErr, OnOk, Result, Ok, Err}
 use Rattle.std.proofs.lemmas.Bool.{eq-eqb, eqb-true}
@@ -11,9 +11,9 @@ use Rattle.mux_engine.specs.Owned.{FailsFurther, IsOffered, IsOpenOwn, OwnsStrea
 use Rattle.mux_engine.specs.Sides.{Housed, OnlyTook, SamePlaces}
 use Rattle.mux_engine.proofs.Left.{fewer-left, own-known, own-one}
 
--- ---- what the house is
+-- ---- what the forwarder is
 
--- it took something, and that ended well
+-- it accepted something, and that ended well
 abbrev pub JustTook : HouseState → HouseState → Type 0
 JustTook old new = OnlyTook {A = Unit {0}} {E = Unit {0}} (Ok tt) old new
 
@@ -23,7 +23,7 @@ took-none h = record { known = refl; must = refl; recorded = refl }
 pub took : {A E : Type 0} {x : A} {old new : HouseState} → OnlyTook {A = A} {E = E} (Ok x) old new → JustTook old new
 took t = record { known = t.known; must = t.must; recorded = t.recorded }
 
--- whatever came of it
+-- whatever its outcome
 pub took-any : {A E : Type 0} {old new : HouseState} (r : Result A E) → JustTook old new → OnlyTook r old new
 took-any (Ok x) t = record { known = t.known; must = t.must; recorded = t.recorded }
 took-any (Err x) t = record { known = tt; must = t.must; recorded = t.recorded }

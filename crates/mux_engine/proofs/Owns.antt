@@ -1,4 +1,4 @@
--- The master's own listeners and streams behind one mark more.
+-- The master's own listeners and streams after one mark more.
 use Rattle.std.proofs.Common.{◌≡◌, ℕ, Bool, true, false, not, ◌&&◌, ◌||◌, List, [], ◌∷◌, ◌++◌, map, refl, sym, ap, ◌∙◌, cond, append-nil}
 use Rattle.std.specs.Prelude.{◌==◌, filter, IsTrue}
 use Rattle.std.proofs.lemmas.List.{map-append}
@@ -14,7 +14,7 @@ use Rattle.mux_history.specs.declared.limits.TheConstants.{HOUSE}
 use Rattle.mux_engine.specs.Places.{HasPlaces, IsGiving, IsPlaced, IsTaking, KeepsOwn, listeners_marked, own_in, own_marked}
 use Rattle.mux_engine.proofs.Lists.{among-filter, test-other, true-false}
 
--- all that is so of them behind a mark
+-- all that is so of them after a mark
 pub record Owns (journal : List Mark) (seen' : Seen) (mark : Mark) : Type 0 where
   pub places : HasPlaces seen' (mark ∷ journal)
   pub right : IsPlaced journal mark
@@ -22,19 +22,19 @@ pub record Owns (journal : List Mark) (seen' : Seen) (mark : Mark) : Type 0 wher
 pub keeps-more : (journal : List Mark) (mark : Mark) → IsPlaced journal mark → KeepsOwn journal → KeepsOwn (mark ∷ journal)
 keeps-more journal mark p k = record { opened = (p.opened, k.opened); gives = (p.gives, k.gives); writes = (p.writes, k.writes); joins = (p.joins, k.joins); others = (p.others, k.others) }
 
--- behind one that changes them as the wire does
+-- after one that changes them as the wire does
 pub owns-by : (journal : List Mark) (seen seen' : Seen) (mark : Mark) → HasPlaces seen journal → IsPlaced journal mark → seen'.own ≡ own_marked mark seen.own → seen'.listeners ≡ listeners_marked mark seen.listeners → filter is_own seen'.streams ≡ numbers_of seen'.own → Owns journal seen' mark
 owns-by journal seen seen' mark p right own listeners streams = record {
   places = record { own = own ∙ ap (own_marked mark) p.own; listeners = listeners ∙ ap (listeners_marked mark) p.listeners; streams = streams };
   right = right;
 }
 
--- behind one that changes nothing of them
+-- after one that changes nothing of them
 pub owns-as : (journal : List Mark) (seen seen' : Seen) (mark : Mark) → HasPlaces seen journal → IsPlaced journal mark → ((own : List OwnStream) → own_marked mark own ≡ own) → ((listeners : List ℕ) → listeners_marked mark listeners ≡ listeners) → seen'.streams ≡ seen.streams → seen'.own ≡ seen.own → seen'.listeners ≡ seen.listeners → Owns journal seen' mark
 owns-as journal seen seen' mark p right same_own same_listeners streams own listeners =
     owns-by journal seen seen' mark p right (own ∙ sym (same_own seen.own)) (listeners ∙ sym (same_listeners seen.listeners)) (ap (filter is_own) streams ∙ (p.streams ∙ ap numbers_of (sym own)))
 
--- a mark that tells nothing of them
+-- a mark that records nothing of them
 abbrev pub IsPlain : Mark → Type 0
 IsPlain (Waits waiting want streams listens) = ⊥
 IsPlain (Accepts k) = Unit {0}
@@ -138,7 +138,7 @@ owns-plain journal seen seen' (House (HouseAsked client id opening ask reply)) p
 owns-plain journal seen seen' (House (HouseAnswer client id reply)) plain p streams own listeners = owns-as journal seen seen' (House (HouseAnswer client id reply)) p record { opened = tt; gives = tt; writes = tt; joins = tt; others = refl } (λ o. refl) (λ l. refl) streams own listeners
 owns-plain journal seen seen' (House (HouseOrder order number)) plain p streams own listeners = absurd plain
 
--- a client and the server are not the house
+-- a client and the server are not the forwarder
 pub client-other : (k : ℕ) → is_own k ≡ false → (k == HOUSE) ≡ false
 client-other k client = test-other k HOUSE (λ e. true-false (sym (ap is_own e) ∙ client))
 

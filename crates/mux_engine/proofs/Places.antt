@@ -1,4 +1,4 @@
--- Where the wire's streams are behind one mark more.
+-- Where the wire's streams are after one mark more.
 use Rattle.std.proofs.Common.{◌≡◌, ◌≢◌, ◌≤◌, ◌<◌, ℕ, Bool, true, false, ◌||◌, List, [], ◌∷◌, ◌++◌, length, Option, refl, sym, ap, ◌∙◌, subst, inl, inr, arith}
 use Rattle.std.specs.Prelude.{◌==◌, IsTrue}
 use Rattle.std.proofs.lemmas.Bool.Decides.{eqb_tells, nat_tests}
@@ -75,7 +75,7 @@ module _ {May : HouseReply → Type 0} {Rest : Resting} {before : Option (List H
   pub server-open : among 0 seen.streams ≡ true
   server-open = among-places 0 server-own ∙ refl
 
-  -- none of the house
+  -- none of the forwarder
   pub house-shut : among HOUSE seen.streams ≡ false
   house-shut = (v.unused HOUSE (inr refl)).not_open
 
@@ -98,7 +98,7 @@ module _ {May : HouseReply → Type 0} {Rest : Resting} {before : Option (List H
   pub apart-unused : (k j : ℕ) → among k seen.streams ≡ true → IsFree seen.last_own j → k ≢ j
   apart-unused k j found free e = true-false (sym found ∙ (ap (λ i. among i seen.streams) e ∙ (v.unused j free).not_open))
 
-  -- behind a mark of this stream of the wire, where the same are open
+  -- after a mark of this stream of the wire, where the same are open
   pub placed-by : (mark : Mark) (seen' : Seen) (held' failed' : List ℕ) (s' : State) (k : ℕ) → among k seen.streams ≡ true → OfWire seen'.streams seen'.blocked seen'.last (mark ∷ v.journal)
       → seen'.streams ≡ seen.streams → seen'.last ≡ seen.last → seen'.last_own ≡ seen.last_own → seen'.listens ≡ seen.listens → here s' ≡ here s → held' ≡ seen'.blocked
       → among k seen'.blocked ≡ is_blocked k (mark ∷ v.journal) → ((t : ℕ) → k ≢ t → among t seen'.blocked ≡ among t seen.blocked) → ((t : ℕ) → k ≢ t → is_blocked t (mark ∷ v.journal) ≡ is_blocked t v.journal)
@@ -131,7 +131,7 @@ module _ {May : HouseReply → Type 0} {Rest : Resting} {before : Option (List H
     owns = owns;
   }
 
-  -- behind one that tells nothing of a stream
+  -- after one that records nothing of a stream
   pub placed-still : (mark : Mark) (seen' : Seen) (s' : State) → OfWire seen'.streams seen'.blocked seen'.last (mark ∷ v.journal)
       → seen'.streams ≡ seen.streams → seen'.blocked ≡ seen.blocked → seen'.last ≡ seen.last → seen'.last_own ≡ seen.last_own → seen'.listens ≡ seen.listens → here s' ≡ here s
       → ((t : ℕ) → is_blocked t (mark ∷ v.journal) ≡ is_blocked t v.journal) → ((t : ℕ) → is_accepted t (mark ∷ v.journal) ≡ is_accepted t v.journal) → ((t : ℕ) → has_failed t (mark ∷ v.journal) ≡ has_failed t v.journal)

@@ -1,4 +1,4 @@
--- Marks that no row tells: what holds while a wire is served goes on with them.
+-- Marks that no row records: what holds while a wire is served goes on with them.
 use Rattle.std.proofs.Common.{◌≡◌, ℕ, false, List, [], ◌∷◌, ◌++◌, Option, refl, sym, ap, ◌∙◌, subst, append-nil}
 use Rattle.std.specs.Prelude.{All, IsTrue}
 use Rattle.std.specs.Option.{option_map}
@@ -29,7 +29,7 @@ use Rattle.mux_engine.proofs.Logs.{accepted-more, settled-as}
 use Rattle.mux_engine.proofs.Marks.{Notes, Placed, PromiseAt, serve-alone}
 use Rattle.mux_engine.proofs.Recorded.{records-none}
 
--- the house is not called
+-- the forwarder is not called
 pub notes-none : (now : Side) (mark : Mark) → house_mark mark ≡ [] → Notes now now mark []
 notes-none now mark e = record { more = []; recorded_is = records-none now.recorded; noted_is = ap (λ l. l ++ now.unnoted) e ∙ sym (append-nil now.unnoted); asks_are = refl }
 
@@ -42,7 +42,7 @@ module _ {May : HouseReply → Type 0} {Rest : Resting} {before : Option (List H
   pub askers-more : (mark : Mark) → All (λ (a : OpenAsk). IsTrue (is_accepted a.client (mark ∷ v.journal))) now.asks
   askers-more mark k d lt = accepted-more mark v.journal _ (v.askers k d lt)
 
-  -- what a mark is that no row tells
+  -- what a mark is that no row records
   pub record IsQuiet (mark : Mark) : Type 0 where
     pub log : (set : Setting) → log_of_journal set v.journal ≡ log_of_journal set (mark ∷ v.journal)
     pub blocked : (t : ℕ) → is_own_stream t ≡ false → is_blocked t (mark ∷ v.journal) ≡ is_blocked t v.journal

@@ -1,4 +1,4 @@
--- A house that is ready stays so where a client's stream is closed.
+-- A forwarder that is ready stays so where a client's stream is closed.
 use Rattle.std.proofs.Common.{◌≡◌, ◌≢◌, ℕ, true, List, Option, ◌∙◌, inl, inr}
 use Rattle.mux_outside.specs.House.{Known, Quiet}
 use Rattle.mux_outside.specs.Seen.{Seen, seen_after_close}

@@ -1,4 +1,4 @@
--- What the wire and the house told, and what the house may give.
+-- What the wire and the forwarder recorded, and what the forwarder may give.
 use Rattle.std.proofs.Common.{◌≡◌, List, [], ◌∷◌, ◌++◌, Option, Some, None, refl, sym, ap, ◌∙◌, append_assoc, append-nil}
 use Rattle.std.specs.Prelude.{reverse}
 use Rattle.std.specs.Option.{option_map}
@@ -10,7 +10,7 @@ use Rattle.mux_history.specs.Journal.{Records}
 use Rattle.mux_history.specs.Promises.{MayGive}
 use Rattle.mux_peers.specs.Asked.{RecordsAsks}
 
--- ---- what the wire told
+-- ---- what the wire recorded
 
 reverse-twice : (ms : List Mark) → reverse (reverse ms) ≡ ms
 reverse-twice [] = refl
@@ -27,9 +27,9 @@ pub recorded-none : (recorded : Option (List Mark)) → option_map (λ m. m ++ [
 recorded-none None = refl
 recorded-none (Some m) = ap (λ (l : List Mark). Some l) (append-nil m)
 
--- ---- what the house told
+-- ---- what the forwarder recorded
 
--- where it was asked nothing it tells the same
+-- where it was asked nothing it records the same
 pub records-none : (recorded : Option (List HouseMark)) → RecordsAsks recorded recorded []
 records-none None = refl
 records-none (Some asks) = ap (λ (l : List HouseMark). Some l) (sym (append-nil asks))

@@ -19,7 +19,7 @@ use Rattle.mux_engine.proofs.Loops.{neither}
 use Rattle.mux_engine.proofs.Todo.{serve-todo}
 
 module _ {May : HouseReply → Type 0} {before : Option (List HouseMark)} {policy : Policy} {pid : ℕ} {start : Option (List Mark)} where
-  -- with a house that is present just so
+  -- with a forwarder that is present just so
   pub present-is : {now : Side} {seen : Seen} {held failed : List ℕ} {given : ℕ} {todo : List ℕ} {s : State} (R : Bool → Resting) (p q : Bool) → p ≡ q → Serving May (R p) before now policy pid start seen held failed given todo s → Serving May (R q) before now policy pid start seen held failed given todo s
   present-is {now} {seen} {held} {failed} {given} {todo} {s} R p q e v = subst (λ (b : Bool). Serving May (R b) before now policy pid start seen held failed given todo s) e v
 
@@ -37,7 +37,7 @@ module _ {May : HouseReply → Type 0} {Rest : Resting} {before : Option (List H
   pub side-is : {seen : Seen} {held failed : List ℕ} {given : ℕ} {todo : List ℕ} {s : State} (now now' : Side) → now ≡ now' → Serving May Rest before now policy pid start seen held failed given todo s → Serving May Rest before now' policy pid start seen held failed given todo s
   side-is {seen} {held} {failed} {given} {todo} {s} now now' e v = subst (λ (x : Side). Serving May Rest before x policy pid start seen held failed given todo s) e v
 
-  -- the house took a turn, or it took none
+  -- the forwarder used a turn, or it used none
   pub step-took : {now : Side} {seen : Seen} {held failed : List ℕ} {s : State} (given : ℕ) (todo : List ℕ) (more : Bool) → more ≡ true → Serving May Rest before now policy pid start seen held failed (given + (if more then 1 else 0)) (if more then todo else []) s → Serving May Rest before now policy pid start seen held failed (given + 1) todo s
   step-took given todo true e v = v
   step-took given todo false e v = true-false (sym e)
@@ -63,7 +63,7 @@ module _ {May : HouseReply → Type 0} {Rest : Resting} {before : Option (List H
   all-settled {now} {seen} {held} {failed} {given} {s} true e v = given-is given (given + 0) (omega arith) v
   all-settled false e v = true-false (sym e)
 
-  -- a turn that the run goes on behind was given
+  -- a turn that the run goes on after was given
   pub went-on : {now : Side} {seen : Seen} {held failed : List ℕ} {given : ℕ} {todo : List ℕ} {s : State} (on : Bool) → on ≡ true → EndsTurn on given May Rest before now policy pid start seen held failed todo s → Serving May Rest before now policy pid start seen held failed (given + 1) todo s
   went-on on e (inl v) = v
   went-on on e (inr w) = true-false (sym e ∙ w.0)
@@ -90,7 +90,7 @@ pub match-more-both : {A E : Type 0} (r : Result A E) {P Q : Type 0} (S T : Type
 match-more-both (Ok x) S T f p = (f p.0, p.1)
 match-more-both (Err e) S T f p = p
 
--- ---- a house that is let in
+-- ---- a forwarder that is admitted
 
 abbrev side-with : Option (List HouseMark) → Known → List HouseCall → Bool → Side
 side-with recorded known calls let_in = record { recorded = recorded; asks = known.asks; unnoted = []; let_in = let_in; calls = calls }
@@ -103,7 +103,7 @@ let-inside recorded known calls there = ap (side-with recorded known calls) (sym
 
 -- ---- the end
 
--- the streams of clients and then the house are left to be offered something
+-- the streams of clients and then the forwarder are left to be offered something
 pub to-house : {May : HouseReply → Type 0} {Rest : Resting} {before : Option (List HouseMark)} {now : Side} {policy : Policy} {pid : ℕ} {start : Option (List Mark)} {seen : Seen} {held failed : List ℕ} {given : ℕ} {s : State} → Serving May Rest before now policy pid start seen held failed given (0 ∷ here s) s
     → Serving May Rest before now policy pid start seen held failed given (0 ∷ (without HOUSE (here s) ++ HOUSE ∷ [])) s
 to-house {s = s} v = serve-todo v (0 ∷ (without HOUSE (here s) ++ HOUSE ∷ [])) (λ t a. inl (covers t (apart-or-left 0 t (without HOUSE (here s) ++ HOUSE ∷ []) a)))

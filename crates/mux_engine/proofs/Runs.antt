@@ -54,7 +54,7 @@ nothing-pending t = by_server (t == 0)
 
 -- ---- the end
 
--- the same asks of choices and rows that are the same
+-- the same requests of choices and rows that are the same
 on-again : {May : HouseReply → Type 0} {policy : Policy} {pid : ℕ} {picks picks' : List ℕ} {replies replies' : List HouseReply} {journal : List Mark} {asks asks' more : List HouseMark} → picks ≡ picks' → replies ≡ replies' → asks ≡ asks' → AsksOn May policy pid picks replies journal asks more → AsksOn May policy pid picks' replies' journal asks' more
 on-again {May} {policy} {pid} {picks} {picks'} {replies} {replies'} {journal} {asks} {asks'} {more} e f g h =
     subst (λ (l : List ℕ). AsksOn May policy pid l replies' journal asks' more) e

@@ -1,4 +1,4 @@
--- Marks that no row tells: the engine stands for the journal with them as it did before.
+-- Marks that no row records: the engine represents the journal with them as it did before.
 use Rattle.std.proofs.Common.{◌≡◌, ◌≢◌, ℕ, Bool, true, false, ◌||◌, List, [], ◌∷◌, ◌++◌, length, refl, sym, ap, ◌∙◌, subst, append-nil}
 use Rattle.std.specs.Prelude.{◌==◌}
 use Rattle.std.proofs.lemmas.Bool.{eq-eqb}

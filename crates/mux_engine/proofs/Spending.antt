@@ -1,4 +1,4 @@
--- What the turns of a run count, and how the run counts behind them.
+-- What the turns of a run count, and how the run counts after them.
 use Rattle.std.proofs.Common.{◌≡◌, ◌≢◌, ◌≤◌, ◌<◌, ◌+◌, ◌-◌, ◌^◌, ℕ, Bool, true, false, refl, sym, ◌∙◌, subst, inl, inr, arith}
 use Rattle.std.specs.Prelude.{min, Result, Ok, Err, IsErr}
 use Rattle.std.specs.Result.{result_unwrap_or}
@@ -48,12 +48,12 @@ spent-on present n a b c s (inr w) = let f : b.waits ≤ a.waits + n = s.few in 
   came = came-then a b c s.came w.0.came;
 }
 
--- the house took a turn, which waits for none
+-- the forwarder used a turn, which waits for none
 pub turned-stepped : (present on : Bool) (b c : CallCounts) → (present ≡ false → ⊥) → Well 0 b c → Turned present on b c
 turned-stepped true on b c there w = inr (w, inl refl)
 turned-stepped false on b c there w = absurd (there refl)
 
--- want of memory may have cut a wait short
+-- a wait may have been cut short as memory ran out
 pub cut-one-more : (b c : CallCounts) → Cut 0 b c → Cut 1 b c
 cut-one-more b c w = let f : c.waits ≤ b.waits + 0 = w.few in record { few = omega arith; wants = w.wants; late = w.late; came = w.came }
 
@@ -95,7 +95,7 @@ spent-over present n turns a b c less s t first =
       | inr q ↦ counted-on n a.waits b.waits c.waits q.1 (s.all_waited p refl) (none-lost false present b c t)
     ]
 
--- one that want of memory cut short
+-- one that was cut short as memory ran out
 pub spent-cut : (present : Bool) (n turns : ℕ) (a b c : CallCounts) → n < turns → Spent present true n a b → Cut 1 b c → Cut turns a c
 spent-cut present n turns a b c less s w =
     let f : b.waits ≤ a.waits + n = s.few in let g : c.waits ≤ b.waits + 1 = w.few in let e : b.wants ≡ a.wants = s.wants in let h : c.wants ≤ b.wants + 1 = w.wants in
@@ -112,7 +112,7 @@ all-waited n a b w h = let m : b ≤ a + n = w.most in let l : min (a + n) (2 ^ 
 some-waited : (n a b : ℕ) → n ≢ 0 → Waited n a b → counted a ≤ b
 some-waited n a b nz w = let l : min (a + n) (2 ^ 64 - 1) ≤ b = w.least in omega arith
 
--- one that want of memory cut short
+-- one that was cut short as memory ran out
 pub stops-cut : (present : Bool) (turns : ℕ) (a b : CallCounts) → Cut turns a b → Stops present turns ended.OutOfMemory a b
 stops-cut present turns a b c = record {
   few = c.few;
@@ -123,7 +123,7 @@ stops-cut present turns a b c = record {
   late = c.late;
 }
 
--- calls behind those that left the counts as they were
+-- calls after those that left the counts as they were
 pub cut-from : (n : ℕ) (a b c : CallCounts) → b ≡ a → Cut n b c → Cut n a c
 cut-from n a b c e w = subst (λ (x : CallCounts). Cut n x c) e w
 
@@ -135,7 +135,7 @@ pub stops-starved : {E : Type 0} (r : Result Ended E) (present : Bool) (turns : 
 stops-starved (Ok x) present turns a b h c = absurd (let z : false ≡ true = h in cc)
 stops-starved (Err e) present turns a b h c = stops-cut present turns a b c
 
--- turns that were given, and then calls that want of memory cut short
+-- turns that were given, and then calls that were cut short as memory ran out
 pub spent-cuts : (present all : Bool) (turns : ℕ) (a b c : CallCounts) → Spent present all turns a b → Cut 0 b c → Cut turns a c
 spent-cuts present all turns a b c s w =
     let f : b.waits ≤ a.waits + turns = s.few in let g : c.waits ≤ b.waits + 0 = w.few in let e : b.wants ≡ a.wants = s.wants in let h : c.wants ≤ b.wants + 1 = w.wants in

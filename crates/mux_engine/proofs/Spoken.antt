@@ -1,4 +1,4 @@
--- What the house says as a client makes of all that holds while a wire is served.
+-- What the forwarder sends as a client makes of all that holds while a wire is served.
 use Rattle.std.proofs.Common.{◌≡◌, ◌≤◌, ◌<◌, ◌+◌, ℕ, Bool, true, false, List, [], ◌∷◌, ◌++◌, length, Option, Some, None, refl, sym, ap, ◌∙◌, subst, inl, inr, cond, arith, MatchResult, OnOk}
 use Rattle.std.specs.Prelude.{nat_lt, Result, Ok, Err}
 use Rattle.std.specs.Option.{option_map}
@@ -57,7 +57,7 @@ ok-serves r P Q is m = subst (λ (q : Result _ _). MatchResult q P Q) is m
 pub err-serves : {A E : Type 0} (r : Result A E) {x : E} (P : A → Type 0) (Q : E → Type 0) → r ≡ Err x → MatchResult r P Q → Q x
 err-serves r P Q is m = subst (λ (q : Result _ _). MatchResult q P Q) is m
 
--- a run that ends by what the house said
+-- a run that ends by what the forwarder sent
 abbrev stream-of : Mark → ℕ
 stream-of (Gets k bytes) = k
 stream-of mark = 0
@@ -76,7 +76,7 @@ asks-ends (ClientFailed k) bytes o t h = absurd (elim t.1 [ inl z ↦ cc | inr z
 asks-ends (HouseSays k id reply) bytes o t h = absurd (let z = t.1 in cc)
 asks-ends ServerFailed bytes o t h = absurd (elim t [ inl z ↦ cc | inr z ↦ cc ])
 
--- what was told with what it said
+-- what was recorded with what it sent
 pub recorded-nothing : {E : Type 0} (r : Result Bool E) (bytes : List ℕ) (recorded recorded' : Option (List HouseMark)) → r ≡ Ok false → recorded' ≡ option_map (λ marks. marks ++ sends_marks r bytes) recorded → RecordsAsks recorded recorded' []
 recorded-nothing r bytes recorded recorded' is e = e ∙ ap (λ (x : Result Bool _). option_map (λ marks. marks ++ sends_marks x bytes) recorded) is
 
@@ -92,7 +92,7 @@ hands-nothing {E} stands stands' r bytes is h = subst (λ (x : Result Bool E). O
 some-said : {E : Type 0} (r : Result Bool E) (bytes : List ℕ) → r ≡ Ok true → SendsFits r bytes → 0 < length bytes
 some-said {E} r bytes is fits = let f : SendsFits {E = E} (Ok true) bytes = subst (λ (x : Result Bool E). SendsFits {E = E} x bytes) is fits in f.0
 
--- it said these bytes, which it tells
+-- it sent these bytes, which it records
 pub record Said (old new : HouseState) (bytes : List ℕ) : Type 0 where
   pub records : RecordsAsks old.recorded new.recorded (HouseSaid bytes ∷ [])
   pub same : new.known ≡ old.known
@@ -110,7 +110,7 @@ pub record IsPiece (e : Event) (bytes : List ℕ) : Type 0 where
 
 module _ {May : HouseReply → Type 0} {Rest : Resting} {before : Option (List HouseMark)} {policy : Policy} {pid : ℕ} {start : Option (List Mark)} {seen : Seen} {held failed : List ℕ} {given : ℕ} {s : State} {calls : List HouseCall} {house house' : HouseState} {bytes : List ℕ}
     (said : Said house house' bytes) (v : Serving May Rest before (noted house.recorded house.known calls) policy pid start seen held failed given [] s) (live : s.ended ≡ None) (within : house.known.present ≡ true) (room : want_of s ≡ Read) where
-  -- what it said is not noted yet
+  -- what it sent is not noted yet
   abbrev unnoted-yet : Side
   unnoted-yet = record { recorded = house'.recorded; asks = house'.known.asks; unnoted = HouseSaid bytes ∷ []; let_in = house'.known.present; calls = calls ++ calls_of (HouseSaid bytes ∷ []) }
 

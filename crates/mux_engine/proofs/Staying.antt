@@ -21,7 +21,7 @@ use Rattle.mux_engine.specs.Serving.{IsSound, IsUnused, Serving}
 use Rattle.mux_engine.specs.Sides.{Resting, Side, asks_in, house_marks}
 
 module _ {May : HouseReply → Type 0} {Rest : Resting} {before : Option (List HouseMark)} {now : Side} {policy : Policy} {pid : ℕ} {start : Option (List Mark)} {seen : Seen} {held failed : List ℕ} {given : ℕ} {todo : List ℕ} {s : State} where
-  -- of the house this is noted behind the journal
+  -- of the forwarder this is noted after the journal
   pub record IsNoted (v : Serving May Rest before now policy pid start seen held failed given todo s) (now' : Side) : Type 0 where
     pub house : RecordsAsks before now'.recorded (house_marks v.journal ++ now'.unnoted)
     pub asked : asks_in (house_marks v.journal ++ now'.unnoted) ≡ v.stands.asks
@@ -39,8 +39,8 @@ module _ {May : HouseReply → Type 0} {Rest : Resting} {before : Option (List H
   abbrev pub Covers : Serving May Rest before now policy pid start seen held failed given todo s → List ℕ → Type 0
   Covers v todo' = (t : ℕ) → among t todo' ≡ false → (among t todo ≡ false) ⊎ ((picks : List ℕ) (later : List HouseReply) → IsSettled (by_lists policy pid (v.picked ++ picks) (v.replies ++ later)) v.journal t)
 
-  -- of the house this is noted now, clients may be accepted no more where the engine wants none, and
-  -- other streams are to be offered what waits for them
+  -- of the forwarder this is noted now, clients may be accepted no more where the engine wants
+  -- none, and other streams are to be offered what waits for them
   unfoldable pub serve-as : (v : Serving May Rest before now policy pid start seen held failed given todo s) (now' : Side) (listens : Bool) (todo' : List ℕ) → IsNoted v now' → (s.ended ≡ None → s.listening ≡ true → listens ≡ true) → Covers v todo' → Serving May Rest before now' policy pid start (record seen { listens = listens }) held failed given todo' s
   serve-as v now' listens todo' noted receives covers = record {
     journal = v.journal;

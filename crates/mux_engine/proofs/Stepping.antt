@@ -1,4 +1,4 @@
--- What a step of the house makes of all that holds while a wire is served.
+-- What a step of the forwarder makes of all that holds while a wire is served.
 use Rattle.std.proofs.Common.{◌≡◌, ◌+◌, ℕ, Bool, true, false, ◌||◌, List, [], ◌∷◌, ◌++◌, Option, Some, None, refl, sym, ap, ◌∙◌, subst, inl, inr, arith, append-nil, OnOk}
 use Rattle.std.specs.Prelude.{◌==◌, IfOk, IsErr, Result, Ok, Err}
 use Rattle.std.proofs.lemmas.Bool.Decides.{eqb_tells}
@@ -35,7 +35,7 @@ use Rattle.mux_engine.proofs.Wired.{works-any}
 
 -- ---- what is left to be offered
 
--- where there is no house nothing waits for it
+-- where there is no forwarder nothing waits for it
 pub none-handed : {May : HouseReply → Type 0} {Rest : Resting} {before : Option (List HouseMark)} {now : Side} {policy : Policy} {pid : ℕ} {start : Option (List Mark)} {seen : Seen} {held failed : List ℕ} {given : ℕ} {s : State} (v : Serving May Rest before now policy pid start seen held failed given (0 ∷ here s) s) → now.let_in ≡ false
     → Serving May Rest before now policy pid start seen held failed (given + 0) (0 ∷ without HOUSE (here s)) s
 none-handed {May} {Rest} {before} {now} {policy} {pid} {start} {seen} {held} {failed} {given} {s} v out =
@@ -49,7 +49,7 @@ none-handed {May} {Rest} {before} {now} {policy} {pid} {start} {seen} {held} {fa
     by_open false e = refl
     by_open true e = true-false (sym ((at-stream v.stands HOUSE e).accepted (λ z. absurd (omega (arith, z)))) ∙ (v.house_in ∙ out))
 
--- the house is to be handed over again what waits for it
+-- the forwarder is to be handed over again what waits for it
 pub handed-again : {May : HouseReply → Type 0} {Rest : Resting} {before : Option (List HouseMark)} {now : Side} {policy : Policy} {pid : ℕ} {start : Option (List Mark)} {seen : Seen} {held failed : List ℕ} {given : ℕ} {s : State} (v : Serving May Rest before now policy pid start seen held failed given (0 ∷ without HOUSE (here s)) s)
     → Serving May Rest before now policy pid start seen held failed given (0 ∷ here s) s
 handed-again {s = s} v = serve-todo v (0 ∷ here s) (λ t a. inl (let p = apart-or-left 0 t (here s) a in ap (λ b. b || among t (without HOUSE (here s))) (test-other 0 t p.0) ∙ among-less HOUSE t (here s) p.1))
@@ -65,7 +65,7 @@ to-flush {May} {Rest} {before} {now} {policy} {pid} {start} {seen} {held} {faile
 pub a-turn : {May : HouseReply → Type 0} {Rest : Resting} {before : Option (List HouseMark)} {now : Side} {policy : Policy} {pid : ℕ} {start : Option (List Mark)} {seen : Seen} {held failed : List ℕ} {given : ℕ} {todo : List ℕ} {s : State} → Serving May Rest before now policy pid start seen held failed (given + 0) todo s → Serving May Rest before now policy pid start seen held failed given todo s
 a-turn {May} {Rest} {before} {now} {policy} {pid} {start} {seen} {held} {failed} {given} {todo} {s} v = subst (λ (n : ℕ). Serving May Rest before now policy pid start seen held failed n todo s) (more-none given) v
 
--- ---- the house
+-- ---- the forwarder
 
 pub housed-still : (known known' : Known) (seen seen' : Seen) (own : List ℕ) → SameHouse known known' → SamePlaces seen seen' → Housed known seen own → Housed known' seen' own
 housed-still known known' seen seen' own same places h = housed-as known known' seen seen' own h same.ordering same.listeners same.streams places.listeners places.own places.streams places.last_own
@@ -81,7 +81,7 @@ none-more known quiet queue seen held failed own out alone h = record {
   offered = λ t a. true-false (sym a ∙ (ap (among t) h.own_is ∙ ap (λ l. among t (numbers_of l)) (sym h.streams ∙ alone.streams out)));
 }
 
--- where its last order and its last answer were taken
+-- where its last order and its last answer were applied
 pub no-more : (old new : HouseState) (lists lists' : Lists) → HasAnswered old lists → OrderedNothing old new lists lists' → HasNoMoreFor new lists'
 no-more old new lists lists' answered ordered = subst (λ (l : Lists). HasNoMoreFor new l) (sym ordered.still) record {
   orders = λ present. ordered.orders;
@@ -97,7 +97,7 @@ no-more-held house lists held holds h = record {
   offered = λ t a. elim (h.offered t a) [ inl none ↦ inl none | inr (inl q) ↦ inr (inl (holds t q)) | inr (inr q) ↦ inr (inr q) ];
 }
 
--- and it says nothing: it is at rest
+-- and it sends nothing: it is at rest
 pub no-more-said : (old new : HouseState) (seen seen' : Seen) (s s' : State) (held failed own : List ℕ) → SameHouse old.known new.known → old.known.present ≡ true → HasNoMore old.known old.quiet old.queue held failed own → SentNothing old new seen seen' s s' → IsReady new.known new.quiet new.queue held failed own s'
 no-more-said old new seen seen' s s' held failed own known there h said = record {
   no_more = record {
@@ -120,14 +120,14 @@ together-still {old} {new} {wire} {wire'} {lists} t known places own held_is = r
   held_is = held_is;
 }
 
--- behind an order
+-- after an order
 pub together-ordered : {A E : Type 0} (r : Result A E) (old new : HouseState) (wire : WireState) (lists : Lists) → old.known.present ≡ true → OnOk r (Housed new.known wire.seen lists.own) → StaysHouse r old new → OnOk r (lists.held ≡ wire.seen.blocked) → OnOk r (Together new wire lists)
 together-ordered (Ok x) old new wire lists there housed stays held_is = record { housed = housed; alone = present-alone new.known (stays.present ∙ there); held_is = held_is }
 together-ordered (Err e) old new wire lists there housed stays held_is = tt
 
 -- ---- how a run ends
 
--- without a house that was let in no turn is taken
+-- without a forwarder that was admitted no turn is used
 pub waits-err : {E : Type 0} (r : Result Bool E) (old new : State) → IsErr r → WaitsAlone r old new
 waits-err (Ok x) old new e = true-false (sym e)
 waits-err (Err x) old new e = record { waits = λ is. let z : Err x ≡ Ok true = is in cc; idle = λ none. tt }
@@ -157,7 +157,7 @@ ends-offered (Ok y) p o o' old mid new f g h live none stays works unopened = re
 }
 ends-offered (Err y) p o o' old mid new f g h live none stays works unopened = record { failed = tt; by_row = tt; by_count = tt; unopened = unopened }
 
--- a house that is there said something
+-- a forwarder that is there sent something
 pub ends-said : {A E : Type 0} (r : Result A E) (p : Bool) (o : Option Ended) (old new : WireState) (f f' : Faults) → p ≡ true → OnOk r (EndsByAsk o) → EndsSo r p o old new f f'
 ends-said (Ok x) p o old new f f' there e = record { failed = λ over. absurd (e.relay_traces over); by_row = e.by_row; by_count = over-house p o old.calls new.calls there e.by_house; unopened = λ out. true-false (sym there ∙ out) }
 ends-said (Err x) p o old new f f' there e = record { failed = tt; by_row = tt; by_count = tt; unopened = λ out. true-false (sym there ∙ out) }
@@ -174,7 +174,7 @@ pub on-false : {E P Q : Type 0} (r : Result Bool E) → (P → Q) → IfOk r (λ
 on-false (Ok b) f h = λ e. f (h e)
 on-false (Err e) f h = tt
 
--- it said nothing
+-- it sent nothing
 pub on-said : {E : Type 0} (r : Result Bool E) (old new : HouseState) (seen seen' : Seen) (s s' : State) (held failed own : List ℕ) → OnOk r (SameHouse old.known new.known) → old.known.present ≡ true → HasNoMore old.known old.quiet old.queue held failed own → IfOk r (λ more. more ≡ false → SentNothing old new seen seen' s s')
     → IfOk r (λ more. more ≡ false → s'.ended ≡ None → IsReady new.known new.quiet new.queue held failed own s')
 on-said (Ok b) old new seen seen' s s' held failed own known there h said = λ e live. no-more-said old new seen seen' s s' held failed own known there h (said e)

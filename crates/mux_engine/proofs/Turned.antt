@@ -1,4 +1,4 @@
--- What a turn that tells an event makes of what holds while a wire is served.
+-- What a turn that reports an event makes of what holds while a wire is served.
 use Rattle.std.proofs.Common.{◌≡◌, ℕ, true, List, [], ◌∷◌, ◌++◌, take, drop, Option, Some, None, refl, sym, ap, ◌∙◌, subst, inl, inr, arith, append_assoc, append-nil, false}
 use Rattle.std.specs.Prelude.{All, IsTrue}
 use Rattle.std.specs.Option.{option_map}
@@ -47,7 +47,7 @@ use Rattle.mux_engine.proofs.Noted.{note-some, seen-with}
 use Rattle.mux_engine.proofs.Outs.{Spares}
 use Rattle.mux_engine.proofs.Turns.{IsRecorded, recorded-promise}
 
--- ---- who is here behind an event
+-- ---- who is here after an event
 
 pub same-here : (old new : State) → SameStreams old new → here new ≡ here old
 same-here old new s = ap (λ l. l ++ new.refused) s.clients ∙ ap (λ l. numbers old.clients ++ l) s.refused
@@ -61,7 +61,7 @@ abbrev client-of : Mark → ℕ
 client-of (Accepts k) = k
 client-of mark = 0
 
--- behind an arrival
+-- after an arrival
 pub came : (e : Event) (k : ℕ) (old new : State) → Records e (Accepts k) → old.refused ≡ [] → Arrives e old new → here new ≡ here old ++ k ∷ []
 came (Accepted j) k old new t none a = subst (λ i. here new ≡ here old ++ i ∷ []) (sym (ap client-of t)) (one-more j old new none a)
 came (FromClient j bytes) k old new t none a = absurd (let z = t.1 in cc)
@@ -109,7 +109,7 @@ goes-twin {picked = picked} {replies = replies} {s = s} {s' = s'} twin mark {mar
 
 module _ {May : HouseReply → Type 0} {Rest : Resting} {before : Option (List HouseMark)} {now : Side} {policy : Policy} {pid : ℕ} {start : Option (List Mark)} {seen : Seen} {held failed : List ℕ} {given : ℕ} {s : State}
     (v : Serving May Rest before now policy pid start seen held failed given [] s) (live : s.ended ≡ None) where
-  -- an event that was told, as by its twin, and how the streams are then
+  -- an event that was reported, as by its twin, and how the streams are then
   pub record EventAt (e : Event) (seen' : Seen) (given' : ℕ) : Type 0 where
     pub mark : Mark
     pub twin : Mark
@@ -133,7 +133,7 @@ module _ {May : HouseReply → Type 0} {Rest : Resting} {before : Option (List H
     pub right : IsPlaced v.journal mark
     pub placed : (s' : State) → (s.ended ≡ None → Arrives e s s') → Placed s' v.journal seen seen' held failed mark
 
-  -- the engine took it in, and so many of the asks were noted
+  -- the engine applied it, and so many of the requests were noted
   pub event-goes : (e : Event) (seen' : Seen) (given' : ℕ) (at : EventAt e seen' given') (s' : State) (asks : List HouseMark) (recorded recorded' : Option (List HouseMark)) (known known' : Known) (seen'' : Seen) (n : ℕ) → now.recorded ≡ recorded → now.asks ≡ known.asks → AppliesSo May e s s' asks recorded recorded' known known' seen' seen'' n
       → Serving May Rest before (record { recorded = recorded'; asks = known'.asks; unnoted = drop n asks; let_in = now.let_in; calls = now.calls ++ calls_of asks }) policy pid start seen'' held failed given' (0 ∷ here s') s'
   event-goes e seen' given' at s' asks recorded recorded' known known' seen'' n same_recorded same_asks h =

@@ -1,4 +1,4 @@
--- What an event makes of what holds while a wire is served: who is settled behind it.
+-- What an event makes of what holds while a wire is served: who is settled after it.
 use Rattle.std.proofs.Common.{◌≡◌, ◌≢◌, ℕ, Bool, true, false, ◌||◌, List, ◌∷◌, ◌++◌, length, Option, None, refl, sym, ap, ◌∙◌, subst, inl}
 use Rattle.std.specs.Prelude.{◌==◌}
 use Rattle.std.proofs.lemmas.Bool.{eq-eqb}
@@ -43,7 +43,7 @@ IsRecorded (House (HouseSaid bytes)) = Unit {0}
 IsRecorded (House (HouseAnswer client id reply)) = Unit {0}
 IsRecorded mark = ⊥
 
--- it says nothing of writing
+-- it records nothing of writing
 recorded-blocked : (mark : Mark) (journal : List Mark) (t : ℕ) → IsRecorded mark → is_blocked t (mark ∷ journal) ≡ is_blocked t journal
 recorded-blocked (Accepts k) journal t h = refl
 recorded-blocked (Gets k bytes) journal t h = refl

@@ -1,4 +1,4 @@
--- Where no house is present nothing of the master's own is opened.
+-- Where no forwarder is present nothing of the master's own is opened.
 use Rattle.std.proofs.Common.{◌≡◌, ℕ, false, List, [], Option, refl, sym, ap, ◌∙◌, inl, inr}
 use Rattle.std.specs.Prelude.{Result, Ok, Err}
 use Rattle.mux_outside.specs.House.{Known}

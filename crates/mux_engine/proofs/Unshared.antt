@@ -1,5 +1,5 @@
--- What streams took begins what their unshared connections give, also where want of memory cut the
--- rows.
+-- What streams accepted is a prefix of what their unshared connections give, also where the rows
+-- were cut as memory ran out.
 use Rattle.std.proofs.Common.{◌≡◌, ℕ, Bool, true, false, List, [], ◌∷◌, ◌++◌, refl, sym, ap, ◌∙◌, subst, take, append_assoc, append-nil, inl, inr, arith}
 use Rattle.std.specs.Prelude.{◌==◌}
 use Rattle.std.specs.Bool.{MatchBool}
@@ -48,7 +48,7 @@ gives-more setting t rows (item ∷ items) =
 same-number : (a b : ℕ) → (a == b) ≡ true → a ≡ b
 same-number a b e = grind (arith, nat_tests, e)
 
--- what was taken, and what is taken of what waits, is a front of all that was given
+-- what was accepted, and what is accepted of what waits, is a front of all that was given
 takes-front : (taken bytes waits all : List ℕ) → all ≡ taken ++ waits → IsFront bytes waits → IsFront (taken ++ bytes) all
 takes-front taken bytes waits all e (rest, f) = (rest, e ∙ (ap (λ l. taken ++ l) f ∙ sym (append_assoc taken bytes rest)))
 

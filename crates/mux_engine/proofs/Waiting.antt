@@ -22,7 +22,7 @@ use Rattle.mux_state.specs.State.{State, is_here, numbers, served_in, waiting_cl
 use Rattle.mux_state.specs.Stands.{RowsFit, not_closed}
 use Rattle.mux_engine.proofs.Lists.{or-true, true-false}
 
--- ---- nobody is lost where nobody leaves
+-- ---- no client is lost where no client leaves
 
 abbrev in-losses : ℕ → List (ℕ × Option Why) → Bool
 in-losses k ls = list_any (λ l. l.0 == k) ls
@@ -81,7 +81,7 @@ none-lost {taken} {drawn} {s} {closed} {rows} fit none k here_is = by_out (is_ou
     by_out false e = refl
     by_out true e = true-false (sym (kept-loss k closed (losses rows) (open_is (among k closed) refl) (out-loss k rows e)) ∙ ap (in-losses k) (sym fit.leaving_are ∙ none))
 
--- the head of a list is there, or else one behind it
+-- the head of a list is there, or else one after it
 abbrev either : Bool → Bool → Bool
 either rest b = elim b as (λ _. Bool) [ true ↦ true | false ↦ rest ]
 

@@ -87,7 +87,7 @@ none-left (x ∷ xs) h = ap (λ b. cond (not b) (x ∷ not_own xs) (not_own xs))
     later true e = refl
     later false e = e
 
--- where all streams were offered what waits for them, the house was handed over all
+-- where all streams were offered what waits for them, the forwarder was handed over all
 pub handed-all : {May : HouseReply → Type 0} {Rest : Resting} {before : Option (List HouseMark)} {now : Side} {policy : Policy} {pid : ℕ} {start : Option (List Mark)} {seen : Seen} {held failed : List ℕ} {given : ℕ} {s : State}
     (v : Serving May Rest before now policy pid start seen held failed given [] s) (picks : List ℕ) (later : List HouseReply) → pending HOUSE (log_of_journal (by_lists policy pid (v.picked ++ picks) (v.replies ++ later)) v.journal) ≡ []
 handed-all v picks later = elim ((v.sound picks later).settled HOUSE refl refl) [
@@ -98,7 +98,7 @@ handed-all v picks later = elim ((v.sound picks later).settled HOUSE refl refl) 
   ]
 ]
 
--- ---- where all streams were offered what waits for them, while a run goes on and nobody leaves
+-- ---- where all streams were offered what waits for them, while a run goes on and no client leaves
 
 -- how the master's own streams stand then
 pub record Offered (seen : Seen) (own held failed : List ℕ) (queue : ℕ → List ℕ) : Type 0 where
@@ -273,7 +273,7 @@ module _ {May : HouseReply → Type 0} {Rest : Resting} {before : Option (List H
   abbrev pub seen-waiting : Seen
   seen-waiting = record seen { recorded = option_map (λ m. m ++ wait-mark ∷ []) seen.recorded }
 
-  -- the call was told
+  -- the call was recorded
   unfoldable pub waited : seen.listens ≡ s.listening → now.unnoted ≡ [] → Rest.rests (want_of s) now.recorded now.calls seen.listeners seen.own → Serving May Rest before now policy pid start seen-waiting held failed (given + 1) [] s
   waited receives noted rests =
       let alike = waits-alike all-waiting seen.streams (want_of s) seen.listens v.journal in

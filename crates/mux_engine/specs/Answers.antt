@@ -1,4 +1,4 @@
--- Which asks the house answers later.
+-- Which requests the forwarder answers later.
 use Rattle.std.specs.Prelude.{ℕ, ◌==◌, ◌&&◌, Bool, false, List, All, IsTrue}
 use Rattle.std.specs.List.{list_any}
 use Rattle.mux_outside.specs.House.{OpenAsk}
@@ -11,7 +11,7 @@ use Rattle.mux_history.specs.Journal.{log_of_journal}
 use Rattle.mux_history.specs.Log.{Setting}
 use Rattle.mux_peers.specs.Asked.{asked_of}
 
--- the house put this client's ask with this id off
+-- the forwarder put this client's request with this id off
 abbrev pub is_deferred : ℕ → ℕ → HouseMark → Bool
 is_deferred client id (HouseAsked k i opening ask Later) = (k == client) && (i == id)
 is_deferred client id mark = false

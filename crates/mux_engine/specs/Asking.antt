@@ -1,4 +1,4 @@
--- An event of the engine, with what the house was asked by it, noted at the wire.
+-- An event of the engine, with what was requested of the forwarder by it, noted at the wire.
 use Rattle.std.specs.Prelude.{◌≡◌, ◌⊎◌, ℕ, List, [], ◌++◌, length, map, take, Option, Some, Result, Ok, Err}
 use Rattle.std.specs.Option.{option_map}
 use Rattle.mux_outside.specs.House.{HouseState, Known}
@@ -13,7 +13,8 @@ use Rattle.mux_state.specs.Events.{EndsBy, Keeps, Records}
 use Rattle.mux_state.specs.Stands.{CutsShort, GoesOn}
 use Rattle.mux_state.specs.State.{State}
 
--- the engine took in the event, the house was asked this, and so many asks were noted
+-- the engine applied the event, this was requested of the forwarder, and so many requests were
+-- noted
 pub record AppliesSo (May : HouseReply → Type 0) (e : Event) (s s' : State) (asks : List HouseMark)
     (recorded recorded' : Option (List HouseMark)) (known known' : Known) (seen seen' : Seen) (n : ℕ) :
     Type 0 where
@@ -26,7 +27,7 @@ pub record AppliesSo (May : HouseReply → Type 0) (e : Event) (s s' : State) (a
     recorded = option_map (λ (m : List Mark). m ++ map (λ (a : HouseMark). House a) (take n asks)) seen.recorded;
   }
 
--- there was no memory for the event, and the house told perhaps the first of its asks
+-- there was no memory for the event, and the forwarder recorded perhaps the first of its requests
 pub record Unheeded (May : HouseReply → Type 0) (e : Event) (s : State)
     (recorded recorded' : Option (List HouseMark)) (seen seen' : Seen) : Type 0 where
   pub cut : (mark : Mark) → Records e mark → CutsShort May recorded recorded' s mark
@@ -42,7 +43,7 @@ Applied (Err x) May e s s' asks recorded recorded' known known' seen seen' =
     Unheeded May e s recorded recorded' seen seen'
     ⊎ ((n : ℕ) × AppliesSo May e s s' asks recorded recorded' known known' seen seen' n)
 
--- the same of a house
+-- the same of a forwarder
 abbrev pub AppliesEvent : {A E : Type 0} → Result A E → (HouseReply → Type 0) → Event → State → State
     → List HouseMark → HouseState → HouseState → Seen → Seen → Type 0
 AppliesEvent result May e s s' asks house house' seen seen' =

@@ -12,7 +12,7 @@ use Rattle.mux_history.specs.declared.limits.TheConstants.{HOUSE}
 abbrev pub WentUp : ℕ → ℕ → Type 0
 WentUp before now = counted before ≤ now
 
--- it didn't fall, but for one that stood behind the end of its type
+-- it didn't fall, except for one that was past the end of its type
 abbrev pub NeverFell : ℕ → ℕ → Type 0
 NeverFell before now = min before (2 ^ 64 - 1) ≤ now
 
@@ -24,7 +24,7 @@ pub record Came (old new : CallCounts) : Type 0 where
   pub client_pieces : NeverFell old.client_pieces new.client_pieces
   pub server_ends : NeverFell old.server_ends new.server_ends
 
--- the server broke the protocol by a piece that it said, or by an end inside a frame
+-- the server broke the protocol by a piece that it sent, or by an end inside a frame
 abbrev pub BrokenBy : Break → CallCounts → CallCounts → Type 0
 BrokenBy (Cut have) old new = WentUp old.server_ends new.server_ends
 BrokenBy why old new = WentUp old.server_pieces new.server_pieces
@@ -38,8 +38,8 @@ EndedBy (Broke index why) old new = BrokenBy why old new
 EndedBy (Terminated client id) old new = WentUp old.client_pieces new.client_pieces
 EndedBy cause old new = Unit {0}
 
--- where it goes on nothing need have come, and nothing where a house ended it, which is no stream of
--- the wire
+-- where it goes on nothing need have come, and nothing where a forwarder ended it, which is no
+-- stream of the wire
 abbrev pub OverBy : Bool → Option Ended → CallCounts → CallCounts → Type 0
 OverBy present None old new = Unit {0}
 OverBy present (Some (Terminated client id)) old new =

@@ -12,34 +12,34 @@ pub record Waited (waits old new : ℕ) : Type 0 where
   pub least : min (old + waits) (2 ^ 64 - 1) ≤ new
   pub fits : old < 2 ^ 64 → new < 2 ^ 64
 
--- so many calls of `wait`, none that wanted memory, and none behind one that did; no count of what
--- came fell
+-- so many calls of `wait`, none that ran out of memory, and none after one that did; no count of
+-- what came fell
 pub record Well (waits : ℕ) (old new : CallCounts) : Type 0 where
   pub waited : Waited waits old.waits new.waits
   pub wants : new.wants ≡ old.wants
   pub late : old.wants ≡ 0 → new.late ≡ old.late
   pub came : Came old new
 
--- at most so many calls of `wait`, and at most one call that wanted memory, which was the last
+-- at most so many calls of `wait`, and at most one call that ran out of memory, which was the last
 pub record Cut (waits : ℕ) (old new : CallCounts) : Type 0 where
   pub few : new.waits ≤ old.waits + waits
   pub wants : new.wants ≤ old.wants + 1
   pub late : old.wants ≡ 0 → new.late ≡ old.late
   pub came : Came old new
 
--- want of memory cuts a call short
+-- running out of memory cuts a call short
 abbrev pub Counts : {A E : Type 0} → ℕ → Result A E → CallCounts → CallCounts → Type 0
 Counts waits (Ok x) old new = Well waits old new
 Counts waits (Err e) old new = Cut waits old new
 
--- a turn of a run: it made one call of `wait`; or none, where there is a house or the run doesn't go
--- on
+-- a turn of a run: it made one call of `wait`; or none, where there is a forwarder or the run
+-- doesn't go on
 abbrev pub Turned : Bool → Bool → CallCounts → CallCounts → Type 0
 Turned present on old new =
     Well 1 old new ⊎ (Well 0 old new × ((present ≡ true) ⊎ (on ≡ false)))
 
--- the turns of a run: where there is no house, it made as many calls of `wait` as it has turns, or one
--- at least where it doesn't go on; where there is one, no more than those
+-- the turns of a run: where there is no forwarder, it made as many calls of `wait` as it has turns,
+-- or one at least where it doesn't go on; where there is one, no more than those
 pub record Spent (present all : Bool) (turns : ℕ) (old new : CallCounts) : Type 0 where
   pub few : new.waits ≤ old.waits + turns
   pub all_waited : present ≡ false → all ≡ true → Waited turns old.waits new.waits
@@ -48,9 +48,9 @@ pub record Spent (present all : Bool) (turns : ℕ) (old new : CallCounts) : Typ
   pub late : old.wants ≡ 0 → new.late ≡ old.late
   pub came : Came old new
 
--- of a run: it made no more calls of `wait` than it has turns; where there is no house, it made as
--- many with its turns spent, and no other end but for want of memory comes without one; where a call
--- wanted memory it was the last, and the run ended for want of memory
+-- of a run: it made no more calls of `wait` than it has turns; if there is no forwarder, it made as
+-- many with its turns spent, and no other end but out of memory comes without one; if a call ran
+-- out of memory it was the last, and the run ended out of memory
 pub record Stops (present : Bool) (turns : ℕ) (answer : Ended) (old new : CallCounts) : Type 0 where
   pub few : new.waits ≤ old.waits + turns
   pub spent : present ≡ false → answer ≡ TurnsSpent → old.waits < 2 ^ 64

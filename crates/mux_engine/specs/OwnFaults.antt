@@ -18,7 +18,7 @@ abbrev pub is_unmade : Mark → Bool
 is_unmade (House (HouseOrder order number)) = is_unmade_order order number
 is_unmade mark = false
 
--- how many of the marks that are told are such; none where nothing is told
+-- how many of the marks that are recorded are such; none where nothing is recorded
 abbrev pub unmade_in : Option (List Mark) → ℕ
 unmade_in (Some marks) = length (filter is_unmade marks)
 unmade_in None = 0

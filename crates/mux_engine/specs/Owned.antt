@@ -18,7 +18,7 @@ waits_for queue failed t = not (among t failed) && not (is_empty (queue t))
 abbrev pub left_of : List ℕ → List ℕ → ℕ
 left_of failed own = length (filter (λ t. not (among t failed)) own)
 
--- a house and the wire know the same streams, and which are blocked; it waits for no number
+-- a forwarder and the wire know the same streams, and which are blocked; it waits for no number
 pub record OwnsStreams (house : HouseState) (seen : Seen) (held : List ℕ) : Type 0 where
   pub ordering : house.known.ordering ≡ None
   pub same : house.known.streams ≡ seen.own
@@ -30,12 +30,12 @@ pub record IsOpenOwn (house : HouseState) (seen : Seen) (t : ℕ) : Type 0 where
   pub own : IsTrue (is_own t)
   pub stream_open : IsTrue (among t seen.streams)
 
--- an open stream of the master's own, of a house and a wire that know the same streams
+-- an open stream of the master's own, of a forwarder and a wire that know the same streams
 pub record CanOfferOwn (house : HouseState) (seen : Seen) (held : List ℕ) (t : ℕ) : Type 0 where
   pub knows : OwnsStreams house seen held
   pub stream : IsOpenOwn house seen t
 
--- a stream took some of what waits for it, or it was offered that
+-- a stream accepted some of what waits for it, or it was offered that
 abbrev pub TookOrOffered : Bool → (queue queue' : ℕ → List ℕ) → List ℕ → List ℕ → ℕ → Type 0
 TookOrOffered true queue queue' held failed t = length (queue' t) < length (queue t)
 TookOrOffered false queue queue' held failed t = IsOffered (queue' t) held failed t

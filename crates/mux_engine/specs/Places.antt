@@ -12,7 +12,7 @@ use Rattle.mux_outside.specs.declared.own_streams.OwnStream.{OwnStream}
 use Rattle.mux_history.specs.declared.limits.TheConstants.{HOUSE}
 use Rattle.mux_history.specs.Promises.{Throughout}
 
--- the streams behind an order, whose number is that of what it made
+-- the streams after an order, whose number is that of what it made
 abbrev pub own_ordered : Order → Option ℕ → List OwnStream → List OwnStream
 own_ordered (Connect host port) (Some t) own = own ++ new_stream t ∷ []
 own_ordered (Pause t) number own = with_pause true t own
@@ -21,13 +21,13 @@ own_ordered (Finish t) number own = with_finish t own
 own_ordered (Close t) number own = without_stream t own
 own_ordered order number own = own
 
--- the listeners behind it
+-- the listeners after it
 abbrev pub listeners_ordered : Order → Option ℕ → List ℕ → List ℕ
 listeners_ordered (Listen host port) (Some l) listeners = listeners ++ l ∷ []
 listeners_ordered (Unlisten l) number listeners = without l listeners
 listeners_ordered order number listeners = listeners
 
--- both behind a mark
+-- both after a mark
 abbrev pub own_marked : Mark → List OwnStream → List OwnStream
 own_marked (Joins l t) own = own ++ new_stream t ∷ []
 own_marked (Ends t) own = with_end t own
@@ -39,7 +39,7 @@ listeners_marked (House (HouseOrder order number)) listeners =
     listeners_ordered order number listeners
 listeners_marked mark listeners = listeners
 
--- both behind all marks
+-- both after all marks
 abbrev pub own_in : List Mark → List OwnStream
 own_in [] = []
 own_in (mark ∷ before) = own_marked mark (own_in before)
@@ -72,19 +72,19 @@ pub record IsTaking (t : ℕ) (own : List OwnStream) : Type 0 where
   pub is : IsTrue (is_one t own)
   pub unfinished : is_finished t own ≡ false
 
--- an own stream is written to only where it takes bytes
+-- an own stream is written to only where it accepts bytes
 abbrev pub WritesOwn : List Mark → Mark → Type 0
 WritesOwn before (Takes t bytes) = IsTrue (is_own t) → IsTaking t (own_in before)
 WritesOwn before (Holds t) = IsTrue (is_own t) → IsTaking t (own_in before)
 WritesOwn before (WriteFails t) = IsTrue (is_own t) → IsTaking t (own_in before)
 WritesOwn before mark = Unit {0}
 
--- a socket is joined at an open listener
+-- a socket is accepted at an open listener
 abbrev pub JoinsOwn : List Mark → Mark → Type 0
 JoinsOwn before (Joins l t) = IsTrue (among l (listeners_in before))
 JoinsOwn before mark = Unit {0}
 
--- it tells what happened to this stream
+-- it records what happened to this stream
 abbrev pub is_about : ℕ → Mark → Bool
 is_about t (Gets stream bytes) = stream == t
 is_about t (Ends stream) = stream == t
@@ -95,7 +95,7 @@ is_about t (Holds stream) = stream == t
 is_about t (WriteFails stream) = stream == t
 is_about t mark = false
 
--- nothing ever happens to a stream with the number of the house, which has none
+-- nothing ever happens to a stream with the number of the forwarder, which has none
 abbrev pub IsOfOthers : List Mark → Mark → Type 0
 IsOfOthers before mark = is_about HOUSE mark ≡ false
 
@@ -115,7 +115,7 @@ pub record KeepsOwn (journal : List Mark) : Type 0 where
   pub joins : Throughout JoinsOwn journal
   pub others : Throughout IsOfOthers journal
 
--- ---- a wire behind its marks
+-- ---- a wire after its marks
 
 -- its own streams and listeners are those of the marks, and its own streams are open
 pub record HasPlaces (seen : Seen) (journal : List Mark) : Type 0 where

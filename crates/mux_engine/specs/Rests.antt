@@ -1,4 +1,4 @@
--- What holds of a house right before a wait.
+-- What holds of a forwarder right before a wait.
 use Rattle.std.specs.Prelude.{◌≡◌, ◌≢◌, ℕ, Bool, true, false, List, [], OnOk, Option, Result, Ok, Some, None, IsTrue}
 use Rattle.mux_outside.specs.Faults.{Faults}
 use Rattle.mux_outside.specs.Counts.{Rose}
@@ -36,8 +36,8 @@ abbrev pub HasNoMoreFor : HouseState → Lists → Type 0
 HasNoMoreFor house lists =
     HasNoMore house.known house.quiet house.queue lists.held lists.failed lists.own
 
--- it waits for nothing of the house: that has nothing to order and nothing to answer, each of its
--- streams was offered what waits for it, and where more is read it is at rest
+-- it waits for nothing of the forwarder: that has nothing to order and nothing to answer, each of
+-- its streams was offered what waits for it, and where more is read it is at rest
 abbrev pub IsReadyFor : HouseState → Lists → State → Type 0
 IsReadyFor house lists s =
     IsReady house.known house.quiet house.queue lists.held lists.failed lists.own s
@@ -48,7 +48,7 @@ pub record HasAnswered (house : HouseState) (lists : Lists) : Type 0 where
   pub offered : (t : ℕ) → among t lists.own ≡ true
       → IsOffered (house.queue t) lists.held lists.failed t
 
--- a run without a house took no turn for one, and where nothing waited for a stream it goes on
+-- a run without a forwarder used no turn for one, and where nothing waited for a stream it goes on
 pub record WaitsAlone {E : Type 0} (result : Result Bool E) (old new : State) : Type 0 where
   pub waits : result ≢ Ok true
   pub idle : old.waiting ≡ [] → OnOk result (new.ended ≡ None)
@@ -58,7 +58,7 @@ pub record HasNoneToClose (s : State) : Type 0 where
   pub closed : s.leaving ≡ []
   pub refused : s.refused ≡ []
 
--- whatever house is ready for a wait stays so, and knows the wire's streams
+-- whatever forwarder is ready for a wait stays so, and knows the wire's streams
 abbrev pub StaysReady : Seen → Seen → List ℕ → List ℕ → State → State → Type 0
 StaysReady seen seen' held held' s s' =
     (known : Known) (quiet : Quiet) (queue : ℕ → List ℕ) (failed own : List ℕ)
@@ -72,13 +72,13 @@ pub record IsByRow (ended : Option Ended) : Type 0 where
   pub unspent : ended ≢ Some Spent
   pub permitted : (index : ℕ) → ended ≢ Some (StartRefused index)
 
--- one that goes on or that ended by what the house said as a client
+-- one that goes on or that ended by what the forwarder sent as a client
 pub record EndsByAsk (ended : Option Ended) : Type 0 where
   pub relay_traces : ended ≢ Some ServerFailed
   pub by_row : IsByRow ended
   pub by_house : EndsFor HOUSE ended
 
--- the forwarding of the start that was refused, where there is a house and none may be
+-- the forwarding of the start that was refused, where there is a forwarder and none may be
 abbrev pub refused_if : Bool → Bool → Option ℕ → Option ℕ
 refused_if true true refused = refused
 refused_if present must refused = None
@@ -93,12 +93,12 @@ ended_as None None = Spent
 abbrev pub refusal_of : HouseState → Option ℕ
 refusal_of house = refused_if house.known.present house.must house.refused
 
--- the same at the end of a run that began with this house
+-- the same at the end of a run that began with this forwarder
 abbrev pub refusal_after : HouseState → HouseState → Option ℕ
 refusal_after first house = refused_if first.known.present house.must house.refused
 
 -- a run goes on, or ended by what came since: where the server's stream failed its count rose, and
--- its counts show what came. Without a house no listener and no stream of its own was opened
+-- its counts show what came. Without a forwarder no listener and no stream of its own was opened
 pub record EndsSo {A E : Type 0} (result : Result A E) (present : Bool) (ended : Option Ended)
     (old new : WireState) (faults faults' : Faults) : Type 0 where
   pub failed : OnOk result (ended ≡ Some ServerFailed → Rose faults.server faults'.server)
@@ -127,12 +127,13 @@ pub record HasCalled (present : Bool) (turns : ℕ) (answer : Ended) (old new : 
   pub came : Came old.calls new.calls
   pub stops : Stops present turns answer old.calls new.calls
 
--- the wire's own listeners and streams are those of the house
+-- the wire's own listeners and streams are those of the forwarder
 pub record KnowsPlaces (house : HouseState) (seen : Seen) : Type 0 where
   pub listeners : seen.listeners ≡ house.known.listeners
   pub own : seen.own ≡ house.known.streams
 
--- the same behind a run that found all the memory that it wanted; without a house none was opened
+-- the same after a run that found all the memory that it needed; without a forwarder none was
+-- opened
 pub record LeavesPlaces (found : Type 0) (house house' : HouseState) (seen seen' : Seen) : Type 0
   where
     pub known : found → KnowsPlaces house' seen'

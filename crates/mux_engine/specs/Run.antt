@@ -35,14 +35,15 @@ use Rattle.mux_engine.specs.Places.{HasPlaces, KeepsOwn, listeners_in, own_in}
 use Rattle.mux_engine.specs.Rests.{refusal_after}
 use Rattle.mux_engine.specs.Sides.{AtWaits, RestsOf, asks_in, house_marks}
 
--- a journal that a wire can give: it is lawful, and the wire read and accepted only right behind a
+-- a journal that a wire can give: it is lawful, and the wire read and accepted only right after a
 -- wait for that
 pub record IsOfWire (journal : List Mark) : Type 0 where
   pub lawful : IsLawful journal
   pub asked : Throughout ReadsWhenAsked journal
 
--- what is so of a house right before a wait is so at each wait by what the journal has up to there:
--- what the house told, its calls, and the listeners and streams that its orders leave open
+-- What holds of a forwarder right before a wait holds at each wait, by what the journal has up to
+-- there: what the forwarder recorded, its calls, and the listeners and streams that its orders
+-- leave open.
 abbrev pub RestedAt : AtWaits → Setting → Option (List HouseMark) → List Mark → Mark → Type 0
 RestedAt Rest setting before journal (Waits waiting want streams listens) =
     Rest want (option_map (λ recorded. recorded ++ house_marks journal) before) (calls_in setting journal)
@@ -52,7 +53,7 @@ RestedAt Rest setting before journal mark = Unit {0}
 abbrev pub Rested : AtWaits → Setting → Option (List HouseMark) → List Mark → Type 0
 Rested Rest setting before journal = Throughout (RestedAt Rest setting before) journal
 
--- a mark of what a house does by itself
+-- a mark of what a forwarder does by itself
 abbrev pub is_by_house : Mark → Bool
 is_by_house (House mark) = not (is_asked mark)
 is_by_house mark = false
@@ -63,8 +64,8 @@ pub record EndsRight (setting : Setting) (turns : ℕ) (journal : List Mark) (re
   pub end : ConnectionEnds setting turns journal refused answer
   pub settled : Settled setting journal
 
--- what the stream of each admitted client took begins, byte for byte, what its unshared connection
--- gives it; the house has no stream
+-- the bytes that the stream of each admitted client accepted are a prefix of what its unshared
+-- connection gives it; the forwarder has no stream
 abbrev pub TakesUnshared : Setting → List Mark → List Row → Type 0
 TakesUnshared setting journal rows =
     (k : ℕ) → 0 < k → is_own k ≡ false → IsAdmitted k rows
@@ -90,8 +91,8 @@ pub record KeepsRows (setting : Setting) (rows : List Row) : Type 0 where
   pub client_queues : AtEach WaitsBounded rows
   pub server_queue : AtEach StaysBelow rows
 
--- these are the first of what the journal asks behind those, by choices that go on with some more
--- numbers and some more replies, which the house may give
+-- these are the first of what the journal asks after those, by choices that go on with some more
+-- numbers and some more replies, which the forwarder may give
 pub record AsksOn (May : HouseReply → Type 0) (policy : Policy) (pid : ℕ) (picks : List ℕ)
     (replies : List HouseReply) (journal : List Mark) (asked more : List HouseMark) : Type 0 where
   pub more_picks : List ℕ
@@ -101,23 +102,30 @@ pub record AsksOn (May : HouseReply → Type 0) (policy : Policy) (pid : ℕ) (p
       (asked_of (log_of_journal
       (by_lists policy pid (picks ++ more_picks) (replies ++ more_replies)) journal))
 
--- The journal is what the wire told in this run, where it tells, with the house's marks: one that a
--- wire can give. There are numbers that were picked, and replies that the house may give at once, for
--- which all is written and kept open as it must be. The rows are those of the whole journal; want of
--- memory may have cut those of its last event. Each number is fresh at its row, and there is one for
--- each row that takes one, and one reply for each row that asks; the house, which told `before` and
--- tells `now`, told what the journal has of it, where its asks are those of these rows, and where
--- memory was wanting perhaps the first of those that the whole journal has behind them; where none
--- is present, the journal has nothing of a house but the asks of clients. These rows, and all others
--- that want of memory may have left, keep what is promised of rows; and but for want of memory the
--- run ends right, where `refused` is the forwarding of the start that was refused, if none may be.
--- But for want of memory the house was handed on all that the journal has for it, once and in the
--- order of the journal. The master's own listeners and streams are at each mark those that the
--- house's orders leave open: at each wait these streams stand among the open ones, and the house
--- knows both; one that is paused gives nothing, and one that is finished is not written to. The house
--- has no stream itself, and answers only what the rows so far ask and it put off. But for want of
--- memory these streams and listeners are at the end, too, those of the wire, of which `seen` is seen
--- then.
+-- A run. The journal is what the wire recorded in this run, if it records, with the forwarder's
+-- marks; it is one that a wire can give.
+--
+-- - There are numbers that were picked, and replies that the forwarder may give at once, for which
+--   all is written and kept open as it must be. Each number is fresh at its row. There is one
+--   number for each row that takes one, and one reply for each row that asks.
+-- - The rows are those of the whole journal; if memory ran out, those of its last event may be cut.
+--   These rows, and all others that running out of memory may have left, keep what is promised of
+--   rows.
+-- - What the forwarder recorded (`before` at the start, `now` at the end) is what the journal has
+--   of it, with the requests of these rows. If memory ran out, there may follow the first of those
+--   that the whole journal has after them. If no forwarder is present, the journal has nothing of
+--   one but the requests of clients.
+-- - The master's own listeners and streams are at each mark those that the forwarder's orders leave
+--   open. At each wait these streams are among the open ones, and the forwarder knows both; one
+--   that is paused gives nothing, and one that is finished is not written to.
+-- - The forwarder has no stream itself. It answers only requests of the rows so far that it
+--   deferred.
+-- - Unless memory runs out, the run ends right, where `refused` is the forwarding of the start that
+--   was refused, if none may be.
+-- - Unless memory runs out, the forwarder was handed all that the journal has for it, once and in
+--   the order of the journal.
+-- - Unless memory runs out, these streams and listeners are those of the wire at the end, too, when
+--   `seen` is seen of it.
 pub record IsRun (May : HouseReply → Type 0)
     (Rest : AtWaits)
     (stands stands' : List HouseCall → Type 0) (present : Bool) (policy : Policy) (pid turns : ℕ)
@@ -160,8 +168,8 @@ pub record IsRun (May : HouseReply → Type 0)
   pub ends : answer ≢ OutOfMemory
       → EndsRight (by_lists policy pid picks replies) turns journal refused answer
 
--- the same of a run of this house, which has become another, over a wire of which this was seen as it
--- began, and that as it ended
+-- the same of a run of this forwarder, which has become another, over a wire of which this was seen
+-- as it began, and that as it ended
 abbrev pub RunKept : {T : Type 0} → Ended → Policy → ℕ → ℕ → (HouseReply → Type 0)
     → (T → HouseState) → T → T → Seen → Seen → Type 0
 RunKept answer policy pid turns May state house house' seen seen' =

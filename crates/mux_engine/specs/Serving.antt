@@ -41,7 +41,7 @@ use Rattle.mux_engine.specs.declared.room.Lists.{Lists}
 abbrev pub is_open : State → ℕ → Bool
 is_open s t = (t == 0) || is_here s t
 
--- a stream that is open and is none of the house
+-- a stream that is open and is none of the forwarder
 pub record CanBeOffered (stream : ℕ) (s : State) : Type 0 where
   pub opened : is_open s stream ≡ true
   pub no_house : stream ≢ HOUSE
@@ -53,8 +53,8 @@ pub record Kept (setting : Setting) (journal : List Mark) : Type 0 where
   pub answers : Throughout (AnswersDeferred setting) journal
 
 -- all that was promised so far: while the run goes on, a client to whose stream a write failed is
--- out; and the streams that are not in `todo` were offered what waits for them. No row tells of the
--- master's own streams
+-- out; and the streams that are not in `todo` were offered what waits for them. No row records
+-- anything of the master's own streams
 pub record IsSound (setting : Setting) (journal : List Mark) (todo : List ℕ) (s : State) :
     Type 0 where
   pub kept : Kept setting journal
@@ -77,18 +77,19 @@ pub record IsUnused (journal : List Mark) (seen : Seen) (k : ℕ) : Type 0 where
   pub never_failed : has_failed k journal ≡ false
 
 -- such a number is one that is still to be given to a stream of the master's own, and that of the
--- house
+-- forwarder
 abbrev pub IsFree : ℕ → ℕ → Type 0
 IsFree last k = (IsTrue (is_own k) × (last < k)) ⊎ (k ≡ HOUSE)
 
--- with the numbers that were picked and the replies that the house gave at once, one to each ask
--- that it was told since it told `before`, the engine stands for what the wire told since the start,
--- in which `given` turns were given; all that the house told since is there but its last asks; one
--- that was let in is present, and where none is the journal has nothing of a house but the asks of
--- clients; the journal is one that a wire can give; the streams that are open are the server's, those
--- of the clients that are here and the master's own; and whatever is picked and replied later, all is
--- sound; the calls of the house since are those of the journal and of what is not noted yet; and the
--- master's own listeners and streams are those that the journal leaves open
+-- With the numbers that were picked, and the replies that the forwarder gave at once, one to each
+-- request that was reported to it since it recorded `before`, the engine represents what the wire
+-- recorded since the start, in which `given` turns were given. All that the forwarder recorded
+-- since is there except its last requests. One that was admitted is present; if none is, the
+-- journal has nothing of a forwarder but the requests of clients. The journal is one that a wire
+-- can give. The streams that are open are the server's, those of the clients that are here and the
+-- master's own. Whatever is picked and replied later, all is sound. The calls of the forwarder
+-- since are those of the journal and of what is not noted yet. The master's own listeners and
+-- streams are those that the journal leaves open.
 pub record Serving (May : HouseReply → Type 0) (Rest : Resting)
     (before : Option (List HouseMark)) (now : Side) (policy : Policy) (pid : ℕ)
     (start : Option (List Mark)) (seen : Seen) (held failed : List ℕ) (given : ℕ)
@@ -166,7 +167,7 @@ pub record IsServed {T : Type 0} (May : HouseReply → Type 0) (state : T → Ho
   pub serving : Serving May (RestsOf state present first) before now policy pid start seen held
       failed given todo s
 
--- the same with this house, of which this is noted
+-- the same with this forwarder, of which this is noted
 pub record ServedAs {T : Type 0} (noted_of : HouseState → List HouseCall → Side)
     (May : HouseReply → Type 0) (state : T → HouseState) (house : T) (now : Scene) (todo : List ℕ) :
     Type 0 where
@@ -182,13 +183,13 @@ pub record ServedAs {T : Type 0} (noted_of : HouseState → List HouseCall → S
       (noted_of (state house) calls) policy pid start now.seen now.held now.failed given todo
       now.engine
 
--- all of it is noted, and it is let in where it is present
+-- all of it is noted, and it is admitted where it is present
 abbrev pub ServedWith : {T : Type 0} → (HouseReply → Type 0) → (T → HouseState) → T → Scene
     → List ℕ → Type 0
 ServedWith May state house now todo =
     ServedAs (λ house calls. noted house.recorded house.known calls) May state house now todo
 
--- a run goes on with this house: it was served so far, and the server's stream and those of the
+-- a run goes on with this forwarder: it was served so far, and the server's stream and those of the
 -- clients that are here are to be offered what waits for them
 pub record IsOngoing {T : Type 0} (May : HouseReply → Type 0) (state : T → HouseState) (house : T)
     (wire : WireState) (lists : Lists) (s : State) : Type 0 where
@@ -196,15 +197,15 @@ pub record IsOngoing {T : Type 0} (May : HouseReply → Type 0) (state : T → H
   pub together : Together (state house) wire lists
   pub on : s.ended ≡ None
 
--- it was not let in yet
+-- it was not admitted yet
 abbrev pub ServedOutside : {T : Type 0} → (HouseReply → Type 0) → (T → HouseState) → T → Scene
     → List ℕ → Type 0
 ServedOutside May state house now todo =
     ServedAs (λ house calls. outside house.recorded house.known calls) May state house now todo
 
--- ---- want of memory
+-- ---- out of memory
 
--- rows that were left of the journal: so many took a number, and they ask this
+-- rows that were left of the journal: so many used a number, and they request this
 pub record IsLeft (setting : Setting) (journal : List Mark) (taken : ℕ) (asks : List HouseMark) :
     Type 0 where
   pub kept : Kept setting journal
@@ -215,7 +216,8 @@ pub record IsLeft (setting : Setting) (journal : List Mark) (taken : ℕ) (asks 
   pub given_is : replies_given rows ≡ length asks
   pub asked_is : asked_of rows ≡ asks
 
--- what is left of it for want of memory: the house may have told the first of the asks that follow
+-- what is left of it if memory runs out: the forwarder may have recorded the first of the requests
+-- that follow
 pub record Promised (May : HouseReply → Type 0) (Rest : Resting)
     (before now : Option (List HouseMark)) (policy : Policy) (pid : ℕ)
     (start recorded : Option (List Mark)) (given : ℕ) : Type 0 where
@@ -245,7 +247,7 @@ pub record Promised (May : HouseReply → Type 0) (Rest : Resting)
 -- ---- going on
 
 -- whatever came before: a run that was served with `todo` still to be offered is served on with
--- `rest`, or what was promised is left. The house is not called meanwhile
+-- `rest`, or what was promised is left. The forwarder is not called meanwhile
 abbrev pub ServesOn :
     {A E T : Type 0} → Result A E → (HouseReply → Type 0) → (T → HouseState) → Seen → Seen
     → List ℕ → List ℕ → List ℕ → (A → List ℕ) → State → State → Type 0
@@ -282,8 +284,8 @@ StaysServed {T = T} May state seen seen' held held' s s' =
     → Serving May (RestsOf state present first) before now policy pid start seen' held' failed
     given todo s'
 
--- the same where streams of the master's own are offered what waits for them, and the house, all of
--- which was noted, is told what they take and which of them fail
+-- the same where streams of the master's own are offered what waits for them, and the forwarder,
+-- all of which was noted, is handed what they accept and which of them fail
 abbrev pub OwnOn :
     {A E T : Type 0} → Result A E → (HouseReply → Type 0) → (T → HouseState) → T → T → Seen → Seen
     → List ℕ → List ℕ → List ℕ → List ℕ → Type 0
@@ -301,8 +303,8 @@ OwnOn {T = T} result May state house house' seen seen' held held' failed failed'
     (λ e. Promised May (RestsOf state present first) before now.recorded policy pid start seen'.recorded
     given)
 
--- the same where the house, of which this is noted before and all behind, is called: with so many
--- turns more, or with so many at most
+-- the same where the forwarder, of which this is noted before and all after, is called: with so
+-- many turns more, or with so many at most
 abbrev pub RunsFrom :
     {A E T : Type 0} → Result A E → (List HouseCall → Side) → (HouseReply → Type 0)
     → (T → HouseState) → T → T → Scene → Scene → ℕ → (A → ℕ) → List ℕ → (A → List ℕ) → Type 0
@@ -328,12 +330,12 @@ RunsOn result May state house house' old new most more todo rest =
     RunsFrom result (noted (state house).recorded (state house).known) May state house house' old new
     most more todo rest
 
--- the streams that are to be offered what waits for them: where all were, the house may be left
+-- the streams that are to be offered what waits for them: where all were, the forwarder may be left
 abbrev pub to_offer : Bool → State → List ℕ
 to_offer true s = HOUSE ∷ []
 to_offer false s = 0 ∷ here s
 
--- behind a turn of the run, which was given; where the run doesn't go on perhaps none was
+-- after a turn of the run, which was given; where the run doesn't go on perhaps none was
 abbrev pub EndsTurn :
     Bool → ℕ → (HouseReply → Type 0) → Resting
     → Option (List HouseMark) → Side → Policy → ℕ → Option (List Mark) → Seen → List ℕ → List ℕ
@@ -342,7 +344,7 @@ EndsTurn on given May Rest before now policy pid start seen held failed todo s =
     Serving May Rest before now policy pid start seen held failed (given + 1) todo s
     ⊎ ((on ≡ false) × Serving May Rest before now policy pid start seen held failed given todo s)
 
--- behind the turns of a run, which were all given unless it doesn't go on
+-- after the turns of a run, which were all given unless it doesn't go on
 pub record Spends (all : Bool) (turns : ℕ) (May : HouseReply → Type 0)
     (Rest : Resting) (before : Option (List HouseMark)) (now : Side)
     (policy : Policy) (pid : ℕ) (start : Option (List Mark)) (seen : Seen) (held failed : List ℕ)
@@ -352,7 +354,7 @@ pub record Spends (all : Bool) (turns : ℕ) (May : HouseReply → Type 0)
   pub all_given : all ≡ true → given ≡ turns
   pub serving : Serving May Rest before now policy pid start seen held failed given todo s
 
--- a run whose house, of which all was noted, is called for one turn
+-- a run whose forwarder, of which all was noted, is called for one turn
 abbrev pub TurnsOn : {E T : Type 0} → Result Bool E → (HouseReply → Type 0) → (T → HouseState) → T
     → T → Scene → Scene → Bool → Type 0
 TurnsOn {T = T} result May state house house' old new settled =
@@ -390,7 +392,7 @@ SpendsTurns {T = T} result turns May state house house' old new settled =
 
 -- ---- the beginning
 
--- before all else a house that is present is let in
+-- before all else a forwarder that is present is admitted
 abbrev pub LetsIn : {A E T : Type 0} → Result A E → (HouseReply → Type 0) → (T → HouseState) → Seen
     → Seen → State → State → Type 0
 LetsIn {T = T} result May state seen seen' s s' =
@@ -404,7 +406,7 @@ LetsIn {T = T} result May state seen seen' s s' =
     (λ e. Promised May (RestsOf state present first) before now.recorded policy pid start seen'.recorded
     given)
 
--- before all else this house is let in, where it is present
+-- before all else this forwarder is admitted, where it is present
 abbrev pub Enters : {A E T : Type 0} → Result A E → (HouseReply → Type 0) → (T → HouseState) → T
     → Seen → Seen → State → State → Type 0
 Enters {T = T} result May state house seen seen' s s' =
@@ -420,7 +422,7 @@ Enters {T = T} result May state house seen seen' s s' =
     (λ e. Promised May (RestsOf state (state house).known.present first) before (state house).recorded
     policy pid start seen'.recorded given)
 
--- a whole run that begins with this house, of which nothing was noted
+-- a whole run that begins with this forwarder, of which nothing was noted
 abbrev pub RunsWhole : {T : Type 0} → Ended → ℕ → (HouseReply → Type 0) → (T → HouseState) → T → T
     → Seen → Seen → State → Type 0
 RunsWhole answer turns May state house house' seen seen' s =

@@ -1,4 +1,4 @@
--- What turns are wanted, and what they tell.
+-- What turns are wanted, and what they report.
 use Rattle.std.specs.Prelude.{◌≡◌, ℕ, false, List, [], ◌∷◌, ◌++◌, length, nat_lt, if◌then◌else◌, IsTrue}
 use Rattle.mux_outside.specs.OwnStreams.{is_own}
 use Rattle.mux_outside.specs.Streams.{without}
@@ -20,7 +20,7 @@ use Rattle.mux_engine.specs.declared.events.NextEvent.TheVariants as next
 abbrev pub want_of : State → Want
 want_of s = if nat_lt (length (queue_in s 0)) READING_STOPS_AT then Read else WriteOnly
 
--- the event that a turn tells
+-- the event that a turn reports
 abbrev pub IsEventOf : Event → Turn → List ℕ → Type 0
 IsEventOf e (turn.Accepted k) bytes = Records e (Accepts k)
 IsEventOf e (turn.Got t) bytes = (is_own t ≡ false) × Records e (Gets t bytes)
@@ -30,7 +30,7 @@ IsEventOf e (turn.Writable t) bytes = ⊥
 IsEventOf e (turn.Joined l t) bytes = ⊥
 IsEventOf e turn.NoMemory bytes = ⊥
 
--- what it tells of the master's own listeners and streams
+-- what it reports of the master's own listeners and streams
 abbrev pub IsOwnOf : OwnTurn → Turn → List ℕ → Type 0
 IsOwnOf (own.Joined l t) given bytes = given ≡ turn.Joined l t
 IsOwnOf (own.Got t got) given bytes =
@@ -39,15 +39,15 @@ IsOwnOf (own.End t) given bytes = IsTrue (is_own t) × (given ≡ turn.End t)
 IsOwnOf (own.Writable t) given bytes = IsTrue (is_own t) × (given ≡ turn.Writable t)
 IsOwnOf (own.Failed t) given bytes = IsTrue (is_own t) × (given ≡ turn.Failed t)
 
--- what a turn tells: an event of the engine, something of the master's own, that another stream
--- takes bytes again, or that there was no memory
+-- what a turn reports: an event of the engine, something of the master's own, that another stream
+-- accepts bytes again, or that there was no memory
 abbrev pub IsNext : NextEvent → Turn → List ℕ → Type 0
 IsNext (next.Event e) given bytes = IsEventOf e given bytes
 IsNext (next.Own o) given bytes = IsOwnOf o given bytes
 IsNext (next.Freed t) given bytes = (is_own t ≡ false) × (given ≡ turn.Writable t)
 IsNext next.NoMemory given bytes = given ≡ turn.NoMemory
 
--- the house's streams then, those that are blocked, and those that failed
+-- the forwarder's streams then, those that are blocked, and those that failed
 abbrev pub own_received : OwnTurn → List ℕ → List ℕ
 own_received (own.Joined l t) streams = streams ++ t ∷ []
 own_received recorded streams = streams

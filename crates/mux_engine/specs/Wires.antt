@@ -27,8 +27,8 @@ pub record KeepsWire (old new : WireState) (faults faults' : Faults) : Type 0 wh
   pub own_faults : OwnCounted old.seen.recorded new.seen.recorded faults.own faults'.own
   pub later : faults.server ≤ faults'.server
 
--- it was only told something, or ordered: neither opened, joined, waited at nor written to, and no
--- stream failed but perhaps the master's own
+-- something was only recorded of it, or ordered: neither opened, joined, waited at nor written to,
+-- and no stream failed but perhaps the master's own
 pub record Untouched (old new : WireState) (faults faults' : Faults) : Type 0 where
   pub openings : new.openings ≡ old.openings
   pub joinings : new.joinings ≡ old.joinings
@@ -40,7 +40,7 @@ pub record IsIdle (old new : WireState) (faults faults' : Faults) : Type 0 where
   pub untouched : Untouched old new faults faults'
   pub own_faults : OwnCounted old.seen.recorded new.seen.recorded faults.own faults'.own
 
--- so many calls of `wait` were made, where want of memory cut nothing short, and writes
+-- so many calls of `wait` were made, where running out of memory cut nothing short, and writes
 pub record Works {A E : Type 0} (waits : ℕ) (result : Result A E) (old new : WireState)
     (faults faults' : Faults) : Type 0 where
   pub keeps : KeepsWire old new faults faults'

@@ -9,8 +9,8 @@ use mux_peers::AskLog;
 use mux_state::{Engine, Event, Went};
 use ssh_fields::OutOfMemory;
 
-/// Takes in an event, and notes right behind it what the house was asked by it; `asks` is room for
-/// that.
+/// Applies an event, and notes right after it what was requested of the forwarder by it; `asks` is
+/// room for that.
 pub fn apply<W: Wire, H: House>(
     engine: &mut Engine,
     wire: &mut W,

@@ -8,7 +8,7 @@ ghost use Rattle.mux_engine.specs.Turns.{IsNext};
 use mux_outside::{OwnTurn, Turn, Whose, is_own};
 use mux_state::Event;
 
-/// What a turn tells.
+/// What a turn reports.
 #[derive(Clone, Copy)]
 pub enum NextEvent<'a> {
     /// An event of the engine.
@@ -43,7 +43,7 @@ pub fn event_of_fault<'a>(stream: u64) -> Event<'a>
     }
 }
 
-// What a stream that gave bytes tells.
+// What a stream that gave bytes reports.
 fn next_of_bytes<'a>(stream: u64, bytes: &'a [u8]) -> NextEvent<'a>
     ensures { IsNext result (Got stream) bytes.now }
 {
@@ -54,7 +54,7 @@ fn next_of_bytes<'a>(stream: u64, bytes: &'a [u8]) -> NextEvent<'a>
     }
 }
 
-// What a stream that gives no more tells.
+// What a stream that gives no more reports.
 fn next_of_end<'a>(stream: u64) -> NextEvent<'a>
     ensures { (bytes : List ℕ) → IsNext result (End stream) bytes }
 {
@@ -65,7 +65,7 @@ fn next_of_end<'a>(stream: u64) -> NextEvent<'a>
     }
 }
 
-// What a stream that failed tells.
+// What a stream that failed reports.
 fn next_of_fault<'a>(stream: u64) -> NextEvent<'a>
     ensures { (bytes : List ℕ) → IsNext result (Failed stream) bytes }
 {
@@ -76,7 +76,7 @@ fn next_of_fault<'a>(stream: u64) -> NextEvent<'a>
     }
 }
 
-// What a stream that takes bytes again tells.
+// What a stream that accepts bytes again reports.
 fn next_of_room<'a>(stream: u64) -> NextEvent<'a>
     ensures { (bytes : List ℕ) → IsNext result (Writable stream) bytes }
 {
@@ -87,7 +87,7 @@ fn next_of_room<'a>(stream: u64) -> NextEvent<'a>
     }
 }
 
-// What a turn tells.
+// What a turn reports.
 pub fn next_of<'a>(turn: Turn, bytes: &'a [u8]) -> NextEvent<'a>
     ensures next { IsNext result turn bytes.now }
     ensures bytes { AreBytes bytes.now }

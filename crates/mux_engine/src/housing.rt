@@ -27,7 +27,7 @@ use mux_state::{Engine, Event};
 use ssh_fields::{OutOfMemory, Text};
 use std::alloc::Global;
 
-// Lets the house in as a client, before all else.
+// Admits the forwarder as a client, before all else.
 pub fn let_in<W: Wire, H: House>(
     engine: &mut Engine,
     wire: &mut W,
@@ -46,7 +46,7 @@ pub fn let_in<W: Wire, H: House>(
     Ok(())
 }
 
-// Hands the house all that waits for it as a client.
+// Hands the forwarder all that waits for it as a client.
 fn hand_over<W: Wire, H: House>(
     engine: &mut Engine,
     wire: &mut W,
@@ -75,7 +75,7 @@ fn hand_over<W: Wire, H: House>(
     Ok(())
 }
 
-// A reply of the house that was to come later: whether there was one.
+// A deferred reply of the forwarder: whether there was one.
 fn reply<W: Wire, H: House>(
     engine: &mut Engine,
     wire: &mut W,
@@ -113,8 +113,8 @@ fn reply<W: Wire, H: House>(
     Ok(true)
 }
 
-/// Hands the house and its streams all that waits for them, and takes in its replies that were to
-/// come later, until it has none.
+/// Hands the forwarder and its streams all that waits for them, and applies its deferred replies,
+/// until it has none.
 pub fn reply_all<W: Wire, H: House>(
     engine: &mut Engine,
     wire: &mut W,
@@ -163,8 +163,8 @@ pub fn wanted(engine: &Engine) -> Want
     }
 }
 
-// What the house says next as a client, while fewer than 4,194,304 bytes wait for the server:
-// whether it said something.
+// What the forwarder sends next as a client, while fewer than 4,194,304 bytes wait for the server:
+// whether it sent something.
 fn speak<W: Wire, H: House>(
     alloc: Global,
     engine: &mut Engine,
@@ -208,7 +208,8 @@ fn speak<W: Wire, H: House>(
     Ok(true)
 }
 
-// The house's replies and then its next order, where there is a house: whether there was an order.
+// The forwarder's replies and then its next order, if there is a forwarder: whether there was an
+// order.
 fn ask_house<W: Wire, H: House>(
     engine: &mut Engine,
     wire: &mut W,
@@ -238,9 +239,9 @@ fn ask_house<W: Wire, H: House>(
     next_order(wire, house, lists)
 }
 
-/// What a house does before a wait: whether it took a turn, for an order or for a piece that it
-/// said. Else each stream was offered what waits for it, and the house is ready for a wait, unless
-/// the run ended.
+/// What a forwarder does before a wait: whether it used a turn, for an order or for a piece that it
+/// sent. Else each stream was offered what waits for it, and the forwarder is ready for a wait,
+/// unless the run ended.
 pub fn step_house<W: Wire, H: House>(
     alloc: Global,
     engine: &mut Engine,

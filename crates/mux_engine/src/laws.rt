@@ -1,14 +1,14 @@
-//! What the calls that a journal has say of the streams of the house: each function's contract is
+//! What the calls of a journal show of the streams of the forwarder: each function's contract is
 //! the law.
 
 ghost use Rattle.mux_engine.specs.CallLaws.{IsGivenAll, IsRecordedAll, OwnStreamsAreCalled};
 
-/// The house is given what a stream of its own gave.
+/// The forwarder is given what a stream of its own gave.
 pub fn a_house_is_given_what_its_streams_gave()
     ensures { IsGivenAll }
 {}
 
-/// The house is told of all that a stream of its own took.
+/// The forwarder is handed all that a stream of its own accepted, as byte counts.
 pub fn a_house_is_recorded_what_its_streams_took()
     ensures { IsRecordedAll }
 {}

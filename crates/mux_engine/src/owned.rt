@@ -23,8 +23,8 @@ fn hand<W: Wire>(wire: &mut W, stream: u64, bytes: &[u8]) -> Wrote
     wire.write(stream, bytes)
 }
 
-// Offers one of the master's own streams what waits for it, once: whether it took some. A stream
-// that fails is not offered any more.
+// Offers one of the master's own streams what waits for it, once: whether it accepted some. A
+// stream that fails is not offered any more.
 fn own_once<W: Wire, H: House>(
     wire: &mut W,
     house: &mut H,
@@ -69,8 +69,8 @@ fn own_once<W: Wire, H: House>(
     }
 }
 
-// Offers one of the master's own streams what waits for it, until all is taken, or it takes no more
-// for now, or it fails.
+// Offers one of the master's own streams what waits for it, until all is accepted, or it accepts no
+// more for now, or it fails.
 fn offer_own<W: Wire, H: House>(
     wire: &mut W,
     house: &mut H,
@@ -95,7 +95,7 @@ fn offer_own<W: Wire, H: House>(
 }
 
 // Offers each of these of the master's own streams what waits for it. Where none fails meanwhile,
-// all were offered it; where one fails the house may have more for the others.
+// all were offered it; where one fails the forwarder may have more for the others.
 fn own_round<W: Wire, H: House>(
     wire: &mut W,
     house: &mut H,
@@ -157,7 +157,7 @@ pub fn own_rounds<W: Wire, H: House>(
     }
 }
 
-/// Lists the streams that are waited for: behind these the master's own for which something waits,
+/// Lists the streams that are waited for: after these the master's own for which something waits,
 /// as long as they did not fail.
 pub fn list_waiting<H: House>(
     house: &H,

@@ -4,7 +4,7 @@ use mux_outside::Streams;
 use mux_peers::AskLog;
 use std::alloc::Global;
 
-/// The streams of a run, between its engine, its wire and its house.
+/// The streams of a run, between its engine, its wire and its forwarder.
 #[derive(Drop)]
 pub struct Lists {
     /// The streams that are blocked.
@@ -15,7 +15,7 @@ pub struct Lists {
     pub failed: Streams,
     /// Room for the numbers of streams that are still to be offered something.
     pub todo: Streams,
-    /// Room for what the house is asked at an event, until it is noted.
+    /// Room for what the forwarder is asked at an event, until it is noted.
     pub asks: AskLog,
     /// Whether the run is over and each stream was offered what waits for it.
     pub settled: bool,

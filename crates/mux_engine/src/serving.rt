@@ -30,7 +30,7 @@ use mux_state::{Engine, Went};
 use ssh_fields::OutOfMemory;
 use std::alloc::Global;
 
-// Keeps what one of the master's own listeners and streams told, and hands it on.
+// Applies what one of the master's own listeners and streams recorded, and hands it on.
 fn hand_on<H: House>(
     house: &mut H,
     lists: &mut Lists,
@@ -55,7 +55,7 @@ fn hand_on<H: House>(
     house.turn(recorded)
 }
 
-// One call of `wait`: what the wire tells next goes into the engine, or to the house.
+// One call of `wait`: what the wire reports next goes into the engine, or to the forwarder.
 fn turn<W: Wire, H: House>(
     engine: &mut Engine,
     wire: &mut W,
@@ -105,8 +105,8 @@ fn turn<W: Wire, H: House>(
     }
 }
 
-// The forwarding of the start that ends the run, since it was refused. A house that is present says
-// by this that it greets first.
+// The forwarding of the start that ends the run, since it was refused. By this, a forwarder that is
+// present promises that it greets first.
 fn refusal<H: House>(house: &H) -> Option<usize>
     ensures refused { result ≡ refusal_of (H.state house.now) }
     ensures greets { StandsGreeting (H.state house.now).known.present (H.state house.now).stands }
@@ -130,8 +130,8 @@ fn is_over<H: House>(engine: &Engine, house: &H) -> bool
     refusal(house).is_some()
 }
 
-// A turn of the run, which is an order of the house, a piece that it said, or a wait: whether the run
-// goes on.
+// A turn of the run, which is an order of the forwarder, a piece that it sent, or a wait: whether
+// the run goes on.
 fn one_turn<W: Wire, H: House>(
     alloc: Global,
     engine: &mut Engine,
@@ -213,8 +213,8 @@ fn turns_of<W: Wire, H: House>(
     Ok(true)
 }
 
-// Why a run ended, with its turns spent unless something else ended it. A house that is present says
-// by this that it greets first.
+// Why a run ended, with its turns spent unless something else ended it. By this, a forwarder that
+// is present promises that it greets first.
 fn answer_of<H: House>(engine: &Engine, house: &H) -> Ended
     ensures answer { result ≡ ended_as engine.now.ended (refusal_of (H.state house.now)) }
     ensures greets { StandsGreeting (H.state house.now).known.present (H.state house.now).stands }
@@ -229,7 +229,7 @@ fn answer_of<H: House>(engine: &Engine, house: &H) -> Ended
     }
 }
 
-// Lets the house in as a client where it is present, before all else.
+// Admits the forwarder as a client if it is present, before all else.
 fn enter<W: Wire, H: House>(
     engine: &mut Engine,
     wire: &mut W,
@@ -252,7 +252,7 @@ fn enter<W: Wire, H: House>(
     let_in::<W, H>(engine, wire, asks)
 }
 
-// Behind the turns of a run, where all were given a house is asked for its replies once more.
+// After the turns of a run: if all were given, the forwarder is asked for its replies once more.
 fn last_replies<W: Wire, H: House>(
     engine: &mut Engine,
     wire: &mut W,
@@ -286,8 +286,8 @@ fn last_replies<W: Wire, H: House>(
     reply_all(engine, wire, house, lists)
 }
 
-// Behind the turns of a run: the house's last replies, and then each stream is offered what waits for
-// it, unless it was.
+// After the turns of a run: the forwarder's last replies, and then each stream is offered what
+// waits for it, unless it was.
 fn finish<W: Wire, H: House>(
     engine: &mut Engine,
     wire: &mut W,
@@ -367,27 +367,34 @@ fn run<W: Wire, H: House>(
     Ok(answer_of(engine, house))
 }
 
-/// Serves an open wire until the run ends, for so many turns at most: why it ended. It permits
-/// what the policy does, and tells the process id to clients that check. What the wire tells of
-/// this run is written and kept open as it must be, and ends as it must. A turn is a call of
-/// `wait`, an order of the house that is carried out, or a piece that the house said; without a
-/// house it waits once for each turn, and writes nothing before. The house is told each ask of
-/// its clients; where it is present it is let in as a client, and at each wait it has nothing to
-/// order and to answer, is at rest where more is read, has no refusal that ends the run, and knows
-/// the wire's own listeners and streams, as it ordered them: what is so of each such house by what
-/// it told, by its calls and by these is so there. At each wait these streams stand among the open
-/// ones; one that it paused gives nothing, and one that it finished is not written to. But for want
-/// of memory it is handed all that happens at the streams and listeners of its own, each write
-/// there that fails, how many bytes each takes, and what waits for it as a client, once and in that
-/// order. Behind a call that wanted memory none is made. But for want of memory the wire's own
-/// listeners and streams are at the end, too, those that the house ordered, and knows; without a
-/// house none was opened. The forwarding of the start that an answer names was refused, where none
-/// may be. Each order of the house to listen or to connect that got no number is an own fault that
-/// was counted, unless that count stands at its last value. Whatever the wire tells, its counts show
-/// what came: the run ends as the server disconnects or breaks the protocol only where a piece of it
-/// came, or its end inside a frame, as it ends only where its end came, and as a client says only
-/// where a piece of a client came: a house that has said nothing before greets first, and behind its
-/// greeting it ends no run; one that has said something before may end it, by what it says.
+/// Serves an open wire until the run ends, for at most `turns` turns, and returns why it ended. A
+/// turn is a call of `wait`, an order of the forwarder that is carried out, or a piece that the
+/// forwarder sent.
+///
+/// - It permits what the policy permits, and sends the process id to clients that check. What the
+///   wire records of this run is written, kept open and ended as [`RunKept`] requires.
+/// - Without a forwarder it waits once for each turn, and writes nothing before the first wait.
+/// - The forwarder is handed each request of the clients. If it is present, it is admitted as a
+///   client.
+/// - At each wait a present forwarder has nothing to order and nothing to answer, is at rest if
+///   more is read, has no refusal that ends the run, and knows the wire's own listeners and streams
+///   as it ordered them. Whatever holds of every such forwarder by what it recorded, by its calls
+///   and by these listeners and streams, holds there. These streams are among the open ones; one
+///   that the forwarder paused gives nothing, and one that it finished is not written to.
+/// - Unless memory runs out, the forwarder is handed, once and in order, all that happens at its
+///   own streams and listeners, each write there that fails, how many bytes each stream accepts,
+///   and what waits for the forwarder as a client. After a call that ran out of memory no call is
+///   made.
+/// - Unless memory runs out, the wire's own listeners and streams at the end, too, are those that
+///   the forwarder ordered and knows. Without a forwarder none was opened.
+/// - If the answer names a forwarding of the start, that forwarding was refused, and none may be.
+///   Each order to listen or to connect that got no number is counted as an own fault, unless that
+///   count is at its last value.
+/// - Whatever the wire records, its counts show the cause. The run ends as the server disconnects
+///   or breaks the protocol only if a piece of the server came, or its end inside a frame; as the
+///   server ends only if its end came; and by a client's request only if a piece of a client came.
+///   A forwarder that has sent nothing before greets first, and after its greeting it ends no run;
+///   one that has sent something before may end it, by what it sends.
 pub fn serve<W: Wire, H: House>(
     alloc: Global,
     policy: Policy,

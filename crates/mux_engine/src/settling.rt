@@ -14,9 +14,9 @@ use mux_peers::AskLog;
 use mux_state::Engine;
 use ssh_fields::OutOfMemory;
 
-// Offers a stream what waits for it, once: whether it took some and can be offered the rest. A
+// Offers a stream what waits for it, once: whether it accepted some and can be offered the rest. A
 // client whose stream fails leaves its farewell to the server, whose stream is offered that later;
-// it asks no house, and `asks` is room for none.
+// it requests nothing of the forwarder, and `asks` is room for none.
 fn offer_once<W: Wire, H: House>(
     engine: &mut Engine,
     wire: &mut W,
@@ -63,7 +63,8 @@ fn offer_once<W: Wire, H: House>(
     }
 }
 
-// Offers a stream what waits for it, until all is taken, or it takes no more for now, or it fails.
+// Offers a stream what waits for it, until all is accepted, or it accepts no more for now, or it
+// fails.
 fn offer<W: Wire, H: House>(
     engine: &mut Engine,
     wire: &mut W,
@@ -139,7 +140,7 @@ pub fn stop_accepting<W: Wire, H: House>(engine: &Engine, wire: &mut W)
 }
 
 // Offers each stream what waits for it: the server's last, since a client that is lost leaves its
-// farewell to it. The house was handed over what waits for it before. Where clients are accepted no
+// farewell to it. The forwarder was handed what waits for it before. Where clients are accepted no
 // more, none is once a client can read the answer to its wish.
 pub fn flush<W: Wire, H: House>(
     engine: &mut Engine,

@@ -25,7 +25,7 @@ use Rattle.mux_history.proofs.Readings.{reading-ok}
 use Rattle.mux_history.proofs.SentApart.{IsFresh, LawfulItem, Next, good-parted, good-said, good-still, item-ids, item-master}
 use Rattle.mux_history.proofs.Sends.{admits-sent, as_row, body-sent, down-ids, down-step, down-then, house-sent, quiet-heard, quiet-master, row-parts, ups-ids}
 
--- ---- what the server says
+-- ---- what the server sends
 
 opened-down-confirmed : (k n s w max : ℕ) (up : List (List ℕ)) → opened_down k up (Confirmation n s w max) ≡ []
 opened-down-confirmed k n s w max [] = refl

@@ -62,7 +62,7 @@ in-bytes InControl bytes a = first-bytes framing.Control bytes a
 in-bytes InProxy bytes a = first-bytes framing.Proxy bytes a
 in-bytes Stopped bytes a = tt
 
--- ---- what is said
+-- ---- what is sent
 
 abbrev EachSending : List Outgoing → Type 0
 EachSending [] = Unit {0}

@@ -1,4 +1,4 @@
--- Which items make the next row: those of a run that goes on, and afterwards what is taken.
+-- Which items make the next row: those of a run that goes on, and afterwards what is accepted.
 use Rattle.std.proofs.Common.{◌≡◌, ℕ, List, true, false, Bool, refl, ap}
 use Rattle.mux_history.specs.Log.{is_took, makes_next, makes_row}
 use Rattle.mux_history.specs.Rows.{Item, Row, Took, is_ended}

@@ -1,4 +1,4 @@
--- The numbers that were taken are the picks, in order.
+-- The numbers that were used are the picks, in order.
 use Rattle.std.proofs.Common.{◌≡◌, ℕ, List, [], ◌∷◌, true, false, Bool, refl, ◌∙◌, ap, sym, Option, None, subst, inl, inr, Ok, Err, drop}
 use Rattle.std.specs.Prelude.{◌&&◌, Result, is_some}
 use Rattle.mux_history.specs.Channels.{own_of}

@@ -1,4 +1,4 @@
--- What payloads read as: the gist of their messages, and what all messages of a number have.
+-- What payloads read as: the summary of their messages, and what all messages of a number have.
 use Rattle.std.proofs.Common.{◌≡◌, ℕ, ◌+◌, List, [], ◌∷◌, ◌++◌, length, Some, None, Result, Ok, Err, Bool, false, refl, sym, ap, arith, subst}
 use Rattle.ssh_fields.specs.Fields.{u32, str, take_bool, take_u32, take_str}
 use Rattle.ssh_grammar.specs.declared.fault.Bad.{Bad}
@@ -9,12 +9,12 @@ use Rattle.ssh_fields.proofs.Fields.{take_str-str}
 use Rattle.ssh_grammar.specs.ReadMessage.{Reading, on_bool, on_u32, on_str, on_end, with_reading, read_message, read_open_failure, read_global_request, read_global, read_key, read_path}
 use Rattle.mux_history.specs.Summary.{Summary, Requests, Within, Fails, Closes, summary, summary_to, summary_of_plain, read_summary, reading}
 
--- ---- a payload and its gist
+-- ---- a payload and its summary
 
 pub summary-ok : (p : List ℕ) (m : Message) → read_message p ≡ Ok m → read_summary p ≡ Ok (summary m)
 summary-ok p m e = ap (λ (r : Result Message Bad). elim r as (λ _. Result Summary Bad) [ Ok m ↦ Ok (summary m) | Err x ↦ Err x ]) e
 
--- the message behind a gist
+-- the message of a summary
 pub record Read (p : List ℕ) (g : Summary) : Type 0 where
   pub message : Message
   pub reads : read_message p ≡ Ok message
@@ -60,7 +60,7 @@ pub with-always : {A : Type 0} {B : Type 0} (P : B → Type 0) (r : Reading A) (
 with-always P (Ok a) f each = each a
 with-always P (Err e) f each = tt
 
--- the gist of what always is read
+-- the summary of what always is read
 pub summary-always : (P : Summary → Type 0) (p : List ℕ) (g : Summary) → Always (λ m. P (summary m)) (read_message p) → read_summary p ≡ Ok g → P g
 summary-always P p g always reads = let r = summary-from p g reads in subst P r.is (always-ok (λ m. P (summary m)) (read_message p) r.message always r.reads)
 

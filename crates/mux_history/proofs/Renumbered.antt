@@ -14,7 +14,7 @@ use Rattle.ssh_grammar.proofs.Renumbered.{with_u32-between}
 use Rattle.mux_history.specs.Summary.{Summary, Open, Confirmation, Within, summary, read_summary, reading, sender_of}
 use Rattle.mux_history.proofs.Readings.{summary-from, summary-ok, reading-ok}
 
--- ---- gists with another number
+-- ---- summaries with another number
 
 abbrev pub readdressed : ℕ → Summary → Summary
 readdressed c (Confirmation n s w m) = Confirmation c s w m
@@ -105,7 +105,7 @@ message-renamed (n ∷ rest) (full.To r m) c lt e =
     ap (λ at. read_message (with_number (n ∷ rest) at c)) (place-of recipient_place (n ∷ rest) (full.To r m) e)
     ∙ (in-form n (by_number (forms n) n OfNone) rest r c m e ∙ ap (λ c. Ok (full.To c m)) (spelled c lt))
 
--- a payload to another recipient reads as the same gist with that recipient
+-- a payload to another recipient reads as the same summary with that recipient
 pub read-renamed : (p : List ℕ) (g : Summary) (c : ℕ) → c < 4294967296 → read_summary p ≡ Ok g → read_summary (with_recipient p c) ≡ Ok (readdressed c g)
 read-renamed p g c lt reads =
     let r = summary-from p g reads in

@@ -62,7 +62,8 @@ module _ (policy : Policy) (pid : ℕ) (picks : List ℕ) (replies : List HouseR
 pub right-known : (policy : Policy) (pid : ℕ) (picks : List ℕ) (replies : List HouseReply) (marks : List Mark) (left : ℕ) (rows : List Row) → IsLawful marks → IsRight (by_lists policy pid picks replies) marks left rows → LogKnown policy pid rows
 right-known policy pid picks replies marks left rows lawful right = subst (LogKnown policy pid) (sym right.determined) (log-known policy pid picks replies (drop left (items marks)) (left-lawful left marks lawful) (subst AreFresh right.determined right.fresh))
 
--- a law of each row, by what its item does; what is taken makes a row after the end of the run too
+-- a law of each row, by what its item does; what is accepted makes a row after the end of the run
+-- too
 pub by-treat : (P : List Row → Row → Type 0) (policy : Policy) (pid : ℕ) → ((pick : ℕ) (before : List Row) (item : Item) → AreApart (channels_of before) → Orderly before → LawfulItem before item → makes_row before item ≡ true → P before (treat policy pid pick before item)) → ((before : List Row) (stream size : ℕ) → P before (bare (Took stream size) stream silent)) → (rows : List Row) → ForEach (RowKnown policy pid) rows → ForEach P rows
 by-treat P policy pid law taken [] each = tt
 by-treat P policy pid law taken (row ∷ before) each = (subst (P before) each.0.is (by-next before each.0.item each.0.may (λ going makes. law each.0.pick before each.0.item each.0.good (each.0.orderly going) each.0.lawful makes) (λ stream size e. subst (λ (i : Item). P before (treat policy pid each.0.pick before i)) (sym e) (taken before stream size))), by-treat P policy pid law taken before each.1)

@@ -1,5 +1,5 @@
 -- An act, or a message, that its channel's account allows leaves the channel accounted; what a
--- client says in a confirmed channel is such an act.
+-- client sends in a confirmed channel is such an act.
 use Rattle.std.proofs.Common.{◌≡◌, ℕ, ◌≤◌, List, [], ◌∷◌, true, false, Bool, refl, ◌∙◌, ap, arith, sym, Option, Some, None, inl, inr, Ok, Err}
 use Rattle.std.specs.Prelude.{◌==◌, ◌&&◌, ◌⊎◌, filter, find, Result}
 use Rattle.std.proofs.lemmas.Bool.Decides.{nat_tests}
@@ -192,7 +192,7 @@ known-in before good known = by_all (channels_of before) known (λ s. found-in (
 pub some-same : (x y : Channel) → Some x ≡ Some y → x ≡ y
 some-same x y e = cc
 
--- ---- what a client says in a confirmed channel
+-- ---- what a client sends in a confirmed channel
 
 abbrev pub UpLegal : List Row → ℕ → Act → Type 0
 UpLegal own s act = (is_failing act ≡ true) ⊎ ((y : Channel) × (confirmed_at own s ≡ Some y) × (breach Up act y ≡ None))

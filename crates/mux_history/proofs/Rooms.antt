@@ -97,7 +97,7 @@ by-items before row good harmless step known =
 still-item : (before : List Row) (row : Row) → Every Harmless row.up → ((x : Channel) → received_by row.item x ≡ x) → (x : Channel) → KnownIn before x → Accounted (after_item row x)
 still-item before row harmless stays x known = elim (x.client == row.client) as (λ b. Accounted (elim b as (λ _. Channel) [ true ↦ with_ups (own_of row.item) row.up (received_by row.item x) | false ↦ x ])) [ true ↦ accounted-harmless (own_of row.item) row.up harmless (received_by row.item x) (subst Accounted (sym (stays x)) known.accounted) | false ↦ known.accounted ]
 
--- ---- what a client says
+-- ---- what a client sends
 
 module _ (before : List Row) (good : AreApart (channels_of before)) (k : ℕ) where
   -- the confirmed channel that was found is the one that is meant
@@ -154,7 +154,7 @@ module _ (before : List Row) (good : AreApart (channels_of before)) (k : ℕ) wh
       by_case (Err bad) reads = known.accounted
       by_case (Ok m) reads = by_summary m reads
 
-  -- ---- what the server says to it
+  -- ---- what the server sends to it
 
   meant-down : (p : List ℕ) → dest before p ≡ ToClient k → (m : Summary) → read_summary p ≡ Ok m → (x : Channel) → KnownIn before x → SafeDown m x
   meant-down p to (Within n act) reads x known = by_act act (sym (dest-ok before p (Within n act) reads) ∙ to)

@@ -1,4 +1,4 @@
--- What is asked of an item; and what a client says keeps the channels apart.
+-- What is required of an item; and what a client sends keeps the channels apart.
 use Rattle.std.proofs.Common.{◌≡◌, ℕ, ◌<◌, List, [], ◌∷◌, ◌++◌, true, false, Bool, refl, ◌∙◌, ap, arith, map, sym, Option, Some, None, subst, inl, inr, Ok, Err}
 use Rattle.std.specs.Prelude.{◌==◌, filter, find, Result, MatchBool, is_some}
 use Rattle.std.proofs.lemmas.List.{append-nil}
@@ -42,7 +42,7 @@ LawfulItem rows (Admit k) = any_of (λ row. admits_client k row.item) rows ≡ f
 LawfulItem rows (Says k outgoing reply) = (k ≡ 0 → ⊥) × SendingBytes outgoing
 LawfulItem rows item = Unit {0}
 
--- the number that it takes is one that no channel holds
+-- the number that it uses is one that no channel holds
 abbrev pub IsFresh : List Row → Row → Type 0
 IsFresh before row = MatchBool (takes_number row) ((carried_number row.up < 16384) × (holder before (carried_number row.up) ≡ None)) (Unit {0})
 
@@ -88,7 +88,7 @@ item-master row zero_client x sound = by_case (x.client == row.client) refl
     by_case true e = absurd (unequal x.client row.client e zero_client sound.client)
     by_case false e = ids-self x
 
--- ---- what a client says
+-- ---- what a client sends
 
 unowned-quiet : (m : Summary) → sender_of m ≡ None → IsQuiet m
 unowned-quiet (Confirmation s c w max) e = cc

@@ -1,4 +1,4 @@
--- What a stream took and what waits for it make up what it is given.
+-- What a stream accepted and what waits for it make up what it is given.
 use Rattle.std.proofs.Common.{◌≡◌, ℕ, Some, None, List, [], ◌∷◌, ◌++◌, true, false, Bool, refl, ◌∙◌, ap, sym, subst, map, drop, length, append_assoc, arith}
 use Rattle.std.specs.Prelude.{◌==◌, ◌&&◌, MatchBool, not}
 use Rattle.std.proofs.lemmas.List.{append-nil}
@@ -89,7 +89,7 @@ holds-all : (setting : Setting) (t : ℕ) (taken : List ℕ) (rows : List Row) (
 holds-all setting t taken rows [] still h = h
 holds-all setting t taken rows (item ∷ items) still h = holds-all setting t taken (more_of setting rows item) items still.1 (holds-more setting t taken rows item still.0 h)
 
--- ---- what is taken
+-- ---- what is accepted
 
 more-took : (setting : Setting) (rows : List Row) (t n : ℕ) → more_of setting rows (Took t n) ≡ bare (Took t n) t silent ∷ rows
 more-took setting rows t n =

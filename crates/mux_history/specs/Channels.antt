@@ -6,7 +6,7 @@ use Rattle.ssh_grammar.specs.Said.{Outgoing, Body, Payload, BadFraming}
 use Rattle.mux_history.specs.Summary.{Act, Confirms, Fails, Ends, Closes, Summary, Open, Confirmation, Within, reading, sender_of}
 use Rattle.mux_history.specs.Rows.{Row, any_of, Item, Says, Heard}
 
--- a channel: its client, who opened it, the client's own number, the number that stands for it
+-- a channel: its client, who opened it, the client's own number, the number that represents it
 -- towards the server, the server's number, the opener's window and maximum, and all that was done
 -- in it, the newest first
 pub record Channel : Type 0 where
@@ -76,7 +76,7 @@ is_held x = not (is_over x)
 
 -- ---- what one message does to a channel
 
--- what is sent down under the number that stands for the channel; a confirmation brings the
+-- what is sent down under the number that represents the channel; a confirmation brings the
 -- server's number
 abbrev pub with_down : Summary → Channel → Channel
 with_down (Confirmation n s w m) x = elim (is_number x.number n && is_held x) [
@@ -119,12 +119,12 @@ abbrev pub own_of : Item → Option ℕ
 own_of (Says k outgoing reply) = own_of_sending outgoing
 own_of _ = None
 
--- what the server says to a channel
+-- what the server sends to a channel
 abbrev pub received_by : Item → Channel → Channel
 received_by (Heard p) x = reading p (λ m. with_down m x) x
 received_by _ x = x
 
--- what the item says and sends
+-- what the item sends and sends
 abbrev pub after_item : Row → Channel → Channel
 after_item row x = elim (x.client == row.client) [
   | true ↦ with_ups (own_of row.item) row.up (received_by row.item x)
@@ -138,7 +138,7 @@ after_farewell row x =
 
 -- ---- the channels of a log
 
--- a client's open that is sent: the number that stands for the channel is the sender in the payload
+-- a client's open that is sent: the number that represents the channel is the sender in the payload
 -- that went up
 abbrev pub opened_up : ℕ → List (List ℕ) → Summary → List Channel
 opened_up k [] m = []

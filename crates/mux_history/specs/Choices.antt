@@ -1,5 +1,5 @@
--- The choices of a run: the fresh channel numbers and the replies of the house, each list read by
--- position.
+-- The choices of a run: the fresh channel numbers and the replies of the forwarder, each list read
+-- by position.
 use Rattle.std.specs.Prelude.{ℕ, ◌+◌, List, [], ◌∷◌, Option, Some, None, Bool, true, false, ◌&&◌, is_some, slice_index, slice_get, unwrap_or}
 use Rattle.mux_outside.specs.declared.house.HouseReply.{HouseReply}
 use Rattle.mux_outside.specs.declared.house.HouseReply.TheVariants as reply
@@ -9,7 +9,7 @@ use Rattle.mux_history.specs.Channels.{own_of}
 use Rattle.mux_history.specs.Requests.{is_sent}
 use Rattle.mux_history.specs.Controls.{greeted, body_asks}
 
--- in a run, two lists; for a client alone, the number that it says itself and the reply that its
+-- in a run, two lists; for a client alone, the number that it sends itself and the reply that its
 -- item carries
 pub data Choices : Type 0 where
   FromLists : (picks : List ℕ) (replies : List HouseReply) → Choices
@@ -19,7 +19,7 @@ pub data Choices : Type 0 where
 abbrev pub takes_number : Row → Bool
 takes_number row = is_sent row && is_some (own_of row.item)
 
--- how many numbers the rows took
+-- how many numbers the rows used
 abbrev pub numbers_taken : List Row → ℕ
 numbers_taken [] = 0
 numbers_taken (row ∷ before) = elim (takes_number row) [
@@ -27,7 +27,7 @@ numbers_taken (row ∷ before) = elim (takes_number row) [
   | false ↦ numbers_taken before
 ]
 
--- the number that was said, 0 where there is none
+-- the number that was sent, 0 where there is none
 abbrev pub sent_number : Option ℕ → ℕ
 sent_number None = 0
 sent_number (Some c) = c
@@ -37,7 +37,7 @@ abbrev pub pick_of : Choices → List Row → Item → ℕ
 pick_of (FromLists picks replies) rows item = slice_index picks (numbers_taken rows)
 pick_of TheirOwn rows item = sent_number (own_of item)
 
--- an item that carries a reply of the house
+-- an item that carries a reply of the forwarder
 abbrev pub has_reply : Item → Bool
 has_reply (Says k outgoing (Some given)) = true
 has_reply _ = false
@@ -54,7 +54,8 @@ replies_given (row ∷ before) = elim (has_reply row.item) [
 abbrev pub reply_at : List HouseReply → ℕ → HouseReply
 reply_at replies n = unwrap_or (slice_get replies n) reply.Refused
 
--- an item with the house's reply, where it asks the house: a control message after the hello
+-- an item with the forwarder's reply, if it is a request to the forwarder: a control message after
+-- the hello
 abbrev pub with_reply : Choices → List Row → Item → Item
 with_reply (FromLists picks replies) rows (Says k (Body body) given) =
     elim (greeted (rows_of k rows) && body_asks body) [

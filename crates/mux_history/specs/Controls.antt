@@ -20,7 +20,7 @@ answers_with answer = records (frame_answer answer)
 
 -- ---- while the hello is awaited
 
--- an item of what a client says
+-- an item that a client sends
 abbrev pub is_sends : Item → Bool
 is_sends (Says k outgoing given) = true
 is_sends _ = false
@@ -61,7 +61,7 @@ sent_first (Err fault) = first_unread fault
 
 -- ---- after it
 
--- what the house said of an ask, which may be nothing yet; a port is no answer to a close
+-- what the forwarder answers to a request, which may be nothing yet; a port is no answer to a close
 abbrev pub house_answer : Bool → ℕ → HouseReply → Option Answer
 house_answer opening id reply.Done = Some (Okay id)
 house_answer true id (reply.Port port) = Some (RemotePort id port)
@@ -74,7 +74,7 @@ abbrev pub answers_maybe : Option Answer → Outcome
 answers_maybe None = silent
 answers_maybe (Some answer) = answers_with answer
 
--- the answer to an ask, once the house has replied
+-- the answer to a request, once the forwarder has replied
 abbrev pub answers_ask : Bool → ℕ → Option HouseReply → Outcome
 answers_ask opening id None = silent
 answers_ask opening id (Some given) = answers_maybe (house_answer opening id given)
@@ -111,7 +111,7 @@ sent_body pid k given has_greeted body = elim has_greeted [
   | false ↦ sent_first (read_control body)
 ]
 
--- whether a body asks the house
+-- whether a body is a request to the forwarder
 abbrev pub asks_house : Control → Bool
 asks_house (OpenForward id what) = true
 asks_house (CloseForward id what) = true
@@ -139,15 +139,15 @@ is_stop _ = false
 abbrev pub body_stops : List ℕ → Bool
 body_stops body = elim (read_control body) [ Err fault ↦ false | Ok c ↦ is_stop c ]
 
--- ---- what the house replies later
+-- ---- what the forwarder replies later
 
--- a saying behind which the client speaks to the server
+-- an item after which the client speaks to the server
 abbrev pub proxies_by : Outgoing → Bool
 proxies_by (Body body) = body_proxies body
 proxies_by (Payload p) = true
 proxies_by (BadFraming fault) = false
 
--- the client has said PROXY: the last that it said is that, or a payload
+-- the client has sent PROXY: the last that it sent is that, or a payload
 abbrev pub in_proxy : List Row → Bool
 in_proxy [] = false
 in_proxy (row ∷ before) = elim row.item [
@@ -155,7 +155,8 @@ in_proxy (row ∷ before) = elim row.item [
   | _ ↦ in_proxy before
 ]
 
--- the reply to an ask, as a frame; a port is told only of an ask that opens
+-- the reply to a request, as a frame, answered as one that opens; nothing once the client is in
+-- proxy mode
 abbrev pub house_sends : List Row → ℕ → HouseReply → Outcome
 house_sends own id given = elim (in_proxy own) [
   | true ↦ silent

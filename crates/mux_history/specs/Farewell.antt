@@ -52,7 +52,7 @@ abbrev pub late_success : List ℕ → Global → List (List ℕ)
 late_success rest (Forward key) = cancel_forward (bound key rest) ∷ []
 late_success rest _ = []
 
--- after a failure: a cancel that was asked is said again, without reply
+-- after a failure: a cancel that was asked is sent again, without reply
 abbrev pub late_refusal : Global → List (List ℕ)
 late_refusal (Cancel key) = cancel_forward key ∷ []
 late_refusal _ = []

@@ -76,7 +76,7 @@ requested k place _ fs = fs
 abbrev pub of_client : ℕ → (Forwarding → Forwarding) → Forwarding → Forwarding
 of_client k change f = elim (f.client == k) [ true ↦ change f | false ↦ f ]
 
--- the forwardings after what one more row says; `own` are the rows of its client before it
+-- the forwardings after what one more row sends; `own` are the rows of its client before it
 abbrev pub forwarded : Row → List Row → List Forwarding → List Forwarding
 forwarded row own fs = elim row.item [
   | Says k outgoing reply ↦ elim outgoing [

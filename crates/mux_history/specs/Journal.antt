@@ -14,18 +14,18 @@ use Rattle.mux_history.specs.Rows.{Item, Admit, Says, HouseSays, Gone, Heard, Ba
 use Rattle.mux_history.specs.declared.limits.TheConstants.{HOUSE}
 use Rattle.mux_history.specs.Log.{Setting, more_all}
 
--- ---- what streams gave and took
+-- ---- what streams gave and accepted
 
--- a stream of the master's own; the house itself has none, and its number is that of a client
+-- a stream of the master's own; the forwarder itself has none, and its number is that of a client
 abbrev pub is_own_stream : ℕ → Bool
 is_own_stream t = is_own t && not (t == HOUSE)
 
--- the bytes that the house said at a mark, as a client
+-- the bytes that the forwarder sent at a mark, as a client
 abbrev pub house_sent : HouseMark → List ℕ
 house_sent (HouseSaid bytes) = bytes
 house_sent _ = []
 
--- the bytes that a stream gave at a mark, or the house as a client
+-- the bytes that a stream gave at a mark, or the forwarder as a client
 abbrev pub bytes_in : ℕ → Mark → List ℕ
 bytes_in t (Gets stream bytes) = elim (stream == t) [ true ↦ bytes | false ↦ [] ]
 bytes_in t (House mark) = elim (HOUSE == t) [ true ↦ house_sent mark | false ↦ [] ]
@@ -36,23 +36,23 @@ abbrev pub bytes_of : ℕ → List Mark → List ℕ
 bytes_of t [] = []
 bytes_of t (mark ∷ before) = bytes_of t before ++ bytes_in t mark
 
--- the bytes that a stream took at a mark
+-- the bytes that a stream accepted at a mark
 abbrev pub taken_in : ℕ → Mark → List ℕ
 taken_in t (Takes stream bytes) = elim (stream == t) [ true ↦ bytes | false ↦ [] ]
 taken_in t _ = []
 
--- all bytes that a stream took, in order
+-- all bytes that a stream accepted, in order
 abbrev pub taken_by : ℕ → List Mark → List ℕ
 taken_by t [] = []
 taken_by t (mark ∷ before) = taken_by t before ++ taken_in t mark
 
--- the house ordered this stream, which is made and not connected yet
+-- the forwarder ordered this stream, which is made and not connected yet
 abbrev pub connects : ℕ → HouseMark → Bool
 connects t (HouseOrder (Connect host port) (Some stream)) = stream == t
 connects t _ = false
 
--- the stream takes no bytes for now: it held back, or was made by an order to connect, and was not
--- freed since
+-- the stream accepts no bytes for now: it held back, or was made by an order to connect, and was
+-- not freed since
 abbrev pub is_blocked : ℕ → List Mark → Bool
 is_blocked t [] = false
 is_blocked t (Holds stream ∷ before) =
@@ -65,21 +65,21 @@ is_blocked t (mark ∷ before) = is_blocked t before
 
 -- ---- items
 
--- one thing that a client says
+-- one thing that a client sends
 abbrev pub sent_item : ℕ → Outgoing → Item
 sent_item k outgoing = Says k outgoing None
 
--- what a client says by its new bytes: by position, so that what is said twice counts twice
+-- what a client sends by its new bytes: by position, so that what is sent twice counts twice
 abbrev pub new_sayings : ℕ → List ℕ → List ℕ → List Item
 new_sayings k before after = map (sent_item k) (drop (length (said before)) (said after))
 
--- one thing that the server says
+-- one thing that the server sends
 abbrev pub received_item : Outgoing → Item
 received_item (Body body) = Heard body
 received_item (Payload p) = Heard p
 received_item (BadFraming fault) = BadServer fault
 
--- the same of the server: a frame that is none is told once, since nothing is read after it
+-- the same of the server: a frame that is none is recorded once, since nothing is read after it
 abbrev pub new_received : List ℕ → List ℕ → List Item
 new_received before after =
     map received_item (drop (length (parse InProxy before).says) (parse InProxy after).says)
@@ -89,8 +89,8 @@ abbrev pub server_end : List ℕ → Item
 server_end [] = ServerEnd
 server_end (b ∷ rest) = ServerCut (length (b ∷ rest))
 
--- the items of a house's mark, in order: it is let in, speaks and takes as a client does; its orders,
--- and the asks that it is told, give none
+-- the items of a forwarder's mark, in order: it is admitted, sends and accepts as a client does;
+-- its orders, and the requests that are reported to it, give none
 abbrev pub house_items : List Mark → HouseMark → List Item
 house_items before HouseIn = Admit HOUSE ∷ []
 house_items before (HouseSaid bytes) =
@@ -138,8 +138,8 @@ log_of_journal setting [] = []
 log_of_journal setting (mark ∷ before) =
     more_all setting (log_of_journal setting before) (items_in before mark)
 
--- what a wire told at first, and what it tells after these marks: a wire's list has the oldest mark
--- first
+-- what a wire recorded at first, and what it records after these marks: a wire's list has the
+-- oldest mark first
 abbrev pub Records : Option (List Mark) → Option (List Mark) → List Mark → Type 0
 Records start now marks = now ≡ option_map (λ recorded. recorded ++ reverse marks) start
 
@@ -151,12 +151,12 @@ last_client [] = 0
 last_client (Accepts k ∷ before) = k
 last_client (mark ∷ before) = last_client before
 
--- a house's mark lets it in, as this client
+-- a forwarder's mark admits it, as this client
 abbrev pub lets_in : ℕ → HouseMark → Bool
 lets_in k HouseIn = HOUSE == k
 lets_in k _ = false
 
--- a client was accepted, or is the house and was let in
+-- a client was accepted, or is the forwarder and was admitted
 abbrev pub is_accepted : ℕ → List Mark → Bool
 is_accepted k [] = false
 is_accepted k (Accepts j ∷ before) = if j == k then true else is_accepted k before
@@ -167,8 +167,8 @@ is_accepted k (mark ∷ before) = is_accepted k before
 abbrev pub is_known : ℕ → List Mark → Bool
 is_known stream before = is_server stream || (is_own_stream stream || is_accepted stream before)
 
--- the house is let in before all else, and as a client it says some bytes and takes only then; it
--- replies to clients that were accepted
+-- the forwarder is admitted before all else, and only then, as a client, it sends bytes, some at a
+-- time, and accepts bytes; it replies to clients that were accepted
 abbrev pub LawfulHouse : List Mark → HouseMark → Type 0
 LawfulHouse before HouseIn = before ≡ []
 LawfulHouse before (HouseSaid bytes) =
@@ -177,10 +177,10 @@ LawfulHouse before (HouseTook size) = IsTrue (is_accepted HOUSE before)
 LawfulHouse before (HouseAnswer client id given) = IsTrue (is_accepted client before)
 LawfulHouse before _ = Unit {0}
 
--- each client has a number above the last one's and up to the last that a client may have, and every
--- other mark names the server's stream, one of the master's own or that of a client that was
--- accepted; what comes are 1 to 65,536 bytes, what is taken is some, and
--- only streams that hold back are freed or waited for
+-- each client has a number above the last one's and up to the last that a client may have, and
+-- every other mark names the server's stream, one of the master's own or that of a client that was
+-- accepted; what comes are 1 to 65,536 bytes, what is accepted is some, and only streams that hold
+-- back are freed or waited for
 abbrev pub LawfulMark : List Mark → Mark → Type 0
 LawfulMark before (Accepts k) = (last_client before < k) × (k ≤ LAST_CLIENT)
 LawfulMark before (Gets stream bytes) =

@@ -24,7 +24,7 @@ abbrev pub is_askable : Key → Bool
 is_askable (Tcp address port) = nat_le (length address) MAX_ADDRESS
 is_askable (Path path) = nat_lt 0 (length path) && nat_le (length path) MAX_ADDRESS
 
--- the server chooses the port, and tells it in its success (RFC 4254, section 7.1)
+-- the server chooses the port, and sends it in its success (RFC 4254, section 7.1)
 abbrev pub learns_port : Key → Bool
 learns_port (Tcp address port) = port == 0
 learns_port (Path path) = false

@@ -42,8 +42,8 @@ pub record IsLocal (k : ℕ) (rows : List Row) : Type 0 where
 abbrev pub LookUpsAreLocal : Type 0
 LookUpsAreLocal = (k : ℕ) (rows : List Row) → IsLocal k rows
 
--- an item of this client alone: what it says, what the house replies it, its end, and what it
--- takes
+-- an item of this client alone: what it sends, what the forwarder replies to it, its end, and what
+-- it accepts
 abbrev pub IsOf : ℕ → Item → Type 0
 IsOf k (Says j outgoing given) = j ≡ k
 IsOf k (HouseSays j id given) = j ≡ k
@@ -110,10 +110,10 @@ pub record RoomsGoOn (way : Side) (n : ℕ) (x : Channel) : Type 0 where
 abbrev pub AccountsGoOn : Type 0
 AccountsGoOn = (way : Side) (n : ℕ) (x : Channel) → RoomsGoOn way n x
 
--- ---- what a stream took and what waits for it make up what it is given
+-- ---- what a stream accepted and what waits for it make up what it is given
 
--- of the server's stream and those of clients: the master's own have no rows, and what the house
--- takes is told by its length alone
+-- of the server's stream and those of clients: the master's own have no rows, and what the
+-- forwarder accepts is recorded by its length alone
 abbrev pub AddsUp : Setting → List Mark → Type 0
 AddsUp setting marks =
     (t : ℕ) → is_own t ≡ false → taken_by t marks ++ pending t (log_of_journal setting marks)
@@ -127,7 +127,8 @@ WrittenAddsUp =
 
 -- ---- at every row of a right log
 
--- of every right log of a lawful wire, whatever numbers are picked and whatever the house replies
+-- of every right log of a lawful wire, whatever numbers are picked and whatever the forwarder
+-- replies
 abbrev pub OverRight : (Setting → List Row → Type 0) → Type 0
 OverRight P =
     (policy : Policy) (pid : ℕ) (picks : List ℕ) (given : List HouseReply) (marks : List Mark)
@@ -135,7 +136,8 @@ OverRight P =
     → IsRight (by_lists policy pid picks given) marks left rows
     → P (by_lists policy pid picks given) rows
 
--- the log of a journal is right where its picks were fresh, and so is one that want of memory cut
+-- the log of a journal is right if its picks were fresh, and so is one that was cut as memory ran
+-- out
 pub record LogsAreRight (setting : Setting) (marks : List Mark) : Type 0 where
   pub whole : AreFresh (log_of_journal setting marks)
       → IsRight setting marks 0 (log_of_journal setting marks)
@@ -152,7 +154,7 @@ JournalsGiveRightLogs =
 abbrev pub NumbersAreApart : Type 0
 NumbersAreApart = OverRight (λ setting rows. AtEach NumbersApart rows)
 
--- the numbers that were taken are the picks, in order
+-- the numbers that were used are the picks, in order
 abbrev pub PicksAreTaken : Type 0
 PicksAreTaken = OverRight (λ setting rows. ForEach (TakesPick setting.choices) rows)
 

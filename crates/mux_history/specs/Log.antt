@@ -26,7 +26,7 @@ pub use Rattle.mux_history.specs.Treat.{
 
 -- ---- which items make rows
 
--- what is taken makes a row always; items of a client that is out make none
+-- what is accepted makes a row always; items of a client that is out make none
 abbrev pub makes_row : List Row → Item → Bool
 makes_row rows (Says k outgoing given) = not (is_out (rows_of k rows))
 makes_row rows (HouseSays k id given) = not (is_out (rows_of k rows))
@@ -34,12 +34,12 @@ makes_row rows (Gone k) = not (is_out (rows_of k rows))
 makes_row rows (RunEnd cause) = false
 makes_row rows _ = true
 
--- what is taken
+-- what is accepted
 abbrev pub is_took : Item → Bool
 is_took (Took stream size) = true
 is_took _ = false
 
--- after the end of the run only what is taken makes rows
+-- after the end of the run only what is accepted makes rows
 abbrev pub makes_next : List Row → Item → Bool
 makes_next rows item = elim (is_ended rows) [ true ↦ is_took item | false ↦ makes_row rows item ]
 

@@ -11,12 +11,12 @@ joined (x ∷ xs) = x ++ joined xs
 
 -- ---- for one client, over its own rows
 
--- the number of bytes that were taken
+-- the number of bytes that were accepted
 abbrev pub took_by : Item → ℕ
 took_by (Took stream size) = size
 took_by _ = 0
 
--- the bytes that wait for the client: each row takes from the front and adds behind
+-- the bytes that wait for the client: each row removes from the front and adds at the end
 abbrev pub pending_down : List Row → List ℕ
 pending_down [] = []
 pending_down (row ∷ before) = drop (took_by row.item) (pending_down before ++ joined row.down)
@@ -27,7 +27,7 @@ waiting_down own = length (pending_down own)
 
 -- ---- for the server, which is stream 0
 
--- the same where the server took them
+-- the same for what the server accepted
 abbrev pub took_up : Item → ℕ
 took_up (Took stream size) = elim (is_server stream) [ true ↦ size | false ↦ 0 ]
 took_up _ = 0

@@ -1,9 +1,9 @@
--- Rows that say nothing to the server and hear nothing of it.
+-- Rows that send nothing to the server and receive nothing from it.
 use Rattle.std.specs.Prelude.{◌≡◌, []}
 use Rattle.ssh_grammar.specs.Said.{Payload}
 use Rattle.mux_history.specs.Rows.{Row, Item, Says, Heard}
 
--- what neither a client in proxy mode nor the server said
+-- what neither a client in proxy mode nor the server sent
 abbrev pub IsPlainItem : Item → Type 0
 IsPlainItem (Says k (Payload p) given) = ⊥
 IsPlainItem (Heard p) = ⊥

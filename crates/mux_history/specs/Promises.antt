@@ -24,7 +24,7 @@ abbrev pub Throughout : (List Mark → Mark → Type 0) → List Mark → Type 0
 Throughout P [] = Unit {0}
 Throughout P (mark ∷ before) = P before mark × Throughout P before
 
--- ---- Written: what a stream takes is the front of what waits for it
+-- ---- Written: what a stream accepts is the front of what waits for it
 
 -- no byte
 abbrev pub is_empty : List ℕ → Bool
@@ -35,7 +35,7 @@ is_empty (b ∷ bytes) = false
 abbrev pub IsFront : List ℕ → List ℕ → Type 0
 IsFront front bytes = (rest : List ℕ) × (bytes ≡ front ++ rest)
 
--- of a take; no row tells what the master's own streams take
+-- of an accepted write; no row records what the master's own streams accept
 abbrev pub TakesFront : Setting → List Mark → Mark → Type 0
 TakesFront setting before (Takes stream bytes) =
     MatchBool (is_own_stream stream) (Unit {0})
@@ -76,7 +76,7 @@ has_failed t (WriteFails stream ∷ before) =
     elim (stream == t) [ true ↦ true | false ↦ has_failed t before ]
 has_failed t (mark ∷ before) = has_failed t before
 
--- without the master's own, and without the house
+-- without the master's own, and without the forwarder
 abbrev pub not_own : List ℕ → List ℕ
 not_own streams = filter (λ t. not (is_own t)) streams
 
@@ -86,8 +86,9 @@ MayWait before t = IsTrue (is_own t) → has_failed t before ≡ false
 
 -- a call of `wait`: the run goes on; of the server's stream and those of clients, the waiting ones
 -- are exactly the open ones with output; none of the master's own that waits has failed; each that
--- waits is blocked; no more is read exactly while 4,194,304 bytes or more wait for the server; every
--- stream that is not waited for is settled; and the house was handed all that it is told as a client
+-- waits is blocked; no more is read exactly while 4,194,304 bytes or more wait for the server;
+-- every stream that is not waited for is settled; and the forwarder was handed all that it is sent
+-- as a client
 pub record WaitsRight (setting : Setting) (before : List Mark) (waiting : List ℕ) (want : Want)
     (streams : List ℕ) : Type 0 where
   pub goes_on : is_ended (log_of_journal setting before) ≡ false
@@ -106,18 +107,18 @@ WaitsAt setting before (Waits waiting want streams listens) =
     WaitsRight setting before waiting want streams
 WaitsAt setting before _ = Unit {0}
 
--- the house speaks only while fewer than 4,194,304 bytes wait for the server, and when it was handed
--- all that it is told as a client
+-- the forwarder speaks only while fewer than 4,194,304 bytes wait for the server, and when it was
+-- handed all that it is sent as a client
 pub record SpeaksRight (setting : Setting) (before : List Mark) : Type 0 where
   pub room : length (pending 0 (log_of_journal setting before)) < READING_STOPS_AT
   pub heard : pending HOUSE (log_of_journal setting before) ≡ []
 
--- of what it says
+-- of what it sends
 abbrev pub SpeaksInTime : Setting → List Mark → Mark → Type 0
 SpeaksInTime setting before (House (HouseSaid bytes)) = SpeaksRight setting before
 SpeaksInTime setting before mark = Unit {0}
 
--- takes and waits, and what the house says
+-- accepted writes and waits, and what the forwarder sends
 pub record Written (setting : Setting) (marks : List Mark) : Type 0 where
   pub takes : Throughout (TakesFront setting) marks
   pub waits : Throughout (WaitsAt setting) marks
@@ -129,7 +130,7 @@ Settled setting marks = (t : ℕ) → is_own t ≡ false → IsSettled setting m
 
 -- ---- Open: the streams that are open at a wait, and whether clients are accepted
 
--- a row serves STOP_LISTENING: it is said after the hello, and the row goes on
+-- a row serves STOP_LISTENING: it is sent after the hello, and the row goes on
 abbrev pub stops : Row → List Row → Bool
 stops row own =
     goes row.fate && elim row.item [
@@ -146,7 +147,7 @@ listens [] = true
 listens (row ∷ before) = not (stops row (rows_of row.client before)) && listens before
 
 -- the server's stream, and those of the admitted clients that are not lost, in the order in which
--- they came: of the streams that are open, all but the master's own; and the house has none
+-- they came: of the streams that are open, all but the master's own; and the forwarder has none
 pub record OpenRight (rows : List Row) (streams : List ℕ) (accepts : Bool) : Type 0 where
   pub open_streams : not_own streams ≡ 0 ∷ not_own (served rows)
   pub listening : accepts ≡ listens rows
@@ -169,13 +170,13 @@ waits_in [] = 0
 waits_in (Waits waiting want streams accepts ∷ before) = waits_in before + 1
 waits_in (mark ∷ before) = waits_in before
 
--- a piece that the house said, or an order of it
+-- a piece that the forwarder sent, or an order of it
 abbrev pub counts_as_turn : HouseMark → Bool
 counts_as_turn (HouseSaid bytes) = true
 counts_as_turn (HouseOrder order number) = true
 counts_as_turn mark = false
 
--- how many turns were given: of the wire, of pieces said, and of orders
+-- how many turns were given: of the wire, of pieces sent, and of orders
 abbrev pub turns_in : List Mark → ℕ
 turns_in [] = 0
 turns_in (Waits waiting want streams accepts ∷ before) = turns_in before + 1
@@ -198,9 +199,9 @@ abbrev pub ConnectionEnds : Setting → ℕ → List Mark → Option ℕ → End
 ConnectionEnds setting turns marks refused answer =
     EndsAs turns marks refused (end_of (log_of_journal setting marks)) answer
 
--- ---- Want of memory
+-- ---- Out of memory
 
--- an ask of a client, which was told by what the client said before
+-- a request of a client, which is known from what the client sent before
 abbrev pub is_asked : HouseMark → Bool
 is_asked (HouseAsked client id opening ask given) = true
 is_asked mark = false
@@ -216,9 +217,9 @@ IsCut setting (mark ∷ before) rows =
     (n : ℕ) × (rows ≡ more_all setting (log_of_journal setting before)
     (take n (items_in before mark)))
 
--- ---- the house
+-- ---- the forwarder
 
--- each reply is one that the house may give
+-- each reply is one that the forwarder may give
 abbrev pub MayGive : (HouseReply → Type 0) → List HouseReply → Type 0
 MayGive May [] = Unit {0}
 MayGive May (given ∷ replies) = May given × MayGive May replies

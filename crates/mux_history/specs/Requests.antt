@@ -16,7 +16,7 @@ abbrev pub wanted_in : Summary → Option Global
 wanted_in (Requests what true) = Some what
 wanted_in _ = None
 
--- the wanted request that a row's client says
+-- the wanted request that a row's client sends
 abbrev pub wanted_by : Row → Option Global
 wanted_by row = elim row.item [
   | Says k outgoing reply ↦ elim outgoing [ Payload p ↦ reading p wanted_in None | _ ↦ None ]
@@ -27,7 +27,7 @@ wanted_by row = elim row.item [
 abbrev pub is_sent : Row → Bool
 is_sent row = elim row.up [ [] ↦ false | p ∷ ps ↦ true ]
 
--- the ask of a row
+-- the request of a row
 abbrev pub asks_of : ℕ → Bool → Option Global → List Ask
 asks_of k true (Some what) = record { client = k; what = what } ∷ []
 asks_of k _ _ = []

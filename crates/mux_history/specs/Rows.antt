@@ -6,10 +6,10 @@ use Rattle.ssh_grammar.specs.Said.{Outgoing}
 use Rattle.mux_history.specs.declared.why.Why.{Why}
 use Rattle.mux_history.specs.declared.ended.Ended.{Ended}
 
--- what happened at once: a client came in; said something, with the reply of the house where it
--- asks the house; the house replied to an ask later; or its stream is gone; the server said a payload, or a frame that is none; its
--- stream ended, ended so many bytes into a frame, or failed; a stream took bytes. RunEnd shows a
--- client alone how the run ended.
+-- what happened at once: a client came in; sent something, with the reply of the forwarder if it is
+-- a request to it; the forwarder replied to a request later; or its stream is gone; the server sent
+-- a payload, or a frame that is none; its stream ended, ended so many bytes into a frame, or
+-- failed; a stream accepted bytes. RunEnd shows a client alone how the run ended.
 pub data Item : Type 0 where
   Admit : (client : ℕ) → Item
   Says : (client : ℕ) (outgoing : Outgoing) (reply : Option HouseReply) → Item
@@ -70,7 +70,7 @@ is_lost own = any_of loses own
 abbrev pub is_admit : Row → Bool
 is_admit row = elim row.fate [ Refused ↦ false | _ ↦ elim row.item [ Admit k ↦ true | _ ↦ false ] ]
 
--- the client was not let in
+-- the client was not admitted
 abbrev pub is_refusal : Fate → Bool
 is_refusal Refused = true
 is_refusal _ = false

@@ -1,4 +1,5 @@
--- A client alone: the items that concern it, and the log that they give where nobody else is.
+-- A client alone: the items that concern it, and the log that they give if there is no other
+-- client.
 use Rattle.std.specs.Prelude.{ℕ, ◌≡◌, List, [], ◌∷◌, ◌++◌, Option, Some, None, Bool, true, false, map, bytes_eq}
 use Rattle.ssh_grammar.specs.SpellMessage.{with_sender}
 use Rattle.mux_history.specs.declared.ended.Ended.{Ended}
@@ -32,7 +33,7 @@ run_end rows = elim (end_of rows) [ None ↦ [] | Some cause ↦ RunEnd cause �
 abbrev pub items_concerning : ℕ → List Row → List Item
 items_concerning k rows = run_end rows ++ items_for (rows_of k rows)
 
--- a client alone takes the numbers that it says itself
+-- a client alone uses the numbers that it sends itself
 abbrev pub alone_setting : Setting → Setting
 alone_setting setting = record setting { choices = TheirOwn }
 
@@ -70,7 +71,7 @@ seen_alone row = record { sent = row.up ++ row.farewell; recorded = row.down; en
 abbrev pub IsUnshared : Setting → ℕ → List Row → Type 0
 IsUnshared setting k rows = map seen (rows_of k rows) ≡ map seen_alone (solo setting k rows)
 
--- the same as a test of what is sent and told
+-- the same as a test of what is sent and recorded
 
 -- two lists of texts are the same
 abbrev pub all_same : List (List ℕ) → List (List ℕ) → Bool

@@ -36,7 +36,7 @@ CurrentGoesOn = (row : Row) (before : List Row) → CurrentStep row before
 
 -- ---- open matters
 
--- a client counts where it was let in and its matters are open
+-- a client counts where it was admitted and its matters are open
 abbrev pub counts : List Row → Bool
 counts own = any_of is_admit own && has_open_matters own
 
@@ -95,7 +95,7 @@ taken_from stream row = elim (is_server stream) [
   | false ↦ elim (row.client == stream) [ true ↦ took_by row.item | false ↦ 0 ]
 ]
 
--- what waits after a row: it adds behind, and takes from the front
+-- what waits after a row: it adds at the end, and removes from the front
 abbrev pub next_pending : ℕ → Row → List ℕ → List ℕ
 next_pending stream row before = drop (taken_from stream row) (before ++ given_by stream row)
 
@@ -109,8 +109,8 @@ PendingGoesOn =
 abbrev pub take_row : ℕ → ℕ → Row
 take_row stream size = bare (Took stream size) stream silent
 
--- it leaves its stream what waits behind, which is the rest where so much waits, and the others as
--- they were
+-- it leaves its stream what waits after those bytes, which is the rest if so much waits, and the
+-- others as they were
 pub record TakeStep (stream size : ℕ) (before : List Row) : Type 0 where
   pub own : pending stream (take_row stream size ∷ before) ≡ drop size (pending stream before)
   pub rest : size ≤ length (pending stream before)

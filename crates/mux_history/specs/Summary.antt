@@ -1,4 +1,4 @@
--- The gist of a message: what the log looks at, without the texts and data that only pass.
+-- The summary of a message: what the log looks at, without the texts and data that only pass.
 use Rattle.std.specs.Prelude.{ℕ, List, length, Option, Some, None, Result, Ok, Err, Bool}
 use Rattle.ssh_grammar.specs.declared.fault.Bad.{Bad}
 use Rattle.ssh_grammar.specs.Messages.{Global, Opens}
@@ -55,11 +55,11 @@ abbrev pub summary : full.Message → Summary
 summary (full.Plain m) = summary_of_plain m
 summary (full.To recipient m) = summary_to recipient m
 
--- the gist of what a payload says, or why it does not read
+-- the summary of a payload, or why it does not read
 abbrev pub read_summary : List ℕ → Result Summary Bad
 read_summary p = elim (read_message p) [ Ok m ↦ Ok (summary m) | Err e ↦ Err e ]
 
--- what is made of the gist, or the last answer where the payload does not read
+-- what is made of the summary, or the last answer where the payload does not read
 abbrev pub reading : {A : Type 0} → List ℕ → (Summary → A) → A → A
 reading p f other = elim (read_summary p) [ Err e ↦ other | Ok m ↦ f m ]
 

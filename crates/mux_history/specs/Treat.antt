@@ -42,7 +42,7 @@ abbrev pub goes : Fate → Bool
 goes Goes = true
 goes _ = false
 
--- a row that goes on, of a client that is not lost, tells them after its own frames
+-- a row that goes on, of a client that is not lost, records them after its own frames
 abbrev pub all_recorded : Row → List Row → List (List ℕ)
 all_recorded row own = elim (goes row.fate && not (is_lost own)) [
   | true ↦ row.down ++ new_answers row own
@@ -82,7 +82,7 @@ queued frames row own =
           fate_with row.fate (overflow (waiting_down own) frames);
     }
 
--- a row that loses its client says farewell
+-- a row that loses its client sends its farewell
 abbrev pub with_farewell : Row → List Row → Row
 with_farewell row own =
     elim (loses row) [ true ↦ record row { farewell = farewell row own } | false ↦ row ]
@@ -94,13 +94,13 @@ row_of item k o own = let row = bare item k o in
 
 -- ---- what each item does
 
--- what a client says
+-- what a client sends
 abbrev pub sent_by_client : Policy → ℕ → ℕ → List Row → ℕ → Outgoing → Option HouseReply → Outcome
 sent_by_client policy pid k own pick (Body body) given = sent_body pid k given (greeted own) body
 sent_by_client policy pid k own pick (Payload p) given = sent_payload policy k own pick p
 sent_by_client policy pid k own pick (BadFraming fault) given = drops (why.BadFrame fault)
 
--- the clients that were let in, in order
+-- the clients that were admitted, in order
 abbrev pub entered : List Row → List ℕ
 entered [] = []
 entered (row ∷ before) =

@@ -19,7 +19,7 @@ use Rattle.ssh_fields.specs.Fields.{AreBytes}
 use Rattle.mux_history.specs.Journal.{IsLawful, LawfulHouse, is_own_stream, is_blocked, is_known, last_client}
 use Rattle.mux_history.specs.Promises.{Throughout}
 
--- bytes that are read, clients that are accepted, and sockets that are joined
+-- bytes that are read, clients that are accepted, and sockets that are accepted
 abbrev pub reads : Mark → Bool
 reads (Accepts k) = true
 reads (Gets stream bytes) = true
@@ -31,7 +31,7 @@ abbrev pub FollowsRead : List Mark → Type 0
 FollowsRead (Waits waiting Read streams accepts ∷ before) = Unit {0}
 FollowsRead marks = ⊥
 
--- what is read or accepted comes right behind such a wait
+-- what is read or accepted comes right after such a wait
 abbrev pub ReadsWhenAsked : List Mark → Mark → Type 0
 ReadsWhenAsked before mark = reads mark ≡ true → FollowsRead before
 
@@ -44,15 +44,15 @@ pub record OfWire (streams blocked : List ℕ) (last : ℕ) (marks : List Mark) 
   pub holds : (t : ℕ) → IsTrue (among t blocked) → IsTrue (is_blocked t marks)
   pub below : last_client marks ≤ last
 
--- the house's mark tells that a stream was made
+-- the forwarder's mark records that a stream was made
 abbrev pub is_connect : HouseMark → Bool
 is_connect (HouseOrder (Connect host port) (Some stream)) = true
 is_connect mark = false
 
--- that is what the law of each wire keeps: right after it was opened; at each turn that it may
--- give, where only streams that hold back are waited for; at each answer that it may give to a
--- write of some bytes to a stream that is open; where a stream is closed; where a house's mark is
--- noted; and where a stream is made, once that is noted too
+-- the law of each wire keeps this: right after it was opened; at each turn that it may give, where
+-- only streams that hold back are waited for; at each answer that it may give to a write of some
+-- bytes to a stream that is open; where a stream is closed; where a forwarder's mark is noted; and
+-- where a stream is made, once that is noted too
 pub record WireKeeps (seen : Seen) (marks : List Mark) : Type 0 where
   pub none : OfWire (0 ∷ []) [] seen.last []
   pub turn : (given : Turn) (waiting : List ℕ) (want : Want) (bytes : List ℕ)

@@ -114,7 +114,8 @@ unknown_types =
     greets 1 ++ greets 2 ++ Gets 1 (hex (codes "00000008 1000000a 00000009"))
     ∷ Gets 2 (hex (codes "00000004 1000000a")) ∷ []
 
--- what is asked of the house: a remote forwarding of port 8080 at any address to port 80 of a host
+-- what is requested of the forwarder: a remote forwarding of port 8080 at any address to port 80 of
+-- a host
 abbrev pub forward_asks : List Mark
 forward_asks =
     greets 1 ++ Gets 1 (hex (codes "0000001e 10000006 00000001 00000002 00000000 00001f90 00000002")

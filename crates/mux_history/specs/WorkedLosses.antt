@@ -49,7 +49,7 @@ sixty_five = come 1 65
 abbrev pub dialogs_full : List Mark
 dialogs_full = leaves ++ come 2 64
 
--- a client takes nothing for now; another is served
+-- a client accepts nothing for now; another is served
 abbrev pub held_back : List Mark
 held_back =
     Accepts 1 ∷ Holds 1 ∷ Accepts 2 ∷ Takes 2 hello

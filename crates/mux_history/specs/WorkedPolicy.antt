@@ -12,7 +12,7 @@ abbrev pub texts : List (List ℕ)
 texts = codes "db:5432" ∷ codes "080" ∷ codes "[fe80::1]:22" ∷ codes "web:*" ∷ codes "*"
     ∷ codes "/run/s:80" ∷ []
 
--- what they say
+-- what they contain
 abbrev pub entries : Allow
 entries =
     Entries (entry (Some (codes "db")) (Some 5432) ∷ entry None (Some 80)

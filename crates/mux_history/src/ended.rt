@@ -5,7 +5,7 @@ use crate::Break;
 pub enum Ended {
     /// The server's stream ended.
     ServerEnd,
-    /// The server said DISCONNECT.
+    /// The server sent DISCONNECT.
     Disconnected,
     /// A client asked for the end.
     Terminated { client: u64, id: u32 },

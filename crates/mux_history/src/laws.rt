@@ -36,12 +36,13 @@ pub fn accounts_go_on()
     ensures { AccountsGoOn }
 {}
 
-/// What a stream took and what waits for it make up what it is given.
+/// What a stream accepted and what waits for it make up what it is given.
 pub fn written_adds_up()
     ensures { WrittenAddsUp }
 {}
 
-/// The log of a journal is right where its picks were fresh, and so is one that want of memory cut.
+/// The log of a journal is right if its picks were fresh, and so is one that was cut as memory ran
+/// out.
 pub fn journals_give_right_logs()
     ensures { JournalsGiveRightLogs }
 {}
@@ -51,7 +52,7 @@ pub fn numbers_are_apart()
     ensures { NumbersAreApart }
 {}
 
-/// The numbers that were taken are the picks, in order.
+/// The numbers that were used are the picks, in order.
 pub fn picks_are_taken()
     ensures { PicksAreTaken }
 {}
@@ -89,7 +90,7 @@ pub fn unreplied_are_local()
     ensures { UnrepliedAreLocal }
 {}
 
-/// What waits for each stream goes on by one row, which adds behind and takes from the front.
+/// What waits for each stream goes on by one row, which adds at the end and removes from the front.
 pub fn pending_goes_on()
     ensures { PendingGoesOn }
 {}
@@ -99,13 +100,13 @@ pub fn takes_leave_the_rest()
     ensures { TakesLeaveTheRest }
 {}
 
-/// What any wire tells is a lawful journal, in which it reads and accepts only right behind a wait
+/// What any wire records is a lawful journal, in which it reads and accepts only right after a wait
 /// for that: each turn, each answer to a write and each close that its law allows keeps it so.
 pub fn journals_of_wires_are_lawful()
     ensures { WiresKeepTheLaw }
 {}
 
-/// The same key is told by its kind, its bytes and its port; an address and a path never are the
+/// A key is identified by its kind, its bytes and its port; an address and a path never are the
 /// same.
 pub fn keys_are_recorded_apart()
     ensures { KeysAreRecordedApart }

@@ -1,6 +1,6 @@
 //! The history of a master: what happened at its streams, in rows, and what each row sends and
-//! tells. The definitions in `specs/` look everything up in the whole list of rows; the crates
-//! above keep tables, counters and queues, and prove that these stand for such a list.
+//! records. The definitions in `specs/` look everything up in the whole list of rows; the crates
+//! above keep tables, counters and queues, and prove that these represent such a list.
 #![tactic(auto)]
 
 mod broke;

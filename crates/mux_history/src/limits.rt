@@ -27,7 +27,7 @@ pub const MAX_QUEUE: usize = 33_554_432;
 /// While so many bytes wait for the server, nothing is read.
 pub const READING_STOPS_AT: usize = 4_194_304;
 
-/// The number of the house, where it is let in as a client.
+/// The number of the forwarder, where it is admitted as a client.
 pub const HOUSE: u64 = 18_446_744_073_709_551_615;
 
 /// Every channel number of the master is below it.

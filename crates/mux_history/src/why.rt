@@ -7,7 +7,7 @@ pub enum Why {
     /// Its stream can't be cut into frames.
     #[error("{0}")]
     BadFrame(BadFrame),
-    /// A control message doesn't read, or is one that no client says and that has no id.
+    /// A control message doesn't read, or is one that no client sends and that has no id.
     #[error("{0}")]
     BadControl(BadControl),
     /// Another control message came first.
@@ -22,7 +22,7 @@ pub enum Why {
     /// A payload doesn't read.
     #[error("{0}")]
     BadMessage(Bad),
-    /// It said DISCONNECT.
+    /// It sent DISCONNECT.
     #[error("the client disconnects")]
     Disconnected,
     /// It replied to a global request, and none is ever asked of it.

@@ -38,14 +38,14 @@ given-own k lt (row ∷ rows) = by_client (given-own k lt rows) (row.client == k
         ∙ (append-nil (given_to k rows)
         ∙ (ih ∙ sym (ap (given_to k) (filter-no (λ (r : Row). r.client == k) row rows e))))
 
--- alone they tell the same
+-- alone they record the same
 pub given-alone : (k : ℕ) → 0 < k → (own : List Row) → given_to k (alone own) ≡ given_to k own
 given-alone k lt [] = refl
 given-alone k lt (row ∷ own) =
     ap (λ bytes. bytes ++ given_by k (alone_row own row)) (given-alone k lt own)
     ∙ ap (λ bytes. given_to k own ++ bytes) (by-row k (not-server k lt) (alone_row own row) (row.client == k) refl ∙ sym (by-row k (not-server k lt) row (row.client == k) refl))
 
--- what was taken and what waits make up what the unshared connection gives
+-- what was accepted and what waits make up what the unshared connection gives
 pub takes-alike : (setting : Setting) (marks : List Mark) → Throughout (TakesFront setting) marks → GivesAlike setting (log_of_journal setting marks) → TakesAlike setting marks
 takes-alike setting marks takes gives k lt client admitted = (
   pending k (log_of_journal setting marks),

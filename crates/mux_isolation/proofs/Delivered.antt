@@ -1,4 +1,4 @@
--- What the server says to a client's channel or forwarding is told as it came.
+-- What the server sends to a client's channel or forwarding is recorded as it came.
 use Rattle.std.proofs.Common.{◌≡◌, ℕ, List, [], ◌∷◌, ◌++◌, length, true, false, Bool, refl, ◌∙◌, ap, map, sym, Option, Some, None, subst, Ok, Err, drop}
 use Rattle.std.specs.Prelude.{MatchBool, not, ◌&&◌, nat_lt, codes}
 use Rattle.std.proofs.Math.Seq.{drop-append_seam}
@@ -29,7 +29,7 @@ use Rattle.mux_history.proofs.RightLogs.{LogKnown, by-treat}
 use Rattle.mux_isolation.proofs.Fulls.{all-fit, drops-if-full, heard-goes, no-overflow, row-whole}
 use Rattle.mux_isolation.proofs.Named.{Met, holder-local, met, number-met}
 
--- ---- what a row of the server's payload tells
+-- ---- what a row of the server's payload records
 
 -- no answer comes with it, unless it is a reply
 none-new : (k : ℕ) (p : List ℕ) (o : Outcome) (own : List Row) → reading p is_reply false ≡ false → new_answers (bare (Heard p) k o) own ≡ []
@@ -46,7 +46,7 @@ none-new k p o own other =
         ∙ (ap (λ r. answers_to (wanted own) (replies own ++ r)) none_in
         ∙ ap (answers_to (wanted own)) (append-nil (replies own)))
 
--- what the message does is told, where the row goes on
+-- what the message does is recorded, where the row goes on
 heard-recorded : (k : ℕ) (p : List ℕ) (own : List Row) → reading p is_reply false ≡ false → (row_of (Heard p) k (received_for own p) own).fate ≡ Goes → (row_of (Heard p) k (received_for own p) own).down ≡ (received_for own p).recorded
 heard-recorded k p own other = row-whole (λ row. row.fate ≡ Goes → row.down ≡ (received_for own p).recorded) (Heard p) k (received_for own p) own fits
   where

@@ -1,4 +1,4 @@
--- What the server says drops a client only where its queue is full.
+-- What the server sends drops a client only where its queue is full.
 use Rattle.std.proofs.Common.{◌≡◌, ℕ, ◌+◌, ◌<◌, List, [], ◌∷◌, length, true, false, Bool, refl, ◌∙◌, ap, arith, sym, Option, Some, None, subst, Ok, Err, length-append}
 use Rattle.std.specs.Prelude.{Result, nat_lt, nat_le, codes}
 use Rattle.std.proofs.lemmas.Bool.Decides.{nat_tests}
@@ -30,7 +30,7 @@ row-whole P item k o own each = by_case (loses (queued (all_recorded (bare item 
 
 -- ---- frames that fit, and the first that does not
 
--- where no frame is left out, all are told
+-- where no frame is left out, all are recorded
 pub all-fit : (n : ℕ) (fs : List (List ℕ)) → overflow n fs ≡ None → fitting n fs ≡ fs
 all-fit n [] none = refl
 all-fit n (f ∷ fs) none = by_case (nat_le (n + length f) 33554432) refl none (λ h. all-fit (n + length f) fs h)
@@ -61,7 +61,7 @@ full-of n (f ∷ fs) = by_case (nat_le (n + length f) 33554432) refl (full-of (n
     by_case true e ih = one-before n f (fitting (n + length f) fs) (overflow (n + length f) fs) ih
     by_case false e ih = (omega arith, past (n + length f) e)
 
--- ---- what the server says drops nobody else
+-- ---- what the server sends drops no other client
 
 pub heard-goes : (own : List Row) (p : List ℕ) → (received_for own p).ends ≡ Goes
 heard-goes own p = by_case (read_summary p)

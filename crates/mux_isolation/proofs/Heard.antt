@@ -1,4 +1,4 @@
--- What the server says in a client's channel, here and alone.
+-- What the server sends in a client's channel, here and alone.
 use Rattle.std.proofs.Common.{◌≡◌, ℕ, ◌<◌, List, refl, ◌∙◌, ap, sym, Option, Some, None, subst, Ok, Err}
 use Rattle.std.specs.Prelude.{Result}
 use Rattle.mux_history.specs.Channels.{Channel, received_by, holder, with_down}

@@ -34,7 +34,7 @@ held_by n xs = find (λ y. is_number y.number n) (filter is_held xs)
 has : (o : Option ℕ) (c : ℕ) → o ≡ Some c → is_number o c ≡ true
 has o c e = rw e (self c)
 
--- those behind the holder meet: neither number is theirs
+-- those after the holder meet: neither number is theirs
 behind : (n c : ℕ) (x : Channel) → is_held x ≡ true → is_number x.number n ≡ true → is_number x.own c ≡ true → (ys : List Channel) → Each (Apart x) ys → Each (Meets n c) ys
 behind n c x h e o [] apart = tt
 behind n c x h e o (y ∷ ys) apart = (one (is_held y) refl, behind n c x h e o ys apart.1)

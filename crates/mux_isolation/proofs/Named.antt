@@ -155,7 +155,7 @@ module _ (before : List Row) (good : AreApart (channels_of before)) (k : ℕ) wh
       by_case (Err bad) reads = let x : Breaks _ ≡ ToClient k = sym (dest-err before p bad reads) ∙ to in absurd (let h = x in cc)
       by_case (Ok m) reads = by_some m reads (recipient_of m) refl
 
-  -- what the server says to the client
+  -- what the server sends to the client
   down-same : (up : List (List ℕ)) (m : Summary) (c : ℕ) → opened_down k up (readdressed c m) ≡ opened_down k up m
   down-same [] (Confirmation n s w max) c = refl
   down-same [] (Within n act) c = refl
@@ -193,7 +193,7 @@ module _ (before : List Row) (good : AreApart (channels_of before)) (k : ℕ) wh
     begun = ap (λ o. begun_by k (own_ups o up) (item_for (rows_of k before) item)) unowned ∙ (ap (λ u. begun_by k u (item_for (rows_of k before) item)) none ∙ (begun ∙ sym (ap (map own_numbered) (ap (λ u. begun_by k u item) none ∙ begun'))));
   }
 
-  -- what the client says
+  -- what the client sends
   ups-nil : (o : Option ℕ) → own_ups o [] ≡ []
   ups-nil None = refl
   ups-nil (Some c) = refl

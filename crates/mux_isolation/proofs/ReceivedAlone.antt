@@ -1,4 +1,4 @@
--- What the server says to a client goes to it alone too, and does the same.
+-- What the server sends to a client goes to it alone too, and does the same.
 use Rattle.std.proofs.Common.{◌≡◌, ℕ, List, [], ◌∷◌, length, true, false, Bool, refl, ◌∙◌, ap, map, sym, Option, Some, None, subst, Ok, Err}
 use Rattle.std.specs.Prelude.{◌==◌, ◌&&◌, filter, find, not, Result, option_map, nat_lt, codes, slice_get}
 use Rattle.mux_history.specs.Channels.{Channel, channels_of, holder, is_held, is_number, live_in}

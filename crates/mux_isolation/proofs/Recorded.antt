@@ -33,7 +33,7 @@ use Rattle.mux_isolation.proofs.Meets.{Meets}
 use Rattle.mux_isolation.proofs.Named.{Met, holder-local, met, number-met}
 use Rattle.mux_isolation.proofs.SentRecorded.{RecordOk, admits-report, all-report, body-report, fitting-report, house-report, payload-report}
 
--- ---- what is told for what the server says
+-- ---- what is recorded for what the server sends
 
 same-flags : (a t : Bool) → (a && true) ≡ (t && true) → a ≡ t
 same-flags true true e = refl

@@ -1,4 +1,4 @@
--- What a reply tells its asker: the reply, and the refusals that waited behind it.
+-- What a reply records for its asker: the reply, and the refusals that waited after it.
 use Rattle.std.proofs.Common.{◌≡◌, ℕ, zero, suc, ◌+◌, ◌<◌, List, [], ◌∷◌, ◌++◌, length, true, false, Bool, refl, ◌∙◌, ap, arith, map, sym, Option, Some, None, subst, Ok, Err, drop, length-append}
 use Rattle.std.specs.Prelude.{option_map, ◌&&◌, not, Result, replicate}
 use Rattle.std.proofs.Math.Seq.{drop-append_seam}
@@ -68,7 +68,7 @@ serves policy pid pick before item p is reply on = by_item item (sym (treat-item
     by_item (Heard q) e on = let same : p ≡ q = cc in subst (λ (r : List ℕ). is_end (received_row before r (dest before r)).fate ≡ false → option_map (λ a. a.client) (asker before) ≡ Some (received_row before r (dest before r)).client) same (by_dest (dest before p) refl) on
     by_item i e on = cc
 
--- ---- one more reply answers one request and those refused behind it
+-- ---- one more reply answers one request and those refused after it
 
 count_sent : List Bool → ℕ
 count_sent [] = 0

@@ -133,7 +133,7 @@ pub record OwnFacts (policy : Policy) (pid k : ℕ) (own : List Row) (item : Ite
   pub makes : makes_row (alone own) (item_for own item) ≡ true
   pub treats : Unrefused item (is_admit row) → treat policy pid (sent_number (own_of (item_for own item))) (alone own) (item_for own item) ≡ alone_row own row
 
--- what is taken, after the end of the run too
+-- what is accepted, after the end of the run too
 pub own-took : (policy : Policy) (pid : ℕ) (before : List Row) → AreApart (channels_of before) → (k size : ℕ) → AllNamed (rows_of k before) → OwnFacts policy pid k (rows_of k before) (Took k size) (bare (Took k size) k silent)
 own-took policy pid before good k size named = record {
   client = refl;

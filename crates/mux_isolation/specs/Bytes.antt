@@ -25,7 +25,8 @@ GivesAlike setting rows =
 abbrev pub BytesAreUnshared : Type 0
 BytesAreUnshared = OverRight GivesAlike
 
--- so the bytes that its stream took begin what the unshared connection gives; the house has none
+-- so the bytes that its stream accepted are a prefix of what the unshared connection gives; the
+-- forwarder has none
 abbrev pub TakesAlike : Setting → List Mark → Type 0
 TakesAlike setting marks =
     (k : ℕ) → 0 < k → is_own k ≡ false → IsAdmitted k (log_of_journal setting marks)

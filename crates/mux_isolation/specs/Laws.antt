@@ -1,5 +1,5 @@
 -- Laws over all runs: each holds of every right log of a lawful wire, whatever numbers are picked
--- and whatever the house replies.
+-- and whatever the forwarder replies.
 use Rattle.std.specs.Prelude.{ℕ, ◌==◌, ◌≡◌, ◌≤◌, List, ◌∷◌, false}
 use Rattle.mux_history.specs.declared.limits.TheConstants.{MAX_QUEUE}
 use Rattle.mux_history.specs.Policy.{Policy}
@@ -15,7 +15,7 @@ use Rattle.mux_history.specs.Kept.{AtEach, ForEach, Window, Permission, Asker, D
 use Rattle.mux_history.specs.Laws.{IsOf, OverRight}
 use Rattle.mux_isolation.specs.View.{room_in, unanswered_in, view_of, way_of}
 
--- each admitted client sees what it would see alone, up to the numbers that stand for its own
+-- each admitted client sees what it would see alone, up to the numbers that represent its own
 abbrev pub Isolation : Type 0
 Isolation = OverRight Unshared
 
@@ -32,12 +32,12 @@ PermissionsAreKept = OverRight (λ setting rows. ForEach (Permission setting.pol
 abbrev pub AskersAreServed : Type 0
 AskersAreServed = OverRight (λ setting rows. ForEach Asker rows)
 
--- what the server says to a client's channel or forwarding reaches that client, unless the run
+-- what the server sends to a client's channel or forwarding reaches that client, unless the run
 -- ends, the client was lost before, or its queue is full
 abbrev pub MessagesAreDelivered : Type 0
 MessagesAreDelivered = OverRight (λ setting rows. ForEach Delivers rows)
 
--- what a client says goes up as it was said, but for a number of its own, and wherever it may
+-- what a client sends goes up as it was sent, but for a number of its own, and wherever it may
 abbrev pub MessagesAreSent : Type 0
 MessagesAreSent = OverRight (λ setting rows. ForEach (Passes setting.policy) rows)
 
@@ -67,7 +67,7 @@ pub record WayShows (way : Side) (x : Channel) : Type 0 where
 abbrev pub ViewsShowRooms : Type 0
 ViewsShowRooms = (way : Side) (x : Channel) → WayShows way x
 
--- a row of another client, or of nobody, leaves the view as it was, whatever it does
+-- a row of another client, or of no client, leaves the view as it was, whatever it does
 abbrev pub IdleRowsLeaveViews : Type 0
 IdleRowsLeaveViews =
     (k : ℕ) (row : Row) (before : List Row) → (row.client == k) ≡ false
@@ -82,8 +82,8 @@ pub record SameStep (k : ℕ) (rows others : List Row) (row other : Row) : Type 
   pub gives : row ≡ other
   pub view : view_of k (row ∷ rows) ≡ view_of k (other ∷ others)
 
--- two logs do the same with what concerns the client: with what it says, its end, and what it
--- takes; with a payload that goes to it in both; with its admission, where both let it in or both
+-- two logs do the same with what concerns the client: with what it sends, its end, and what it
+-- accepts; with a payload that goes to it in both; with its admission, where both admit it or both
 -- refuse it. Which of its items make rows, and whether its matters are open, is the same in both
 pub record StepsAlike (policy : Policy) (pid pick k : ℕ) (rows others : List Row) : Type 0 where
   pub own : (item : Item) → IsOf k item

@@ -17,7 +17,7 @@ log_alone setting own = log_of (alone_setting setting) (items_for own)
 -- ---- a row
 
 -- the row there: the item as the client sees it, and what it sends under the number that the client
--- said
+-- sent
 abbrev pub row_alone : List Row → Row → Row
 row_alone own row = record row {
   item = item_for own row.item;
@@ -26,7 +26,7 @@ row_alone own row = record row {
 }
 
 -- the next item of the client makes that row, and no other: what it sends else, its farewell, what
--- it tells and its fate are the same
+-- it records and its fate are the same
 abbrev pub RowIsRenamed : Setting → List Row → Row → Type 0
 RowIsRenamed setting own row =
     more_of (alone_setting setting) (log_alone setting own) (item_for own row.item)
@@ -34,7 +34,7 @@ RowIsRenamed setting own row =
 
 -- ---- what is seen of the client
 
--- a channel there: its own number stands for it towards the server
+-- a channel there: its own number represents it towards the server
 abbrev pub channel_alone : ChannelView → ChannelView
 channel_alone x = record x { number = x.own }
 
@@ -48,8 +48,8 @@ ViewIsRenamed setting k own = view_of k (log_alone setting own) ≡ view_alone (
 
 -- ---- over all runs
 
--- each row of each admitted client is renamed: what it says, what the server says to it, what it
--- takes, the row that loses it, and what comes for it later
+-- each row of each admitted client is renamed: what it sends, what the server sends to it, what it
+-- accepts, the row that loses it, and what comes for it later
 abbrev pub RowsAreRenamed : Type 0
 RowsAreRenamed =
     OverRight (λ setting rows. (k : ℕ) → 0 < k → IsAdmitted k rows

@@ -14,8 +14,8 @@ use Rattle.mux_history.specs.Controls.{greeted, in_proxy}
 -- ---- a channel
 
 -- one direction of a channel: the window that its receiver gave at first, all adjustments to it,
--- all data that was sent; the longest data that it takes; the requests that want a reply, and their
--- replies; whether EOF and CLOSE were sent
+-- all data that was sent; the longest data that it accepts; the requests that want a reply, and
+-- their replies; whether EOF and CLOSE were sent
 pub record Way : Type 0 where
   pub window : ℕ
   pub adjustments : ℕ
@@ -92,10 +92,10 @@ left_of (true ∷ flags) (p ∷ heard) = left_of flags heard
 
 -- ---- the client
 
--- it was let in, has greeted, has said PROXY, is lost, or is out: lost or refused; its channels that
--- are not over; how many requests were sent for it and how many have a reply, those sent without one, and with
--- the refusals behind them; its forwardings that are asked or live, each with the cancel that means
--- it; and the bytes that wait for it
+-- it was admitted, has greeted, has sent PROXY, is lost, or is out: lost or refused; its channels
+-- that are not over; how many requests were sent for it and how many have a reply, those sent
+-- without one, and with the refusals after them; its forwardings that are asked or live, each with
+-- the cancel that means it; and the bytes that wait for it
 pub record View : Type 0 where
   pub admitted : Bool
   pub has_greeted : Bool

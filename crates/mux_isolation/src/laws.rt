@@ -3,9 +3,9 @@ ghost use Rattle.mux_isolation.specs.Laws.{QueuesAreBounded, ViewsShowRooms, Idl
 ghost use Rattle.mux_isolation.specs.Renaming.{RowsAreRenamed, ViewsAreRenamed, CutsCutItems};
 ghost use Rattle.mux_isolation.specs.Bytes.{BytesAreUnshared, TakesAreUnshared, SendsAreUnshared};
 
-/// What an admitted client is told and what is sent for it is what an unshared connection gives
-/// from its own bytes and the server's messages for its channels, up to the numbers that stand for
-/// its own.
+/// What is recorded for an admitted client and what is sent for it is what an unshared connection
+/// gives from its own bytes and the server's messages for its channels, up to the numbers that
+/// represent its own.
 pub fn isolation()
     ensures { Isolation }
 {}
@@ -15,20 +15,20 @@ pub fn bytes_are_unshared()
     ensures { BytesAreUnshared }
 {}
 
-/// What an admitted client's stream took begins what its unshared connection gives it, where each
-/// take is the front of what waited.
+/// The bytes that an admitted client's stream accepted are a prefix of what its unshared connection
+/// gives it, if each accepted write is the front of what waited.
 pub fn takes_are_unshared()
     ensures { TakesAreUnshared }
 {}
 
 /// Payload by payload, what is sent for an admitted client is what its unshared connection sends,
-/// but for the numbers that stand for its own.
+/// but for the numbers that represent its own.
 pub fn sends_are_unshared()
     ensures { SendsAreUnshared }
 {}
 
 /// Row by row: what a client's next item does in its unshared connection is what it does among
-/// others, but for the numbers that stand for its own.
+/// others, but for the numbers that represent its own.
 pub fn rows_are_renamed()
     ensures { RowsAreRenamed }
 {}
@@ -61,24 +61,24 @@ pub fn askers_are_served()
     ensures { AskersAreServed }
 {}
 
-/// What the server says to a channel, and each open for a live forwarding, is told its client with
-/// nothing changed but the recipient; a client that was lost before is told nothing, and what goes
-/// up undoes what the server confirms or replies; and nothing that the server says drops a client
-/// but a full queue.
+/// What the server sends to a channel, and each open for a live forwarding, is recorded for its
+/// client with nothing changed but the recipient; for a client that was lost before nothing is
+/// recorded, and what goes up undoes what the server confirms or replies; and nothing that the
+/// server sends drops a client but a full queue.
 pub fn messages_are_delivered()
     ensures { MessagesAreDelivered }
 {}
 
-/// What a client says goes up with nothing changed but a number of its own, or not at all; and it
+/// What a client sends goes up with nothing changed but a number of its own, or not at all; and it
 /// goes up where it is of a known kind, permitted, within the limits and allowed by its channel's
 /// account.
 pub fn messages_are_sent()
     ensures { MessagesAreSent }
 {}
 
-/// What the master sends that no client said, for nobody, in farewells and in answer to the server,
-/// is, byte for byte, a refused request, a failed open with a text of its own, a close, or a cancel
-/// without reply.
+/// What the master sends that no client sent, for no client, in farewells and in answer to the
+/// server, is, byte for byte, a refused request, a failed open with a text of its own, a close, or
+/// a cancel without reply.
 pub fn master_sends_little()
     ensures { MasterSendsLittle }
 {}

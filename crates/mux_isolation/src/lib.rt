@@ -1,6 +1,6 @@
 //! Laws over all runs of a master. Each function's contract is a law of the history: whatever the
-//! wire gives, whatever numbers are picked and whatever the house replies, it holds of the right
-//! log.
+//! wire gives, whatever numbers are picked and whatever the forwarder replies, it holds of the
+//! right log.
 #![tactic(auto)]
 
 mod laws;

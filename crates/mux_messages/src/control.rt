@@ -10,17 +10,17 @@ pub enum Control<'a> {
     NewSession { id: u32 },
     /// MUX_C_ALIVE_CHECK: asks whether the master is there.
     Alive { id: u32 },
-    /// MUX_C_TERMINATE: asks that the master ends.
+    /// MUX_C_TERMINATE: requests that the master ends.
     Terminate { id: u32 },
-    /// MUX_C_OPEN_FWD: asks that the master opens a forwarding of its own.
+    /// MUX_C_OPEN_FWD: requests that the master opens a forwarding of its own.
     OpenForward { id: u32, what: FwdAsk<'a> },
-    /// MUX_C_CLOSE_FWD: asks that the master closes one.
+    /// MUX_C_CLOSE_FWD: requests that the master closes one.
     CloseForward { id: u32, what: FwdAsk<'a> },
     /// MUX_C_NEW_STDIO_FWD: asks for one forwarding over descriptors that are handed over. What
     /// follows the id isn't read.
     StdioForward { id: u32 },
-    /// MUX_C_STOP_LISTENING: asks that the master accepts no more clients.
+    /// MUX_C_STOP_LISTENING: requests that the master accepts no more clients.
     StopListening { id: u32 },
-    /// MUX_C_PROXY: says that all further bytes are proxy frames.
+    /// MUX_C_PROXY: announces that all further bytes are proxy frames.
     Proxy { id: u32 },
 }

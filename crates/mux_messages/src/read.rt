@@ -12,7 +12,7 @@ use ssh_fields::FieldReader;
 use ssh_grammar::BadControl;
 use ssh_grammar::numbers::*;
 
-/// An id, and nothing after it.
+// An id, and nothing after it.
 fn id(fields: &mut FieldReader<'_>) -> Result<u32, BadControl>
     requires { fields.old.at ≡ 4 }
     ensures { (message : ℕ → grammar.Control)
@@ -23,7 +23,7 @@ fn id(fields: &mut FieldReader<'_>) -> Result<u32, BadControl>
     Ok(id)
 }
 
-/// An id; what follows it isn't read.
+// An id; what follows it isn't read.
 fn id_alone(fields: &mut FieldReader<'_>) -> Result<u32, BadControl>
     requires { fields.old.at ≡ 4 }
     ensures { (message : ℕ → List ℕ → grammar.Control)
@@ -34,7 +34,7 @@ fn id_alone(fields: &mut FieldReader<'_>) -> Result<u32, BadControl>
     Ok(id)
 }
 
-/// An id, and what is to be forwarded.
+// An id, and what is to be forwarded.
 fn forward<'a>(fields: &mut FieldReader<'a>) -> Result<(u32, FwdAsk<'a>), BadControl>
     requires { fields.old.at ≡ 4 }
     ensures { (message : ℕ → grammar.ForwardAsk → grammar.Control)
@@ -57,7 +57,7 @@ fn forward<'a>(fields: &mut FieldReader<'a>) -> Result<(u32, FwdAsk<'a>), BadCon
     Ok((id, what))
 }
 
-/// Pairs of name and value up to the end.
+// Pairs of name and value up to the end.
 fn skip_extensions(fields: &mut FieldReader<'_>) -> Result<(), BadControl>
     ensures ok { OnOk result (ArePairs fields.old.cursor fields.old.at) }
     ensures err { IfErr result (λ e. AreNoPairs fields.old.cursor fields.old.at e) }
@@ -69,7 +69,7 @@ fn skip_extensions(fields: &mut FieldReader<'_>) -> Result<(), BadControl>
     Ok(())
 }
 
-/// A version, and extensions that are skipped.
+// A version, and extensions that are skipped.
 fn hello<'a>(fields: &mut FieldReader<'a>) -> Result<Control<'a>, BadControl>
     requires { fields.old.at ≡ 4 }
     ensures { GivesControl result (read_hello fields.old.cursor) }
@@ -79,7 +79,7 @@ fn hello<'a>(fields: &mut FieldReader<'a>) -> Result<Control<'a>, BadControl>
     Ok(Control::Hello { version })
 }
 
-/// A type that no client says, with the id after it, if there is one.
+// A type that no client sends, with the id after it, if there is one.
 fn unknown(kind: u32, fields: &mut FieldReader<'_>) -> BadControl
     ensures { read_unknown kind fields.old.cursor ≡ Err result }
 {
@@ -87,7 +87,7 @@ fn unknown(kind: u32, fields: &mut FieldReader<'_>) -> BadControl
     BadControl::Unknown { kind, id }
 }
 
-/// A control message, by its type.
+// A control message, by its type.
 fn by_type<'a>(kind: u32, fields: &mut FieldReader<'a>) -> Result<Control<'a>, BadControl>
     requires { fields.old.at ≡ 4 }
     ensures { GivesControl result (by_number forms kind (read_unknown kind) fields.old.cursor) }

@@ -10,7 +10,7 @@ use ssh_grammar::numbers::*;
 /// The longest reason of a failure.
 pub const LONGEST_REASON: usize = 64;
 
-/// A frame's length field and the type of its body.
+// A frame's length field and the type of its body.
 fn header(length: u32, kind: u32) -> Small
     ensures { result ≡ u32 length ++ u32 kind }
 {

@@ -1,4 +1,4 @@
--- What a house stands for, one call after another.
+-- What a forwarder represents, one call after another.
 use Rattle.std.proofs.Common.{◌≡◌, List, [], ◌∷◌, ◌++◌, refl, sym, ap, ◌∙◌, subst, append_assoc, append-nil}
 use Rattle.mux_outside.specs.HouseCalls.{HandsOn, HouseCall, call_of, calls_of}
 use Rattle.mux_outside.specs.declared.house_mark.HouseMark.{HouseMark}

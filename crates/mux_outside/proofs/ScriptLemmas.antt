@@ -152,7 +152,7 @@ pub found_gives : (seen : Seen) (all steps : List Step)
 found_gives seen all steps found =
     rw found (gives_first seen _ (first_passes _ all))
 
--- what is left of a text behind a piece
+-- what is left of a text after a piece
 pub behind_piece : (n offset start count : ℕ) (text : List ℕ) → start ≡ min offset (length text)
     → count ≡ min n (length (take (length text - start) (drop start text)))
     → drop (start + count) text ≡ drop n (drop offset text)
@@ -172,7 +172,7 @@ own_above last n new =
     let own : IsTrue (nat_lt LAST_CLIENT n) = new.own in
     grind (arith, common_steps)
 
--- whether a step is skipped doesn't hang on what is told
+-- whether a step is skipped doesn't hang on what is recorded
 pub given_untold : (seen : Seen) (step : Step) → is_given (untold seen) step ≡ is_given seen step
 given_untold seen Accept = refl
 given_untold seen (Bytes t text) = refl

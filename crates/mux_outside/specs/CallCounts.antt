@@ -9,9 +9,9 @@ use Rattle.mux_outside.specs.declared.turn.Turn.TheVariants.{Accepted, Got, End,
 use Rattle.mux_outside.specs.declared.turn.Wrote.{Wrote}
 use Rattle.mux_outside.specs.declared.turn.Wrote.TheVariants.{Took, Later, Failed as FailedWrite, NoMemory as NoMemoryToWrite}
 
--- how often `open` was called, but for want of memory, and `wait`; how many calls of `wait` and
--- `write` found no memory; how many came behind one that found none; and how often `wait` gave a
--- client that came, a piece of the server or of a client, and the server's end
+-- how often `open` was called, calls that ran out of memory left out, and `wait`; how many calls of
+-- `wait` and `write` found no memory; how many came after one that found none; and how often `wait`
+-- gave a client that came, a piece of the server or of a client, and the server's end
 pub record CallCounts : Type 0 where
   pub opens : ℕ
   pub waits : ℕ
@@ -39,7 +39,7 @@ no_calls = record {
 abbrev pub calls_after_open : Result (Unit {0}) FileError → CallCounts → CallCounts
 calls_after_open answer calls = record calls { opens = calls_after answer calls.opens }
 
--- how many calls came behind one that found no memory, after one call more
+-- how many calls came after one that found no memory, after one call more
 abbrev pub late_after : CallCounts → ℕ
 late_after calls = if calls.wants == 0 then calls.late else counted calls.late
 

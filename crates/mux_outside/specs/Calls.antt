@@ -15,8 +15,8 @@ calls_after (Ok x) calls = counted calls
 calls_after (Err Failed) calls = counted calls
 calls_after (Err OutOfMemory) calls = calls
 
--- The same where a call that fails is noted: it answers Failed only where its number is among those
--- that fail, and then always, but for want of memory.
+-- The same where a call that fails is noted: it answers Failed only if its number is among those
+-- that fail, and then always, unless memory runs out.
 abbrev pub FailsWhereNoted : {X : Type 0} → Result X FileError → ℕ → List ℕ → Type 0
 FailsWhereNoted (Err OutOfMemory) calls fails = Unit {0}
 FailsWhereNoted answer calls fails = FailsByNumber answer calls fails

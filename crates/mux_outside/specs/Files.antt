@@ -1,4 +1,4 @@
--- What files and directories there are, by the paths and contents that a file object tells.
+-- What files and directories there are, by the paths and contents that a file object records.
 use Rattle.std.specs.Prelude.{◌≡◌, ℕ, Bool, true, false, not, ◌&&◌, ◌||◌, if◌then◌else◌, List, [], ◌∷◌, ◌++◌, length, take, drop, fold, filter_map, IsPermutation, ◌==◌, Option, Some, None, is_some, Result, Ok, Err}
 use Rattle.std.specs.List.{list_any, before_first}
 use Rattle.std.specs.Option.{option_and_then, option_map}
@@ -19,12 +19,12 @@ value_at (p ∷ ps) name =
 abbrev pub slash : List ℕ
 slash = 47 ∷ []
 
--- what stands behind a prefix
+-- what stands after a prefix
 abbrev pub behind : List ℕ → List ℕ → Option (List ℕ)
 behind prefix path =
     if bytes_eq (take (length prefix) path) prefix then Some (drop (length prefix) path) else None
 
--- what of a path stands behind a directory and its slash
+-- what of a path stands after a directory and its slash
 abbrev pub inside : List ℕ → List ℕ → Option (List ℕ)
 inside dir path =
     if bytes_eq dir slash then behind slash path

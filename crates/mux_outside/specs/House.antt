@@ -1,4 +1,4 @@
--- What is known of a house, the marks that its calls add, and what each call leaves.
+-- What is known of a forwarder, the marks that its calls add, and what each call leaves.
 use Rattle.std.specs.Prelude.{◌≡◌, ◌<◌, ◌≤◌, ℕ, Bool, true, false, not, ◌&&◌, ◌==◌, if◌then◌else◌, List, [], ◌∷◌, ◌++◌, length, drop, IfOk, IsTrue, OnOk, Result, Ok, Err, Option, Some, None}
 use Rattle.std.specs.List.{list_any}
 use Rattle.std.specs.Option.{option_map}
@@ -20,15 +20,15 @@ use Rattle.mux_outside.specs.declared.start_ask.StartAsk.{StartAsk}
 
 -- ---- what is always known
 
--- an ask that got the reply Later and has no answer yet
+-- a request that got the reply Later and has no answer yet
 pub record OpenAsk : Type 0 where
   pub client : ℕ
   pub id : ℕ
   pub opening : Bool
 
--- whether it is there at all; the listeners and streams that it was told and hasn't ordered to
--- close, and how the streams stand by its orders; its open asks, in order; and the Listen or Connect
--- whose number it waits for
+-- whether it is there at all; the listeners and streams that were reported to it and that it hasn't
+-- ordered to close, and the state of the streams by its orders; its open requests, in order; and
+-- the Listen or Connect whose number it waits for
 pub record Known : Type 0 where
   pub present : Bool
   pub listeners : List ℕ
@@ -47,24 +47,24 @@ abbrev pub nothing_known : Bool → Known
 nothing_known present =
     record { present = present; listeners = []; streams = []; asks = []; ordering = None }
 
--- a house is at rest: it has nothing to give
+-- a forwarder is at rest: it has nothing to give
 abbrev pub IsAtRest : Quiet → Type 0
 IsAtRest quiet = quiet ≡ record { says = true; orders = true; answers = true }
 
--- no mark was told
+-- no mark was recorded
 abbrev pub NoMark : Option (List HouseMark) → Type 0
 NoMark None = Unit {0}
 NoMark (Some marks) = marks ≡ []
 
--- a house that has nothing yet and has told nothing
+-- a forwarder that has nothing yet and has recorded nothing
 pub record IsBlank (known : Known) (recorded : Option (List HouseMark)) : Type 0 where
   pub nothing : known ≡ nothing_known known.present
   pub no_mark : NoMark recorded
 
--- all that is known of a house, whatever it is: its marks, where they are told; what is always known;
--- whether it has nothing to say, to order and to answer; what waits for each stream; the first of the
--- forwardings asked for at the start that was refused, if any was; whether the run ends where one is;
--- and which calls it stands for, each with its answer, the oldest first
+-- all that is known of a forwarder, whatever it is: its marks, if it records them; what is always
+-- known; whether it has nothing to send, to order and to answer; what waits for each stream; the
+-- first of the forwardings asked for at the start that was refused, if any was; whether the run
+-- ends where one is; and which calls it represents, each with its answer, the oldest first
 pub record HouseState : Type 1 where
   pub recorded : Option (List HouseMark)
   pub known : Known
@@ -82,11 +82,11 @@ pub record IsFresh (state : HouseState) : Type 0 where
 
 -- ---- what a call leaves
 
--- the marks that are told after these more
+-- the marks that are recorded after these more
 abbrev pub recorded_more : List HouseMark → Option (List HouseMark) → Option (List HouseMark)
 recorded_more more recorded = option_map (λ marks. marks ++ more) recorded
 
--- after a call that gave this: what is known changes so, and the house stands for it
+-- after a call that gave this: what is known changes so, and the forwarder represents it
 pub record Gave (marks : List HouseMark) (change : Known → Known) (old new : HouseState) :
     Type 0 where
   pub known : new.known ≡ change old.known
@@ -121,14 +121,14 @@ ask_of what = record {
   path = false;
 }
 
--- the marks that an ask adds: for want of memory none
+-- the marks that a request adds: none if memory runs out
 abbrev pub ask_marks : {E : Type 0} → Result HouseReply E → ℕ → ℕ → Bool → FwdAsk
     → List HouseMark
 ask_marks (Ok reply) client id opening what =
     HouseAsked client id opening (ask_of what) reply ∷ []
 ask_marks (Err e) client id opening what = []
 
--- the open asks after an ask with this reply
+-- the open requests after a request with this reply
 abbrev pub asks_after : HouseReply → ℕ → ℕ → Bool → List OpenAsk → List OpenAsk
 asks_after Later client id opening asks =
     asks ++ record { client = client; id = id; opening = opening } ∷ []
@@ -183,9 +183,9 @@ abbrev pub gives_none : {X : Type 0} → Option X → Bool
 gives_none None = true
 gives_none (Some x) = false
 
--- ---- says and takes
+-- ---- sends and accepts
 
--- what was said has a byte at least, and fits a piece
+-- what was sent has a byte at least, and fits a piece
 abbrev pub SendsFits : {E : Type 0} → Result Bool E → List ℕ → Type 0
 SendsFits (Ok true) bytes = (0 < length bytes) × (length bytes ≤ LONGEST_PIECE)
 SendsFits (Ok false) bytes = Unit {0}
@@ -196,7 +196,7 @@ sends_marks (Ok true) bytes = HouseSaid bytes ∷ []
 sends_marks (Ok false) bytes = []
 sends_marks (Err e) bytes = []
 
--- whether it said that it has nothing to say
+-- whether it reported that it has nothing to send
 abbrev pub sends_nothing : {E : Type 0} → Result Bool E → Bool
 sends_nothing (Ok true) = false
 sends_nothing (Ok false) = true
@@ -254,7 +254,7 @@ pub record IsNewTo (known : Known) (number : ℕ) : Type 0 where
   pub no_listener : among number known.listeners ≡ false
   pub no_stream : is_one number known.streams ≡ false
 
--- which number may be told
+-- which number may be reported
 abbrev pub NumberFits : Option ℕ → Known → Type 0
 NumberFits None known = Unit {0}
 NumberFits (Some number) known = IsNewTo known number
@@ -300,6 +300,6 @@ known_after_own_turn (Failed t) known = known
 
 -- ---- queues
 
--- what waits for a stream after another stream, or this one, took so many bytes
+-- what waits for a stream after another stream, or this one, accepted so many bytes
 abbrev pub queue_after_took : ℕ → ℕ → ℕ → List ℕ → List ℕ
 queue_after_took stream n t queue = if t == stream then drop n queue else queue

@@ -3,7 +3,7 @@ use Rattle.std.specs.Prelude.{ℕ, ◌==◌, if◌then◌else◌, List, [], flat
 use Rattle.mux_outside.specs.declared.mark.Mark.{Mark}
 use Rattle.mux_outside.specs.declared.mark.Mark.TheVariants.{Waits, Accepts, Gets, Ends, Frees, Fails, Takes, Holds, WriteFails, Joins, House}
 
--- the bytes that a stream took at one mark
+-- the bytes that a stream accepted at one mark
 abbrev pub taken_at : ℕ → Mark → List ℕ
 taken_at stream (Takes t bytes) = if t == stream then bytes else []
 taken_at stream (Waits waiting want streams listens) = []
@@ -17,6 +17,6 @@ taken_at stream (WriteFails t) = []
 taken_at stream (Joins l t) = []
 taken_at stream (House mark) = []
 
--- all bytes that a stream took
+-- all bytes that a stream accepted
 abbrev pub bytes_taken : ℕ → List Mark → List ℕ
 bytes_taken stream marks = flat_map (taken_at stream) marks

@@ -2,7 +2,7 @@
 use Rattle.std.specs.Prelude.{true, false, [], None}
 use Rattle.mux_outside.specs.House.{HouseState, nothing_known}
 
--- it tells nothing, has nothing, and may have been called in any way
+-- it records nothing, has nothing, and may have been called in any way
 abbrev pub no_house : HouseState
 no_house = record {
   recorded = None;

@@ -45,7 +45,7 @@ end_one t s = if s.number == t then record s { ended = true } else s
 abbrev pub with_pause : Bool → ℕ → List OwnStream → List OwnStream
 with_pause b t own = map (pause_one b t) own
 
--- a stream takes no more bytes
+-- a stream accepts no more bytes
 abbrev pub with_finish : ℕ → List OwnStream → List OwnStream
 with_finish t own = map (finish_one t) own
 
@@ -57,7 +57,7 @@ with_end t own = map (end_one t) own
 abbrev pub without_stream : ℕ → List OwnStream → List OwnStream
 without_stream t own = filter (λ s. not (s.number == t)) own
 
--- the stream of a socket that is joined is one of them
+-- the stream of a socket that is accepted is one of them
 abbrev pub joined_after : Turn → List OwnStream → List OwnStream
 joined_after (Joined l t) own = own ++ new_stream t ∷ []
 joined_after (Accepted k) own = own

@@ -1,4 +1,4 @@
--- How commands end, by what a runner tells.
+-- How commands end, by what a runner records.
 use Rattle.std.specs.Prelude.{◌≡◌, ℕ, if◌then◌else◌, List, [], ◌∷◌, Option, Some, None, Result, Ok, Err}
 use Rattle.std.specs.Str.{bytes_eq}
 use Rattle.mux_outside.specs.declared.file_error.FileError.{FileError}

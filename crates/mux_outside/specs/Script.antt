@@ -47,7 +47,7 @@ from_first test (step ∷ steps) =
     let later = from_first test steps in
     if test step then step ∷ steps else later
 
--- the turn of the first step, and behind the last step the server's end
+-- the turn of the first step, and after the last step the server's end
 abbrev pub turn_of : ℕ → List Step → Turn
 turn_of last [] = Ended 0
 turn_of last (Accept ∷ steps) = Accepted (last + 1)
@@ -105,11 +105,11 @@ steps_from steps place = cut_first place.offset (drop place.step steps)
 
 -- ---- writes
 
--- the entry of a write after so many others: behind the last entry all is taken
+-- the entry of a write after so many others: after the last entry all is accepted
 abbrev pub entry_at : List WriteEntry → ℕ → WriteEntry
 entry_at entries i = unwrap_or (slice_get entries i) All
 
--- the answer to a write of so many bytes: one is taken at least
+-- the answer to a write of so many bytes: one at least is accepted
 abbrev pub answer_of : WriteEntry → ℕ → Wrote
 answer_of All len = Took len
 answer_of (SomeBytes n) len = Took (min (max n 1) len)

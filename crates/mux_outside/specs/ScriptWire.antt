@@ -22,14 +22,14 @@ use Rattle.mux_outside.specs.declared.script_wire.ScriptWire.{ScriptWire}
 abbrev pub steps_ahead : Seen → List Step → Place → List Step
 steps_ahead seen steps place = from_first (is_given seen) (steps_from steps place)
 
--- a turn is that of the next step that isn't skipped, and the place after it leaves those behind it
+-- a turn is that of the next step that isn't skipped, and the place after it leaves those after it
 pub record GivesStep (seen : Seen) (steps : List Step) (old new : Place) (turn : Turn)
     (before after : List ℕ) : Type 0 where
   pub turn_is : turn ≡ turn_of seen.last (steps_ahead seen steps old)
   pub piece_is : after ≡ piece_of (steps_ahead seen steps old) before
   pub left_are : steps_from steps new ≡ steps_after (steps_ahead seen steps old)
 
--- a turn is that the first waiting stream takes bytes again, and no step was given
+-- a turn is that the first waiting stream accepts bytes again, and no step was given
 pub record FreesFirst (waiting : List ℕ) (old new : Place) (turn : Turn) (before after : List ℕ)
     : Type 0 where
   pub turn_is : turn ≡ Writable (slice_index waiting 0)
@@ -84,15 +84,15 @@ pub record CountsOpen (fails : Bool) (old new : ScriptWire) : Type 0 where
   pub opens_are : new.opens ≡ counted old.opens
   pub fails_kept : new.fails ≡ old.fails
 
--- a call of open fails exactly where its number is among those that fail, and isn't counted for
--- want of memory
+-- a call of open fails exactly if its number is among those that fail, and isn't counted if memory
+-- ran out
 abbrev pub OpensByNumber : Result (Unit {0}) FileError → ScriptWire → ScriptWire → Type 0
 OpensByNumber (Ok x) old new = CountsOpen false old new
 OpensByNumber (Err Failed) old new = CountsOpen true old new
 OpensByNumber (Err OutOfMemory) old new = KeepsOpens old new
 
 -- a call of listen or connect fails where its number is among those that fail or none is left for
--- what was to be made, and isn't counted for want of memory
+-- what was to be made, and isn't counted if memory ran out
 abbrev pub MakesByNumber : Result ℕ FileError → ScriptWire → ScriptWire → Type 0
 MakesByNumber (Ok n) old new = CountsOpen false old new × (old.log.state.seen.last_own < LAST_OWN)
 MakesByNumber (Err Failed) old new =

@@ -3,20 +3,20 @@ use Rattle.std.specs.Prelude.{◌≡◌, ℕ, List, ◌++◌, Result, Ok, Err, O
 use Rattle.mux_outside.specs.declared.file_error.FileError.{FileError}
 use Rattle.mux_outside.specs.declared.file_error.FileError.TheVariants.{Failed, OutOfMemory}
 
--- some prefix of the bytes was taken
+-- some prefix of the bytes was accepted
 pub record TookPrefix (before now bytes : List ℕ) : Type 0 where
   pub prefix : List ℕ
   pub rest : List ℕ
   pub whole : bytes ≡ prefix ++ rest
   pub taken : now ≡ before ++ prefix
 
--- what was taken after a call: all bytes, where it failed a prefix, and nothing for want of memory
+-- what was accepted after a call: all bytes, if it failed a prefix, and nothing if memory ran out
 abbrev pub Takes : Result (Unit {0}) FileError → List ℕ → List ℕ → List ℕ → Type 0
 Takes (Ok x) before now bytes = now ≡ before ++ bytes
 Takes (Err Failed) before now bytes = TookPrefix before now bytes
 Takes (Err OutOfMemory) before now bytes = now ≡ before
 
--- the same, where it is told
+-- the same, if it is recorded
 abbrev pub TakesRecorded : Result (Unit {0}) FileError → Option (List ℕ) → Option (List ℕ)
     → List ℕ → Type 0
 TakesRecorded answer None None bytes = Unit {0}

@@ -15,8 +15,8 @@ use Rattle.mux_outside.specs.declared.turn.Want.{Want}
 use Rattle.mux_outside.specs.declared.turn.Wrote.{Wrote}
 use Rattle.mux_outside.specs.declared.turn.Wrote.TheVariants.{NoMemory as NoMemoryToWrite}
 
--- what is seen of it: its marks, where they are told, its streams and its clients; the arguments of
--- each call of `open` and of `join`, where they are told; how often it was called, and gave what;
+-- what is seen of it: its marks, if it records them, its streams and its clients; the arguments of
+-- each call of `open` and of `join`, if it records them; how often it was called, and gave what;
 -- and what it counted of a drill
 pub record WireState : Type 0 where
   pub seen : Seen
@@ -25,7 +25,7 @@ pub record WireState : Type 0 where
   pub calls : CallCounts
   pub tally : Tally
 
--- that of a wire that was never called and tells nothing
+-- that of a wire that was never called and records nothing
 abbrev pub nothing_called : WireState
 nothing_called = record {
   seen = nothing_seen;
@@ -35,7 +35,7 @@ nothing_called = record {
   tally = no_tally;
 }
 
--- the same of a wire that tells these arguments of its calls of open and of join, and these marks
+-- the same of a wire that records these arguments of its calls of open and of join, and these marks
 abbrev pub recording : List OpenCall → List (List ℕ) → List Mark → WireState → WireState
 recording openings joinings marks state = record state {
   seen = record state.seen { recorded = Some marks };
@@ -43,7 +43,7 @@ recording openings joinings marks state = record state {
   joinings = Some joinings;
 }
 
--- the same of a wire that tells nothing, and counts nothing of a drill
+-- the same of a wire that records nothing, and counts nothing of a drill
 abbrev pub untelling : WireState → WireState
 untelling state = record state {
   seen = untold state.seen;
@@ -91,7 +91,7 @@ state_after_write wrote stream bytes tally state = record state {
 abbrev pub seeing : (Seen → Seen) → WireState → WireState
 seeing change state = record state { seen = change state.seen }
 
--- ---- the same but for what is told, and for what is counted of a drill
+-- ---- the same except for what is recorded, and for what is counted of a drill
 
 abbrev pub state_opened : Result (Unit {0}) FileError → WireState → WireState
 state_opened answer state = record state {

@@ -25,7 +25,7 @@ pub fn value_at<'a>(pairs: &'a [Pair], name: &[u8]) -> Option<&'a [u8]>
     None
 }
 
-// What of a path stands behind a directory and its slash.
+// What of a path stands after a directory and its slash.
 fn inside<'a>(dir: &[u8], path: &'a [u8]) -> Option<&'a [u8]>
     ensures { option_map (λ v. v.now) result ≡ files_are.inside dir.now path.now }
 {

@@ -7,19 +7,19 @@ ghost use Rattle.mux_outside.specs.Files.{Reads, Lists, NotesFailed, NotesReadin
 use crate::file_error::FileError;
 use ssh_fields::{Text, Texts};
 
-/// Files and directories. What is told of them no call changes.
+/// Files and directories. No call changes what is recorded of them.
 pub trait Files {
-    /// The paths and contents of all files, where they are told.
+    /// The paths and contents of all files, if they are recorded.
     ghost recorded: { Self → Option (List ThePair) };
 
     /// How many calls failed.
     ghost faults: { Self → ℕ };
 
-    /// The paths that the calls which failed were given, in their order, where they are told.
+    /// The paths that the calls which failed were given, in their order, if they are recorded.
     ghost failed: { Self → Option (List (List ℕ)) };
 
-    /// The calls of `read`, in their order, where they are told: each but those for which there was
-    /// no memory.
+    /// The calls of `read`, in their order, if they are recorded: each but those for which there
+    /// was no memory.
     ghost readings: { Self → Option (List TheReading) };
 
     /// The first `most` bytes of a file, fewer where it is shorter. `None`: there is no such file,

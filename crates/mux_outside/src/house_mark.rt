@@ -6,14 +6,14 @@ use crate::start_ask::StartAsk;
 use ssh_fields::{OutOfMemory, Text};
 use std::alloc::Global;
 
-/// What happens between the master and a house, in the order in which it happens.
+/// What happens between the master and a forwarder, in the order in which it happens.
 #[derive(Drop)]
 pub enum HouseMark {
-    /// The house is let in as a client.
+    /// The forwarder is admitted as a client.
     HouseIn,
-    /// The house said these bytes, as a client.
+    /// The forwarder sent these bytes, as a client.
     HouseSaid(Text),
-    /// The house took so many bytes, as a client.
+    /// The forwarder accepted so many bytes, as a client.
     HouseTook(usize),
     /// A client's ask, and the reply that it got at once. Its `path` is false.
     HouseAsked {
@@ -23,7 +23,7 @@ pub enum HouseMark {
         ask: StartAsk,
         reply: HouseReply,
     },
-    /// The reply to an ask that was to get it later.
+    /// The reply to a request that was deferred.
     HouseAnswer {
         client: u64,
         id: u32,

@@ -10,7 +10,7 @@ use crate::sink::Sink;
 use ssh_fields::Text;
 use std::alloc::Global;
 
-/// A sink that keeps what it takes.
+/// A sink that keeps what it accepts.
 #[derive(Drop)]
 pub struct ListSink {
     taken: Text,

@@ -14,7 +14,7 @@ pub struct OpenCall {
     pub transport: Text,
 }
 
-/// What a wire that tells has recorded: each call of `wait` and the turn that it gave, and each
+/// What a wire that records has recorded: each call of `wait` and the turn that it gave, and each
 /// answer to a write.
 #[derive(Drop)]
 pub enum Mark {
@@ -27,23 +27,23 @@ pub enum Mark {
     Gets(u64, Text),
     /// A stream ended.
     Ends(u64),
-    /// A blocked stream takes bytes again.
+    /// A blocked stream accepts bytes again.
     Frees(u64),
     /// A stream failed at a wait.
     Fails(u64),
-    /// A stream took bytes.
+    /// A stream accepted bytes.
     Takes(u64, Text),
-    /// A stream took nothing at a write, and is blocked.
+    /// A stream accepted nothing at a write, and is blocked.
     Holds(u64),
     /// A stream failed at a write.
     WriteFails(u64),
-    /// A socket was joined at this listener of the master's own, and is this stream.
+    /// A socket was accepted at this listener of the master's own, and is this stream.
     Joins(u64, u64),
-    /// What happened between the master and its house.
+    /// What happened between the master and its forwarder.
     House(KeptMark),
 }
 
-/// All bytes that a stream took, in order.
+/// All bytes that a stream accepted, in order.
 pub fn bytes_taken(alloc: Global, marks: &[Mark], stream: u64) -> Result<Text, OutOfMemory>
     ensures { IfOk result (λ bytes. bytes ≡ all_taken stream marks.now) }
 {
@@ -54,7 +54,7 @@ pub fn bytes_taken(alloc: Global, marks: &[Mark], stream: u64) -> Result<Text, O
     Ok(all)
 }
 
-// The bytes that a stream took at one mark.
+// The bytes that a stream accepted at one mark.
 fn taken_at(mark: &Mark, stream: u64) -> &[u8]
     ensures { result.now ≡ all_taken_at stream mark.now }
 {

@@ -28,7 +28,7 @@ impl Marks {
         }
     }
 
-    /// The mark of a call of `wait`, by the streams that are open then. It isn't told yet.
+    /// The mark of a call of `wait`, by the streams that are open then. It isn't recorded yet.
     pub fn wait_mark(
         &mut self,
         alloc: Global,

@@ -9,7 +9,7 @@ use crate::piece::Piece;
 use crate::starts::Starts;
 use ssh_fields::OutOfMemory;
 
-/// A master with no forwardings of its own: it refuses every ask.
+/// A master with no forwardings of its own: it refuses every request.
 #[derive(Clone, Copy)]
 pub struct NoHouse;
 

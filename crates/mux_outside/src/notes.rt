@@ -5,9 +5,9 @@ ghost use Rattle.mux_outside.specs.declared.house_mark.HouseMark.{HouseMark as T
 use crate::house_mark::HouseMark;
 use ssh_fields::OutOfMemory;
 
-/// Where a house hands its marks.
+/// Where a forwarder hands over its marks.
 pub trait Notes {
-    /// The marks taken, where they are told.
+    /// The marks handed over, if they are recorded.
     ghost recorded: { Self → Option (List TheMark) };
 
     /// For how many marks there is room.

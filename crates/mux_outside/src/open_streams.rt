@@ -66,7 +66,7 @@ impl OpenStreams {
         Ok(())
     }
 
-    /// Closes the stream that was opened last. It takes no memory.
+    /// Closes the stream that was opened last. It allocates no memory.
     pub fn pop(&mut self)
         ensures { self.new ≡ take (length self.old - 1) self.old }
     {
@@ -74,7 +74,7 @@ impl OpenStreams {
         self.kept = None;
     }
 
-    /// Closes a stream. It takes no memory.
+    /// Closes a stream. It allocates no memory.
     pub fn remove(&mut self, stream: u64)
         ensures { self.new ≡ without stream self.old }
     {

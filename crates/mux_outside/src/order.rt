@@ -3,7 +3,7 @@ ghost use Rattle.std.specs.Prelude.{◌≡◌, IfOk};
 use ssh_fields::{OutOfMemory, Text};
 use std::alloc::Global;
 
-/// What a house orders of the wire.
+/// What a forwarder orders of the wire.
 #[derive(Drop)]
 pub enum Order {
     /// Listen there.
@@ -16,7 +16,7 @@ pub enum Order {
     Pause(u64),
     /// This stream gives what comes again.
     Resume(u64),
-    /// This stream takes no more bytes.
+    /// This stream accepts no more bytes.
     Finish(u64),
     /// This stream is closed.
     Close(u64),

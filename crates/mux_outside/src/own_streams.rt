@@ -25,7 +25,7 @@ pub struct OwnStream {
     pub number: u64,
     /// It gives neither bytes nor its end for now.
     pub paused: bool,
-    /// It takes no more bytes.
+    /// It accepts no more bytes.
     pub finished: bool,
     /// It has given its end.
     pub ended: bool,
@@ -79,8 +79,8 @@ impl OwnStreams {
         Ok(())
     }
 
-    /// Takes the last stream away. It takes no memory, so a `push` can come before what may fail
-    /// and be taken back.
+    /// Takes the last stream away. It allocates no memory, so a `push` can come before what may
+    /// fail and be taken back.
     pub fn pop(&mut self)
         ensures { self.new ≡ take (length self.old - 1) self.old }
     {
@@ -103,7 +103,7 @@ impl OwnStreams {
         }
     }
 
-    /// A stream takes no more bytes.
+    /// A stream accepts no more bytes.
     pub fn finish(&mut self, number: u64)
         ensures { self.new ≡ with_finish number self.old }
     {

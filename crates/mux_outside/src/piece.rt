@@ -48,7 +48,7 @@ impl Piece {
         self.len = bytes.len();
     }
 
-    /// Puts these bytes behind those before.
+    /// Puts these bytes after those before.
     pub fn add(&mut self, bytes: &[u8])
         requires { length self.old + length bytes.now ≤ LONGEST_PIECE }
         ensures { self.new ≡ self.old ++ bytes.now }
@@ -66,7 +66,7 @@ impl Piece {
         ensures most { length self.new ≤ most }
         ensures failed { OnErr result (self.new ≡ []) }
 
-        // What a reader that tells its bytes has lost is what the piece holds.
+        // What a reader that records its bytes has lost is what the piece holds.
         ensures bytes { OnOk result
             (Consumes (S.remaining from.old) (S.remaining from.new) self.new) }
         ensures end { IfOk result (λ n. n ≡ 0 → IsAtEnd (S.remaining from.new)) }
@@ -128,7 +128,7 @@ fn put_front(room: &mut [u8], bytes: &[u8])
     room[..bytes.len()].copy_from_slice(bytes);
 }
 
-// Writes over the bytes behind so many.
+// Writes over the bytes after so many.
 fn put_behind(room: &mut [u8], at: usize, bytes: &[u8])
     requires { at + length bytes.now ≤ length room.old }
     ensures len { length room.new ≡ length room.old }

@@ -129,7 +129,7 @@ pub fn give<'a>(steps: &'a [Step], place: Place, last: u64) -> Given<'a>
     }
 }
 
-// The next piece behind the bytes that were given, and how many were given with it.
+// The next piece after the bytes that were given, and how many were given with it.
 fn next_piece(text: &[u8], offset: usize) -> (&[u8], usize)
     ensures piece { result.0.now ≡ take LONGEST_PIECE (drop offset text.now) }
     ensures short { length result.0.now ≤ LONGEST_PIECE }

@@ -8,10 +8,10 @@ use crate::file_error::FileError;
 
 /// What runs commands.
 pub trait Runner {
-    /// The statuses of commands, where they are told.
+    /// The statuses of commands, if they are recorded.
     ghost recorded: { Self → Option (List TheStatus) };
 
-    /// The commands that were run, in order, where they are told.
+    /// The commands that were run, in order, if they are recorded.
     ghost ran: { Self → Option (List (List ℕ)) };
 
     /// How many calls failed.

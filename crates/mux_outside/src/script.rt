@@ -13,9 +13,9 @@ pub enum Step {
     End(u64),
     /// A stream fails. It is skipped where the stream isn't open.
     Fail(u64),
-    /// A stream takes bytes again. It is skipped where the stream isn't open or isn't blocked.
+    /// A stream accepts bytes again. It is skipped where the stream isn't open or isn't blocked.
     Writable(u64),
-    /// A socket is joined at a listener of the master's own, and is this stream. It is skipped
+    /// A socket is accepted at a listener of the master's own, and is this stream. It is skipped
     /// where the listener isn't open, and where the stream's number isn't above the last one of the
     /// master's own or is past the last that there is.
     Join(u64, u64),
@@ -27,11 +27,11 @@ pub type Steps = ListOf<Step>;
 /// How a write goes.
 #[derive(Clone, Copy, PartialEq, Eq)]
 pub enum WriteEntry {
-    /// All bytes are taken.
+    /// All bytes are accepted.
     All,
-    /// So many bytes at most are taken, and one at least.
+    /// So many bytes at most are accepted, and one at least.
     Some(usize),
-    /// Nothing is taken, and the stream is blocked.
+    /// Nothing is accepted, and the stream is blocked.
     Later,
     /// The stream fails.
     Fail,

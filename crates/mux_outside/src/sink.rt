@@ -6,7 +6,7 @@ use crate::file_error::FileError;
 
 /// What takes the bytes that are written.
 pub trait Sink {
-    /// The bytes taken, in order, where they are told.
+    /// The bytes accepted, in order, if they are recorded.
     ghost recorded: { Self → Option (List ℕ) };
 
     /// How many calls failed.
@@ -16,8 +16,8 @@ pub trait Sink {
     /// at the end of its type.
     ghost puts: { Self → ℕ };
 
-    /// Hands bytes over. `Ok`: all were taken; `Failed`: a prefix was taken; `OutOfMemory`: nothing
-    /// was taken.
+    /// Hands bytes over. `Ok`: all were accepted; `Failed`: a prefix was accepted; `OutOfMemory`:
+    /// nothing was accepted.
     fn put(&mut self, bytes: &[u8]) -> Result<(), FileError>
         ensures taken { TakesRecorded result (recorded self.old) (recorded self.new) bytes.now }
         ensures cause { HasCause result (faults self.old) (faults self.new) }

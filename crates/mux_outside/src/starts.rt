@@ -1,6 +1,6 @@
 use crate::start_ask::StartAsks;
 
-/// What the configuration asks of the master's own forwardings.
+/// What the configuration requests of the master's own forwardings.
 #[derive(Drop)]
 pub struct Starts {
     pub asks: StartAsks,

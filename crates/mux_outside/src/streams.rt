@@ -55,8 +55,8 @@ impl Streams {
         Ok(())
     }
 
-    /// Takes the last stream away. It takes no memory, so a `push` can come before what may fail
-    /// and be taken back.
+    /// Takes the last stream away. It allocates no memory, so a `push` can come before what may
+    /// fail and be taken back.
     pub fn pop(&mut self) -> Option<u64>
         ensures last { result ≡ slice_get self.old (length self.old - 1) }
         ensures rest { self.new ≡ take (length self.old - 1) self.old }
@@ -71,7 +71,7 @@ impl Streams {
         self.numbers.clear();
     }
 
-    /// Puts these streams in place of those before. It takes no memory where there is room for
+    /// Puts these streams in place of those before. It allocates no memory where there is room for
     /// them. After an `Err` there is none.
     pub fn refill(&mut self, numbers: &[u64]) -> Result<(), OutOfMemory>
         ensures ok { OnOk result (self.new ≡ numbers.now) }
@@ -82,7 +82,7 @@ impl Streams {
         Ok(())
     }
 
-    /// Takes a stream away. It takes no memory.
+    /// Takes a stream away. It allocates no memory.
     pub fn remove(&mut self, stream: u64)
         ensures { self.new ≡ without stream self.old }
     {

@@ -6,7 +6,7 @@ ghost use Rattle.mux_outside.specs.Tally.{no_tally};
 pub enum Want {
     /// Any.
     Read,
-    /// Only that a blocked stream takes bytes again.
+    /// Only that a blocked stream accepts bytes again.
     WriteOnly,
 }
 
@@ -19,11 +19,11 @@ pub enum Turn {
     Got(u64),
     /// A stream gives no more bytes.
     End(u64),
-    /// A blocked stream takes bytes again.
+    /// A blocked stream accepts bytes again.
     Writable(u64),
     /// A stream failed.
     Failed(u64),
-    /// A socket was joined at this listener of the master's own, and is this stream.
+    /// A socket was accepted at this listener of the master's own, and is this stream.
     Joined(u64, u64),
     /// There was no memory, and nothing has changed.
     NoMemory,
@@ -32,13 +32,13 @@ pub enum Turn {
 /// How a write went.
 #[derive(Clone, Copy, PartialEq, Eq)]
 pub enum Wrote {
-    /// So many bytes were taken, from the front.
+    /// So many bytes were accepted, from the front.
     Took(usize),
-    /// None was taken, and the stream is blocked now.
+    /// None was accepted, and the stream is blocked now.
     Later,
     /// The stream failed.
     Failed,
-    /// There was no memory, and nothing was taken.
+    /// There was no memory, and nothing was accepted.
     NoMemory,
 }
 

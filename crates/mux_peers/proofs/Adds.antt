@@ -1,4 +1,4 @@
--- The rows of what one client says, and of its loss, concern it alone.
+-- The rows of what one client sends, and of its loss, concern it alone.
 use Rattle.std.proofs.Common.{◌≡◌, ℕ, Bool, true, false, ◌||◌, ◌&&◌, List, [], ◌∷◌, Option, Some, None, Ok, Err, Result, refl, sym, ap, ◌∙◌}
 use Rattle.std.specs.Prelude.{◌==◌}
 use Rattle.mux_outside.specs.declared.house.HouseReply.{HouseReply}
@@ -28,7 +28,7 @@ use Rattle.mux_peers.proofs.Outcomes.{said-unrefused}
 use Rattle.mux_peers.proofs.Served.{or-first}
 use Rattle.mux_peers.proofs.Stood.{own_row}
 
--- ---- a row of one client that lets nobody in and refuses nobody
+-- ---- a row of one client that lets no client in and refuses no client
 
 pub record IsOwn (k : ℕ) (row : Row) : Type 0 where
   pub client_is : row.client ≡ k
@@ -54,7 +54,7 @@ own-row-of item k o own none fine =
       unrefused = unrefused-row item k o own fine;
     }
 
--- ---- what is said refuses nobody
+-- ---- what is sent refuses no client
 
 maybe-fine : (o : Option Answer) → is_refusal (answers_maybe o).ends ≡ false
 maybe-fine None = refl
@@ -149,7 +149,7 @@ said-adds policy pid picks given k (x ∷ xs) rows =
     let next : List Row = more_of (by_lists policy pid picks given) rows (sent_item k x) in
     adds-then k rows next (rows_sent policy pid picks given k next xs) (adds-more policy pid picks given k x rows) (said-adds policy pid picks given k xs next)
 
--- and of a reply of the house
+-- and of a reply of the forwarder
 pub house-own : (k id : ℕ) (given : HouseReply) (row : Row) → row.item ≡ HouseSays k id given → row.client ≡ k → is_refusal row.fate ≡ false → IsOwn k row
 house-own k id given row item client fine = record {
   client_is = client;

@@ -1,4 +1,4 @@
--- What the server says to one client, among all.
+-- What the server sends to one client, among all.
 use Rattle.std.proofs.Common.{◌≡◌, ℕ, Bool, true, false, ◌||◌, List, [], ◌∷◌, ◌++◌, Option, Some, None, refl, sym, ap, ◌∙◌, subst, append-nil, inl, inr, ◌⊎◌}
 use Rattle.std.specs.Prelude.{◌==◌}
 use Rattle.mux_outside.specs.declared.house.HouseReply.{HouseReply}

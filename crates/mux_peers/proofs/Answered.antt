@@ -1,4 +1,4 @@
--- The house's reply to a client that comes later than its ask.
+-- The forwarder's reply to a client that comes later than its request.
 use Rattle.std.proofs.Common.{◌≡◌, ℕ, Bool, true, false, ◌||◌, List, [], ◌∷◌, ◌++◌, length, map, Option, Some, None, Ok, Err, Result, refl, sym, ap, ◌∙◌, subst, append-nil}
 use Rattle.std.specs.Prelude.{filter, ◌==◌, option_map}
 use Rattle.mux_outside.specs.declared.house.HouseReply.{HouseReply}
@@ -81,7 +81,7 @@ proxied-is (row ∷ own) live here = by_fate row.fate (or-left (is_end row.fate)
     by_fate Refused e l ih = absurd (cc)
     by_fate (End cause) e l ih = absurd (cc)
 
--- ---- what it is told
+-- ---- what it is sent
 
 abbrev pub answer_in : Bool → ℕ → HouseReply → Option (List ℕ)
 answer_in true id given = None
@@ -157,7 +157,7 @@ house-fits k id given fw down f rows peer peer' s' up up' fine num fits waits st
       up = sent ∙ ap (λ z. z ++ joined (map frame_payload fw)) waits;
     }
 
--- ---- from every list of rows that the part stood for
+-- ---- from every list of rows that the part represented
 
 module _ (id : ℕ) (given : HouseReply) (c : CoreState) (peer : PeerState) (up : QueueState) (answer : Option (List ℕ)) (is : answer ≡ answer_in (is_proxied peer.standing) id given) where
   fs : List (List ℕ)
@@ -229,6 +229,6 @@ module _ (id : ℕ) (given : HouseReply) (c : CoreState) (peer : PeerState) (up 
         });
   }
 
--- one that speaks to the server is told nothing
+-- one in proxy mode is sent nothing
 pub answers-none : (id : ℕ) (given : HouseReply) (c : CoreState) (peer : PeerState) (up : QueueState) → is_proxied peer.standing ≡ true → AnswersLater id given (part c peer up) (part c peer up)
 answers-none id given c peer up proxied = answers-on id given c peer up None (ap (λ b. answer_in b id given) (sym proxied)) peer (ap (λ (q : List ℕ). record peer { queue = q }) (sym (append-nil peer.queue))) refl

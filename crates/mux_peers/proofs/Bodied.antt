@@ -41,7 +41,7 @@ use Rattle.mux_peers.proofs.Saids.{after-served}
 use Rattle.mux_peers.proofs.Steps.{row-fits, served-of}
 use Rattle.mux_peers.proofs.Stood.{not_lost, out_is}
 
--- ---- what drops its client tells it nothing
+-- ---- what drops its client sends it nothing
 
 abbrev RecordsUndropped : Outcome → Type 0
 RecordsUndropped o = elim o.ends [ Drop cause ↦ o.recorded ≡ [] | Goes ↦ Unit {0} | Refused ↦ Unit {0} | End cause ↦ Unit {0} ]

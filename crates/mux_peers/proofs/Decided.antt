@@ -1,4 +1,4 @@
--- What is decided of a request that asks the house.
+-- What is decided of a request to the forwarder.
 use Rattle.std.proofs.Common.{◌≡◌, ℕ, Bool, true, false, List, [], ◌∷◌, Option, Some, None, Ok, Err, refl, sym, ap, ◌∙◌, subst}
 use Rattle.std.specs.Option.{option_map}
 use Rattle.mux_outside.specs.declared.house_mark.HouseMark.{HouseMark as Asked}
@@ -30,8 +30,8 @@ answered : (o : Option Answer) → answers_maybe o ≡ outcome_of (record { reco
 answered None = refl
 answered (Some answer) = refl
 
--- a body of this reading that asks the house, is answered with a frame by the reply, and lets its
--- client go on
+-- a body of this reading that is a request to the forwarder, is answered with a frame by the reply,
+-- and lets its client go on
 asks_by : (pid k : ℕ) (body : List ℕ) (r : Control) (given : HouseReply) (answer : Option (List ℕ)) → read_control body ≡ Ok r
     → asks_house r ≡ true → is_stop r ≡ false → after_control r ≡ InControl
     → reading_answer pid k (Some given) true (Ok r) ≡ outcome_of (record { recorded = answer; effect = Goes })
@@ -43,7 +43,8 @@ asks_by pid k body r given answer e asks stops mode answers = record {
   stands = ap (λ (x : Reading). standing_in (elim x [ Err fault ↦ InControl | Ok c ↦ after_control c ])) e ∙ ap standing_in mode;
 }
 
--- the same of a decision with the frame of the reply, where the house was told that ask
+-- the same of a decision with the frame of the reply, where that request was reported to the
+-- forwarder
 decided_by : (May : HouseReply → Type 0) (before now : Option (List Asked)) (pid k id : ℕ) (opening : Bool) (body : List ℕ) (given : HouseReply) (answer : Option (List ℕ)) (d : Decision) → May given
     → answer ≡ option_map frame_answer (house_answer opening id given) → d ≡ record { recorded = answer; effect = Goes } → RecordsAsks before now (sending_asks k (Body body) (Some given))
     → Decides pid k true body (Some given) (record { recorded = option_map frame_answer (house_answer opening id given); effect = Goes })
@@ -55,7 +56,7 @@ decided_by May before now pid k id opening body given answer d may f e recorded 
   decides = subst (Decides pid k true body (Some given)) (sym (e ∙ ap (λ (x : Option (List ℕ)). record { recorded = x; effect = Goes }) f)) decides;
 }
 
--- what a body asks that reads so
+-- what a body that reads so requests
 recorded_as : (before now : Option (List Asked)) (k : ℕ) (body : List ℕ) (r : Control) (given : HouseReply) → read_control body ≡ Ok r → RecordsAsks before now (reading_asks k given (Ok r)) → RecordsAsks before now (sending_asks k (Body body) (Some given))
 recorded_as before now k body r given e recorded = subst (λ (x : Reading). RecordsAsks before now (reading_asks k given x)) (sym e) recorded
 
@@ -71,7 +72,7 @@ decides_close May before now pid k id body what given answer d may e f recorded 
     decided_by May before now pid k id false body given answer d may f g (recorded_as before now k body (CloseForward id what) given e recorded)
     (asks_by pid k body (CloseForward id what) given (option_map frame_answer (house_answer false id given)) e refl refl refl (answered (house_answer false id given)))
 
--- the house is not asked before the hello
+-- nothing is requested of the forwarder before the hello
 pub decides_first : (May : HouseReply → Type 0) (recorded : Option (List Asked)) (pid k : ℕ) (greeted : Bool) (body : List ℕ) (d : Decision) → greeted ≡ false → ((pid k : ℕ) → Decides pid k false body None d) → DecidesBy May recorded recorded pid k greeted body d
 decides_first May recorded pid k greeted body d e decides = record {
   given = None;

@@ -124,7 +124,7 @@ loss-lost k old new up up' x y h = by_lost (stands.is_lost x.peer.standing) h
     by_lost true h = refl
     by_lost false h = ap (λ (s : Standing). loss_in s k) h.standing
 
--- ---- what the house was asked
+-- ---- what was requested of the forwarder
 
 pub receives-of : (May : HouseReply → Type 0) (before recorded : Option (List Asked)) (pid : ℕ) (bytes : List ℕ) (core core' : CoreState) (up up' : QueueState) (heard : RunChange) (x y : ClientState) → stands.is_read x.peer.standing ≡ true → ReceivesIn May before recorded pid bytes core core' up up' heard x y → ReceivesPiece May before recorded pid bytes core up x core' up' y heard
 receives-of May before recorded pid bytes core core' up up' heard x y e h = by_read (stands.is_read x.peer.standing) e h

@@ -1,4 +1,4 @@
--- A client whose framer shows what it says next.
+-- A client whose framer shows what it sends next.
 use Rattle.std.proofs.Common.{◌≡◌, ℕ, Bool, true, false, List, Option, Some, None, refl, sym, ap, ◌∙◌, subst}
 use Rattle.mux_outside.specs.declared.house_mark.HouseMark.{HouseMark as Asked}
 use Rattle.mux_outside.specs.declared.house.HouseReply.{HouseReply}
@@ -30,7 +30,7 @@ read_in Proxied bytes e = refl
 read_in Unread bytes e = absurd (cc)
 read_in (Lost why) bytes e = absurd (cc)
 
--- a framer that cuts so and told no fault shows the front of its bytes
+-- a framer that cuts so and reported no fault shows the front of its bytes
 pub front_at : (s : Standing) (f : FramerState) → is_read s ≡ true → f.framing ≡ framing_of s → f.fault ≡ None → first_in (mode_of s) (rest_if (is_read s) f.rest) ≡ front_of f
 front_at s f read cuts well =
     ap (λ b. first_in (mode_of s) (rest_if b f.rest)) read
@@ -73,7 +73,7 @@ control_of Proxied e = absurd (cc)
 control_of Unread e = refl
 control_of (Lost why) e = refl
 
--- ---- what it says next
+-- ---- what it sends next
 
 abbrev pub client_of : PeerState → FramerState → ClientState
 client_of peer f = record { peer = peer; rest = rest_if (is_read peer.standing) f.rest }
@@ -93,7 +93,7 @@ sends_fault May recorded pid core core' up up' peer peer' f f' now heard fault v
       recorded = refl;
     }))
 
--- a body, by what was decided of it; behind it the bytes are cut as before, or in proxy frames
+-- a body, by what was decided of it; after it the bytes are cut as before, or in proxy frames
 pub sends_decided : (May : HouseReply → Type 0) (before recorded' : Option (List Asked)) (pid k : ℕ) (core core' : CoreState) (up up' : QueueState) (peer peer' : PeerState) (f f' f'' : FramerState) (body : List ℕ) (now : ClientState) (greeted : Bool) (heard heard' : RunChange) (d : Decision)
     → client_of peer f ≡ now → is_read now.peer.standing ≡ true → Cuts peer.standing f → is_proxied peer.standing ≡ false
     → next.Frame ≡ answer_to (front_of f) → f' ≡ after_front (front_of f) f → f'.current ≡ Some body → f''.rest ≡ f'.rest

@@ -1,4 +1,4 @@
--- What the server says to a client, from the core's row to the whole one.
+-- What the server sends to a client, from the core's row to the whole one.
 use Rattle.std.proofs.Common.{◌≡◌, ℕ, false, ◌||◌, List, [], ◌∷◌, ◌++◌, length, map, Some, None, refl, sym, ap, ◌∙◌, subst, append-nil, append_assoc}
 use Rattle.ssh_grammar.specs.Frames.{frame_payload}
 use Rattle.proxy_frames.specs.State.{QueueState}
@@ -24,7 +24,7 @@ use Rattle.mux_peers.proofs.Saids.{after-served}
 use Rattle.mux_peers.proofs.Steps.{frames-append}
 use Rattle.mux_peers.proofs.Stood.{own_row, not_lost, or_true, out_is}
 
--- how a client stands after a row of what it hears
+-- the state of a client after a row of what it receives
 abbrev pub standing_received : Fate → Standing → Standing
 standing_received (Drop cause) s = Lost (Some cause)
 standing_received f s = s

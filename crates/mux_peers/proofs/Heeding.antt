@@ -1,4 +1,4 @@
--- What the house tells.
+-- What the forwarder records.
 use Rattle.std.proofs.Common.{◌≡◌, ℕ, Bool, List, [], ◌∷◌, ◌++◌, Option, Some, None, Result, Ok, Err, true, false, refl, sym, ap, ◌∙◌, append_assoc, append-nil, subst}
 use Rattle.std.specs.Prelude.{OnOk}
 use Rattle.std.specs.Option.{option_map}
@@ -25,7 +25,7 @@ records_twice (Some asks) a b = ap (λ (l : List Asked). Some l) (append_assoc a
 pub records_then : (before mid now : Option (List Asked)) (a b : List Asked) → RecordsAsks before mid a → RecordsAsks mid now b → RecordsAsks before now (a ++ b)
 records_then before mid now a b first then = then ∙ (ap (λ (recorded : Option (List Asked)). option_map (λ l. l ++ b) recorded) first ∙ records_twice before a b)
 
--- ---- what is noted of the asks
+-- ---- what is noted of the requests
 
 on-any : {A E P : Type 0} (r : Result A E) → P → OnOk r P
 on-any (Ok x) p = p
@@ -123,7 +123,7 @@ applies_then {A} {E} {B} {F} {x} {r} {a} {b} {c} {s} {t} {u} h i = record {
   stands = on_ok_weaker r (λ k. subst (λ (l : List HouseCall). HandsOn s.stands u.stands l) (sym (calls-append h.more i.more)) (hands-then s.stands t.stands u.stands (calls_of h.more) (calls_of i.more) h.stands k)) i.stands;
 }
 
--- an ask is no order
+-- a request is no order
 ordering_after : (more : List Asked) (known : Known) → (known_after more known).ordering ≡ known.ordering
 ordering_after [] known = refl
 ordering_after (HouseAsked client id opening ask reply ∷ more) known = ordering_after more (known_after_ask reply client id opening known)

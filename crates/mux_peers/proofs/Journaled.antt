@@ -30,7 +30,7 @@ pub map-append : (f : Outgoing → Item) (xs ys : List Outgoing) → map f (xs +
 map-append f [] ys = refl
 map-append f (x ∷ xs) ys = ap (λ l. f x ∷ l) (map-append f xs ys)
 
--- where the run is over, or the client is out, what it says makes no row
+-- where the run is over, or the client is out, what it sends makes no row
 no-row : (s : Setting) (k : ℕ) (x : Outgoing) (rows : List Row) → (is_ended rows ≡ true) ⊎ (is_out (rows_of k rows) ≡ true) → more_of s rows (sent_item k x) ≡ rows
 no-row s k x rows h = ap (λ b. elim b as (λ _. List Row) [ false ↦ rows | true ↦ next_row s rows (sent_item k x) ∷ rows ]) (none h)
   where
@@ -50,14 +50,14 @@ pub drop-front : (xs ys : List Outgoing) → drop (length xs) (xs ++ ys) ≡ ys
 drop-front [] ys = refl
 drop-front (x ∷ xs) ys = drop-front xs ys
 
--- what is new in what is said by more bytes
+-- what is new in what is sent by more bytes
 pub says-new : (a bytes : List ℕ) (mode : Mode) (rest : List ℕ) → (parse InControl a).mode ≡ mode → (parse InControl a).rest ≡ rest → drop (length (said a)) (said (a ++ bytes)) ≡ (parse mode (rest ++ bytes)).says
 says-new a bytes mode rest m r =
     ap (λ (p : Parsed). drop (length (said a)) p.says) (parse-append InControl a bytes)
     ∙ (drop-front (said a) (parse (parse InControl a).mode ((parse InControl a).rest ++ bytes)).says
     ∙ (ap (λ (i : Mode). (parse i ((parse InControl a).rest ++ bytes)).says) m ∙ ap (λ (l : List ℕ). (parse mode (l ++ bytes)).says) r))
 
--- with all that was said in a piece, the rows are those of the mark
+-- with all that was sent in a piece, the rows are those of the mark
 piece-rows : (policy : Policy) (pid : ℕ) (picks : List ℕ) (given : List HouseReply) (k : ℕ) (a bytes : List ℕ) (first now : ClientState) (picked : List ℕ) (used : List HouseReply) (asks : List Asked) (rows : List Row) (core : CoreState) (up : QueueState) (heard : RunChange)
     → (parse InControl a).mode ≡ mode_of first.peer.standing → (parse InControl a).rest ≡ first.rest → (is_read now.peer.standing ≡ true → first_in (mode_of now.peer.standing) now.rest ≡ More)
     → (r : RunsTo policy pid picks given k (mode_of first.peer.standing) (first.rest ++ bytes) picked used asks rows core up now heard)
@@ -102,7 +102,7 @@ piece-reads policy pid picks given k a bytes first now picked used asks rows cor
       rest = ap (λ (p : Parsed). p.rest) (parse-append InControl a bytes) ∙ ap (λ (p : Parsed). p.rest) more;
     }
 
--- what was said so far is of bytes, where the piece and what came before it are
+-- what was sent so far is of bytes, where the piece and what came before it are
 says-bytes : (policy : Policy) (pid : ℕ) (picks : List ℕ) (given : List HouseReply) (k : ℕ) (before bytes : List ℕ) (first now : ClientState) (picked : List ℕ) (used : List HouseReply) (asks : List Asked) (rows : List Row) (core : CoreState) (up : QueueState) (heard : RunChange)
     → (parse InControl before).rest ≡ first.rest → (r : RunsTo policy pid picks given k (mode_of first.peer.standing) (first.rest ++ bytes) picked used asks rows core up now heard) → AreBytes before → AreBytes bytes → AreOfBytes k r.says
 says-bytes policy pid picks given k before bytes first now picked used asks rows core up heard rest r b c = by_read (is_read now.peer.standing) refl

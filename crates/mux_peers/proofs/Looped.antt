@@ -42,7 +42,7 @@ and_last : (a b : Bool) → (a && b) ≡ true → b ≡ true
 and_last true b e = e
 and_last false b e = absurd (let z : false ≡ true = e in cc)
 
--- an ask to a reply
+-- a request to a reply
 each_sent : (k : ℕ) (body : List ℕ) (greeted : Bool) (given : Option HouseReply) → is_some given ≡ (greeted && body_asks body) → length (sending_asks k (Body body) given) ≡ length (reply_list given)
 each_sent k body greeted None e = refl
 each_sent k body greeted (Some given) e = reading_count k given (read_control body) (and_last greeted (body_asks body) (sym e))
@@ -50,12 +50,12 @@ each_sent k body greeted (Some given) e = reading_count k given (read_control bo
 both_lengths : (a b : List Asked) (c d : List HouseReply) → length a ≡ length c → length b ≡ length d → length (a ++ b) ≡ length (c ++ d)
 both_lengths a b c d e f = length-append a b ∙ (ap (λ n. n + length b) e ∙ (ap (λ n. length c + n) f ∙ sym (length-append c d)))
 
--- both come from the house
+-- both come from the forwarder
 pub may_both : (May : HouseReply → Type 0) (a b : List HouseReply) → MayGive May a → MayGive May b → MayGive May (a ++ b)
 may_both May [] b x y = y
 may_both May (r ∷ a) b x y = (x.0, may_both May a b x.1 y)
 
--- ---- before anything is heard
+-- ---- before anything is received
 
 abbrev pub nothing : RunChange
 nothing = record { stops = false; ended = None }
@@ -165,7 +165,7 @@ receiving_goes May start mid recorded pid all core0 core core' up0 up up' first 
     by_front More e s = absurd s
     by_front (Faulty fault) e s = receiving_fault May start mid recorded pid all fault core0 core core' up0 up up' first now new heard heard' read pol e h s
 
--- ---- all was heard
+-- ---- all was received
 
 receives_same : (May : HouseReply → Type 0) (start mid recorded : Option (List Asked)) (pid : ℕ) (all : List ℕ) (core0 core core' : CoreState) (up0 up up' : QueueState) (first now new : ClientState) (heard heard' : RunChange) → new ≡ now → core' ≡ core → up' ≡ up → heard' ≡ heard → recorded ≡ mid → Receiving May start mid pid all core0 up0 first core up now heard → Receiving May start recorded pid all core0 up0 first core' up' new heard'
 receives_same May start mid recorded pid all core0 core core' up0 up up' first now new heard heard' c d e f t h =
@@ -195,7 +195,7 @@ pub record Loop (May : HouseReply → Type 0) (start recorded : Option (List Ask
   pub room : KeepsRoom up0 up now.peer.standing
   pub number : now.peer.number ≡ first.peer.number
 
--- and with what the house was asked
+-- and with what was requested of the forwarder
 pub record LoopApplies (May : HouseReply → Type 0) (asks asks' : List Asked) (old new : HouseState) (pid : ℕ) (all : List ℕ) (core0 : CoreState) (up0 : QueueState) (first : ClientState) (core : CoreState) (up : QueueState) (now : ClientState) (heard : RunChange) : Type 0 where
   pub loop : Loop May (Some asks) (Some asks') pid all core0 up0 first core up now heard
   pub applies : Applies {A = RunChange} {E = OutOfMemory} (Ok heard) asks asks' old new

@@ -24,7 +24,7 @@ use Rattle.mux_peers.proofs.RowForms.{made}
 use Rattle.mux_peers.proofs.Steps.{served-of}
 use Rattle.mux_peers.proofs.Stood.{not_lost, out_is, own_row}
 
--- ---- the row tells nothing
+-- ---- the row records nothing
 
 drop-all : (xs : List (List ℕ)) → drop (length xs) xs ≡ []
 drop-all [] = refl
@@ -50,7 +50,7 @@ untold k own = by_loss (not (is_lost own))
 pub gone-row : (policy : Policy) (pid : ℕ) (picks : List ℕ) (given : List HouseReply) (k : ℕ) (rows : List Row) → next_row (by_lists policy pid picks given) rows (Gone k) ≡ made (Gone k) k [] (farewell (gone k) (rows_of k rows)) [] Goes
 gone-row policy pid picks given k rows = ap (λ gs. with_farewell (queued gs (gone k) (rows_of k rows)) (rows_of k rows)) (untold k (rows_of k rows))
 
--- ---- with it the part stands for the longer log
+-- ---- with it the part represents the longer log
 
 peer-gone : (k : ℕ) (fw : List (List ℕ)) (own : List Row) (standing : _) (queue : List ℕ) → PeerFits own standing queue → PeerFits (made (Gone k) k [] fw [] Goes ∷ own) (Lost None) queue
 peer-gone k fw own standing queue f = record {

@@ -1,4 +1,4 @@
--- What a client says next is one saying more.
+-- What a client sends next is one saying more.
 use Rattle.std.proofs.Common.{◌≡◌, ◌+◌, ℕ, suc, zero, Bool, true, false, ◌&&◌, ◌||◌, List, [], ◌∷◌, ◌++◌, length, drop, Option, Some, None, refl, sym, ap, ◌∙◌, subst, inr, append_assoc, append-nil, length-append, arith}
 use Rattle.std.specs.Prelude.{is_some, ◌<◌, MatchBool}
 use Rattle.mux_outside.specs.declared.house_mark.HouseMark.{HouseMark as Asked}
@@ -159,7 +159,7 @@ get-front [] (suc n) x ys e = absurd (cc)
 get-front (y ∷ xs) zero x ys e = cc
 get-front (y ∷ xs) (suc n) x ys e = get-front xs n x ys e
 
--- the log's row of a body, with the reply that the house gave
+-- the log's row of a body, with the reply that the forwarder gave
 pub body-row : (policy : Policy) (pid : ℕ) (picks : List ℕ) (given : List HouseReply) (k : ℕ) (rows : List Row) (body : List ℕ) (reply : Option HouseReply) → is_some reply ≡ (greeted (rows_of k rows) && body_asks body) → ReplyNext (reply_list reply) rows given
     → next_row (by_lists policy pid picks given) rows (sent_item k (Body body)) ≡ row_of (Says k (Body body) reply) k (sent_body pid k reply (greeted (rows_of k rows)) body) (rows_of k rows)
 body-row policy pid picks given k rows body None asked next =

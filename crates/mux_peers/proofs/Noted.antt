@@ -1,4 +1,4 @@
--- Who is noted as lost by what the server says.
+-- Who is noted as lost by what the server sends.
 use Rattle.std.proofs.Common.{◌≡◌, ℕ, Bool, true, false, List, [], ◌∷◌, Option, Some, None, refl, sym, ap, ◌∙◌, cond}
 use Rattle.std.specs.Prelude.{◌==◌, MatchBool}
 use Rattle.mux_history.specs.declared.why.Why.{Why}

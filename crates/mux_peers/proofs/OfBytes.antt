@@ -1,4 +1,4 @@
--- What is said by bytes is of bytes.
+-- What is sent by bytes is of bytes.
 use Rattle.std.proofs.Common.{ℕ, zero, suc, List, [], ◌∷◌, ◌++◌}
 use Rattle.ssh_fields.specs.Fields.{AreBytes}
 use Rattle.ssh_grammar.specs.Frames.{Faulty, Frame, Front, More}
@@ -13,7 +13,7 @@ outgoing-bytes k InControl content a = tt
 outgoing-bytes k InProxy content a = a
 outgoing-bytes k Stopped content a = a
 
--- what is said by bytes, and the rest
+-- what is sent by bytes, and the rest
 pub parse-bytes : (k n : ℕ) (mode : Mode) (bytes : List ℕ) → AreBytes bytes → AreOfBytes k (parse_by n mode bytes).says × AreBytes (parse_by n mode bytes).rest
 parse-bytes k zero mode bytes a = (tt, a)
 parse-bytes k (suc n) mode bytes a = by_front (first_in mode bytes) (in-bytes mode bytes a) (λ mode rest b. parse-bytes k n mode rest b)

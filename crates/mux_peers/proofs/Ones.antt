@@ -18,7 +18,7 @@ use Rattle.mux_peers.specs.Receivings.{AreHere}
 use Rattle.mux_peers.specs.Among.{AddsFor, AreApart, ChangesOne, EachFits, InFits, MovesTo, is_present}
 use Rattle.mux_peers.specs.Laws.{OneMovesAll}
 
--- a row refuses nobody whose outcome doesn't
+-- a row refuses no client whose outcome doesn't
 unrefused-with : (f : Fate) (w : Option Why) → is_refusal f ≡ false → is_refusal (fate_with f w) ≡ false
 unrefused-with Goes None e = refl
 unrefused-with Goes (Some cause) e = refl

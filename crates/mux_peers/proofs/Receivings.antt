@@ -34,7 +34,7 @@ use Rattle.mux_peers.specs.Receives.{ReceivesRecorded, IsReceived}
 use Rattle.mux_peers.proofs.Free.{down-free}
 use Rattle.mux_peers.proofs.RowForms.{made, row-on}
 
--- ---- what is heard goes on
+-- ---- what is received goes on
 
 going-full : (b : Bool) (o o' : Outcome) → o.ends ≡ Goes → o'.ends ≡ Goes → (elim b as (λ _. Outcome) [ true ↦ o | false ↦ o' ]).ends ≡ Goes
 going-full true o o' e f = e
@@ -66,7 +66,7 @@ going-master (Transport n) = refl
 going-master (Succeeds rest) = refl
 going-master Refuses = refl
 
--- the log's row of what the server says
+-- the log's row of what the server sends
 pub heard-next : (policy : Policy) (pid : ℕ) (picks : List ℕ) (given : List HouseReply) (rows : List Row) (p : List ℕ) (d : Dest) → dest rows p ≡ d → next_row (by_lists policy pid picks given) rows (Heard p) ≡ received_row rows p d
 heard-next policy pid picks given rows p d e = ap (received_row rows p) e
 
@@ -98,7 +98,7 @@ is-to core1 k n p p' up up1 rows (ToClient j) e h =
       receives = subst (λ i. ReceivesClient core1 i p p' up up1 (heard.Client k n) rows) (sym same) h;
     }
 
--- the row of what it hears, with which the part stands for the longer log; no number is taken
+-- the row of what it receives, with which the part represents the longer log; no number is used
 pub record ReceivedRow (p : List ℕ) (new : Part) (rows : List Row) (row : Row) : Type 0 where
   pub item_is : row.item ≡ Heard p
   pub client_is : row.client ≡ new.peer.number
@@ -149,8 +149,8 @@ heard-client pid picks given p p' core0 core1 peer new up up1 n rows fits live h
 
 -- ---- nothing goes to a client
 
--- the row of a client, or of nobody, to whom nothing is told: what waits for the server goes on,
--- and so does the core
+-- the row of a client, or of no client, for whom nothing is recorded: what waits for the server
+-- goes on, and so does the core
 pub record QuietRow (p : List ℕ) (core1 : CoreState) (up1 : QueueState) (rows : List Row) (row : Row) : Type 0 where
   pub k : ℕ
   pub ups : List (List ℕ)
@@ -168,7 +168,7 @@ quiet-row p k o core1 up up1 rows ends waits sent st = record {
   up = sent ∙ (ap (λ l. l ++ joined (map frame_payload o.sent)) waits ∙ ap (λ (l : List (List ℕ)). pending_up rows ++ joined (map frame_payload l)) (sym (append-nil o.sent)));
 }
 
--- of a client to whom all that is told is nothing
+-- of a client for whom nothing is recorded
 silent-client : (pid : ℕ) (picks : List ℕ) (given : List HouseReply) (policy : Policy) (p p' : List ℕ) (core1 : CoreState) (up up1 : QueueState) (k : ℕ) (h : declared.Delivery) (rows : List Row) → dest rows p ≡ ToClient k → recorded_by h p' ≡ [] → up.waiting ≡ pending_up rows → ReceivesClient core1 k p p' up up1 h rows
     → QuietRow p core1 up1 rows (next_row (by_lists policy pid picks given) rows (Heard p))
 silent-client pid picks given policy p p' core1 up up1 k h rows to none waits c =

@@ -1,4 +1,4 @@
--- A client that is told frames, one by one.
+-- A client for which frames are recorded, one by one.
 use Rattle.std.proofs.Common.{◌≡◌, ◌+◌, ℕ, suc, Bool, true, false, List, [], ◌∷◌, ◌++◌, length, Option, Some, None, refl, sym, ap, ◌∙◌, subst, append_assoc, append-nil, length-append}
 use Rattle.std.specs.Prelude.{nat_le}
 use Rattle.ssh_grammar.specs.Frames.{frame_payload}
@@ -14,14 +14,14 @@ use Rattle.mux_peers.specs.State.{PeerState, refusals_of}
 abbrev pub refusal : List ℕ
 refusal = frame_payload request_failure
 
--- what is still to be told goes on from where the queue is now
+-- what is still to be recorded goes on from where the queue is now
 pub record Refusing (all left : ℕ) (first now : PeerState) : Type 0 where
   pub number : now.number ≡ first.number
   pub standing : now.standing ≡ first.standing
   pub queue : now.queue ++ joined (fitting (length now.queue) (refusals_of left)) ≡ first.queue ++ joined (fitting (length first.queue) (refusals_of all))
   pub full : overflow (length now.queue) (refusals_of left) ≡ overflow (length first.queue) (refusals_of all)
 
--- ---- one frame and those behind it
+-- ---- one frame and those after it
 
 test-none : (n : ℕ) (f : List ℕ) (b : Bool) → (elim b as (λ _. Option Why) [ true ↦ None | false ↦ Some (why.QueueFull n (length f)) ]) ≡ None → b ≡ true
 test-none n f true e = refl
@@ -50,11 +50,11 @@ full-head n f gs cause e =
 peer-same : (s t : PeerState) → s.number ≡ t.number → s.standing ≡ t.standing → s.queue ≡ t.queue → s ≡ t
 peer-same s t n a q = λ i. record { number = n i; standing = a i; queue = q i }
 
--- a seat that was told frames, as far as they fit
+-- a client for which frames were recorded, as far as they fit
 abbrev pub Recorded : List (List ℕ) → PeerState → PeerState → Type 0
 Recorded fs old new = new ≡ record old { queue = old.queue ++ joined (fitting (length old.queue) fs) }
 
--- where the first fits, those behind it go on from there
+-- where the first fits, those after it go on from there
 recorded-head : (f : List ℕ) (peer new : PeerState) → Recorded (f ∷ []) peer new → overflow (length peer.queue) (f ∷ []) ≡ None → new.queue ≡ peer.queue ++ f
 recorded-head f peer new recorded fit =
     ap (λ (t : PeerState). t.queue) recorded

@@ -27,7 +27,7 @@ fits-all n (f ∷ fs) e = by_fit (nat_le (n + length f) MAX_QUEUE) refl (λ t. f
         ap (λ b. elim b as (λ _. List (List ℕ)) [ true ↦ f ∷ fitting (n + length f) fs | false ↦ [] ]) t ∙ ap (λ gs. f ∷ gs) (ih rest)
     by_fit false t ih = absurd (let d : Some (why.QueueFull n (length f)) ≡ None = sym (ap (λ b. elim b as (λ _. Option Why) [ true ↦ overflow (n + length f) fs | false ↦ Some (why.QueueFull n (length f)) ]) t) ∙ e in cc)
 
--- a client's row, by what it tells in all
+-- a client's row, by what it records in all
 recorded-row : (item : Item) (k : ℕ) (o : Outcome) (own : List Row) (fs : List (List ℕ)) → all_recorded (bare item k o) own ≡ fs
     → row_of item k o own ≡ with_farewell (made item k o.sent [] (fitting (waiting_down own) fs) (fate_with o.ends (overflow (waiting_down own) fs))) own
 recorded-row item k o own fs e = ap (λ gs. with_farewell (queued gs (bare item k o) own) own) e
@@ -35,7 +35,7 @@ recorded-row item k o own fs e = ap (λ gs. with_farewell (queued gs (bare item 
 with-none : (row : Row) (own : List Row) → loses row ≡ false → with_farewell row own ≡ row
 with-none row own e = ap (λ b. elim b as (λ _. Row) [ true ↦ record row { farewell = farewell row own } | false ↦ row ]) e
 
--- one that goes on, and all that it tells fits
+-- one that goes on, and all that it records fits
 pub row-on : (item : Item) (k : ℕ) (o : Outcome) (own : List Row) (fs : List (List ℕ)) → loses (made item k o.sent [] fs Goes) ≡ false → o.ends ≡ Goes → all_recorded (bare item k o) own ≡ fs → overflow (waiting_down own) fs ≡ None
     → row_of item k o own ≡ made item k o.sent [] fs Goes
 row-on item k o own fs keeps ends recorded fits =
@@ -45,12 +45,12 @@ row-on item k o own fs keeps ends recorded fits =
     ∙ (ap (λ (gs : List (List ℕ)). with_farewell (made item k o.sent [] gs Goes) own) (fits-all (waiting_down own) fs fits)
     ∙ with-none (made item k o.sent [] fs Goes) own keeps)))
 
--- of what a client says
+-- of what a client sends
 pub row-goes : (k j : ℕ) (x : Outgoing) (given : Option HouseReply) (o : Outcome) (own : List Row) (fs : List (List ℕ)) → o.ends ≡ Goes → all_recorded (bare (Says j x given) k o) own ≡ fs → overflow (waiting_down own) fs ≡ None
     → row_of (Says j x given) k o own ≡ made (Says j x given) k o.sent [] fs Goes
 row-goes k j x given o own fs ends recorded fits = row-on (Says j x given) k o own fs refl ends recorded fits
 
--- one that goes on, and something of what it tells doesn't fit
+-- one that goes on, and something of what it records doesn't fit
 pub row-full : (item : Item) (k : ℕ) (o : Outcome) (own : List Row) (fs : List (List ℕ)) (cause : Why) → o.ends ≡ Goes → all_recorded (bare item k o) own ≡ fs → overflow (waiting_down own) fs ≡ Some cause
     → row_of item k o own ≡ with_farewell (made item k o.sent [] (fitting (waiting_down own) fs) (Drop cause)) own
 row-full item k o own fs cause ends recorded full =
@@ -58,7 +58,7 @@ row-full item k o own fs cause ends recorded full =
     ∙ (ap (λ (f : Fate). with_farewell (made item k o.sent [] (fitting (waiting_down own) fs) (fate_with f (overflow (waiting_down own) fs))) own) ends
     ∙ ap (λ (w : Option Why). with_farewell (made item k o.sent [] (fitting (waiting_down own) fs) (fate_with Goes w)) own) full)
 
--- one that drops its client, and tells it nothing
+-- one that drops its client, and records it nothing
 pub row-drops : (item : Item) (k : ℕ) (o : Outcome) (own : List Row) (cause : Why) → o.ends ≡ Drop cause → o.recorded ≡ []
     → row_of item k o own ≡ with_farewell (made item k o.sent [] [] (Drop cause)) own
 row-drops item k o own cause ends recorded =

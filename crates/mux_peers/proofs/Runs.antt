@@ -144,7 +144,7 @@ ended-more Goes row rows a c m e h g = ap (λ (f : Fate). elim f as (λ _. Optio
 ended-more Refused row rows a c m e h g = ap (λ (f : Fate). elim f as (λ _. Option Ended) [ End cause ↦ Some cause | Goes ↦ end_of rows | Refused ↦ end_of rows | Drop why ↦ end_of rows ]) e ∙ (g ∙ sym (ap (λ x. ended_then x m) h))
 ended-more (Drop why) row rows a c m e h g = ap (λ (f : Fate). elim f as (λ _. Option Ended) [ End cause ↦ Some cause | Goes ↦ end_of rows | Refused ↦ end_of rows | Drop why ↦ end_of rows ]) e ∙ (g ∙ sym (ap (λ x. ended_then x m) h))
 
--- of a frame that its client says
+-- of a frame that its client sends
 pub frame-runs : (policy : Policy) (pid : ℕ) (picks : List ℕ) (given : List HouseReply) (k : ℕ) (mode : Mode) (all picked picked' : List ℕ) (used used' : List HouseReply) (asks asks' : List Asked) (rows : List Row) (core core' : CoreState) (up up' : QueueState) (now new : ClientState) (heard heard' : RunChange) (content rest : List ℕ)
     → is_read now.peer.standing ≡ true → first_in (mode_of now.peer.standing) now.rest ≡ Frame content rest → new.rest ≡ rest_if (is_read new.peer.standing) rest
     → (r : RunsTo policy pid picks given k mode all picked used asks rows core up now heard)

@@ -41,7 +41,7 @@ said k p = Says k (Payload p) None
 
 -- ---- the number
 
--- the numbers that are taken
+-- the numbers that are used
 abbrev pub picked_if : Bool → ℕ → List ℕ
 picked_if true pick = pick ∷ []
 picked_if false pick = []
@@ -134,7 +134,7 @@ said-on pid picks given p core0 core1 peer peer' up up1 pick tk rows fs b a ends
     makes k p o.sent [] fs Goes rows _ (part core1 peer' up1) pick tk is num a.takes a.fresh refl
     (row-fits k (Payload p) None o.sent [] fs Goes rows peer peer' core1 up up1 tt num (here-of core0 peer up rows b) b.fits.peer b.fits.up standing queue waits st')
 
--- ---- it goes on, and what it tells doesn't fit
+-- ---- it goes on, and what it records doesn't fit
 
 pub after-served : (core1 : CoreState) (k : ℕ) (row : Row) (rows : List Row) → Stands core1 (row ∷ rows) → row.client ≡ k → loses row ≡ false → any_of is_admit (rows_of k rows) ≡ true → is_lost (rows_of k rows) ≡ false → core.is_served core1.clients k ≡ true
 after-served core1 k row rows st c keeps admitted here =

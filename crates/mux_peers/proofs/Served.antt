@@ -41,7 +41,7 @@ pub map-last : (xs : List Outgoing) (x : Outgoing) → map received_item (xs ++ 
 map-last [] x = refl
 map-last (y ∷ xs) x = ap (λ l. received_item y ∷ l) (map-last xs x)
 
--- what the server says makes a row while the run goes on
+-- what the server sends makes a row while the run goes on
 pub makes-heard : (s : Setting) (item : Item) (rows : List Row) → is_ended rows ≡ false → makes_row rows item ≡ true → more_of s rows item ≡ next_row s rows item ∷ rows
 makes-heard s item rows live makes =
     let m : makes_next rows item ≡ true = ap (λ b. elim b as (λ _. Bool) [ true ↦ is_took item | false ↦ makes_row rows item ]) live ∙ makes in
@@ -61,7 +61,7 @@ goes-on Goes e = refl
 goes-on Refused e = refl
 goes-on (Drop why) e = refl
 
--- it lets nobody in
+-- it lets no client in
 no-admit : (p : List ℕ) (row : Row) → row.item ≡ Heard p → is_admit row ≡ false
 no-admit p row e = by_fate row.fate
   where

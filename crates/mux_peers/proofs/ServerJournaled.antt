@@ -29,7 +29,7 @@ use Rattle.mux_peers.proofs.Journaled.{drop-front, map-append, more-append}
 use Rattle.mux_peers.proofs.Served.{heard-item}
 use Rattle.mux_peers.proofs.ServerPieces.{ended-some}
 
--- ---- what the server says takes no number and no reply, and stops nobody
+-- ---- what the server sends uses no number and no reply, and stops no client
 
 record Quiet (rows rows' : List Row) : Type 0 where
   taken : numbers_taken rows' ≡ numbers_taken rows
@@ -102,14 +102,14 @@ no-rows s (x ∷ xs) rows e = ap (λ l. more_all s l (map received_item xs)) (no
 
 -- ---- the rows of the mark
 
--- what is new in what is said by more bytes
+-- what is new in what is sent by more bytes
 says-new : (before bytes rest : List ℕ) → ServerReads before rest → drop (length (parse InProxy before).says) (parse InProxy (before ++ bytes)).says ≡ (parse InProxy (rest ++ bytes)).says
 says-new before bytes rest r =
     ap (λ (p : Parsed). drop (length (parse InProxy before).says) p.says) (parse-append InProxy before bytes)
     ∙ (drop-front (parse InProxy before).says (parse (parse InProxy before).mode ((parse InProxy before).rest ++ bytes)).says
     ∙ (ap (λ (m : Mode). (parse m ((parse InProxy before).rest ++ bytes)).says) r.mode ∙ ap (λ (l : List ℕ). (parse InProxy (l ++ bytes)).says) r.rest))
 
--- with all that was heard in a piece, the rows are those of the mark
+-- with all that was received in a piece, the rows are those of the mark
 rows-same : (policy : Policy) (pid : ℕ) (picks : List ℕ) (given : List HouseReply) (before bytes rest rest' : List ℕ) (noted : List (ℕ × Option Why)) (rows : List Row) (core : CoreState) (cs : List ClientState) (queue : QueueState) (index : ℕ) (ended : Option Ended)
     → ServerReads before rest → (ended ≡ None → first_in InProxy rest' ≡ More) → (r : ReceivedTo policy pid picks given (rest ++ bytes) noted rows core cs queue rest' index ended)
     → rows_recorded policy pid picks given before bytes rows ≡ rows_received policy pid picks given rows r.says

@@ -54,7 +54,7 @@ ended-some rows cause e = by_end (is_ended rows) refl
     by_end true t = t
     by_end false t = absurd (let d : Some cause ≡ None = e ∙ end-none rows t in cc)
 
--- ---- before anything is heard
+-- ---- before anything is received
 
 pub heard-first : (policy : Policy) (pid : ℕ) (picks : List ℕ) (given : List HouseReply) (all : List ℕ) (rows : List Row) (core : CoreState) (cs : List ClientState) (queue : QueueState) (rest : List ℕ) (index : ℕ)
     → rest ≡ all → AllAwait rows core cs queue index → ReceivedTo policy pid picks given all [] rows core cs queue rest index None
@@ -144,7 +144,7 @@ receiving-goes all old mid new first was now ended' pol h says = by_front (first
     by_front More e s = absurd s
     by_front (Faulty fault) e s = receiving-fault all fault old mid new first was now ended' e h s
 
--- what was said next, while the run went on, by whether there was anything
+-- what was sent next, while the run went on, by whether there was anything
 pub turn : (more more' : Bool) (old new : ClientsAndQueue) (was now : ServerState) (ended ended' : Option Ended)
     → more ≡ more' → ended ≡ None → ServerNext more (first_in InProxy was.rest) old new was now ended ended' → ServerNext more' (first_in InProxy was.rest) old new was now None ended'
 turn more more' old new was now ended ended' m e says =
@@ -168,7 +168,7 @@ pub record ServerLoop (all : List ℕ) (old new : ClientsAndQueue) (first now : 
   pub receiving : ReceivingAll all old new first now ended
   pub room : HasRoom new.clients.all new.up
 
--- the losses that were noted before a want of memory, and by it
+-- the losses that were noted before memory ran out, and by that
 pub more-noted : (all : List ℕ) (old new : ClientsAndQueue) (first now : ServerState) (ended : Option Ended) (later : List (ℕ × Option Why)) → ReceivingAll all old new first now ended → NotesMore new.clients.leaving later → NotesMore old.clients.leaving later
 more-noted all old new first now ended later h m = record {
   more = h.noted ++ m.more;

@@ -1,4 +1,4 @@
--- What the server says next, from the steps of the code.
+-- What the server sends next, from the steps of the code.
 use Rattle.std.proofs.Common.{◌≡◌, ◌+◌, ◌-◌, ◌^◌, min, ℕ, List, [], ◌++◌, length, drop, true, Option, Some, None, sym, ap, ◌∙◌, subst, arith}
 use Rattle.std.proofs.lemmas.Grind.{common_steps}
 use Rattle.ssh_grammar.specs.declared.framing.Framing.{Framing}

@@ -1,4 +1,4 @@
--- What the house was asked by a call that found no memory.
+-- What was requested of the forwarder by a call that found no memory.
 use Rattle.std.proofs.Common.{◌≡◌, ◌<◌, ◌&&◌, ℕ, zero, suc, get_or, Bool, true, false, List, [], ◌∷◌, ◌++◌, length, map, Option, Some, None, Ok, Err, Result, refl, sym, ap, ◌∙◌, subst, inl, inr, ◌⊎◌, append_assoc, append-nil, cond, arith}
 use Rattle.std.specs.Prelude.{◌==◌, MatchBool, OnErr, is_some}
 use Rattle.std.proofs.lemmas.List.{append_cancel_left}
@@ -68,7 +68,7 @@ asks-close May recorded recorded' k id body what e h = asks-reading May recorded
 held : (a b : List Asked) → Some a ≡ Some b → a ≡ b
 held a b e = cc
 
--- what the house was asked is what was noted of it
+-- what was requested of the forwarder is what was noted of it
 pub recorded-noted : {A E : Type 0} {x : A} {asks asks' : List Asked} {old new : HouseState} (xs : List Asked) → Applies {A = A} {E = E} (Ok x) asks asks' old new → RecordsAsks (Some asks) (Some asks') xs → RecordsAsks old.recorded new.recorded xs
 recorded-noted {asks} {asks'} {old} {new} xs h records = subst (RecordsAsks old.recorded new.recorded) (append_cancel_left asks h.more xs (sym h.noted ∙ held asks' (asks ++ xs) records)) (applies_recorded h)
 
@@ -114,7 +114,7 @@ all-begin s rows (item ∷ items) =
     let later = all-begin s (more_of s rows item) items in
     record { rest = one.rest ++ later.rest; all_is = later.all_is ∙ (ap (λ (l : List Asked). l ++ later.rest) one.all_is ∙ append_assoc (asked_of rows) one.rest later.rest) }
 
--- what was said first asks first
+-- what was sent first requests first
 begins-on : (policy : Policy) (pid : ℕ) (picks : List ℕ) (given : List HouseReply) (k : ℕ) (rows : List Row) (says more all : List Outgoing) (asks : List Asked) → all ≡ says ++ more → asked_of (rows_sent policy pid picks given k rows says) ≡ asked_of rows ++ asks → BeginsWith (asked_of rows) asks (asked_of (rows_sent policy pid picks given k rows all))
 begins-on policy pid picks given k rows says more all asks e h =
     let s : Setting = by_lists policy pid picks given in
@@ -205,7 +205,7 @@ receives-some May {asks} {asks'} {old} {mid} recorded' pid bytes core0 core up0 
               (asked-row core0.policy pid picks replies first.peer.number (mode_of first.peer.standing) (first.rest ++ bytes) h.picked h.used h.asks rows core up now heard f.body given x read (control-says s f.body read f.control) f.asks.asks reply r);
         }
 
--- all of it was taken in, and then there was no memory
+-- all of it was applied, and then there was no memory
 pub receives-all : {A E : Type 0} {x : A} (May : HouseReply → Type 0) {asks asks' : List Asked} {old new : HouseState} (pid : ℕ) (bytes : List ℕ) (core0 core : CoreState) (up0 up : QueueState) (first now : ClientState) (heard : RunChange)
     → is_read first.peer.standing ≡ true → ReceivesPiece May (Some asks) (Some asks') pid bytes core0 up0 first core up now heard → Applies {A = A} {E = E} (Ok x) asks asks' old new → ReceivesSome May old.recorded new.recorded pid bytes core0 up0 first
 receives-all May {asks} {asks'} {old} {new} pid bytes core0 core up0 up first now heard read0 piece a =

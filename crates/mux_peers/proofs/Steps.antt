@@ -1,4 +1,4 @@
--- One row more of what a client says: what the part touches stands for the longer log.
+-- One row more of what a client sends: what the part touches represents the longer log.
 use Rattle.std.proofs.Common.{◌≡◌, ℕ, ◌+◌, Bool, true, false, ◌||◌, ◌&&◌, not, List, [], ◌∷◌, ◌++◌, map, Option, Some, None, refl, sym, ap, ◌∙◌, subst, append_assoc}
 use Rattle.std.specs.Prelude.{filter, ◌==◌}
 use Rattle.std.specs.List.{AllByRecursion}
@@ -37,7 +37,7 @@ frames-append xs ys = ap joined (map-frames xs ys) ∙ joined-append (map frame_
 
 -- ---- the row
 
--- how a client stands after a row of what it said
+-- the state of a client after a row of what it sent
 abbrev pub standing_after : Fate → Outgoing → Standing
 standing_after Goes x = stands_by x
 standing_after Refused x = Lost None

@@ -24,7 +24,7 @@ read_by InControl = (refl, refl)
 read_by InProxy = (refl, refl)
 read_by Stopped = (refl, refl)
 
--- what is said leaves nobody lost, and everybody greeted
+-- what is sent leaves no client lost, and each one greeted
 pub stands_here : (x : Outgoing) → stands.is_lost (stands_by x) ≡ false
 stands_here (Body body) = (read_by (after_body body)).0
 stands_here (Payload p) = refl

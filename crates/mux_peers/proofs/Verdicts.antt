@@ -66,7 +66,7 @@ fresh-carried policy k own pick p rows tk e fresh bytes t =
     let same : carried_number (sent_payload policy k own pick p).sent ≡ pick = carries policy k own pick p bytes (e ∙ t) ∙ word-same pick (omega arith) in
     (subst (λ n. n < NUMBERS_END) (sym same) f.below, subst (λ n. holder rows n ≡ None) (sym same) f.unheld)
 
--- ---- whether a number is taken, by the verdict
+-- ---- whether a number is used, by the verdict
 
 abbrev pub takes_by : Verdict → List ℕ → Bool
 takes_by verdict.Sent p = is_some (own_of (said 0 p))
@@ -99,7 +99,7 @@ IsQuiet (verdict.Drop cause) = ⊥
 in-row : (core0 core1 : CoreState) (peer : PeerState) (p : List ℕ) (up up1 : QueueState) (v : Verdict) (rows : List Row) → Before core0 peer up rows → (s : SendsOn core0 core1 peer.number p up up1 v) → SendsIn core0 core1 peer.number p s.pick up up1 v rows
 in-row core0 core1 peer p up up1 v rows b s = s.goes rows (b.fits.core b.live) (served-before core0 peer up rows b)
 
--- it is sent, or nothing is told now
+-- it is sent, or nothing is recorded now
 pub says-quiet : (v : Verdict) (p : List ℕ) (core0 core1 : CoreState) (peer : PeerState) (up up1 : QueueState) → IsQuiet v → SendsOn core0 core1 peer.number p up up1 v → SendsPayload p (part core0 peer up) (part core1 peer up1)
 says-quiet (verdict.Answer a) p core0 core1 peer up up1 q s = absurd q
 says-quiet (verdict.Drop cause) p core0 core1 peer up up1 q s = absurd q
@@ -179,7 +179,7 @@ keeps_room old new Proxied le = le
 keeps_room old new Unread le = le
 keeps_room old new (Lost why) le = omega arith
 
--- ---- from the code's steps, where the seat's number is its field
+-- ---- from the code's steps, where the client's number is its field
 
 pub quiet-of : (v : Verdict) → (v ≡ verdict.Sent) ⊎ ((v ≡ verdict.Held) ⊎ (v ≡ verdict.Silent)) → IsQuiet v
 quiet-of v (inl e) = subst IsQuiet (sym e) tt

@@ -1,4 +1,4 @@
--- All clients of a master, and what the server says to one of them.
+-- All clients of a master, and what the server sends to one of them.
 use Rattle.std.specs.Prelude.{◌≡◌, ◌==◌, ℕ, Bool, true, false, not, List, [], ◌∷◌, ◌++◌, filter, Option, Some, None, MatchBool, if◌then◌else◌, suc}
 use Rattle.std.specs.List.{AllByRecursion}
 use Rattle.proxy_frames.specs.State.{QueueState}
@@ -18,7 +18,7 @@ abbrev pub is_present : List ClientState → ℕ → Bool
 is_present [] k = false
 is_present (c ∷ cs) k = elim (c.peer.number == k) [ true ↦ true | false ↦ is_present cs k ]
 
--- a client that was let in, and not refused
+-- a client that was admitted, and not refused
 pub record InFits (rows : List Row) (c : ClientState) : Type 0 where
   pub nonzero : (c.peer.number == 0) ≡ false
   pub peer : PeerFits (rows_of c.peer.number rows) c.peer.standing c.peer.queue
@@ -53,7 +53,7 @@ ChangesOne k R (c ∷ cs) new = MatchBool (c.peer.number == k) ((c' : ClientStat
     × (R c c' × (new ≡ c' ∷ cs))) ((cs' : List ClientState)
     × (ChangesOne k R cs cs' × (new ≡ c ∷ cs')))
 
--- a client that is told these frames, after the core has heard the server
+-- these frames are recorded for a client, after the core has received from the server
 abbrev pub ReceivesFrames : List (List ℕ) → CoreState → CoreState → QueueState → QueueState
     → ClientState → ClientState → Type 0
 ReceivesFrames fs old new up up' x y = ReceivesRecorded fs (part old x.peer up) (part new y.peer up')
@@ -78,7 +78,7 @@ KeepReading (c ∷ cs) (d ∷ ds) =
     × (d.rest ≡ c.rest))) × KeepReading cs ds
 
 -- the client of a number goes on so with what is noted, where it is here; the losses are noted
--- behind those of before
+-- after those of before
 pub record GoesAt (k : ℕ) (R : List (ℕ × Option Why) → ClientState → ClientState → Type 0)
     (old new : ClientsAndQueue) : Type 0 where
   pub noted : List (ℕ × Option Why)
@@ -88,7 +88,7 @@ pub record GoesAt (k : ℕ) (R : List (ℕ × Option Why) → ClientState → Cl
   pub among : AreAmong old.clients.all noted
   pub reading : KeepReading old.clients.all new.clients.all
 
--- what the client of a number hears
+-- what the client of a number receives
 abbrev pub ReceivesAt : ℕ → List (List ℕ) → ClientsAndQueue → ClientsAndQueue → Type 0
 ReceivesAt k fs old new =
     GoesAt k (λ noted. ReceivesNoting k fs noted old.core new.core old.up new.up) old new
@@ -99,7 +99,7 @@ pub record Noting (k : ℕ) (noted : List (ℕ × Option Why)) (R : ClientState 
   pub goes : R x y
   pub noted_is : noted ≡ loss_between x.peer.standing y.peer.standing k
 
--- the client of a number, where it is here; its loss is noted behind those of before
+-- the client of a number, where it is here; its loss is noted after those of before
 pub record NotesOne (k : ℕ) (R : ClientState → ClientState → Type 0) (old new : ClientsState) :
     Type 0 where
   pub noted : List (ℕ × Option Why)
@@ -122,7 +122,7 @@ in_client none look (c ∷ cs) k = if c.peer.number == k then look c else in_cli
 abbrev pub is_served : List ClientState → ℕ → Bool
 is_served cs k = in_client false (λ c. stands.not_lost c.peer.standing) cs k
 
--- it is here, and what it says is read
+-- it is here, and what it sends is read
 abbrev pub is_received : List ClientState → ℕ → Bool
 is_received cs k = in_client false (λ c. stands.is_read c.peer.standing) cs k
 
@@ -151,7 +151,7 @@ waiting_clients (c ∷ cs) = if is_empty c.peer.queue then waiting_clients cs
 
 -- ---- one client goes on
 
--- rows were added that concern one client alone, let nobody in and refuse nobody
+-- rows were added that concern one client alone, admit no client and refuse no client
 pub record AddsFor (k : ℕ) (rows rows' : List Row) : Type 0 where
   pub others : (j : ℕ) → (j == k) ≡ false → rows_of j rows' ≡ rows_of j rows
   pub admitted : any_of is_admit (rows_of k rows') ≡ any_of is_admit (rows_of k rows)
@@ -159,7 +159,7 @@ pub record AddsFor (k : ℕ) (rows rows' : List Row) : Type 0 where
       ≡ any_of (λ row. is_refusal row.fate) (rows_of k rows)
   pub lost : is_lost (rows_of k rows') ≡ false → is_lost (rows_of k rows) ≡ false
 
--- the client keeps its number, and with the core and what waits for the server it stands for the
+-- the client keeps its number, and with the core and what waits for the server it represents the
 -- rows
 pub record MovesTo (rows' : List Row) (core' : CoreState) (up' : QueueState) (x y : ClientState) :
     Type 0 where

@@ -1,5 +1,5 @@
--- A reply of the house that comes later than its ask, from every list of rows that the part stood
--- for.
+-- A reply of the forwarder that comes later than its request, from every list of rows that the part
+-- represented.
 use Rattle.std.specs.Prelude.{◌≡◌, ℕ, List, [], ◌∷◌, false, Option}
 use Rattle.mux_outside.specs.declared.house.HouseReply.{HouseReply}
 use Rattle.proxy_frames.specs.State.{QueueState}
@@ -14,8 +14,8 @@ use Rattle.mux_peers.specs.Stands.{Fits, is_lost}
 use Rattle.mux_peers.specs.Losing.{loss_between}
 use Rattle.mux_peers.specs.Among.{GoesAt}
 
--- the row of it, with which the part stands for the longer log: the run goes on, nothing is sent, and
--- the client stays or is dropped
+-- the row of it, with which the part represents the longer log: the run goes on, nothing is sent,
+-- and the client stays or is dropped
 pub record IsAnswered (k id : ℕ) (given : HouseReply) (new : Part) (rows : List Row) (row : Row) :
     Type 0 where
   pub item_is : row.item ≡ HouseSays k id given
@@ -25,7 +25,7 @@ pub record IsAnswered (k id : ℕ) (given : HouseReply) (new : Part) (rows : Lis
   pub unrefused : is_refusal row.fate ≡ false
   pub runs : is_end row.fate ≡ false
 
--- it is told the reply, from every list of rows that the part stood for
+-- it is sent the reply, from every list of rows that the part represented
 pub record AnswersLater (id : ℕ) (given : HouseReply) (old new : Part) : Type 0 where
   pub number : new.peer.number ≡ old.peer.number
   pub goes : (policy : Policy) (pid : ℕ) (picks : List ℕ) (replies : List HouseReply)

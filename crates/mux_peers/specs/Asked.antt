@@ -1,4 +1,4 @@
--- What the house was asked, read from the rows.
+-- What was requested of the forwarder, read from the rows.
 use Rattle.std.specs.Prelude.{◌≡◌, ℕ, Bool, true, false, List, [], ◌∷◌, ◌++◌, OnOk, Option, Some, option_map, Result, Ok}
 use Rattle.mux_outside.specs.House.{HouseState, Known, known_after_ask}
 use Rattle.mux_outside.specs.HouseCalls.{HandsOn, calls_of}
@@ -22,46 +22,47 @@ ask_of k id opening what reply = HouseAsked k id opening (record {
   path = false;
 }) reply
 
--- what a client's control message asks that reads so
+-- what a client's control message that reads so requests
 abbrev pub reading_asks : ℕ → HouseReply → Result Control BadControl → List HouseMark
 reading_asks k reply (Ok (OpenForward id what)) = ask_of k id true what reply ∷ []
 reading_asks k reply (Ok (CloseForward id what)) = ask_of k id false what reply ∷ []
 reading_asks k reply reading = []
 
--- what a client's saying asks to which the house replied so
+-- what an item that a client sent requests, to which the forwarder replied so
 abbrev pub sending_asks : ℕ → Outgoing → Option HouseReply → List HouseMark
 sending_asks k (Body body) (Some reply) = reading_asks k reply (read_control body)
 sending_asks k outgoing reply = []
 
--- the ask of an item, where it has one
+-- the request of an item, where it has one
 abbrev pub item_asks : Item → List HouseMark
 item_asks (Says k outgoing reply) = sending_asks k outgoing reply
 item_asks item = []
 
--- the ask of a row, where it has one
+-- the request of a row, where it has one
 abbrev pub asked_by : Row → List HouseMark
 asked_by row = item_asks row.item
 
--- the asks of the rows, the oldest first
+-- the requests of the rows, the oldest first
 abbrev pub asked_of : List Row → List HouseMark
 asked_of [] = []
 asked_of (row ∷ before) = asked_of before ++ asked_by row
 
--- what a house tells now, where it told that before and was asked this since
+-- what a forwarder records now, if it recorded `before` then and these requests were made of it
+-- since
 abbrev pub RecordsAsks : Option (List HouseMark) → Option (List HouseMark) → List HouseMark → Type 0
 RecordsAsks before now asks = now ≡ option_map (λ recorded. recorded ++ asks) before
 
--- ---- what is noted of the asks, and what is known of the house that was asked
+-- ---- what is noted of the requests, and what is known of the forwarder that they went to
 
--- what is known of a house after these asks
+-- what is known of a forwarder after these requests
 abbrev pub known_after : List HouseMark → Known → Known
 known_after [] known = known
 known_after (HouseAsked client id opening ask reply ∷ marks) known =
     known_after marks (known_after_ask reply client id opening known)
 known_after (mark ∷ marks) known = known_after marks known
 
--- what was asked of the house since is what was added to the list of asks: it told that, and stands
--- for it. Where memory was wanting it was perhaps asked more than was noted
+-- what was requested of the forwarder since is what was added to the list of requests: it recorded
+-- that, and represents it. If memory ran out, perhaps more was requested of it than was noted
 pub record Applies {A E : Type 0} (result : Result A E) (asks asks' : List HouseMark)
     (old new : HouseState) : Type 0 where
   pub more : List HouseMark

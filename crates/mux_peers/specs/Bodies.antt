@@ -1,4 +1,4 @@
--- What a client's control message does, from every log that the part stood for.
+-- What a client's control message does, from every log that the part represented.
 use Rattle.std.specs.Prelude.{◌≡◌, ◌||◌, ◌&&◌, ℕ, false, List, ◌∷◌, Option, Some}
 use Rattle.mux_outside.specs.declared.house.HouseReply.{HouseReply}
 use Rattle.ssh_grammar.specs.ReadControl.{read_control}
@@ -20,15 +20,15 @@ abbrev pub end_in : Fate → Option Ended → Option Ended
 end_in (End cause) before = Some cause
 end_in _ before = before
 
--- with a row of what a client says the part stands for the longer log, and what was done beyond the
--- client is what the row does
+-- with a row of what a client sends the part represents the longer log, and what was done beyond
+-- the client is what the row does
 pub record Does (new : Part) (heard heard' : RunChange) (rows : List Row) (row : Row) : Type 0 where
   pub client_is : row.client ≡ new.peer.number
   pub fits : Fits (row ∷ rows) new
   pub stops_is : heard'.stops ≡ (heard.stops || stops row (rows_of row.client rows))
   pub ended_is : heard'.ended ≡ end_in row.fate heard.ended
 
--- a body of which this was decided, with the reply of the house
+-- a body of which this was decided, with the reply of the forwarder
 pub record IsDecided (pid : ℕ) (given : Option HouseReply) (body : List ℕ) (rows : List Row)
     (old : Part) (d : Decision) : Type 0 where
   pub fits : Fits rows old

@@ -18,7 +18,7 @@ use Rattle.mux_peers.specs.declared.decision.Effect.TheVariants.{Goes, Switches,
 use Rattle.mux_peers.specs.Stands.{stands_by}
 use Rattle.mux_peers.specs.Asked.{sending_asks, RecordsAsks}
 
--- what a body does by its reading, whether its client has greeted, and the reply of the house
+-- what a body does by its reading, whether its client has greeted, and the reply of the forwarder
 abbrev pub reading_answer : ℕ → ℕ → Option HouseReply → Bool → Result Control BadControl → Outcome
 reading_answer pid k given has_greeted reading =
     elim has_greeted [ true ↦ sent_later pid k given reading | false ↦ sent_first reading ]
@@ -66,8 +66,8 @@ abbrev pub reply_list : Option HouseReply → List HouseReply
 reply_list None = []
 reply_list (Some given) = given ∷ []
 
--- what is decided of a body is what it does with this reply of the house, which was asked where it
--- must be
+-- what is decided of a body is what it does with this reply of the forwarder, to which the request
+-- was made where it must be
 pub record Decides (pid k : ℕ) (greeted : Bool) (body : List ℕ) (given : Option HouseReply)
     (d : Decision) : Type 0 where
   pub asked : is_some given ≡ (greeted && body_asks body)
@@ -75,8 +75,8 @@ pub record Decides (pid k : ℕ) (greeted : Bool) (body : List ℕ) (given : Opt
   pub stops : (greeted && body_stops body) ≡ is_stops d.effect
   pub stands : StandsAs d.effect (stands_by (Body body))
 
--- the same with some reply that the house may give; it was told that ask, or none, and tells
--- `before` and `now`
+-- the same with some reply that the forwarder may give; that request was reported to it, or none,
+-- and it records `before` and `now`
 pub record DecidesBy (May : HouseReply → Type 0) (before now : Option (List Asked)) (pid k : ℕ)
     (greeted : Bool) (body : List ℕ) (d : Decision) : Type 0 where
   pub given : Option HouseReply

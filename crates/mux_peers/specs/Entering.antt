@@ -25,7 +25,7 @@ new_client k = record {
   rest = [];
 }
 
--- with its row all clients stand for the longer log, and it is let in exactly where fewer than 64
+-- with its row all clients represent the longer log, and it is admitted exactly if fewer than 64
 -- have open matters
 pub record EntersBy (core' : CoreState) (cs cs' : List ClientState) (queue : QueueState)
     (let_in : Bool) (rows : List Row) (row : Row) : Type 0 where

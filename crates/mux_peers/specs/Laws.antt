@@ -59,7 +59,7 @@ pub record IsReadTo (k : ℕ) (before bytes picked : List ℕ) (used : List Hous
       → is_ended rows' ≡ false → (parse InControl (before ++ bytes)).mode ≡ Stopped
   pub reads : is_read now.peer.standing ≡ true → ReadsAs (before ++ bytes) now
 
--- what was said so far is all of the piece where nothing whole is left
+-- what was sent so far is all of the piece where nothing whole is left
 abbrev pub PiecesOfAClient : Type 0
 PiecesOfAClient =
     (policy : Policy) (pid : ℕ) (picks : List ℕ) (given : List HouseReply) (k : ℕ)
@@ -84,8 +84,8 @@ abbrev pub rows_recorded : Policy → ℕ → List ℕ → List HouseReply → L
 rows_recorded policy pid picks given before bytes rows =
     more_all (by_lists policy pid picks given) rows (new_received before (before ++ bytes))
 
--- how a piece leaves all clients, by these rows: it takes no number and no reply, and stops nobody,
--- and these are the losses by it
+-- how a piece leaves all clients, by these rows: it uses no number and no reply, and stops no
+-- client, and these are the losses by it
 pub record IsReceivedTo (before bytes : List ℕ) (noted : List (ℕ × Option Why)) (rows rows' : List Row)
     (core : CoreState) (cs : List ClientState) (queue : QueueState) (rest : List ℕ) (index : ℕ)
     (ended : Option Ended) : Type 0 where
@@ -112,7 +112,7 @@ PiecesOfTheServer =
 
 -- ---- all clients
 
--- they stand for the rows with the one that went on, and each of them that isn't lost is here still
+-- they represent the rows with the one that went on, and each of them that isn't lost is here still
 pub record AllMoved (rows rows' : List Row) (core' : CoreState) (cs cs' : List ClientState)
     (up' : QueueState) : Type 0 where
   pub fit : AllFit rows' core' cs' up'

@@ -1,4 +1,4 @@
--- A client whose stream is gone, from every list of rows that the part stood for.
+-- A client whose stream is gone, from every list of rows that the part represented.
 use Rattle.std.specs.Prelude.{◌≡◌, ℕ, List, [], ◌∷◌, ◌++◌, false, Option, None, MatchBool, if◌then◌else◌}
 use Rattle.mux_outside.specs.declared.house.HouseReply.{HouseReply}
 use Rattle.proxy_frames.specs.State.{QueueState}
@@ -13,7 +13,7 @@ use Rattle.mux_peers.specs.declared.standing.Standing.TheVariants.{Lost}
 use Rattle.mux_peers.specs.State.{ClientState, Part, part}
 use Rattle.mux_peers.specs.Stands.{Fits, is_lost}
 
--- it is lost, and with the row and its farewell the part stands for the longer log
+-- it is lost, and with the row and its farewell the part represents the longer log
 pub record Loses (old new : Part) : Type 0 where
   pub number : new.peer.number ≡ old.peer.number
   pub standing : new.peer.standing ≡ Lost None
@@ -36,7 +36,7 @@ LosesIn old new up up' x y = MatchBool (is_lost x.peer.standing) (LosesNothing o
 
 -- ---- who is noted as lost
 
--- more are noted behind those that were
+-- more are noted after those that were
 pub record NotesMore (old new : List (ℕ × Option Why)) : Type 0 where
   pub more : List (ℕ × Option Why)
   pub longer : new ≡ old ++ more

@@ -1,4 +1,4 @@
--- What a client says next, by what stands at the front of its bytes.
+-- What a client sends next, by what stands at the front of its bytes.
 use Rattle.std.specs.Prelude.{◌≡◌, ◌≤◌, ℕ, Bool, true, false, List, [], Option, None}
 use Rattle.mux_outside.specs.House.{HouseState}
 use Rattle.mux_outside.specs.declared.house_mark.HouseMark.{HouseMark as Asked}
@@ -23,7 +23,8 @@ use Rattle.mux_peers.specs.Decisions.{DecidesBy}
 use Rattle.mux_peers.specs.Bodies.{Does, FollowsBy}
 use Rattle.mux_peers.specs.Says.{SendsPayload}
 
--- what a client says next is read: there is room for its farewell, and the house waits for no number
+-- what a client sends next is read: there is room for its farewell, and the forwarder waits for no
+-- number
 pub record MaySend (standing : Standing) (up : QueueState) (house : HouseState) : Type 0 where
   pub read : is_read standing ≡ true
   pub room : FAREWELL_ROOM ≤ up.spare
@@ -49,7 +50,7 @@ pub record NextBody (May : HouseReply → Type 0) (before now : Option (List Ask
   pub follows : FollowsBy decision (part core old.peer up) heard (part core' new.peer up') heard'
   pub left : new.rest ≡ rest_if (is_read new.peer.standing) rest
 
--- a fault, from every log that the part stood for
+-- a fault, from every log that the part represented
 abbrev pub FaultBy : BadFrame → Part → RunChange → Part → RunChange → Type 0
 FaultBy fault old heard new heard' =
     (rows : List Row) → Fits rows old → is_ended rows ≡ false

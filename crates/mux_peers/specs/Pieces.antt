@@ -1,4 +1,4 @@
--- What a piece of a client's bytes does, from every log that the part stood for.
+-- What a piece of a client's bytes does, from every log that the part represented.
 use Rattle.std.specs.Prelude.{◌≡◌, ◌⊎◌, ◌+◌, ◌&&◌, not, Some, None, ℕ, true, false, List, [], ◌∷◌, ◌++◌, drop, length, map, Option, MatchBool}
 use Rattle.mux_outside.specs.declared.house_mark.HouseMark.{HouseMark as Asked}
 use Rattle.mux_outside.specs.declared.house.HouseReply.{HouseReply}
@@ -22,7 +22,7 @@ use Rattle.mux_peers.specs.Stands.{Fits, is_lost, is_read, mode_of}
 use Rattle.mux_peers.specs.Says.{ComeNext, IsOfBytes}
 use Rattle.mux_peers.specs.Asked.{RecordsAsks, asked_of}
 
--- the rows after what a client says
+-- the rows after what a client sends
 abbrev pub rows_sent : Policy → ℕ → List ℕ → List HouseReply → ℕ → List Row → List Outgoing → List Row
 rows_sent policy pid picks given k rows says =
     more_all (by_lists policy pid picks given) rows (map (sent_item k) says)
@@ -32,7 +32,7 @@ abbrev pub ReplyNext : List HouseReply → List Row → List HouseReply → Type
 ReplyNext used rows given = (later : List HouseReply)
     × (drop (replies_given rows) given ≡ used ++ later)
 
--- what was said before what is said by the rest
+-- what was sent before what is sent by the rest
 abbrev pub behind : List Outgoing → Parsed → Parsed
 behind says p = record { says = says ++ p.says; mode = p.mode; rest = p.rest }
 
@@ -43,7 +43,7 @@ pub record ReadsOn (all : List ℕ) (mode : Mode) (now : ClientState) (rows' : L
   pub rest : parse mode all ≡ behind says (parse (mode_of now.peer.standing) now.rest)
 
 -- once it isn't, nothing more makes a row: the run is over, or the client is out, or nothing more
--- is said
+-- is sent
 pub record ReadsNoMore (all : List ℕ) (mode : Mode) (now : ClientState) (rows' : List Row)
     (says : List Outgoing) : Type 0 where
   pub more : List Outgoing
@@ -54,7 +54,7 @@ pub record ReadsNoMore (all : List ℕ) (mode : Mode) (now : ClientState) (rows'
       → (parse mode all).mode ≡ Stopped
   pub empty : now.rest ≡ []
 
--- what is said is bytes
+-- what is sent is bytes
 abbrev pub AreOfBytes : ℕ → List Outgoing → Type 0
 AreOfBytes k [] = Unit {0}
 AreOfBytes k (x ∷ says) = IsOfBytes (sent_item k x) × AreOfBytes k says
@@ -64,7 +64,7 @@ abbrev pub ended_then : Option Ended → Option Ended → Option Ended
 ended_then (Some cause) before = Some cause
 ended_then None before = before
 
--- what was said so far, in rows, what the house was asked by them, and what it did beyond the
+-- what was sent so far, in rows, what they requested of the forwarder, and what it did beyond the
 -- client
 pub record RunsTo (policy : Policy) (pid : ℕ) (picks : List ℕ) (given : List HouseReply) (k : ℕ)
     (mode : Mode) (all : List ℕ) (picked : List ℕ) (used : List HouseReply) (asks : List Asked)
@@ -106,7 +106,7 @@ pub record Receiving (May : HouseReply → Type 0) (start recorded : Option (Lis
       → RunsTo core0.policy pid picks given first.peer.number (mode_of first.peer.standing) all
       picked used asks rows core up now heard
 
--- a piece of a client that is read: all that is said by it was said
+-- a piece of a client that is read: all that is sent by it was handled
 pub record ReceivesPiece (May : HouseReply → Type 0) (start recorded : Option (List Asked)) (pid : ℕ)
     (bytes : List ℕ) (core0 : CoreState) (up0 : QueueState) (first : ClientState) (core : CoreState)
     (up : QueueState) (now : ClientState) (heard : RunChange) : Type 0 where
@@ -114,11 +114,11 @@ pub record ReceivesPiece (May : HouseReply → Type 0) (start recorded : Option 
   pub whole : is_read now.peer.standing ≡ true
       → first_in (mode_of now.peer.standing) now.rest ≡ More
 
--- what was done beyond a client of which nothing was heard
+-- what was done beyond a client of which nothing was received
 abbrev pub unheard : RunChange
 unheard = record { stops = false; ended = None }
 
--- of a client that isn't read any more nothing is heard
+-- of a client that isn't read any more nothing is received
 pub record ReceivesNothing (start recorded : Option (List Asked)) (core0 : CoreState) (up0 : QueueState)
     (first : ClientState) (core : CoreState) (up : QueueState) (now : ClientState) (heard : RunChange) :
     Type 0 where

@@ -1,4 +1,4 @@
--- What the server says to a client, after the core has heard it.
+-- What the server sends to a client, after the core has received it.
 use Rattle.std.specs.Prelude.{◌≡◌, ℕ, List, ◌∷◌, ◌++◌, false, map}
 use Rattle.ssh_grammar.specs.Frames.{frame_payload}
 use Rattle.mux_history.specs.Rows.{Row, rows_of, Heard, Goes}
@@ -10,12 +10,12 @@ use Rattle.mux_peers.specs.State.{Part}
 use Rattle.mux_peers.specs.Stands as stands
 use Rattle.mux_peers.specs.Stands.{Fits, PeerFits}
 
--- the row of what the server says to the client, as far as the item goes
+-- the row of what the server sends to the client, as far as the item goes
 abbrev pub received_bare : ℕ → List ℕ → Outcome → Row
 received_bare k p o = bare (Heard p) k o
 
--- before it: the core stands for the row already, and what waits for the server has what the row
--- sends; the client isn't lost, and the row goes on and tells these frames
+-- before it: the core represents the row already, and what waits for the server has what the row
+-- sends; the client isn't lost, and the row goes on and records these frames
 pub record IsReceived (fs : List (List ℕ)) (p : List ℕ) (o : Outcome) (rows : List Row) (old : Part) :
     Type 0 where
   pub core : core.Stands old.core (received_bare old.peer.number p o ∷ rows)
@@ -25,7 +25,7 @@ pub record IsReceived (fs : List (List ℕ)) (p : List ℕ) (o : Outcome) (rows 
   pub ends : o.ends ≡ Goes
   pub recorded : all_recorded (received_bare old.peer.number p o) (rows_of old.peer.number rows) ≡ fs
 
--- then the part stands for the log with the whole row
+-- then the part represents the log with the whole row
 pub record ReceivesRecorded (fs : List (List ℕ)) (old new : Part) : Type 0 where
   pub number : new.peer.number ≡ old.peer.number
   pub goes : (p : List ℕ) (o : Outcome) (rows : List Row) → IsReceived fs p o rows old

@@ -1,4 +1,4 @@
--- What the server says, from every log for which the core and all clients stood.
+-- What the server sends, from every log that the core and all clients represented.
 use Rattle.std.specs.Prelude.{◌≡◌, ◌^◌, ◌-◌, min, ℕ, true, false, List, ◌∷◌, ◌++◌, Option, Some, None}
 use Rattle.mux_outside.specs.declared.house.HouseReply.{HouseReply}
 use Rattle.proxy_frames.specs.State.{QueueState}
@@ -12,7 +12,7 @@ use Rattle.mux_core.specs.State.{CoreState}
 use Rattle.mux_peers.specs.State.{ClientState, ClientsAndQueue}
 use Rattle.mux_peers.specs.Among.{AllFit, AreAmong, KeepReading, is_present}
 
--- each client that was let in and isn't lost is here
+-- each client that was admitted and isn't lost is here
 abbrev pub AreHere : List Row → List ClientState → Type 0
 AreHere rows cs = (k : ℕ) → any_of is_admit (rows_of k rows) ≡ true
     → is_lost (rows_of k rows) ≡ false → is_present cs k ≡ true
@@ -22,7 +22,7 @@ abbrev pub end_by : Fate → Option Ended
 end_by (End cause) = Some cause
 end_by _ = None
 
--- with its row all clients stand for the longer log, which has these losses more
+-- with its row all clients represent the longer log, which has these losses more
 pub record ReceivedBy (noted : List (ℕ × Option Why)) (core' : CoreState) (cs' : List ClientState)
     (up' : QueueState) (ended : Option Ended) (rows : List Row) (row : Row) : Type 0 where
   pub fit : AllFit (row ∷ rows) core' cs' up'
@@ -38,7 +38,7 @@ ReceivesAll p index noted core core' cs cs' up up' ended =
     → ReceivedBy noted core' cs' up' ended rows
     (next_row (by_lists core.policy pid picks given) rows (Heard p))
 
--- the same, and the losses are noted behind those of before
+-- the same, and the losses are noted after those of before
 pub record ReceivesPayload (p : List ℕ) (index : ℕ) (old new : ClientsAndQueue) (ended : Option Ended) :
     Type 0 where
   pub noted : List (ℕ × Option Why)

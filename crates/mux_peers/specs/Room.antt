@@ -1,4 +1,4 @@
--- The room that lasts in the server's queue for what is said of clients that leave.
+-- The room that lasts in the server's queue for what is sent of clients that leave.
 use Rattle.std.specs.Prelude.{◌≡◌, ◌≤◌, ◌+◌, ◌*◌, ℕ, List, [], ◌∷◌, length, false, if◌then◌else◌, OnOk, Result}
 use Rattle.proxy_frames.specs.State.{QueueState}
 use Rattle.client_teardown.specs.declared.farewell.TheConstants.{FAREWELL_ROOM}

@@ -1,4 +1,4 @@
--- What a client's payload does, from every log that the part stood for.
+-- What a client's payload does, from every log that the part represented.
 use Rattle.std.specs.Prelude.{◌≡◌, ℕ, ◌+◌, List, ◌∷◌, ◌++◌, false, None, drop, length}
 use Rattle.mux_outside.specs.declared.house.HouseReply.{HouseReply}
 use Rattle.ssh_fields.specs.Fields.{AreBytes}
@@ -14,12 +14,12 @@ use Rattle.mux_peers.specs.Stands.{Fits}
 
 -- ---- one row more
 
--- what is said is bytes
+-- what is sent is bytes
 abbrev pub IsOfBytes : Item → Type 0
 IsOfBytes (Says k (Payload p) given) = AreBytes p
 IsOfBytes item = Unit {0}
 
--- with the row that an item makes where these numbers are picked first, the part stands for the
+-- with the row that an item makes where these numbers are picked first, the part represents the
 -- longer log, whose numbers are as fresh as those before them
 pub record Makes (picked : List ℕ) (item : Item) (new : Part) (rows : List Row) (row : Row) :
     Type 0 where
@@ -35,7 +35,7 @@ abbrev pub ComeNext : List ℕ → List Row → List ℕ → Type 0
 ComeNext picked rows picks = (later : List ℕ) × (drop (numbers_taken rows) picks ≡ picked ++ later)
 
 -- of a client in proxy mode, while the run goes on: some numbers are picked, one where the row
--- takes one, and with them the part stands for the log with the row, whatever it stood for before
+-- takes one, and with them the part represents the log with the row, whatever it represented before
 pub record SendsPayload (p : List ℕ) (old new : Part) : Type 0 where
   pub picked : List ℕ
   pub goes : (pid : ℕ) (picks : List ℕ) (given : List HouseReply) (rows : List Row)

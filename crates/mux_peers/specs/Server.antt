@@ -24,7 +24,7 @@ use Rattle.mux_peers.specs.Among.{AllFit, AreAmong, KeepReading, is_present}
 use Rattle.mux_peers.specs.Receivings.{AreHere, ReceivesPayload}
 use Rattle.mux_peers.specs.Pieces.{behind}
 
--- the rows after what the server says
+-- the rows after what the server sends
 abbrev pub rows_received : Policy → ℕ → List ℕ → List HouseReply → List Row → List Outgoing → List Row
 rows_received policy pid picks given rows says =
     more_all (by_lists policy pid picks given) rows (map received_item says)
@@ -38,7 +38,7 @@ pub record ReceivesOnwards (all : List ℕ) (cs : List ClientState) (rest : List
   pub here : AreHere rows' cs
   pub place : index ≡ min (next_index rows') (2 ^ 64 - 1)
 
--- what was heard so far, in rows, and the losses by them
+-- what was received so far, in rows, and the losses by them
 pub record ReceivedTo (policy : Policy) (pid : ℕ) (picks : List ℕ) (given : List HouseReply)
     (all : List ℕ) (noted : List (ℕ × Option Why)) (rows : List Row) (core : CoreState)
     (cs : List ClientState) (queue : QueueState) (rest : List ℕ) (index : ℕ)
@@ -51,7 +51,7 @@ pub record ReceivedTo (policy : Policy) (pid : ℕ) (picks : List ℕ) (given : 
       → ReceivesOnwards all cs rest index (rows_received policy pid picks given rows says) says
   pub over : (more : List Outgoing) × ((parse InProxy all).says ≡ says ++ more)
 
--- ---- what it says next
+-- ---- what it sends next
 
 pub record ServerState : Type 0 where
   pub framing : Framing
@@ -59,7 +59,7 @@ pub record ServerState : Type 0 where
   pub rest : List ℕ
   pub index : ℕ
 
--- a payload, which all clients hear
+-- a payload, which all clients receive
 pub record ServerFrame (content rest : List ℕ) (old new : ClientsAndQueue) (was now : ServerState)
     (ended' : Option Ended) : Type 0 where
   pub receives : ReceivesPayload content was.index old new ended'
@@ -90,7 +90,7 @@ ServerNext true More old new was now ended ended' = ⊥
 ServerNext false More old new was now ended ended' = ServerNone old new was now ended ended'
 ServerNext false _ old new was now ended ended' = ⊥
 
--- before it said anything
+-- before it sent anything
 abbrev pub new_server : ServerState
 new_server = record { framing = framing.Proxy; fault = None; rest = []; index = 1 }
 
@@ -101,7 +101,7 @@ stream_end (b ∷ rest) index = ended.Broke index (broke.Cut (length (b ∷ rest
 
 -- ---- a piece
 
--- the run goes on, all clients stand for its rows, each of them that isn't lost is here, and the
+-- the run goes on, all clients represent its rows, each of them that isn't lost is here, and the
 -- next frame has this place
 pub record AllAwait (rows : List Row) (core : CoreState) (cs : List ClientState)
     (queue : QueueState) (index : ℕ) : Type 0 where
@@ -110,8 +110,8 @@ pub record AllAwait (rows : List Row) (core : CoreState) (cs : List ClientState)
   pub here : AreHere rows cs
   pub place : index ≡ min (next_index rows) (2 ^ 64 - 1)
 
--- what was heard of these bytes so far, from every list of rows; while the run goes on the server
--- is read as before
+-- what was received of these bytes so far, from every list of rows; while the run goes on the
+-- server is read as before
 pub record ReceivingAll (all : List ℕ) (old new : ClientsAndQueue) (first now : ServerState)
     (ended : Option Ended) : Type 0 where
   pub noted : List (ℕ × Option Why)
@@ -127,7 +127,7 @@ pub record ReceivingAll (all : List ℕ) (old new : ClientsAndQueue) (first now 
       → ReceivedTo old.core.policy pid picks given all noted rows new.core new.clients.all new.up
       now.rest now.index ended
 
--- a piece of the server: all that is said by it was heard, or the run is over
+-- a piece of the server: all that is sent by it was received, or the run is over
 pub record ReceivesBytes (bytes : List ℕ) (old new : ClientsAndQueue) (first now : ServerState)
     (ended : Option Ended) : Type 0 where
   pub receiving : ReceivingAll (first.rest ++ bytes) old new first now ended

@@ -1,4 +1,4 @@
--- What one saying touches stands for a log: one clause a part.
+-- The part that one sent item touches represents a log: one clause a part.
 use Rattle.std.specs.Prelude.{◌≡◌, ℕ, Bool, true, false, not, List, [], ◌∷◌, Some, None}
 use Rattle.ssh_grammar.specs.declared.framing.Framing.{Framing}
 use Rattle.ssh_grammar.specs.declared.framing.Framing.TheVariants as framing
@@ -23,7 +23,7 @@ abbrev pub is_greeted : Standing → Bool
 is_greeted Awaited = false
 is_greeted _ = true
 
--- what the client says is read
+-- what the client sends is read
 abbrev pub is_read : Standing → Bool
 is_read Awaited = true
 is_read Greeted = true
@@ -60,7 +60,7 @@ standing_in InControl = Greeted
 standing_in InProxy = Proxied
 standing_in Stopped = Unread
 
--- how a client stands after what it said, where it goes on
+-- the state of a client after what it sent, where it goes on
 abbrev pub stands_by : Outgoing → Standing
 stands_by (Body body) = standing_in (after_body body)
 stands_by (Payload p) = Proxied
@@ -86,14 +86,14 @@ standing_of (row ∷ before) = elim row.fate [
   | End cause ↦ keep_lost (standing_of before) Unread
 ]
 
--- a client that was let in stands for its own rows
+-- a client that was admitted represents its own rows
 pub record PeerFits (own : List Row) (standing : Standing) (queue : List ℕ) : Type 0 where
   pub admitted : any_of is_admit own ≡ true
   pub standing_is : standing ≡ standing_of own
   pub greeted_is : is_lost standing ≡ false → greeted own ≡ is_greeted standing
   pub queue_is : queue ≡ pending_down own
 
--- while the run goes on the shared connection stands for the rows; the client and what waits for
+-- while the run goes on the shared connection represents the rows; the client and what waits for
 -- the server always do
 pub record Fits (rows : List Row) (p : Part) : Type 0 where
   pub core : is_ended rows ≡ false → core.Stands p.core rows

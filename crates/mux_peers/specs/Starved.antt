@@ -1,5 +1,5 @@
--- What the house was asked by a call that found no memory: the first of what is asked by what was
--- to be taken in.
+-- What was requested of the forwarder by a call that found no memory: the first requests of what
+-- was to be applied.
 use Rattle.std.specs.Prelude.{◌≡◌, ◌⊎◌, ◌&&◌, ◌==◌, ℕ, Bool, true, false, List, [], ◌∷◌, ◌++◌, Option, Some, MatchBool}
 use Rattle.mux_outside.specs.declared.house_mark.HouseMark.{HouseMark as Asked}
 use Rattle.mux_outside.specs.declared.house.HouseReply.{HouseReply}
@@ -19,13 +19,13 @@ use Rattle.mux_peers.specs.Pieces.{ReplyNext, rows_sent}
 
 -- ---- one control message
 
--- the house was asked this, with some reply that it may give
+-- this was requested of the forwarder, with some reply that it may give
 abbrev pub AsksThis : (HouseReply → Type 0) → Option (List Asked) → Option (List Asked)
     → (HouseReply → List Asked) → Type 0
 AsksThis May recorded recorded' asks =
     (given : HouseReply) × (May given × RecordsAsks recorded recorded' (asks given))
 
--- what a body asks, where it asks the house
+-- what a body requests, if it is a request to the forwarder
 pub record AsksBody (May : HouseReply → Type 0) (recorded recorded' : Option (List Asked)) (k : ℕ)
     (greeted : Bool) (body : List ℕ) : Type 0 where
   pub asks : (greeted && body_asks body) ≡ true
@@ -37,9 +37,9 @@ abbrev pub AsksAtMost : (HouseReply → Type 0) → Option (List Asked) → Opti
 AsksAtMost May recorded recorded' k greeted body =
     (recorded' ≡ recorded) ⊎ AsksBody May recorded recorded' k greeted body
 
--- ---- what a client says next
+-- ---- what a client sends next
 
--- what the frame at the front asks, of a client that says control messages
+-- what the frame at the front asks, of a client that sends control messages
 pub record AsksFront (May : HouseReply → Type 0) (recorded recorded' : Option (List Asked)) (k : ℕ)
     (standing : Standing) (front : Front) : Type 0 where
   pub body : List ℕ
@@ -56,13 +56,13 @@ AsksNext May recorded recorded' k standing front =
 
 -- ---- a piece
 
--- these are the first that come behind those
+-- these are the first that come after those
 pub record BeginsWith (before asks all : List Asked) : Type 0 where
   pub rest : List Asked
   pub all_is : all ≡ before ++ (asks ++ rest)
 
--- a piece of a client that is read: the house was asked the first of what all that is said by it
--- asks, with replies that it may give
+-- a piece of a client that is read: the first requests of all that is sent by it were made of the
+-- forwarder, with replies that it may give
 pub record ReceivesSome (May : HouseReply → Type 0) (recorded recorded' : Option (List Asked)) (pid : ℕ)
     (bytes : List ℕ) (core : CoreState) (up : QueueState) (first : ClientState) : Type 0 where
   pub read : is_read first.peer.standing ≡ true

@@ -11,7 +11,7 @@ use Rattle.mux_core.specs.State.{CoreState}
 use Rattle.mux_peers.specs.declared.standing.Standing.{Standing}
 use Rattle.mux_peers.specs.declared.standing.Standing.TheVariants.{Lost}
 
--- a client but for what it says
+-- a client but for what it sends
 pub record PeerState : Type 0 where
   pub number : ℕ
   pub standing : Standing
@@ -22,8 +22,9 @@ pub record ClientState : Type 0 where
   pub peer : PeerState
   pub rest : List ℕ
 
--- the clients of a master: those that were let in, in the order in which they came; and those that
--- are lost or refused and not closed, in that order, each with the cause for which it was dropped
+-- the clients of a master: those that were admitted, in the order in which they came; and those
+-- that are lost or refused and not closed, in that order, each with the cause for which it was
+-- dropped
 pub record ClientsState : Type 0 where
   pub all : List ClientState
   pub leaving : List (ℕ × Option Why)
@@ -71,7 +72,7 @@ pub record KeepsPeer (up up' : QueueState) (old new : PeerState) : Type 0 where
   pub number : new.number ≡ old.number
   pub spare : KeepsRoom up up' new.standing
 
--- a client that is told these frames, as far as they fit into its queue
+-- a client for which these frames are recorded, as far as they fit into its queue
 abbrev pub recorded : List (List ℕ) → PeerState → PeerState
 recorded fs s = record s { queue = s.queue ++ joined (fitting (length s.queue) fs) }
 
@@ -79,6 +80,6 @@ recorded fs s = record s { queue = s.queue ++ joined (fitting (length s.queue) f
 abbrev pub full_of : List (List ℕ) → PeerState → Option Why
 full_of fs s = overflow (length s.queue) fs
 
--- so many of the bytes that wait for it were taken
+-- so many of the bytes that wait for it were accepted
 abbrev pub client_took : ℕ → ClientState → ClientState
 client_took n c = record c { peer = record c.peer { queue = drop n c.peer.queue } }

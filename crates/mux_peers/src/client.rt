@@ -28,7 +28,7 @@ use ssh_fields::OutOfMemory;
 use std::alloc::Global;
 use std::marker::Model;
 
-/// A client: how it stands, and what it said that isn't cut yet.
+/// A client: its state, and what it sent that isn't cut yet.
 #[derive(Drop)]
 pub struct Client {
     peer: Peer,
@@ -121,7 +121,7 @@ impl Client {
         self.peer.number()
     }
 
-    /// Whether what it says is read.
+    /// Whether what it sends is read.
     pub fn is_read(&self) -> bool
         ensures { result ≡ is_read self.now.peer.standing }
     {
@@ -154,7 +154,7 @@ impl Client {
         self.peer.queue()
     }
 
-    /// So many of them were taken.
+    /// So many of them were accepted.
     pub fn took(&mut self, n: usize)
         requires { n ≤ length self.old.peer.queue }
         ensures { self.new ≡ client_took n self.old }
@@ -162,8 +162,8 @@ impl Client {
         self.peer.took(n);
     }
 
-    /// It hears a payload of the server, and then so many refusals, after the core has heard it.
-    /// One that is lost hears nothing.
+    /// It receives a payload of the server, and then so many refusals, after the core has received
+    /// it. One that is lost receives nothing.
     pub fn deliver(
         &mut self,
         payload: &[u8],
@@ -186,7 +186,8 @@ impl Client {
         self.peer.deliver(payload, refusals, core, up)
     }
 
-    /// The house replies to an ask of it later than at once. One that is lost is told nothing.
+    /// The forwarder replies to a request of it later than at once. One that is lost is sent
+    /// nothing.
     pub fn answered(
         &mut self,
         id: u32,
@@ -209,7 +210,7 @@ impl Client {
         self.peer.answered(id, reply, core, up)
     }
 
-    // What it says next: whether anything whole was there.
+    // What it sends next: whether anything whole was there.
     fn send_next<H: Asks>(
         &mut self,
         pid: u32,

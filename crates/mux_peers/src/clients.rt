@@ -33,11 +33,11 @@ use ssh_fields::OutOfMemory;
 use std::alloc::Global;
 use std::marker::Model;
 
-/// The clients of a master: those that were let in, and those that are to be closed.
+/// The clients of a master: those that were admitted, and those that are to be closed.
 #[derive(Drop)]
 pub struct Clients {
     alloc: Global,
-    /// Those that were let in, in the order in which they came.
+    /// Those that were admitted, in the order in which they came.
     all: Vec<Client>,
     /// Those that are lost or refused and whose streams are not closed, in that order, each with the
     /// cause for which it was dropped, if it was.
@@ -77,7 +77,7 @@ fn count_served(clients: &[Client]) -> usize
     count
 }
 
-// Those for which bytes wait, behind these streams.
+// Those for which bytes wait, after these streams.
 fn add_waiting(list: &mut Streams, clients: &[Client]) -> Result<(), OutOfMemory>
     ensures { OnOk result (list.new ≡ list.old ++ waiting_clients clients.now) }
 {
@@ -120,7 +120,7 @@ impl Clients {
         }
     }
 
-    /// A client comes: whether it is let in. Then the master's hello waits for it, and its own is
+    /// A client comes: whether it is admitted. Then the master's hello waits for it, and its own is
     /// awaited; else it is to be closed.
     pub fn admit(&mut self, number: u64, core: &mut Core) -> Result<bool, OutOfMemory>
         ensures enters { IfOk result (λ let_in.
@@ -184,8 +184,8 @@ impl Clients {
         })
     }
 
-    /// The client of a number hears a payload of the server, and then so many refusals, after the
-    /// core has heard it. Where it is lost by that, it is to be closed.
+    /// The client of a number receives a payload of the server, and then so many refusals, after
+    /// the core has received it. Where it is lost by that, it is to be closed.
     pub fn deliver(
         &mut self,
         number: u64,
@@ -212,8 +212,8 @@ impl Clients {
         Ok(())
     }
 
-    /// The house replies to an ask of the client of a number later than at once. Where the client is
-    /// lost by that, it is to be closed.
+    /// The forwarder replies to a request of the client of a number later than at once. Where the
+    /// client is lost by that, it is to be closed.
     pub fn answered(
         &mut self,
         number: u64,
@@ -262,7 +262,7 @@ impl Clients {
         Ok(())
     }
 
-    /// So many of the bytes that wait for the client of a number were taken.
+    /// So many of the bytes that wait for the client of a number were accepted.
     pub fn took(&mut self, number: u64, n: usize)
         requires { n ≤ length (in_client [] (λ c. c.peer.queue) self.old.all number) }
         ensures clients { self.new.all ≡ at_client number (client_took n) self.old.all }

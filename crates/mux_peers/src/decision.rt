@@ -21,7 +21,7 @@ use ssh_grammar::numbers::*;
 /// Why a request that hands descriptors over fails.
 const NO_DESCRIPTORS: &[u8] = b"descriptors are not supported";
 
-/// Why the house refuses.
+/// Why the forwarder refuses.
 const NO_FORWARDINGS: &[u8] = b"forwardings are not served";
 
 /// Why another type fails.
@@ -34,7 +34,7 @@ pub enum Effect {
     Goes,
     /// The client speaks to the server from now on.
     Switches,
-    /// Nothing that the client says is read any more.
+    /// Nothing that the client sends is read any more.
     Unreads,
     /// No client is accepted any more.
     Stops,
@@ -112,7 +112,7 @@ fn decide_first(body: &[u8]) -> Decision
     })
 }
 
-/// The answer of the house to an ask, which may be to come later; a port is no answer to a close.
+/// The answer of the forwarder to a request, which may be deferred; a port is no answer to a close.
 pub fn answer_of(opening: bool, id: u32, reply: HouseReply) -> Option<Small>
     ensures { result ≡ option_map frame_answer (house_answer opening id reply) }
 {
@@ -124,7 +124,7 @@ pub fn answer_of(opening: bool, id: u32, reply: HouseReply) -> Option<Small>
     }
 }
 
-// What becomes of an ask: the house is asked, and that is noted.
+// The outcome of a request: it is made of the forwarder, and that is noted.
 fn ask<H: Asks>(
     house: &mut H,
     asks: &mut AskLog,
@@ -190,8 +190,8 @@ fn decide_later<H: Asks>(
     }
 }
 
-/// What becomes of a control message, the first one or one after the HELLO. What the house is asked
-/// is noted.
+/// The outcome of a control message, the first one or one after the HELLO. What it requests of the
+/// forwarder is noted.
 #[tactic(auto, using(crate::proofs::Decided::decides_first, crate::proofs::Heeding::applies_none))]
 pub fn decide<H: Asks>(
     client: u64,

@@ -12,7 +12,7 @@ pub fn pieces_of_the_server()
     ensures { PiecesOfTheServer }
 {}
 
-/// Where one client goes on and the others stay, all of them stand for the longer log.
+/// If one client goes on and the others stay, all of them represent the longer log.
 pub fn one_moves_all()
     ensures { OneMovesAll }
 {}

@@ -1,4 +1,4 @@
-//! The clients of a master: what each of them says becomes a row of the log, with the shared
+//! The clients of a master: what each of them sends becomes a row of the log, with the shared
 //! connection beside it.
 #![tactic(auto)]
 

@@ -36,7 +36,7 @@ use ssh_grammar::BadFrame;
 use std::alloc::Global;
 use std::marker::Model;
 
-/// A client but for what it says: how it stands, and what waits for it.
+/// A client without the bytes that it sent: its state, and what waits for it.
 #[derive(Drop)]
 pub struct Peer {
     number: u64,
@@ -87,7 +87,7 @@ impl Peer {
         })
     }
 
-    // It is told a payload where the frame fits into the queue; else why it is to be dropped.
+    // Queues a payload for it if the frame fits into the queue; else why it is to be dropped.
     fn report(&mut self, payload: &[u8]) -> Result<Option<Why>, OutOfMemory>
         requires { IsContent Proxy payload.now }
         ensures queue { OnOk result (self.new ≡ recorded (frame_payload payload.now ∷ []) self.old) }
@@ -104,7 +104,7 @@ impl Peer {
         Ok(None)
     }
 
-    // It is told so many refusals, as far as they fit into the queue.
+    // Queues so many refusals for it, as far as they fit into the queue.
     fn refuse(&mut self, refusals: u32) -> Result<Option<Why>, OutOfMemory>
         ensures queue { OnOk result (self.new ≡ recorded (refusals_of refusals) self.old) }
         ensures full { IfOk result (λ full. full ≡ full_of (refusals_of refusals) self.old) }
@@ -124,7 +124,7 @@ impl Peer {
         Ok(None)
     }
 
-    // It is told a payload and then so many refusals, as far as they fit into the queue.
+    // Queues a payload and then so many refusals for it, as far as they fit into the queue.
     fn record_all(&mut self, payload: &[u8], refusals: u32) -> Result<Option<Why>, OutOfMemory>
         requires { IsContent Proxy payload.now }
         ensures queue { OnOk result
@@ -139,7 +139,7 @@ impl Peer {
         }
     }
 
-    // It is dropped for a cause, and says farewell.
+    // It is dropped for a cause, and sends farewell.
     fn drop_for(&mut self, why: Why, core: &mut Core, up: &mut Queue)
         requires room { FAREWELL_ROOM ≤ up.old.spare }
         ensures peer { self.new ≡ record self.old { standing = Lost (Some why) } }
@@ -165,7 +165,7 @@ impl Peer {
         core.gone(self.number, up);
     }
 
-    /// What it says is no frame.
+    /// What it sends is no frame.
     pub fn fails(&mut self, fault: BadFrame, core: &mut Core, up: &mut Queue)
         requires room { FAREWELL_ROOM ≤ up.old.spare }
         ensures faults { (change : TheRunChange)
@@ -179,7 +179,7 @@ impl Peer {
         self.drop_for(Why::BadFrame(fault), core, up);
     }
 
-    /// It says a payload.
+    /// It sends a payload.
     pub fn says(
         &mut self,
         payload: &mut [u8],
@@ -212,7 +212,8 @@ impl Peer {
         }
     }
 
-    /// It hears a payload of the server, and then so many refusals, after the core has heard it.
+    /// It receives a payload of the server, and then so many refusals, after the core has received
+    /// it.
     pub fn deliver(
         &mut self,
         payload: &[u8],
@@ -238,7 +239,7 @@ impl Peer {
         }
     }
 
-    // It is told a control frame, where there is one and it fits into the queue; else why it is to
+    // Queues a control frame for it, if there is one and it fits into the queue; else why it is to
     // be dropped.
     fn record_frame(&mut self, answer: &Option<Small>) -> Result<Option<Why>, OutOfMemory>
         ensures queue { OnOk result (self.new ≡ recorded (frames answer.now) self.old) }
@@ -257,8 +258,8 @@ impl Peer {
         Ok(None)
     }
 
-    /// The house replies to an ask of it later than at once: it is told that, unless it speaks to
-    /// the server.
+    /// The forwarder replies to a request of it later than at once: it is sent that, unless it is
+    /// in proxy mode.
     pub fn answered(
         &mut self,
         id: u32,

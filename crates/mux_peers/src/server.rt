@@ -15,7 +15,7 @@ use ssh_fields::OutOfMemory;
 use std::alloc::Global;
 use std::marker::Model;
 
-/// The server: what it said that isn't cut yet, and the place of its next frame, counted from 1.
+/// The server: what it sent that isn't cut yet, and the place of its next frame, counted from 1.
 #[derive(Drop)]
 pub struct Server {
     framer: Framer,
@@ -36,7 +36,7 @@ impl Model for Server {
 }
 
 impl Server {
-    /// A server that said nothing yet.
+    /// A server that sent nothing yet.
     pub fn new(alloc: Global) -> Server
         ensures { result ≡ new_server }
     {
@@ -66,7 +66,7 @@ impl Server {
         }
     }
 
-    // What it says next: whether anything whole was there.
+    // What it sends next: whether anything whole was there.
     fn send_next(
         &mut self,
         clients: &mut Clients,

@@ -19,7 +19,7 @@ is-lawful = search rules
 pub is-asked : Throughout ReadsWhenAsked (reverse intrusion)
 is-asked = search rules
 
--- all that waited is taken, each time
+-- all that waited is accepted, each time
 pub takes-front : Throughout (TakesFront open_setting) (reverse intrusion)
 takes-front = (tt, (tt, (([], refl), (tt, (tt, (([], refl), (tt, (tt, (([], refl), (tt, (tt, (([], refl), (tt, (tt, (([], refl), (tt, (tt, (([], refl), (tt, (tt, (([], refl), (tt, (tt, (([], refl), (tt, (tt, (([], refl), (tt, (tt, (([], refl), (tt, (tt, (([], refl), (tt, (tt, tt)))))))))))))))))))))))))))))))))))
 

@@ -1,4 +1,4 @@
--- A piece in two parts, and the same mark behind journals that are alike.
+-- A piece in two parts, and the same mark after journals that are alike.
 use Rattle.std.proofs.Common.{◌≡◌, ◌∙◌, refl, ap, sym, ℕ, Bool, true, false, List, [], ◌∷◌, ◌++◌, length, drop, map, ◌==◌, append_assoc, inl, inr, subst}
 use Rattle.std.proofs.lemmas.Bool.Decides.{eqb_tells}
 use Rattle.std.specs.Prelude.{reverse}
@@ -21,7 +21,7 @@ drop-front : (xs ys : List Outgoing) → drop (length xs) (xs ++ ys) ≡ ys
 drop-front [] ys = refl
 drop-front (x ∷ xs) ys = drop-front xs ys
 
--- what is behind the first of three is what is behind it of two, and the third
+-- what is after the first of three is what is after it of two, and the third
 drop-two : (xs ys zs : List Outgoing) → drop (length xs) ((xs ++ ys) ++ zs) ≡ ys ++ zs
 drop-two xs ys zs = ap (drop (length xs)) (append_assoc xs ys zs) ∙ drop-front xs (ys ++ zs)
 
@@ -29,7 +29,7 @@ pub map-append : (f : Outgoing → Item) (xs ys : List Outgoing) → map f (xs +
 map-append f [] ys = refl
 map-append f (x ∷ xs) ys = ap (λ l. f x ∷ l) (map-append f xs ys)
 
--- what is said from a mode on
+-- what is sent from a mode on
 abbrev pub says : Mode → List ℕ → List Outgoing
 says mode bytes = (parse mode bytes).says
 
@@ -97,7 +97,7 @@ kept-parts true x a c = ap (λ l. l ++ c) (append-nil (x ++ a)) ∙ append_assoc
 kept-parts false x a c = append-nil ((x ++ []) ++ []) ∙ append-nil (x ++ [])
 
 module _ (before : List Mark) (waiting : List ℕ) (want : Want) (streams : List ℕ) (listens : Bool) where
-  -- a piece and a wait behind it
+  -- a piece and a wait after it
   abbrev then_waits : ℕ → List ℕ → List Mark
   then_waits t a = wire.Waits waiting want streams listens ∷ wire.Gets t a ∷ before
 
@@ -136,7 +136,7 @@ parts-alike before t a b waiting want streams listens = record {
   same_bytes = λ u. kept-parts (t == u) (bytes_of u before) a b;
 }
 
--- ---- the same mark behind both
+-- ---- the same mark after both
 
 module _ (marks others : List Mark) (same : (t : ℕ) → bytes_of t marks ≡ bytes_of t others) where
   mark-alike : (mark : Mark) → items_in marks mark ≡ items_in others mark

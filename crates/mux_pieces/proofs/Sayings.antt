@@ -16,7 +16,7 @@ use Rattle.mux_history.proofs.Finds.{filter-no, filter-yes}
 use Rattle.mux_pieces.specs.Pieces.{is_by_server, is_sent_by}
 use Rattle.mux_pieces.proofs.Pieces.{map-append, more, new-is, says, says-more}
 
--- what comes next of a journal stands behind what came
+-- what comes next of a journal stands after what came
 items-next : (before : List Mark) (mark : Mark) → reverse (items (mark ∷ before)) ≡ reverse (items before) ++ items_in before mark
 items-next before mark = reverse-append (reverse (items_in before mark)) (items before) ∙ ap (λ l. reverse (items before) ++ l) (reverse-reverse (items_in before mark))
 
@@ -138,7 +138,7 @@ module _ (before : List Mark) (stream : ℕ) (bytes : List ℕ) where
 
 -- ---- all marks
 
--- what the house says is the sayings of its number
+-- what the forwarder sends is the sayings of its number
 house-said : (before : List Mark) (bytes : List ℕ) (k : ℕ) → Recorded (is_sent_by k) (sent_item k) InControl k before → Recorded (is_sent_by k) (sent_item k) InControl k (wire.House (HouseSaid bytes) ∷ before)
 house-said before bytes k recorded = by_same (HOUSE == k) refl
   where
@@ -152,7 +152,7 @@ house-said before bytes k recorded = by_same (HOUSE == k) refl
     by_same true e = recorded-more (is_sent_by k) (sent_item k) InControl k before (wire.House (HouseSaid bytes)) bytes (own-items (same-number HOUSE k e)) (ap (λ b. gives b bytes) e) recorded
     by_same false e = recorded-still (is_sent_by k) (sent_item k) InControl k before (wire.House (HouseSaid bytes)) (none-pass (is_sent_by k) (sent_item HOUSE) (λ s. e) (new_sends InControl (bytes_of HOUSE before) bytes)) (ap (λ b. gives b bytes) e) recorded
 
--- what another mark of the house has no bytes of it
+-- what another mark of the forwarder has no bytes of it
 house-bytes : (k : ℕ) → (elim (HOUSE == k) as (λ _. List ℕ) [ true ↦ [] | false ↦ [] ]) ≡ []
 house-bytes k = elim (HOUSE == k) as (λ b. (elim b as (λ _. List ℕ) [ true ↦ [] | false ↦ [] ]) ≡ []) [ true ↦ refl | false ↦ refl ]
 
@@ -198,13 +198,13 @@ heard-are (mark ∷ before) = by_mark mark (heard-are before)
     by_mark (wire.WriteFails t) recorded = still (wire.WriteFails t) (gone-still is_by_server t ServerFailed refl (λ j. refl)) refl recorded
     by_mark m recorded = still m refl refl recorded
 
--- ---- nobody is client 0, nor one of the master's own streams
+-- ---- no client is client 0, nor one of the master's own streams
 
 -- a mark that none says anything in
 none-more : (test : Item → Bool) (before : List Mark) (mark : Mark) → filter test (items_in before mark) ≡ [] → filter test (reverse (items before)) ≡ [] → filter test (reverse (items (mark ∷ before))) ≡ []
 none-more test before mark none recorded = passes-next test before mark ∙ (ap (λ l. l ++ filter test (items_in before mark)) recorded ∙ none)
 
--- no client and no house has the number
+-- no client and no forwarder has the number
 abbrev pub IsNobody : ℕ → Type 0
 IsNobody k = (stream : ℕ) → (stream == 0) ≡ false → is_own_stream stream ≡ false → (stream == k) ≡ false
 

@@ -10,7 +10,7 @@ use Rattle.mux_history.specs.Policy.{Policy}
 use Rattle.mux_history.specs.Rows.{BadServer, Heard, Item, Says}
 use Rattle.mux_history.specs.Settings.{by_lists}
 
--- the same bytes came of each stream, and they completed the same items in the same order
+-- the same bytes came from each stream, and they completed the same items in the same order
 pub record AreAlike (marks others : List Mark) : Type 0 where
   pub same_items : items marks ≡ items others
   pub same_bytes : (t : ℕ) → bytes_of t marks ≡ bytes_of t others
@@ -23,7 +23,7 @@ PartsGiveAlike =
     → AreAlike (Gets t b ∷ Waits waiting want streams listens ∷ Gets t a ∷ before)
     (Gets t (a ++ b) ∷ before)
 
--- the same mark behind both
+-- the same mark after both
 abbrev pub JournalsGoOnAlike : Type 0
 JournalsGoOnAlike =
     (marks others : List Mark) (mark : Mark) → AreAlike marks others
@@ -39,7 +39,7 @@ ItemsMakeRows =
 
 -- ---- journals that differ only in their cuts
 
--- a mark behind others: a piece of the stream that gave the piece right before joins it, and a wait
+-- a mark after others: a piece of the stream that gave the piece right before joins it, and a wait
 -- is left out
 abbrev pub joined_to : List Mark → Mark → List Mark
 joined_to (Gets s a ∷ before) (Gets t b) = elim (s == t) [
@@ -63,21 +63,21 @@ CutsMakeNoDifference =
     → log_of_journal (by_lists policy pid picks replies) marks
     ≡ log_of_journal (by_lists policy pid picks replies) others
 
--- ---- what is said is said by all bytes of a stream
+-- ---- what is sent is sent by all bytes of a stream
 
--- an item that this client says
+-- an item that this client sends
 abbrev pub is_sent_by : ℕ → Item → Bool
 is_sent_by k (Says j outgoing given) = j == k
 is_sent_by k item = false
 
--- an item that the server says
+-- an item that the server sends
 abbrev pub is_by_server : Item → Bool
 is_by_server (Heard p) = true
 is_by_server (BadServer fault) = true
 is_by_server item = false
 
--- what the items of a client say, the house among them, the oldest first, is what all its bytes say,
--- however these came; the master's own streams say nothing
+-- what the items of a client send, the forwarder among them, the oldest first, is what all its
+-- bytes send, however these came; the master's own streams send nothing
 abbrev pub SayingsAreOfBytes : Type 0
 SayingsAreOfBytes =
     (marks : List Mark) (k : ℕ) → 0 < k → is_own_stream k ≡ false
@@ -91,18 +91,18 @@ ReceivedIsOfBytes =
 
 -- ---- the bytes of each stream and the order in which they complete make the items
 
--- an item without its words: who says something, or else what happens
+-- an item without its words: who sends something, or else what happens
 abbrev pub without_words : Item → Item
 without_words (Says k outgoing given) = Says k (Body []) None
 without_words (Heard p) = Heard []
 without_words (BadServer fault) = Heard []
 without_words item = item
 
--- in which order it is said and happens, the oldest first
+-- in which order it is sent and happens, the oldest first
 abbrev pub order_of : List Mark → List Item
 order_of marks = map without_words (reverse (items marks))
 
--- where the same bytes came of each stream, cut in any way, and completed in the same order, they
+-- where the same bytes came from each stream, cut in any way, and completed in the same order, they
 -- completed the same items
 abbrev pub BytesMakeItems : Type 0
 BytesMakeItems =

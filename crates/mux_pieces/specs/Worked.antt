@@ -1,5 +1,5 @@
--- One worked run, as a wire tells it: two clients share the server, and the first is dropped since it
--- writes into the other's channel.
+-- One worked run, as a wire records it: two clients share the server, and the first is dropped
+-- since it writes into the other's channel.
 use Rattle.std.specs.Prelude.{ℕ, ◌<◌, List, [], ◌∷◌, ◌++◌, true, codes, reverse}
 use Rattle.mux_outside.specs.declared.mark.Mark.{Mark}
 use Rattle.mux_outside.specs.declared.mark.Mark.TheVariants.{Waits, Accepts, Gets, Ends, Takes}
@@ -14,7 +14,7 @@ use Rattle.mux_history.specs.Wires.{ReadsWhenAsked}
 use Rattle.mux_history.specs.Worked.{hello, hex, open_setting, run}
 use Rattle.mux_history.specs.WorkedProxy.{session}
 
--- ---- what is said
+-- ---- what is sent
 
 -- the open of a session under a number is confirmed, as the server's own number with a window of 5
 abbrev pub confirmation : ℕ → ℕ → List ℕ
@@ -48,7 +48,7 @@ comes streams k =
 abbrev pub opens_session : ℕ → ℕ → List Mark
 opens_session k number = waits_for_all ∷ Gets k (session 0) ∷ Takes 0 (session number) ∷ []
 
--- the server confirms it, which the client takes under its own number
+-- the server confirms it, which the client accepts under its own number
 abbrev pub is_confirmed_as : ℕ → ℕ → ℕ → List Mark
 is_confirmed_as k number remote =
     waits_for_all ∷ Gets 0 (confirmation number remote) ∷ Takes k (confirmation 0 remote) ∷ []
@@ -67,7 +67,7 @@ intrusion =
 -- ---- the premises
 
 -- all at once: the wire keeps its law; the log is the right one, whole, with fresh numbers; each
--- take is the front of what waited; and the client is let in
+-- take is the front of what waited; and the client is admitted
 pub record MeetsAll (setting : Setting) (marks : List Mark) (rows : List Row) (k : ℕ) : Type 0 where
   pub lawful : IsLawful marks
   pub asked : Throughout ReadsWhenAsked marks

@@ -5,7 +5,7 @@ pub fn parts_give_alike()
     ensures { PartsGiveAlike }
 {}
 
-/// Journals in which the same bytes came of each stream, with the same items, stay so behind the
+/// Journals in which the same bytes came from each stream, with the same items, stay so after the
 /// same mark.
 pub fn journals_go_on_alike()
     ensures { JournalsGoOnAlike }
@@ -22,7 +22,7 @@ pub fn items_make_rows()
     ensures { ItemsMakeRows }
 {}
 
-/// Whatever pieces bytes came in, the items of each client say what all its bytes say, in that
+/// Whatever pieces bytes came in, the items of each client send what all its bytes send, in that
 /// order, and so do those of the server.
 pub fn sayings_are_of_bytes()
     ensures clients { SayingsAreOfBytes }

@@ -20,7 +20,7 @@ pub fn both_clients_are_unshared()
     ensures victim { IsUnshared open_setting 2 (run intrusion) }
 {}
 
-/// The first client is dropped for its write, its channel is closed, and the second is told nothing
+/// The first client is dropped for its write, its channel is closed, and the second is sent nothing
 /// but its own.
 pub fn the_intruder_alone_is_dropped()
     ensures loss { losses (run intrusion) ≡ (1, Some (NotYours 6)) ∷ [] }

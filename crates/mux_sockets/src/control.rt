@@ -53,7 +53,7 @@ impl<R: Files + Drop> Drop for ControlSocket<R> {
     }
 }
 
-/// A socket that listens, under a temporary name that nobody knows yet.
+/// A socket that listens, under a temporary name that no process knows yet.
 #[derive(Drop)]
 pub struct Unnamed<R: Files + Drop> {
     listener: UnixListener,
@@ -84,7 +84,8 @@ fn refuse_taken<R: Files>(rt: &R, path: &str) -> io::Result<()> {
     Ok(())
 }
 
-// Has a socket of this name listen. Before it listens, nobody can connect: so the mode comes first.
+// Has a socket of this name listen. Before it listens, no process can connect: so the mode comes
+// first.
 fn listen_at<R: Files>(rt: &R, name: &str, socket: &OwnedFd) -> io::Result<()> {
     fs::set_permissions(rt, name, owner_only())?;
     if listen(socket.as_raw_fd(), BACKLOG) < 0 {

@@ -1,5 +1,5 @@
 //! The outside of the real system: sockets, files, commands and what is written. What the system
-//! holds no clause can say, so these objects tell nothing; each `Failed` raises their count.
+//! holds no clause can say, so these objects record nothing; each `Failed` raises their count.
 #![tactic(auto)]
 
 mod control;

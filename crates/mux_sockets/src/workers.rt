@@ -17,7 +17,7 @@ use std::{io, str};
 // aren't gone yet.
 const MOST_CHILDREN: usize = 64;
 
-/// A child. When this is dropped, it is killed and waited for, so that none is left behind.
+/// A child. When this is dropped, it is killed and waited for, so that none is left over.
 struct Worker<P: Processes> {
     child: Child<P::Started>,
 }

@@ -77,7 +77,7 @@ goes-fed May before recorded s t a b mark h picked given marks closed st al =
       asked = g.asked;
     }
 
--- ---- as the code shows them: the parts before a step, what it is, and those behind it
+-- ---- as the code shows them: the parts before a step, what it is, and those after it
 
 pub goes-shown : (May : HouseReply → Type 0) (before recorded : Option (List Asked)) (parts s parts' t : State) (mark : Mark) → parts ≡ s → parts' ≡ t → GoesOn May before recorded (fed true parts) t mark → GoesOn May before recorded s (fed false parts') mark
 goes-shown May before recorded parts s parts' t mark is is' h =

@@ -112,7 +112,7 @@ gained-pid May before recorded s new k bytes h = by_received (is_received s.clie
     by_received true e = (h.gains e).pid
     by_received false e = ap (λ (t : State). t.pid) (h.stays e)
 
--- ---- a client to which the house replies
+-- ---- a client to which the forwarder replies
 
 replied-others : (k id : ℕ) (given : HouseReply) (s new : State) → Replied s new k id given → KeepsOthers k s new
 replied-others k id given s new h = by_served (is_served s.clients k) refl

@@ -11,7 +11,7 @@ use Rattle.mux_peers.specs.Stands.{is_lost}
 use Rattle.mux_peers.specs.Among.{AreApart, EachFits, InFits, is_present}
 use Rattle.mux_state.specs.State.{served_in, waiting_clients, without_client}
 
--- the head of a list is there, or else one behind it
+-- the head of a list is there, or else one after it
 abbrev pub either : Bool → Bool → Bool
 either b rest = elim b as (λ _. Bool) [ true ↦ true | false ↦ rest ]
 

@@ -159,7 +159,7 @@ event-fed (event.FromServer bytes) s t a b h = idle-fed bytes.now s t a b h
 event-fed event.ServerEnd s t a b h = tt
 event-fed event.ServerFailed s t a b h = tt
 
--- as the code shows them: the parts before a step, what it is, and those behind it
+-- as the code shows them: the parts before a step, what it is, and those after it
 pub idle-shown : (parts s parts' t : State) (e : Event) → parts ≡ s → parts' ≡ t → ServerLeavesIdle e (fed true parts) t → ServerLeavesIdle e s (fed false parts')
 idle-shown parts s parts' t e is is' h =
     subst (λ (x : State). ServerLeavesIdle e x (fed false parts')) is

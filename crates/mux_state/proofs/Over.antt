@@ -81,7 +81,7 @@ none-own k xs n = elim (is_own_stream k) as (λ b. NoneTaken (elim b as (λ _. L
 pub unless-not : (k : ℕ) (xs : List Item) → is_own_stream k ≡ false → unless_own k xs ≡ xs
 unless-not k xs e = ap (λ b. elim b as (λ _. List Item) [ true ↦ [] | false ↦ xs ]) e
 
--- what the house said at a mark that isn't its words
+-- what the forwarder sent at a mark that isn't its bytes
 pub none-said-by : (j : ℕ) → (elim (HOUSE == j) as (λ _. List ℕ) [ true ↦ [] | false ↦ [] ]) ≡ []
 none-said-by j = elim (HOUSE == j) as (λ b. (elim b as (λ _. List ℕ) [ true ↦ [] | false ↦ [] ]) ≡ []) [ true ↦ refl | false ↦ refl ]
 

@@ -1,4 +1,4 @@
--- The rows of what the server says: what they leave as it was.
+-- The rows of what the server sends: what they leave as it was.
 use Rattle.std.proofs.Common.{◌≡◌, ◌≢◌, ℕ, zero, suc, Bool, true, false, List, [], ◌∷◌, ◌++◌, length, map, take, Option, Some, None, Ok, Err, refl, sym, ap, ◌∙◌, subst, append-nil}
 use Rattle.std.specs.Prelude.{◌==◌, Result, filter, find, slice_get}
 use Rattle.std.proofs.lemmas.Bool.{eq-eqb}

@@ -1,4 +1,4 @@
--- An engine goes on where the house replies to a client's ask later than at once.
+-- An engine goes on where the forwarder replies to a client's request later than at once.
 use Rattle.std.proofs.Common.{◌≡◌, ◌≢◌, ◌+◌, ℕ, Bool, true, false, not, ◌&&◌, List, [], ◌∷◌, ◌++◌, length, Option, Some, None, refl, sym, ap, ◌∙◌, subst, cond, append-nil}
 use Rattle.std.specs.Prelude.{◌^◌, ◌-◌, ◌<◌, MatchBool, min, is_some}
 use Rattle.mux_outside.specs.declared.house.HouseReply.{HouseReply}

@@ -1,4 +1,4 @@
--- The rows of what one client says: what they leave as it was, and whom they lose.
+-- The rows of what one client sends: what they leave as it was, and whom they lose.
 use Rattle.std.proofs.Common.{◌≡◌, ◌+◌, ℕ, Bool, true, false, not, ◌&&◌, List, [], ◌∷◌, ◌++◌, map, Option, Some, None, refl, sym, ap, ◌∙◌, subst, cond, append-nil}
 use Rattle.mux_outside.specs.declared.house.HouseReply.{HouseReply}
 use Rattle.ssh_grammar.specs.Said.{Outgoing, Body, Payload, BadFraming}

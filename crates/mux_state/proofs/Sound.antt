@@ -1,4 +1,4 @@
--- What an engine keeps, where a stream is closed, bytes are taken or clients leave.
+-- What an engine keeps, where a stream is closed, bytes are accepted or clients leave.
 use Rattle.std.proofs.Common.{◌≡◌, ◌≤◌, ℕ, Bool, true, false, not, ◌||◌, List, [], ◌∷◌, length, map, Option, refl, sym, ap, ◌∙◌, inl, inr, cond, arith}
 use Rattle.std.specs.Prelude.{◌==◌, filter}
 use Rattle.std.proofs.lemmas.Bool.{eq-eqb}
@@ -34,7 +34,7 @@ listed-closed k ks ls h j a = elim (eqb_tells k j) [
   | inr q ↦ ap (among j) (listed-less k ls) ∙ (among-less k j (listed ls) q.1 ∙ h j (among-was k j ks a))
 ]
 
--- where nobody is to be closed nobody was refused
+-- where no client is to be closed none was refused
 pub none-refused : (s : State) → IsSound s → s.leaving ≡ [] → s.refused ≡ []
 none-refused s h e = by_list s.refused s.leaving h.refused e
   where

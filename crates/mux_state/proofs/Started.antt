@@ -1,4 +1,4 @@
--- An engine that was told nothing yet.
+-- An engine to which nothing was reported yet.
 use Rattle.std.proofs.Common.{◌≡◌, ℕ, true, false, ◌||◌, [], ◌∷◌, None, refl, sym, ap, ◌∙◌, subst, cond}
 use Rattle.mux_outside.specs.Streams.{among}
 use Rattle.mux_history.specs.Promises.{is_empty}
@@ -53,7 +53,7 @@ bytes-started s h = record {
   strange = λ k a. record { not_here = not-here s k h; not_closed_yet = refl; no_bytes = λ nz. refl };
 }
 
--- it stands for the empty journal
+-- it represents the empty journal
 pub stands-started : (s : State) → IsStarted s → Stands [] [] s [] []
 stands-started s h = record {
   asks = [];

@@ -1,4 +1,4 @@
--- What the house was asked by an event for which there was no memory.
+-- What was requested of the forwarder by an event for which there was no memory.
 use Rattle.std.proofs.Common.{◌≡◌, ◌≢◌, ℕ, Bool, true, false, List, [], ◌∷◌, ◌++◌, length, drop, map, Option, Some, None, Ok, refl, sym, ap, ◌∙◌, subst, append_assoc}
 use Rattle.std.specs.Prelude.{◌==◌, MatchBool, is_some}
 use Rattle.ssh_grammar.specs.Said.{parse}
@@ -69,7 +69,7 @@ one-here k P (c ∷ cs) h = by_head (c.peer.number == k) h (one-here k P cs)
 pub some-shown : (May : HouseReply → Type 0) (recorded recorded' : Option (List Asked)) (k : ℕ) (bytes : List ℕ) (parts s : State) → parts ≡ s → OneIs k (ReceivesSome May recorded recorded' parts.pid bytes parts.core parts.up) parts.clients → OneIs k (ReceivesSome May recorded recorded' s.pid bytes s.core s.up) s.clients
 some-shown May recorded recorded' k bytes parts s view h = subst (λ (x : State). OneIs k (ReceivesSome May recorded recorded' x.pid bytes x.core x.up) x.clients) view h
 
--- all was taken in, and then there was no memory
+-- all was applied, and then there was no memory
 pub some-heard : {A E : Type 0} {a : A} (May : HouseReply → Type 0) {asks asks' : List Asked} {old new : HouseState} (pid : ℕ) (bytes : List ℕ) (core core' : CoreState) (up up' : QueueState) (heard : RunChange) (k : ℕ) (was now : ClientsState) → is_received was.all k ≡ true
     → NotesOne k (ReceivesIn May (Some asks) (Some asks') pid bytes core core' up up' heard) was now → Applies {A = A} {E = E} (Ok a) asks asks' old new → OneIs k (ReceivesSome May old.recorded new.recorded pid bytes core up) was.all
 some-heard May {asks} {asks'} {old} {new} pid bytes core core' up up' heard k was now read receives h =
@@ -135,7 +135,7 @@ cut-gained May before recorded s k bytes none nz one =
     subst (λ j. CutsShort May before recorded s (Gets j bytes)) p.number
     (cut-piece May before recorded s bytes p.first none (λ z. nz (sym p.number ∙ z)) p.fits p.reads p.is)
 
--- the event at which the house may be asked
+-- the event at which something may be requested of the forwarder
 abbrev pub CutsOne : (HouseReply → Type 0) → Option (List Asked) → Option (List Asked) → State → Event → Type 0
 CutsOne May before recorded s (event.FromClient k bytes) = OneIs k (ReceivesSome May before recorded s.pid bytes.now s.core s.up) s.clients
 CutsOne May before recorded s e = ⊥

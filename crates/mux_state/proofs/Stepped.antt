@@ -42,12 +42,12 @@ pub record Gained (May : HouseReply → Type 0) (before recorded : Option (List 
   pub policy : new.core.policy ≡ s.core.policy
   pub numbers_are : numbers new.clients ≡ numbers s.clients
 
--- the house replied to a client
+-- the forwarder replied to a client
 pub record Replied (s new : State) (k id : ℕ) (given : HouseReply) : Type 0 where
   pub answers : is_served s.clients k ≡ true → AnsweredAt s new k id given
   pub stays : is_served s.clients k ≡ false → new ≡ s
 
--- an event, of those at which the house isn't asked
+-- an event, of those at which nothing is requested of the forwarder
 abbrev pub DidAlone : State → State → Event → Type 0
 DidAlone s new (event.Accepted k) = EntersAt s new k
 DidAlone s new (event.FromClient k bytes) = ⊥
@@ -96,7 +96,7 @@ lost-pid s new k h = by_served (is_served s.clients k) refl
     by_served true e = ((h.loses e).pid, (h.loses e).policy)
     by_served false e = (ap (λ (t : State). t.pid) (h.stays e), ap (λ (t : State). t.core.policy) (h.stays e))
 
--- ---- a client to which the house replies
+-- ---- a client to which the forwarder replies
 
 replied-goes : (s new : State) (k id : ℕ) (given : HouseReply) → k ≢ 0 → s.ended ≡ None → Replied s new k id given → GoesAlone s new (House (HouseAnswer k id given))
 replied-goes s new k id given nz live h = by_served (is_served s.clients k) refl
@@ -126,7 +126,7 @@ gained-goes May before recorded s new k bytes nz live h = by_received (is_receiv
         (subst (λ (o : Option (List Asked)). GoesOn May before o s s (Gets k bytes)) (sym (h.untold e))
         (λ picked given marks closed st al. goes-unheard May before s k bytes nz live (none-so is_read k s.clients (st.at [] []).rows.fit.apart e) picked given marks closed st al))
 
--- ---- an event at which the house isn't asked
+-- ---- an event at which nothing is requested of the forwarder
 
 over-goes : (s new : State) (cause : Ended) (mark : Mark) → new ≡ over s cause → GoesAlone s (over s cause) mark → GoesAlone s new mark
 over-goes s new cause mark is h = subst (λ (t : State). GoesAlone s t mark) (sym is) h

@@ -1,4 +1,4 @@
--- An engine stays as it is where nobody is heard.
+-- An engine stays as it is where no client is read.
 use Rattle.std.proofs.Common.{◌≡◌, ◌≢◌, ℕ, zero, suc, Bool, true, false, not, ◌||◌, List, [], ◌∷◌, ◌++◌, length, drop, map, Option, None, refl, sym, ap, ◌∙◌, subst, append-nil}
 use Rattle.std.specs.Prelude.{◌==◌, is_some}
 use Rattle.std.proofs.lemmas.Bool.{eq-eqb, eqb-true}
@@ -29,7 +29,7 @@ use Rattle.mux_state.proofs.Loses.{still-gone}
 use Rattle.mux_state.proofs.Refused.{refused-out}
 use Rattle.mux_state.proofs.Over.{are-bytes-on, next-live, some-end, strange-on}
 
--- ---- whoever isn't heard
+-- ---- whoever isn't read
 
 no-said : (s : Setting) (k : ℕ) (x : Outgoing) (rows : List Row) → is_ended rows ≡ false → is_out (rows_of k rows) ≡ true → more_of s rows (sent_item k x) ≡ rows
 no-said s k x rows live out = ap (λ b. elim b as (λ _. List Row) [ false ↦ rows | true ↦ next_row s rows (sent_item k x) ∷ rows ]) (next-live rows (sent_item k x) live ∙ ap not out)
@@ -49,7 +49,7 @@ stopped-parse bytes = by_length (length bytes)
     by_length zero = (refl, refl)
     by_length (suc n) = (refl, refl)
 
--- what is said where the reading has stopped
+-- what is sent where the reading has stopped
 stopped-says : (a b : List ℕ) → (parse InControl a).mode ≡ Stopped → drop (length (said a)) (said (a ++ b)) ≡ []
 stopped-says a b e =
     ap (λ (p : Parsed). drop (length (said a)) p.says) (parse-append InControl a b)

@@ -1,4 +1,4 @@
--- The parts of an engine after bytes were taken or a stream was closed.
+-- The parts of an engine after bytes were accepted or a stream was closed.
 use Rattle.std.proofs.Common.{◌≡◌, ℕ, Bool, true, false, not, List, [], Option, length, sym, ap, ◌∙◌, subst, cond}
 use Rattle.std.specs.Prelude.{◌==◌, filter}
 use Rattle.proxy_frames.specs.Queued.{without_first}
@@ -22,7 +22,7 @@ pub record TakeParts (parts : State) (t n : ℕ) (cs : ClientsState) (up : Queue
   pub empty_is : empty ≡ is_empty (waiting_for up cs.all t)
   pub waits : ws ≡ cond empty (without t parts.waiting) parts.waiting
 
--- where nothing waits for the stream any more it is taken off the list of those that wait
+-- where nothing waits for the stream any more it is removed from the list of those that wait
 pub take-parts : (parts : State) (t n : ℕ) (cs : ClientsState) (up : QueueState) (empty left : Bool) (ws : List ℕ) → up ≡ cond (t == 0) (without_first n parts.up) parts.up → cs.all ≡ cond (t == 0) parts.clients (at_client t (client_took n) parts.clients) → cs.leaving ≡ parts.leaving → empty ≡ is_empty (waiting_for up cs.all t)
     → empty ≡ left → ws ≡ cond left (without t parts.waiting) parts.waiting → TakeParts parts t n cs up empty ws
 take-parts parts t n cs up empty left ws up_is clients_are leaving_is empty_is is waits = record {

@@ -1,4 +1,4 @@
--- An event that is taken in: how the engine goes on, and how the run may end.
+-- An event that is applied: how the engine goes on, and how the run may end.
 use Rattle.std.proofs.Common.{◌≡◌, ◌∙◌, true, false, Option, List, Some, None, sym}
 use Rattle.mux_outside.specs.declared.house_mark.HouseMark.{HouseMark as Asked}
 use Rattle.mux_outside.specs.declared.house.HouseReply.{HouseReply}
@@ -27,7 +27,7 @@ asking-idle : (May : HouseReply → Type 0) (before recorded : Option (List Aske
 asking-idle May before recorded s new (event.FromClient k bytes) d = tt
 asking-idle May before recorded s new e d = absurd d
 
--- an event at which the house isn't asked, and one at which it may be
+-- an event at which nothing is requested of the forwarder, and one at which it may be
 pub did-takes : (May : HouseReply → Type 0) (recorded : Option (List Asked)) (s new : State) (e : Event) → s.ended ≡ None → DidAlone s new e → TakesIn May recorded recorded e s new
 did-takes May recorded s new e live d = record {
   stands = λ mark t. did-goes May recorded s new e mark live d t;
@@ -50,7 +50,7 @@ over-takes May recorded s e cause over = record {
   ends = λ mark t picked given marks closed st al live. absurd (let z : Some cause ≡ None = sym over ∙ live in cc);
 }
 
--- as the code shows them: the parts before a step, what it is, and those behind it
+-- as the code shows them: the parts before a step, what it is, and those after it
 pub takes-shown : (May : HouseReply → Type 0) (before recorded : Option (List Asked)) (parts s parts' t : State) (e : Event) → parts ≡ s → parts' ≡ t → TakesIn May before recorded e (fed true parts) t → TakesIn May before recorded e s (fed false parts')
 takes-shown May before recorded parts s parts' t e is is' h = record {
   stands = λ mark m. goes-shown May before recorded parts s parts' t mark is is' (h.stands mark m);

@@ -41,7 +41,7 @@ stands-alike a b picked given s closed h st = record {
       };
 }
 
--- ---- the house as a client
+-- ---- the forwarder as a client
 
 nothing : (b : Bool) → [] ≡ elim b as (λ _. List ℕ) [ true ↦ [] | false ↦ [] ]
 nothing true = refl

@@ -1,4 +1,4 @@
--- The streams that wait, after bytes were taken of one.
+-- The streams that wait, after bytes were accepted by one.
 use Rattle.std.proofs.Common.{◌≡◌, ◌≢◌, ℕ, Bool, true, false, List, [], ◌∷◌, drop, refl, sym, ap, ◌∙◌, inl, inr, cond, arith}
 use Rattle.std.specs.Prelude.{◌==◌}
 use Rattle.std.proofs.lemmas.Bool.{eqb-true}
@@ -58,7 +58,7 @@ took_head false k n c cs ds e a ih =
     took_next k c (waiting_clients cs) (waiting_clients ds) (is_empty (queue_at ds k)) (is_empty c.peer.queue) e (ih refl)
     ∙ ap (λ (b : Bool). cond (is_empty (cond b c.peer.queue (queue_at ds k))) (without k (waiting_clients (c ∷ cs))) (waiting_clients (c ∷ cs))) (sym e)
 
--- after bytes were taken of a stream it waits as long as some are left
+-- after bytes were accepted by a stream it waits as long as some are left
 pub waiting_took : (k n : ℕ) (cs : List ClientState) → AreApart cs → is_present cs k ≡ true → waiting_clients (at_client k (client_took n) cs) ≡ cond (is_empty (queue_at (at_client k (client_took n) cs) k)) (without k (waiting_clients cs)) (waiting_clients cs)
 waiting_took k n [] apart p = absurd (cc)
 waiting_took k n (c ∷ cs) apart p =

@@ -74,7 +74,7 @@ lose-written s parts new k cs core up ws view is p =
       waiting = p.waits;
     })
 
--- ---- a client to which the house replies
+-- ---- a client to which the forwarder replies
 
 replies-of : (k id : ℕ) (given : HouseReply) (noted : List (ℕ × Option Why)) (old new : CoreState) (up up' : QueueState) (x y : ClientState) → not_lost x.peer.standing ≡ true → AnswersNoting k id given noted old new up up' x y → (is_lost x.peer.standing ≡ false) × AnswersNoting k id given noted old new up up' x y
 replies-of k id given noted old new up up' x y e h = (by_lost (is_lost x.peer.standing) refl, h)

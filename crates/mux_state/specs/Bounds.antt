@@ -11,8 +11,8 @@ use Rattle.mux_bounds.specs.Bounds.{ReadsWithRoom, longest_server_queue}
 use Rattle.mux_state.specs.Stands.{Stands, setting}
 use Rattle.mux_state.specs.State.{State, queue_in}
 
--- bytes are read, clients accepted and the house heard only while less than 4,194,304 bytes wait for
--- the server
+-- bytes are read, clients accepted and the forwarder read only while less than 4,194,304 bytes wait
+-- for the server
 abbrev pub ReadsInTime : List ℕ → List HouseReply → State → List Mark → Type 0
 ReadsInTime picked given s marks =
     (picks : List ℕ) (replies : List HouseReply)

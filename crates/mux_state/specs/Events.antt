@@ -17,7 +17,7 @@ use Rattle.mux_state.specs.Others.{ServerLeavesIdle}
 use Rattle.mux_state.specs.State.{State, SameClient, numbers}
 use Rattle.mux_state.specs.Stands.{GoesOn, IsAllowed, Stands}
 
--- a mark tells this event; a stream fails at a wait or at a write
+-- a mark records this event; a stream fails at a wait or at a write
 abbrev pub Records : Event → Mark → Type 0
 Records (Accepted k) mark = mark ≡ Accepts k
 Records (FromClient k bytes) mark = (k ≢ 0) × (mark ≡ Gets k bytes.now)
@@ -34,7 +34,8 @@ went_of (Some ended) = Over ended
 
 -- ---- what an event leaves as it was
 
--- the streams of clients that are open: of those that were let in, then of those that were refused
+-- the streams of clients that are open: of those that were admitted, then of those that were
+-- refused
 abbrev pub here : State → List ℕ
 here s = numbers s.clients ++ s.refused
 
@@ -43,7 +44,7 @@ pub record SameStreams (old new : State) : Type 0 where
   pub clients : numbers new.clients ≡ numbers old.clients
   pub refused : new.refused ≡ old.refused
 
--- a client was let in
+-- a client was admitted
 pub record LetsIn (k : ℕ) (old new : State) : Type 0 where
   pub clients : numbers new.clients ≡ numbers old.clients ++ k ∷ []
   pub refused : new.refused ≡ old.refused
@@ -58,7 +59,7 @@ abbrev pub Arrives : Event → State → State → Type 0
 Arrives (Accepted k) old new = LetsIn k old new ⊎ Refuses k old new
 Arrives event old new = SameStreams old new
 
--- each client but the one that the event tells of; the server may say something to each of them
+-- each client but the one that the event is about; the server may send something to each of them
 abbrev pub LeavesOthers : Event → State → State → Type 0
 LeavesOthers (Accepted k) old new = (j : ℕ) → k ≢ j → SameClient j old.clients new.clients
 LeavesOthers (FromClient k bytes) old new = (j : ℕ) → k ≢ j → SameClient j old.clients new.clients
@@ -70,9 +71,9 @@ LeavesOthers (FromServer bytes) old new = Unit {0}
 LeavesOthers ServerEnd old new = new.clients ≡ old.clients
 LeavesOthers ServerFailed old new = new.clients ≡ old.clients
 
--- how an event may end a run that goes on: only what a client or the server says may, and the end
--- or the failure of the server; none spends the turns of the run, and none refuses a forwarding that
--- it began with
+-- how an event may end a run that goes on: only what a client or the server sends may, and the end
+-- or the failure of the server; none spends the turns of the run, and none refuses a forwarding
+-- that it began with
 abbrev pub MayEnd : Event → Option Ended → Type 0
 MayEnd (Accepted k) now = now ≡ None
 MayEnd (ClientEnd k) now = now ≡ None
@@ -89,8 +90,8 @@ EndsBy event old new mark =
     → Stands picked given old marks closed → IsAllowed old marks mark → old.ended ≡ None
     → MayEnd event new.ended
 
--- an event was taken in: the engine goes on by each mark that tells it, the server's piece leaves the
--- clients as they were for which it makes no row, and the run may end so
+-- an event was applied: the engine goes on by each mark that records it, the server's piece leaves
+-- the clients as they were for which it makes no row, and the run may end so
 pub record TakesIn (May : HouseReply → Type 0) (before now : Option (List Asked)) (event : Event)
     (old new : State) : Type 0 where
   pub stands : (mark : Mark) → Records event mark → GoesOn May before now old new mark

@@ -1,4 +1,4 @@
--- What an engine keeps after each thing that happens, and the laws that it then stands for the
+-- What an engine keeps after each thing that happens, and the laws that it then represents the
 -- journal with the mark.
 use Rattle.std.specs.Prelude.{◌≡◌, ◌≢◌, ◌==◌, ◌&&◌, ℕ, Bool, true, false, not, List, [], ◌∷◌, ◌++◌, length, Option, Some, None}
 use Rattle.std.specs.List.{AllByRecursion}
@@ -82,7 +82,7 @@ pub record GainsAt (May : HouseReply → Type 0) (before recorded : Option (List
   pub ended : new.ended ≡ heard.ended
   pub waiting : new.waiting ≡ waiting_in new
 
--- the house replied to a client that isn't lost
+-- the forwarder replied to a client that isn't lost
 pub record AnsweredAt (s new : State) (k id : ℕ) (given : HouseReply) : Type 0 where
   pub pid : new.pid ≡ s.pid
   pub policy : new.core.policy ≡ s.core.policy
@@ -107,7 +107,7 @@ pub record ReceivedAt (s new : State) (bytes : List ℕ) : Type 0 where
 
 -- ---- the laws
 
--- a stream is closed, and bytes are taken of one
+-- a stream is closed, and bytes are accepted by one
 abbrev pub ClosedGoesOn : Type 0
 ClosedGoesOn = (s : State) (k : ℕ) → IsFirst k s.leaving → Closes s (closed_by s k) k
 
@@ -142,7 +142,7 @@ pub record LossLaws : Type 0 where
   pub stays : (s : State) (k : ℕ) (mark : Mark) → k ≢ 0 → IsGone mark k → s.ended ≡ None
       → NoneStands not_lost k s.clients → GoesAlone s s mark
 
--- the house replies to a client later, and to one that is lost
+-- the forwarder replies to a client later, and to one that is lost
 abbrev pub AnsweredGoesOn : Type 0
 AnsweredGoesOn = (s new : State) (k id : ℕ) (given : HouseReply) → k ≢ 0 → s.ended ≡ None
     → is_present s.clients k ≡ true → AnsweredAt s new k id given

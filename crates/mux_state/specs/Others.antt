@@ -24,7 +24,7 @@ use Rattle.mux_state.specs.Steps.{is_served}
 
 -- ---- what the shared connection keeps of a client
 
--- a channel: the numbers of both sides, the number that stands for it towards the server, and both
+-- a channel: the numbers of both sides, the number that represents it towards the server, and both
 -- windows
 pub record HeldChannel : Type 0 where
   pub channel : Channel
@@ -87,12 +87,12 @@ LeavesIdle bytes old new =
     → (picks : List ℕ) (replies : List HouseReply) (k : ℕ)
     → MakesNoRow k bytes old (picked ++ picks) (given ++ replies) marks → StaysAsItWas k old new
 
--- of the events those of the server's bytes alone; what the others leave, `LeavesOthers` says
+-- of the events those of the server's bytes alone; what the others leave, `LeavesOthers` defines
 abbrev pub ServerLeavesIdle : Event → State → State → Type 0
 ServerLeavesIdle (FromServer bytes) old new = LeavesIdle bytes.now old new
 ServerLeavesIdle event old new = Unit {0}
 
--- whatever was heard of the server
+-- whatever was received from the server
 abbrev pub ReceivedLeavesIdle : Type 0
 ReceivedLeavesIdle = (s new : State) (bytes : List ℕ) → s.ended ≡ None → ReceivedAt s new bytes
     → LeavesIdle bytes s new
@@ -106,7 +106,7 @@ pub record IsKeptAlike (k : ℕ) (s t : State) : Type 0 where
       → peer_in t.clients k ≡ peer_in s.clients k
   pub matters : s.ended ≡ None → t.ended ≡ None → matters_of k t.core ≡ matters_of k s.core
 
--- of two engines, or of one at two moments, which stand for journals with the same rows of a client
+-- of two engines, or of one at two moments, which represent journals with the same rows of a client
 abbrev pub KeptByOwnRows : Type 0
 KeptByOwnRows =
     (s t : State) (picked picked' : List ℕ) (given given' : List HouseReply)

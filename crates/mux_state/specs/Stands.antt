@@ -1,4 +1,4 @@
--- An engine stands for a journal, the newest mark first, and for the clients that were closed: one
+-- An engine represents a journal, the newest mark first, and for the clients that were closed: one
 -- clause a part.
 use Rattle.std.specs.Prelude.{◌≡◌, ◌≢◌, ◌^◌, ◌-◌, min, ℕ, Bool, true, false, not, List, [], ◌∷◌, ◌++◌, length, filter, Option}
 use Rattle.ssh_fields.specs.Fields.{AreBytes}
@@ -42,7 +42,7 @@ log s picks replies marks = log_of_journal (setting s picks replies) marks
 abbrev pub not_closed : List ℕ → ℕ × Option Why → Bool
 not_closed closed l = not (among l.0 closed)
 
--- the rows of a client that was let in: it was never refused
+-- the rows of a client that was admitted: it was never refused
 pub record IsKnown (own : List Row) : Type 0 where
   pub admitted : any_of is_admit own ≡ true
   pub out_is : is_out own ≡ has_loss own
@@ -55,8 +55,9 @@ refusal k = bare (Admit k) k (record { sent = []; recorded = []; ends = Refused 
 abbrev pub place : List Row → ℕ
 place rows = min (next_index rows) (2 ^ 64 - 1)
 
--- with so many numbers taken, and the house asked this: the shared connection, the clients and what
--- waits for the server stand for the rows, and everything else that is kept is what the rows say
+-- with so many numbers used, and this requested of the forwarder: the shared connection, the
+-- clients and what waits for the server represent the rows, and everything else that is kept is
+-- what the rows define
 pub record RowsFit (taken : ℕ) (drawn : List Asked) (s : State) (closed : List ℕ)
     (rows : List Row) : Type 0 where
   pub taken_is : numbers_taken rows ≡ taken
@@ -96,7 +97,7 @@ pub record ServerReads (bytes : List ℕ) (server : ServerState) : Type 0 where
   pub mode_is : (parse InProxy bytes).mode ≡ InProxy
   pub rest_is : (parse InProxy bytes).rest ≡ server.rest
 
--- a client that was never accepted: nobody knows of it, and it said nothing, unless its number is that
+-- a client that was never accepted: it is not known, and it sent nothing, unless its number is that
 -- of a stream of the master's own
 pub record IsStrange (s : State) (marks : List Mark) (closed : List ℕ) (k : ℕ) : Type 0 where
   pub not_here : is_here s k ≡ false
@@ -121,8 +122,8 @@ pub record Represents (picks : List ℕ) (replies : List HouseReply) (taken : �
   pub rows : RowsFit taken drawn s closed (log s picks replies marks)
   pub bytes : BytesFit s marks closed (log s picks replies marks)
 
--- these numbers were taken and these replies given so far, one to each ask, and whatever is picked
--- and replied later, the engine stands for the marks and for the clients that were closed
+-- these numbers were used and these replies given so far, one to each request, and whatever is
+-- picked and replied later, the engine represents the marks and for the clients that were closed
 pub record Stands (picked : List ℕ) (given : List HouseReply) (s : State) (marks : List Mark)
     (closed : List ℕ) : Type 0 where
   pub asks : List Asked
@@ -132,7 +133,7 @@ pub record Stands (picked : List ℕ) (given : List HouseReply) (s : State) (mar
 
 -- ---- one step more
 
--- a reply of the house is for a client that was accepted
+-- a reply of the forwarder is for a client that was accepted
 abbrev pub HouseAllowed : List Mark → HouseMark → Type 0
 HouseAllowed marks (HouseAnswer client id given) = (client ≢ 0) × (is_accepted client marks ≡ true)
 HouseAllowed marks mark = Unit {0}
@@ -155,9 +156,9 @@ IsAllowed s marks (Frees k) = Unit {0}
 IsAllowed s marks (Holds k) = Unit {0}
 IsAllowed s marks (Waits waiting want streams listens) = Unit {0}
 
--- some numbers more were picked and some replies given, each of which the house may give, and the
--- engine stands for the journal with the mark; the house, which told `before` and tells `now`, was
--- told exactly these asks, which are those that the new rows have
+-- some numbers more were picked and some replies given, each of which the forwarder may give, and
+-- the engine represents the journal with the mark; to the forwarder, which recorded `before` and
+-- records `now`, exactly these requests were reported, which are those that the new rows have
 pub record GoesBy (May : HouseReply → Type 0) (before now : Option (List Asked)) (picked : List ℕ)
     (given : List HouseReply) (old new : State) (mark : Mark) (marks : List Mark)
     (closed : List ℕ) : Type 0 where
@@ -171,7 +172,8 @@ pub record GoesBy (May : HouseReply → Type 0) (before now : Option (List Asked
       → asked_of (log new ((picked ++ picks) ++ p) ((given ++ replies) ++ r) (mark ∷ marks))
       ≡ asked_of (log old ((picked ++ picks) ++ p) ((given ++ replies) ++ r) marks) ++ asks
 
--- from every journal that the engine stood for, it stands afterwards for that journal with the mark
+-- from every journal that the engine represented, it stands afterwards for that journal with the
+-- mark
 abbrev pub GoesOn : (HouseReply → Type 0) → Option (List Asked) → Option (List Asked) → State
     → State → Mark → Type 0
 GoesOn May before now old new mark =
@@ -179,9 +181,9 @@ GoesOn May before now old new mark =
     → Stands picked given old marks closed → IsAllowed old marks mark
     → GoesBy May before now picked given old new mark marks closed
 
--- where memory was wanting for the mark: some numbers more were picked and some replies given, each
--- of which the house may give; the house, which told `before` and tells `now`, was told these asks,
--- which are the first of those that the rows of the mark have
+-- where memory ran out for the mark: some numbers more were picked and some replies given, each of
+-- which the forwarder may give; to the forwarder, which recorded `before` and records `now`, these
+-- requests were reported, which are the first of those that the rows of the mark have
 pub record AsksFirst (May : HouseReply → Type 0) (before now : Option (List Asked))
     (picked : List ℕ) (given : List HouseReply) (s : State) (mark : Mark) (marks : List Mark) :
     Type 0 where
@@ -194,7 +196,7 @@ pub record AsksFirst (May : HouseReply → Type 0) (before now : Option (List As
       → BeginsWith (asked_of (log s ((picked ++ picks) ++ p) ((given ++ replies) ++ r) marks)) asks
       (asked_of (log s ((picked ++ picks) ++ p) ((given ++ replies) ++ r) (mark ∷ marks)))
 
--- from every journal that the engine stood for
+-- from every journal that the engine represented
 abbrev pub CutsShort : (HouseReply → Type 0) → Option (List Asked) → Option (List Asked) → State
     → Mark → Type 0
 CutsShort May before now s mark =
@@ -202,7 +204,7 @@ CutsShort May before now s mark =
     → Stands picked given s marks closed → IsAllowed s marks mark
     → AsksFirst May before now picked given s mark marks
 
--- an engine goes on where nothing is picked and the house isn't asked
+-- an engine goes on where nothing is picked and nothing is requested of the forwarder
 abbrev pub GoesAlone : State → State → Mark → Type 0
 GoesAlone old new mark =
     (picked : List ℕ) (given : List HouseReply) (marks : List Mark) (closed : List ℕ)

@@ -19,7 +19,7 @@ pub use Rattle.mux_peers.specs.Among.{at_client, first_of, in_client, numbers, w
 pub use Rattle.mux_peers.specs.Losing.{loss_in, loss_between}
 pub use Rattle.mux_peers.specs.Room.{served_in}
 
--- the shared connection; what the server said that isn't cut yet, and what waits for it; the
+-- the shared connection; what the server sent that isn't cut yet, and what waits for it; the
 -- clients in the order in which they came; those that were refused and not closed; those that are
 -- lost or refused and not closed in that order; the streams with something that waits; whether
 -- clients are accepted; and how the run ended
@@ -36,7 +36,7 @@ pub record State : Type 0 where
   pub ended : Option Ended
   pub starved : Bool
 
--- nobody is here, and nothing waits
+-- no client is here, and nothing waits
 pub record HasNobody (s : State) : Type 0 where
   pub clients : s.clients ≡ []
   pub refused : s.refused ≡ []
@@ -81,9 +81,9 @@ closed_by s k = record s {
       without k s.waiting;
 }
 
--- ---- what was taken
+-- ---- what was accepted
 
--- so many bytes that a stream took, and then the streams that wait
+-- so many bytes that a stream accepted, and then the streams that wait
 abbrev pub took : State → ℕ → ℕ → State
 took s t n = if is_server t then record s { up = without_first n s.up }
     else record s { clients = at_client t (client_took n) s.clients }
@@ -107,14 +107,14 @@ server_cause s = elim s.server.rest [
 
 -- ---- who is here
 
--- the stream of a client is open: the client was let in, or it was refused and its stream is not
+-- the stream of a client is open: the client was admitted, or it was refused and its stream is not
 -- closed yet
 abbrev pub is_here : State → ℕ → Bool
 is_here s k = is_present s.clients k || among k s.refused
 
 -- ---- a client comes
 
--- it is let in, or refused, after which the streams that wait are listed anew
+-- it is admitted, or refused, after which the streams that wait are listed anew
 abbrev pub entered : State → CoreState → QueueState → ℕ → Bool → State
 entered s core' up' k true =
     let s' = record s { core = core'; up = up'; clients = s.clients ++ new_client k ∷ [] } in

@@ -21,7 +21,7 @@ waiting_of up cs = if is_empty up then waiting_clients cs else 0 ∷ waiting_cli
 abbrev pub waiting_for : QueueState → List ClientState → ℕ → List ℕ
 waiting_for up cs t = if is_server t then up.waiting else in_client [] (λ c. c.peer.queue) cs t
 
--- a client came: it was let in, or refused and is to be closed
+-- a client came: it was admitted, or refused and is to be closed
 pub record ReceivesFrom (k : ℕ) (core core' : CoreState) (cs cs' : ClientsState)
     (refused refused' : List ℕ) : Type 0 where
   pub let_in : Bool

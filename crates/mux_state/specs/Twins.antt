@@ -1,4 +1,4 @@
--- The house's marks and those of its streams and listeners: what an engine stands for by them.
+-- The forwarder's marks and those of its streams and listeners: what an engine represents by them.
 use Rattle.std.specs.Prelude.{◌≡◌, ℕ, Bool, true, List, ◌∷◌, length, Option}
 use Rattle.mux_outside.specs.declared.house.HouseReply.{HouseReply}
 use Rattle.mux_outside.specs.declared.house_mark.HouseMark.TheVariants.{HouseIn, HouseSaid, HouseTook, HouseAsked, HouseOrder}
@@ -18,12 +18,12 @@ pub record AreAlike (a b : List Mark) : Type 0 where
   pub bytes : (t : ℕ) → bytes_of t a ≡ bytes_of t b
   pub accepted : (k : ℕ) → is_accepted k a ≡ is_accepted k b
 
--- an engine that stands for one stands for the other
+-- an engine that represents one represents the other
 abbrev pub StandsAlike : Type 0
 StandsAlike = (a b : List Mark) (picked : List ℕ) (given : List HouseReply) (s : State)
     (closed : List ℕ) → AreAlike a b → Stands picked given s a closed → Stands picked given s b closed
 
--- the house is let in, speaks and takes as a client does
+-- the forwarder is admitted, sends and accepts as a client does
 pub record HouseIsClient : Type 0 where
   pub let_in : (marks : List Mark) → AreAlike (Accepts HOUSE ∷ marks) (House HouseIn ∷ marks)
   pub says : (marks : List Mark) (bytes : List ℕ)

@@ -69,9 +69,9 @@ fn went_by(ended: Option<Ended>) -> Went
 }
 
 impl Engine {
-    /// An engine that was told nothing yet. It permits what the policy does, and tells the process
-    /// id to clients that check. It has room for the farewells of as many clients as may have open
-    /// matters.
+    /// An engine to which nothing was reported yet. It permits what the policy does, and sends the
+    /// process id to clients that check. It has room for the farewells of as many clients as may
+    /// have open matters.
     pub fn new(alloc: Global, policy: Policy, pid: u32) -> Result<Engine, OutOfMemory>
         ensures policy { IfOk result (λ engine. engine.core.policy ≡ policy) }
         ensures pid { IfOk result (λ engine. engine.pid ≡ pid) }
@@ -102,10 +102,10 @@ impl Engine {
         }
     }
 
-    /// Takes in what happened at a stream, or a reply of the house. The house is told what the client
-    /// asks by it, and that is added to `asks`. A client
-    /// is accepted once, with a number from 1 on, and all other events of clients name one that was
-    /// accepted. Once there was no memory there is none for any later event.
+    /// Applies what happened at a stream, or a reply of the forwarder. What the client requests by
+    /// it is reported to the forwarder, and that is added to `asks`. A client is accepted once,
+    /// with a number from 1 on, and all other events of clients name one that was accepted. Once
+    /// there was no memory there is none for any later event.
     pub fn event<H: Asks>(
         &mut self,
         e: Event<'_>,
@@ -176,7 +176,7 @@ impl Engine {
         }
     }
 
-    // A client comes: it is let in, where fewer than 64 have open matters.
+    // A client comes: it is admitted, where fewer than 64 have open matters.
     fn enter(&mut self, client: u64) -> Result<(), OutOfMemory>
         requires starved { self.old.starved ≡ true }
         requires ready { IsReady self.old }
@@ -247,7 +247,7 @@ impl Engine {
         list_waiting(&mut self.waiting, &self.up, &self.clients)
     }
 
-    // The house replies to a client's ask later than at once.
+    // The forwarder replies to a client's request later than at once.
     fn answer(&mut self, client: u64, id: u32, reply: HouseReply) -> Result<(), OutOfMemory>
         requires starved { self.old.starved ≡ true }
         requires ready { IsReady self.old }

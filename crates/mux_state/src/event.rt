@@ -12,7 +12,7 @@ pub enum Event<'a> {
     ClientEnd(u64),
     /// A client's stream failed.
     ClientFailed(u64),
-    /// The house replied to a client's ask, with the id of the ask, later than at once.
+    /// The forwarder replied to a client's request, with the id of the request, later than at once.
     HouseSays(u64, u32, HouseReply),
     /// The server's stream gave bytes.
     FromServer(&'a [u8]),

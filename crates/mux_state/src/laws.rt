@@ -11,7 +11,7 @@ pub fn a_stream_is_closed()
     ensures { ClosedGoesOn }
 {}
 
-/// Bytes are taken of what waits for a stream.
+/// A stream accepts bytes of what waits for it.
 pub fn bytes_are_taken()
     ensures { TakenGoesOn }
 {}
@@ -26,7 +26,7 @@ pub fn the_server_ends()
     ensures { ServerLaws }
 {}
 
-/// A client comes, and is let in or refused.
+/// A client comes, and is admitted or refused.
 pub fn a_client_comes()
     ensures { EnteredGoesOn }
 {}
@@ -36,7 +36,7 @@ pub fn a_client_is_lost()
     ensures { LossLaws }
 {}
 
-/// A client that is read gave bytes, by which a house may have been asked.
+/// A client that is read gave bytes, by which something may have been requested of a forwarder.
 pub fn a_client_is_received<H: Asks>()
     ensures { GainedGoesOn H.may }
 {}
@@ -62,13 +62,13 @@ pub fn a_client_follows_from_its_rows()
     ensures { KeptByOwnRows }
 {}
 
-/// The house replies to a client's ask later than at once.
+/// The forwarder replies to a client's request later than at once.
 pub fn the_house_replies()
     ensures { AnsweredGoesOn }
 {}
 
-/// The house is let in, speaks and takes as a client does, and what else is told of it and of its
-/// streams leaves the engine as it was.
+/// The forwarder is admitted, sends and accepts as a client does, and what else is recorded of it
+/// and of its streams leaves the engine as it was.
 pub fn the_house_is_a_client()
     ensures alike { StandsAlike }
     ensures client { HouseIsClient }

@@ -15,7 +15,7 @@ use mux_peers::Clients;
 use proxy_frames::Queue;
 use ssh_fields::OutOfMemory;
 
-// A client comes: it is let in, or it is refused and to be closed.
+// A client comes: it is admitted, or it is refused and to be closed.
 pub fn take_in(
     clients: &mut Clients,
     refused: &mut Streams,
@@ -34,7 +34,7 @@ pub fn take_in(
     refused.push(number)
 }
 
-// So many bytes that wait for a stream were taken: whether none waits now.
+// So many bytes that wait for a stream were accepted: whether none waits now.
 pub fn take(up: &mut Queue, clients: &mut Clients, stream: u64, n: usize) -> bool
     requires { n ≤ length (waiting_for up.old clients.old.all stream) }
     ensures up { up.new ≡ (if is_server stream then without_first n up.old else up.old) }

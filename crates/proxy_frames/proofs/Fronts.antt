@@ -12,7 +12,7 @@ use Rattle.ssh_grammar.specs.Frames.{Front, More, Faulty, cut_content, cut_lengt
 use Rattle.proxy_frames.specs.declared.next.Front.{Front as Found}
 use Rattle.proxy_frames.specs.Fronts.{IsFront}
 
--- the bytes behind the length field
+-- the bytes after the length field
 pub behind-length : (bytes : List ℕ) (n : ℕ) (rest : List ℕ) → take_u32 bytes ≡ Some (n, rest) → (4 ≤ length bytes) × (rest ≡ drop 4 bytes)
 behind-length [] n rest e = absurd (cc)
 behind-length (a ∷ []) n rest e = absurd (cc)
@@ -29,7 +29,7 @@ front-in_range framing bytes n rest e low high =
     ∙ (ap (λ t. elim t as (λ _. Front) [ true ↦ Faulty (bad.Short n) | false ↦ elim (nat_lt LONGEST_FRAME n) as (λ _. Front) [ true ↦ Faulty (bad.Long n) | false ↦ cut_rest framing n rest ] ]) not_short
     ∙ ap (λ t. elim t as (λ _. Front) [ true ↦ Faulty (bad.Long n) | false ↦ cut_rest framing n rest ]) not_long)
 
--- a control message's body stands behind its length
+-- a control message's body stands after its length
 pub front-control : (framing : Framing) (bytes : List ℕ) (n : ℕ) (rest : List ℕ) (p : Found) → take_u32 bytes ≡ Some (n, rest) → framing ≡ Control → shortest framing ≤ n → n ≤ LONGEST_FRAME
     → IsFront bytes p (cut_content n (drop 4 bytes)) → IsFront bytes p (first_frame framing bytes)
 front-control framing bytes n rest p e is low high h =
@@ -37,7 +37,7 @@ front-control framing bytes n rest p e is low high h =
     front-in_range framing bytes n rest e low high ∙ (ap (λ k. cut_rest k n rest) is ∙ ap (cut_content n) (behind-length bytes n rest e).1) in
     subst (IsFront bytes p) (sym front) h
 
--- a payload stands behind its length and the padding length
+-- a payload stands after its length and the padding length
 pub front-proxy : (framing : Framing) (bytes : List ℕ) (n : ℕ) (rest : List ℕ) (b : ℕ) (after : List ℕ) (p : Found) → take_u32 bytes ≡ Some (n, rest) → framing ≡ Proxy → shortest framing ≤ n → n ≤ LONGEST_FRAME
     → take_u8 rest ≡ Some (b, after) → b ≡ 0 → IsFront bytes p (cut_content (n - 1) (drop 5 bytes)) → IsFront bytes p (first_frame framing bytes)
 front-proxy framing bytes n [] b after p e is low high u zero_padding h = absurd (cc)

@@ -1,4 +1,4 @@
--- A framer goes on to stand for what its history became.
+-- A framer goes on to represent what its history became.
 use Rattle.std.proofs.Common.{◌≡◌, ℕ, List, [], ◌∷◌, ◌++◌, refl, sym, ◌∙◌, ap, subst, Option, Some, None, append_assoc}
 use Rattle.ssh_fields.specs.Fields.{AreBytes}
 use Rattle.ssh_grammar.specs.declared.fault.BadFrame.{BadFrame}
@@ -30,7 +30,7 @@ pub record Goes (h : History) (f : FramerState) (front : Front) : Type 0 where
   pub current : (after_front front f).current ≡ frame_next h
   pub stands : Represents (and_next h) (after_front front f)
 
--- before a fault was told the history goes by the frames to come
+-- before a fault was reported the history goes by the frames to come
 goes-on : (h : History) (f : FramerState) (front : Front) (after : History) → h.recorded ≡ None → answer_to front ≡ next_in (to_come h) (cut_of h).fault → (after_front front f).current ≡ first_of (to_come h)
     → and_next_in (to_come h) (cut_of h).fault h ≡ after → Represents after (after_front front f) → Goes h f front
 goes-on h f front after e answer current goes stands = record {
@@ -39,7 +39,7 @@ goes-on h f front after e answer current goes stands = record {
   stands = subst (λ (x : History). Represents x (after_front front f)) (sym (ap (λ (t : Option BadFrame). once_recorded t (λ _. h) (and_next_in (to_come h) (cut_of h).fault h)) e ∙ goes)) stands;
 }
 
--- a fault that was told is told again
+-- a fault that was reported is reported again
 goes-recorded : (h : History) (f : FramerState) (fault : BadFrame) → h.recorded ≡ Some fault → Represents h f → Goes h f (Faulty fault)
 goes-recorded h f fault e st = record {
   answer = sym (ap (λ (t : Option BadFrame). once_recorded t next.Bad (next_in (to_come h) (cut_of h).fault)) e);
@@ -81,7 +81,7 @@ goes-more h f e st framing front =
     (ap (λ (l : List (List ℕ)). and_next_in l (cut_of h).fault h) coming ∙ ap (λ (t : Option BadFrame). and_next_in [] t h) fault)
     (stands_by h (after_front More f) st.valid st.filled st.fault (subst (λ (t : Option BadFrame). HasRecorded t h (after_front More f)) (sym e) framing))
 
--- a fault is told
+-- a fault is reported
 goes-fault : (h : History) (f : FramerState) (bad : BadFrame) → h.recorded ≡ None → Represents h f → first_frame h.framing f.rest ≡ Faulty bad → Goes h f (Faulty bad)
 goes-fault h f bad e st front =
     let c : cut h.framing f.rest ≡ record { frames = []; rest = f.rest; fault = Some bad } = cut-at h.framing f.rest (Faulty bad) front in

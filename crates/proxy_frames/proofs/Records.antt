@@ -1,4 +1,4 @@
--- When more is wanted, and when a fault is told.
+-- When more is wanted, and when a fault is reported.
 use Rattle.std.proofs.Common.{rules, ◌≡◌, ℕ, ◌-◌, List, ◌++◌, length, take, drop, refl, sym, ◌∙◌, ap, subst, Option, Some, None, inl, inr}
 use Rattle.std.specs.Prelude.{◌↔◌}
 use Rattle.std.proofs.lemmas.List.{take_rest}
@@ -28,7 +28,7 @@ fault-stays framing bytes more fault is =
 
 -- ---- at a framer
 
--- before a fault was told the front is that of the rest
+-- before a fault was reported the front is that of the rest
 front-untold : (f : FramerState) → f.fault ≡ None → front_of f ≡ first_frame f.framing f.rest
 front-untold f e = ap (λ (t : Option BadFrame). once_recorded t Faulty (first_frame f.framing f.rest)) e
 

@@ -1,4 +1,4 @@
--- Frames that are taken as pieces come are those of the whole stream.
+-- Frames that are removed as pieces come are those of the whole stream.
 use Rattle.std.proofs.Common.{arith, ◌≡◌, ℕ, zero, suc, ◌+◌, ◌-◌, ◌<◌, ◌≤◌, List, [], ◌∷◌, ◌++◌, length, refl, sym, ◌∙◌, ap, subst, Option, Some, None, append_assoc}
 use Rattle.std.proofs.lemmas.List.{append-nil}
 use Rattle.ssh_grammar.specs.declared.fault.BadFrame.{BadFrame}
@@ -15,7 +15,7 @@ use Rattle.proxy_frames.proofs.Stands.{to_come-is, fault-is}
 
 -- ---- all frames that are there
 
--- what was taken is the cut, and the framer cuts as before
+-- what was removed is the cut, and the framer cuts as before
 pub record IsCut (framing : Framing) (c : Cut) (t : Taken) : Type 0 where
   pub made : cut_taken t ≡ c
   pub cuts : t.framer.framing ≡ framing
@@ -42,7 +42,7 @@ taken-is (suc n) f none h = subst (λ (front : Front). IsCut f.framing (cut f.fr
     by_front More e s go = record { made = (λ i. record { frames = []; rest = f.rest; fault = none i }) ∙ sym (cut-at f.framing f.rest More e); cuts = refl }
     by_front (Faulty bad) e s go = record { made = sym (cut-at f.framing f.rest (Faulty bad) e); cuts = refl }
 
--- after a fault nothing is taken
+-- after a fault nothing is removed
 taken-recorded : (f : FramerState) (bad : BadFrame) → f.fault ≡ Some bad → IsCut f.framing (record { frames = []; rest = f.rest; fault = Some bad }) (taken f)
 taken-recorded f bad e =
     let n : length f.rest + 1 ≡ suc (length f.rest) = omega arith in
@@ -70,7 +70,7 @@ fault-stands (suc n) framing bytes bad h e = by_front (first_frame framing bytes
         let same : other ≡ bad = cc in
         ap (λ (x : Cut). first_frame framing x.rest) c ∙ (is ∙ ap Faulty same)
 
--- a framer after some bytes, all of whose frames were taken
+-- a framer after some bytes, all of whose frames were removed
 record Follows (framing : Framing) (bytes : List ℕ) (f : FramerState) : Type 0 where
   cuts : f.framing ≡ framing
   rest : f.rest ≡ (cut framing bytes).rest

@@ -1,4 +1,4 @@
--- What a framer stands for, by what was given and what is left.
+-- What a framer represents, by what was given and what is left.
 use Rattle.std.proofs.Common.{◌≡◌, ℕ, List, [], ◌∷◌, ◌++◌, length, drop, refl, sym, ◌∙◌, ap, subst, append_assoc}
 use Rattle.std.specs.List.{AllByRecursion}
 use Rattle.std.proofs.lemmas.List.{drop_at, append-nil}
@@ -13,7 +13,7 @@ use Rattle.proxy_frames.specs.Laws.{NothingIsLost, SwitchedIsSent}
 use Rattle.proxy_frames.specs.State.{FramerState}
 use Rattle.proxy_frames.specs.History.{History, Represents, HasRecorded, behind, cut_of, left, to_come}
 
--- frames that stand in front of bytes are cut first
+-- frames that stand before bytes are cut first
 pub cut-joined : (framing : Framing) (given : List (List ℕ)) (rest : List ℕ) → AllByRecursion (IsContent framing) given → cut framing (joined framing given ++ rest) ≡ behind given (cut framing rest)
 cut-joined framing [] rest valid = refl
 cut-joined framing (content ∷ given) rest valid =

@@ -14,7 +14,7 @@ over-at xs written more zero h = take-append-le (length xs) (written ++ drop (le
 over-at [] written more (suc s) h = absurd (omega arith)
 over-at (x ∷ xs) written more (suc s) h = ap (λ l. x ∷ l) (over-at xs written more s (omega arith))
 
--- a part, and the bytes behind it
+-- a part, and the bytes after it
 part-and_rest : (xs : List ℕ) (s e : ℕ) → s ≤ e → slice_range xs s e ++ drop e xs ≡ drop s xs
 part-and_rest xs s e h =
     let end : s + (e - s) ≡ e = omega arith in

@@ -12,7 +12,7 @@ use Rattle.proxy_frames.specs.declared.next.Front.{Front as Found}
 use Rattle.proxy_frames.specs.declared.next.Front.TheVariants as found
 use Rattle.proxy_frames.specs.State.{FramerState}
 
--- a length field that is in range, and the bytes behind it
+-- a length field that is in range, and the bytes after it
 pub record IsHeader (framing : Framing) (bytes : List ℕ) (n : ℕ) (behind : List ℕ) : Type 0 where
   pub reads : take_u32 bytes ≡ Some (n, behind)
   pub least : shortest framing ≤ n
@@ -45,7 +45,7 @@ pub record IsPrefix (framing : Framing) (bytes : List ℕ) : Type 0 where
   pub whole : bytes ++ tail ≡ frame framing content
   pub proper : tail ≢ []
 
--- a fault: a length field out of range, or a padding length behind one that is in range
+-- a fault: a length field out of range, or a padding length after one that is in range
 abbrev pub IsFault : Framing → List ℕ → BadFrame → Type 0
 IsFault framing bytes (bad.Long n) = (behind : List ℕ) × (take_u32 bytes ≡ Some (n, behind))
     × (LONGEST_FRAME < n)
@@ -57,11 +57,11 @@ IsFault framing bytes (bad.Padding b) =
 
 -- ---- what a framer is answered
 
--- no fault was told, and less than a whole frame is there
+-- no fault was reported, and less than a whole frame is there
 abbrev pub WantsMore : FramerState → Type 0
 WantsMore f = (f.fault ≡ None) × IsPartial f.framing f.rest
 
--- the fault was told already, or none was and it stands there
+-- the fault was reported already, or none was and the fault is there
 abbrev pub HasFault : FramerState → BadFrame → Type 0
 HasFault f fault = (f.fault ≡ Some fault) ⊎ ((f.fault ≡ None) × IsFault f.framing f.rest fault)
 

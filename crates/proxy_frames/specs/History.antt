@@ -1,4 +1,4 @@
--- What came to a framer and what it gave, and what it stands for.
+-- What a framer received and what it gave, and what it represents.
 use Rattle.std.specs.Prelude.{◌≡◌, ℕ, List, [], ◌∷◌, ◌++◌, length, drop, Option, Some, None}
 use Rattle.std.specs.List.{AllByRecursion}
 use Rattle.ssh_grammar.specs.declared.fault.BadFrame.{BadFrame}
@@ -11,7 +11,7 @@ use Rattle.proxy_frames.specs.State.{FramerState}
 use Rattle.proxy_frames.specs.Steps.{once_recorded}
 
 -- since a framer began, or was switched: how it cuts, the bytes that came, first those that the
--- switch left, the frames that were given, and the fault, once one was told
+-- switch left, the frames that were given, and the fault, once one was reported
 pub record History : Type 0 where
   pub framing : Framing
   pub bytes : List ℕ
@@ -44,7 +44,7 @@ and_bytes piece h = record h { bytes = h.bytes ++ piece }
 abbrev pub and_frame : List ℕ → History → History
 and_frame content h = record h { given = h.given ++ content ∷ [] }
 
--- a fault was told
+-- a fault was reported
 abbrev pub and_fault : BadFrame → History → History
 and_fault fault h = record h { recorded = Some fault }
 
@@ -66,7 +66,7 @@ next_in (content ∷ more) fault = next.Frame
 next_in [] (Some fault) = next.Bad fault
 next_in [] None = next.More
 
--- the same, but a fault that was told is told again
+-- the same, but a fault that was reported is reported again
 abbrev pub next_of : History → Next
 next_of h = once_recorded h.recorded next.Bad (next_in (to_come h) (cut_of h).fault)
 
@@ -87,13 +87,13 @@ and_next_in [] None h = h
 abbrev pub and_next : History → History
 and_next h = once_recorded h.recorded (λ _. h) (and_next_in (to_come h) (cut_of h).fault h)
 
--- ---- what a framer stands for
+-- ---- what a framer represents
 
 -- frames that were given, before a cut
 abbrev pub behind : List (List ℕ) → Cut → Cut
 behind given c = record { frames = given ++ c.frames; rest = c.rest; fault = c.fault }
 
--- while no fault was told the framer cuts as the history does; one that was told stands at the
+-- while no fault was reported the framer cuts as the history does; one that was reported is at the
 -- front of its rest
 abbrev pub HasRecorded : Option BadFrame → History → FramerState → Type 0
 HasRecorded None h f = f.framing ≡ h.framing
@@ -108,12 +108,12 @@ pub record Represents (h : History) (f : FramerState) : Type 0 where
   pub fault : f.fault ≡ h.recorded
   pub recorded : HasRecorded h.recorded h f
 
--- of each history that it stood for before a call, a framer stands afterwards for what the history
--- became
+-- of each history that it represented before a call, a framer represents afterwards what the
+-- history became
 abbrev pub GoesOn : FramerState → FramerState → (History → History) → Type 0
 GoesOn old new event = (h : History) → Represents h old → Represents (event h) new
 
--- of each history that it stood for, this is what comes next
+-- of each history that it represented, this is what comes next
 abbrev pub IsNext : FramerState → Next → FramerState → Type 0
 IsNext old answer new =
     (h : History) → Represents h old → (answer ≡ next_of h) × (new.current ≡ frame_next h)

@@ -17,7 +17,7 @@ use Rattle.proxy_frames.specs.Runs.{taken_of, cut_taken, stream_of}
 
 -- ---- in any pieces
 
--- where all frames are taken as they come, these, the rest and the fault are those of the whole
+-- where all frames are removed as they come, these, the rest and the fault are those of the whole
 -- stream
 abbrev pub PiecesGiveTheCut : Type 0
 PiecesGiveTheCut =
@@ -31,7 +31,8 @@ AnyPiecesGiveTheSame =
     → cut_taken (taken_of (new_framer framing) pieces)
     ≡ cut_taken (taken_of (new_framer framing) others)
 
--- whenever frames are taken: the frames given and those to come, the rest and the fault behind them
+-- whenever frames are removed: the frames given and those to come, the rest and the fault after
+-- them
 pub record AreAlike (h i : History) (f g : FramerState) : Type 0 where
   pub frames : h.given ++ to_come h ≡ i.given ++ to_come i
   pub rest : (cut h.framing f.rest).rest ≡ (cut i.framing g.rest).rest
@@ -75,7 +76,7 @@ MoreIsPrefix =
     → (first_frame framing bytes ≡ More)
     ↔ (IsPrefix framing bytes × ((fault : BadFrame) → IsFault framing bytes fault → ⊥))
 
--- a fault is told exactly where one stands there
+-- a fault is reported exactly where there is one
 abbrev pub FaultsAreRecorded : Type 0
 FaultsAreRecorded =
     (framing : Framing) (bytes : List ℕ) (fault : BadFrame)
@@ -105,7 +106,7 @@ WritingChangesTheFrame =
     → length written ≡ length content
     → with_written f written ≡ record f { current = Some written }
 
--- and the framer stands for what it stood for
+-- and the framer represents what it represented
 abbrev pub WritingKeepsTheHistory : Type 0
 WritingKeepsTheHistory =
     (h : History) (f : FramerState) (content written : List ℕ) → f.current ≡ Some content

@@ -1,19 +1,19 @@
--- A framer to which a stream comes in pieces, and whose frames are taken as they come.
+-- A framer to which a stream comes in pieces, and whose frames are removed as they come.
 use Rattle.std.specs.Prelude.{ℕ, ◌+◌, List, [], ◌∷◌, ◌++◌, length, zero, suc}
 use Rattle.ssh_grammar.specs.Frames.{Cut, Front, Frame, More, Faulty}
 use Rattle.proxy_frames.specs.State.{FramerState}
 use Rattle.proxy_frames.specs.Steps.{front_of, after_front, pushed}
 
--- the frames that were taken, and the framer then
+-- the frames that were removed, and the framer then
 pub record Taken : Type 0 where
   pub frames : List (List ℕ)
   pub framer : FramerState
 
--- frames that were taken before
+-- frames that were removed before
 abbrev pub and_taken : List (List ℕ) → Taken → Taken
 and_taken frames t = record { frames = frames ++ t.frames; framer = t.framer }
 
--- a frame is taken, and then the others; where there is none, nothing more is
+-- a frame is removed, and then the others; where there is none, nothing more is
 abbrev pub taken_front : (FramerState → Taken) → FramerState → Front → Taken
 taken_front go f (Frame content rest) =
     and_taken (content ∷ []) (go (after_front (Frame content rest) f))

@@ -19,13 +19,13 @@ pushed piece f = record f { rest = f.rest ++ piece; current = None }
 abbrev pub switched : Framing → FramerState → FramerState
 switched framing f = record f { framing = framing; current = None }
 
--- one value once a fault was told, and another one before
+-- one value once a fault was reported, and another one before
 abbrev pub once_recorded : {A : Type 0} → Option BadFrame → (BadFrame → A) → A → A
 once_recorded (Some fault) after before = after fault
 once_recorded None after before = before
 
--- what comes next: the fault, once one was told, and before that what stands at the front of the
--- rest
+-- what comes next: the fault, once one was reported, and before that what stands at the front of
+-- the rest
 abbrev pub front_of : FramerState → Front
 front_of f = once_recorded f.fault Faulty (first_frame f.framing f.rest)
 

@@ -3,14 +3,14 @@
 ghost use Rattle.proxy_frames.specs.Laws.{PiecesGiveTheCut, AnyPiecesGiveTheSame, AnyTimeGivesTheSame, NothingIsLost, SwitchedIsSent, MoreIsPartial, MoreIsPrefix, FaultsAreRecorded, FaultsStay, QueuedFramesAreCut, WritingChangesTheFrame, WritingKeepsTheHistory};
 
 /// The frames of a stream, its rest and its fault don't depend on the pieces in which it came, nor
-/// on when its frames were taken.
+/// on when its frames were removed.
 pub fn pieces_of_a_stream()
     ensures cut { PiecesGiveTheCut }
     ensures same { AnyPiecesGiveTheSame }
     ensures any_time { AnyTimeGivesTheSame }
 {}
 
-/// A switch loses nothing: what a client says by all its bytes are the control messages given
+/// A switch loses nothing: what a client sends by all its bytes are the control messages given
 /// before the switch to the proxy, and the payloads given after it.
 pub fn switches_of_a_stream()
     ensures left { NothingIsLost }

@@ -33,7 +33,7 @@ const LENGTH: usize = 4;
 /// The same, and a padding length.
 const LENGTH_AND_PADDING: usize = 5;
 
-/// The least value of a length field.
+// The least value of a length field.
 fn least(framing: Framing) -> u32
     ensures { result ≡ shortest framing }
 {
@@ -43,7 +43,7 @@ fn least(framing: Framing) -> u32
     }
 }
 
-/// So many bytes behind a header, as soon as they are there.
+// So many bytes after a header, as soon as they are there.
 fn content(header: usize, size: usize, bytes: &[u8]) -> Front
     requires { header ≤ length bytes.now }
     ensures { IsFront bytes.now result (cut_content size (drop header bytes.now)) }

@@ -114,7 +114,7 @@ impl Queue {
         self.len() == 0
     }
 
-    /// So many of the first bytes were taken.
+    /// So many of the first bytes were accepted.
     pub fn took(&mut self, n: usize)
         requires { n ≤ length self.old.waiting }
         ensures { self.new ≡ without_first n self.old }

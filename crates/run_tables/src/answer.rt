@@ -1,4 +1,4 @@
-//! What came of a row, as lines.
+//! The outcome of a test case, as lines.
 use crate::marks::{add_marks, heard, record_streams};
 use crate::play::Played;
 use crate::spelling::{add_number, escape, spell_frames};
@@ -9,8 +9,9 @@ use std::alloc::Global;
 /// The number of the first listener or stream of the master's own.
 const FIRST_OWN: u64 = 0x8000_0000_0000_0000;
 
-/// The lines of what came of a row: those of its summary; what each stream took, frame by frame;
-/// the streams that are open at the end; and the marks of the wire, where the row asks for them.
+/// The lines of the outcome of a test case: those of its summary; what each stream accepted, frame
+/// by frame; the streams that are open at the end; and the marks of the wire, if the test case
+/// requests them.
 pub fn lines_of(alloc: Global, played: &Played, log: &WireLog) -> Result<Texts, OutOfMemory> {
     let mut lines = summary_of(alloc, played, log)?;
     add_taken(&mut lines, alloc, log)?;
@@ -20,7 +21,7 @@ pub fn lines_of(alloc: Global, played: &Played, log: &WireLog) -> Result<Texts, 
     Ok(lines)
 }
 
-/// The status, what both outputs took, which commands were run, and how the wire was opened or
+/// The status, what both outputs accepted, which commands were run, and how the wire was opened or
 /// joined.
 pub fn summary_of(alloc: Global, played: &Played, log: &WireLog) -> Result<Texts, OutOfMemory> {
     let mut lines = Texts::new(alloc);
@@ -29,7 +30,7 @@ pub fn summary_of(alloc: Global, played: &Played, log: &WireLog) -> Result<Texts
     Ok(lines)
 }
 
-// Adds the status, what both outputs took, and which commands were run.
+// Adds the status, what both outputs accepted, and which commands were run.
 fn add_answer(lines: &mut Texts, alloc: Global, played: &Played) -> Result<(), OutOfMemory> {
     lines.push(status_line(alloc, played)?)?;
     add_text(lines, alloc, b"out ", played.out.taken())?;
@@ -73,7 +74,7 @@ fn text_line(alloc: Global, head: &[u8], text: &[u8]) -> Result<Text, OutOfMemor
     Ok(line)
 }
 
-// Tells a text behind what is said of it.
+// Writes a text after its heading.
 fn record_text(line: &mut Text, head: &[u8], text: &[u8]) -> Result<(), OutOfMemory> {
     line.add(head)?;
     escape(line, text)
@@ -86,7 +87,7 @@ fn opening_line(alloc: Global, opening: &OpenCall) -> Result<Text, OutOfMemory> 
     Ok(line)
 }
 
-// Adds what each stream of these took.
+// Adds what each stream of these accepted.
 fn add_takings(
     lines: &mut Texts,
     alloc: Global,
@@ -100,7 +101,7 @@ fn add_takings(
     Ok(())
 }
 
-// Adds what a stream took, where that is anything.
+// Adds what a stream accepted, where that is anything.
 fn add_taking(
     lines: &mut Texts,
     alloc: Global,
@@ -113,7 +114,7 @@ fn add_taking(
     lines.push(taken_line(alloc, stream, bytes.as_bytes())?)
 }
 
-// The line of what a stream took.
+// The line of what a stream accepted.
 fn taken_line(alloc: Global, stream: u64, bytes: &[u8]) -> Result<Text, OutOfMemory> {
     let mut line = Text::copy(alloc, b"took")?;
     add_number(&mut line, alloc, stream)?;
@@ -121,7 +122,7 @@ fn taken_line(alloc: Global, stream: u64, bytes: &[u8]) -> Result<Text, OutOfMem
     Ok(line)
 }
 
-// Adds what each stream took, the master's own behind the others, and the streams that are open.
+// Adds what each stream accepted, the master's own after the others, and the streams that are open.
 fn add_taken(lines: &mut Texts, alloc: Global, log: &WireLog) -> Result<(), OutOfMemory> {
     if log.openings().is_empty() && log.joinings().is_empty() {
         return Ok(());

@@ -1,7 +1,7 @@
-//! Plays rows of tables over memory. Each row has the words of a run, its files, commands and
-//! facts, what the streams of its wire do, and which calls fail; and behind `>` the lines that must
-//! come of it. Rows without such lines are played for what comes, which is printed. A row that says
-//! `marks` has a line for each mark of its wire, too.
+//! Runs the test cases of tables over memory. Each row is a test case: the words of a run, its
+//! files, commands and facts, what the streams of its wire do, and which calls fail; and after `>`
+//! the lines that must result. A row without such lines is run for its outcome, which is printed. A
+//! row with the word `marks` has a line for each mark of its wire, too.
 #![tactic(auto)]
 
 mod answer;
@@ -54,7 +54,7 @@ fn sum_up(rt: &HostRuntime, table: &RunTable) -> io::Result<()> {
     )
 }
 
-// Prints what a row came to, where it isn't what was written.
+// Prints the outcome of a test case, if it isn't what was written.
 fn report(rt: &HostRuntime, recorded: Result<Option<String>, Trouble>) -> io::Result<()> {
     match recorded {
         Ok(None) => Ok(()),

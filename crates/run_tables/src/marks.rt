@@ -19,7 +19,7 @@ fn mark_line(alloc: Global, mark: &Mark) -> Result<Text, OutOfMemory> {
     Ok(line)
 }
 
-// Tells a mark.
+// Writes a mark.
 fn record_mark(line: &mut Text, alloc: Global, mark: &Mark) -> Result<(), OutOfMemory> {
     match mark {
         Mark::Waits(waiting, want, open, listens) => {
@@ -38,7 +38,7 @@ fn record_mark(line: &mut Text, alloc: Global, mark: &Mark) -> Result<(), OutOfM
     }
 }
 
-// Tells a wait: the streams that are open; behind `for` those that are waited for, `only` where
+// Writes a wait: the streams that are open; after `for` those that are waited for, `only` where
 // nothing else is wanted; `deaf` where no client is accepted.
 fn record_wait(
     line: &mut Text,
@@ -56,7 +56,7 @@ fn record_wait(
     line.add(heard(listens))
 }
 
-// What is said where nothing else is wanted.
+// What is written where nothing else is wanted.
 fn wanted(want: Want) -> &'static [u8] {
     if want == Want::WriteOnly {
         b" only"
@@ -65,12 +65,12 @@ fn wanted(want: Want) -> &'static [u8] {
     }
 }
 
-/// What is said where no client is accepted.
+/// What is written where no client is accepted.
 pub fn heard(listens: bool) -> &'static [u8] {
     if listens { b"" } else { b" deaf" }
 }
 
-/// Tells the numbers of streams behind what is said of them.
+/// Writes the numbers of streams after their heading.
 pub fn record_streams(
     line: &mut Text,
     alloc: Global,
@@ -84,7 +84,7 @@ pub fn record_streams(
     Ok(())
 }
 
-// Tells a socket that is joined: its listener and its stream.
+// Writes an accepted socket: its listener and its stream.
 fn record_join(
     line: &mut Text,
     alloc: Global,
@@ -95,7 +95,7 @@ fn record_join(
     add_number(line, alloc, stream)
 }
 
-// Tells a house's mark.
+// Writes a forwarder's mark.
 fn record_house(line: &mut Text, alloc: Global, mark: &HouseMark) -> Result<(), OutOfMemory> {
     match mark {
         HouseMark::HouseIn => line.add(b"house in"),
@@ -110,7 +110,7 @@ fn record_house(line: &mut Text, alloc: Global, mark: &HouseMark) -> Result<(), 
     }
 }
 
-// Tells the number of what an order made.
+// Writes the number of what an order made.
 fn record_made(line: &mut Text, alloc: Global, number: Option<u64>) -> Result<(), OutOfMemory> {
     match number {
         Some(made) => record_stream(line, alloc, b" as", made),
@@ -118,7 +118,7 @@ fn record_made(line: &mut Text, alloc: Global, number: Option<u64>) -> Result<()
     }
 }
 
-// Tells the order of a house.
+// Writes the order of a forwarder.
 fn record_order(line: &mut Text, alloc: Global, order: &Order) -> Result<(), OutOfMemory> {
     match order {
         Order::Listen { host, port } => record_place(line, alloc, b"house listens ", host, *port),
@@ -131,7 +131,7 @@ fn record_order(line: &mut Text, alloc: Global, order: &Order) -> Result<(), Out
     }
 }
 
-// Tells a host and a port behind what is said of them.
+// Writes a host and a port after their heading.
 fn record_place(
     line: &mut Text,
     alloc: Global,
@@ -144,7 +144,7 @@ fn record_place(
     add_number(line, alloc, u64::from(port))
 }
 
-// Tells what happened to a stream.
+// Writes what happened to a stream.
 fn record_stream(
     line: &mut Text,
     alloc: Global,

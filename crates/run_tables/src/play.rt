@@ -1,4 +1,4 @@
-//! Plays a row.
+//! Runs a test case.
 use crate::answer::{lines_of, summary_of};
 use crate::row::Row;
 use house_forward::Forwarder;
@@ -19,7 +19,7 @@ pub struct Played {
     pub marks: bool,
 }
 
-/// Plays a row: the lines of what came of it. Of a drill what its streams took isn't shown.
+/// Runs a test case: the lines of its outcome. Of a drill what its streams accepted isn't shown.
 pub fn play(alloc: Global, row: &mut Row) -> Result<Texts, OutOfMemory> {
     match row.script.take() {
         Some(script) => {
@@ -32,7 +32,7 @@ pub fn play(alloc: Global, row: &mut Row) -> Result<Texts, OutOfMemory> {
     }
 }
 
-// Plays a row over a wire in memory: the lines of what came of it.
+// Runs a test case over a wire in memory: the lines of its outcome.
 fn drill_lines(alloc: Global, row: &mut Row) -> Result<Texts, OutOfMemory> {
     let mut wire = DrillWire::new(alloc);
     let played = play_over(alloc, row, &mut wire, &mut NoHouse);
@@ -42,7 +42,7 @@ fn drill_lines(alloc: Global, row: &mut Row) -> Result<Texts, OutOfMemory> {
     lines
 }
 
-// Plays a row over this wire: the lines of what came of it.
+// Runs a test case over this wire: the lines of its outcome.
 fn scripted_lines(
     alloc: Global,
     row: &mut Row,
@@ -54,7 +54,7 @@ fn scripted_lines(
     lines
 }
 
-// Plays a row over this wire, with forwardings of the master's own where it asks for them.
+// Runs a test case over this wire, with forwardings of the master's own if it requests them.
 fn play_scripted(
     alloc: Global,
     row: &mut Row,
@@ -69,7 +69,7 @@ fn play_scripted(
     Ok(played)
 }
 
-// Plays a row over this wire and this house.
+// Runs a test case over this wire and this forwarder.
 fn play_over<W: Wire, H: House>(alloc: Global, row: &mut Row, wire: &mut W, house: &mut H) -> Played
     requires { H.fresh house.old }
 {
@@ -86,7 +86,7 @@ fn play_over<W: Wire, H: House>(alloc: Global, row: &mut Row, wire: &mut W, hous
     }
 }
 
-// The status of a row that is played over this wire, its files and this house.
+// The status of a row that is played over this wire, its files and this forwarder.
 fn play_with<W: Wire, H: House>(
     alloc: Global,
     row: &mut Row,

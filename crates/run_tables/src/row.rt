@@ -1,4 +1,4 @@
-//! One row: what a run is to be played over, and what must come of it.
+//! One test case: what a run goes over, and what its outcome must be.
 use crate::facts::{ann, fact, forget_fact};
 use crate::scripted::{add_writes, bytes_of, number_of, record_taken, step_of};
 use crate::spelling::unescape;
@@ -116,8 +116,8 @@ impl Row {
         }
     }
 
-    // What is said of the run as a whole: how many turns there are, that the marks are told, that
-    // the master has forwardings of its own.
+    // What is given for the run as a whole: how many turns there are, that the marks are written,
+    // that the master has forwardings of its own.
     fn take_whole(&mut self, head: &str, rest: &str) -> Result<(), Trouble> {
         match head {
             "turns" => self.turns = number_of(rest)?,
@@ -147,7 +147,7 @@ impl Row {
         }
     }
 
-    // What is said of the wire as a whole.
+    // What is given for the wire as a whole.
     fn take_script(&mut self, head: &str, rest: &str) -> Result<(), Trouble> {
         if head == "writes" {
             return add_writes(&mut self.script()?.writes, rest);
@@ -271,7 +271,7 @@ fn expect_taken(line: &mut Text, alloc: Global, took: &str, names: &Pairs) -> Re
     Ok(())
 }
 
-// Calls, which are taken out of where they stood.
+// Calls, which are moved out of where they stood.
 fn taken(alloc: Global, calls: &mut Calls) -> Calls {
     mem::replace(calls, Calls::new(alloc))
 }

@@ -13,7 +13,7 @@ pub fn add_writes(writes: &mut Writes, words: &str) -> Result<(), Trouble> {
     Ok(())
 }
 
-// How a write is answered that a word says.
+// How a write is answered that a word spells.
 fn write_entry(word: &str) -> Result<WriteEntry, Trouble> {
     match word {
         "all" => Ok(WriteEntry::All),
@@ -31,7 +31,7 @@ pub fn number_of(word: &str) -> Result<u64, Trouble> {
     word.parse::<u64>().map_err(|_| Trouble::Unread)
 }
 
-/// The step that a line says.
+/// The step that a line spells.
 pub fn step_of(alloc: Global, head: &str, rest: &str, names: &Pairs) -> Result<Step, Trouble> {
     if head == "accept" {
         return Ok(Step::Accept);
@@ -58,15 +58,15 @@ fn stream_step(
     }
 }
 
-/// Tells what a stream took.
+/// Writes what a stream accepted.
 pub fn record_taken(line: &mut Text, stream: &[u8], bytes: &[u8]) -> Result<(), OutOfMemory> {
     line.add(b"took ")?;
     line.add(stream)?;
     spell_frames(line, bytes)
 }
 
-/// The bytes that words spell: each a name, a text behind `'`, or digits of base 16; a number and
-/// `*` before it say how often.
+/// The bytes that words spell: each a name, a text after `'`, or digits of base 16; a number and
+/// `*` before it give how often.
 pub fn bytes_of(alloc: Global, words: &str, names: &Pairs) -> Result<Text, Trouble> {
     let mut out = Text::new(alloc);
     add_words(&mut out, words, names)?;
@@ -81,7 +81,7 @@ fn add_words(out: &mut Text, words: &str, names: &Pairs) -> Result<(), Trouble> 
     Ok(())
 }
 
-// Adds the bytes of a word, as often as it says.
+// Adds the bytes of a word, as often as it gives.
 fn add_word(out: &mut Text, word: &str, names: &Pairs) -> Result<(), Trouble> {
     let (count, one) = word.split_once('*').unwrap_or(("", ""));
     let Ok(count) = number_of(count) else {

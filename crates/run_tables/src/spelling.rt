@@ -49,7 +49,7 @@ fn spell_hex(out: &mut Text, bytes: &[u8]) -> Result<(), OutOfMemory> {
     Ok(())
 }
 
-/// Adds the frames of a stream, each as its length and its body, and behind them what is no whole
+/// Adds the frames of a stream, each as its length and its body, and after them what is no whole
 /// frame.
 pub fn spell_frames(out: &mut Text, bytes: &[u8]) -> Result<(), OutOfMemory> {
     let mut left = bytes;
@@ -67,7 +67,7 @@ pub fn spell_frames(out: &mut Text, bytes: &[u8]) -> Result<(), OutOfMemory> {
     spell_hex(out, left)
 }
 
-// A frame: its length and its body, and what is behind it.
+// A frame: its length and its body, and what is after it.
 struct Frame<'a> {
     len: &'a [u8],
     body: &'a [u8],
@@ -115,7 +115,7 @@ pub fn add_unescaped(out: &mut Text, text: &[u8]) -> Result<(), Trouble> {
     Ok(())
 }
 
-// The byte of an escape, if it has one, and what is behind it.
+// The byte of an escape, if it has one, and what is after it.
 fn escaped(escape: &[u8]) -> Result<(Option<u8>, &[u8]), Trouble> {
     match escape {
         [b'n', behind @ ..] => Ok((Some(b'\n'), behind)),

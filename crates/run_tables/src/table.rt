@@ -40,8 +40,8 @@ impl RunTable {
         self.as_written
     }
 
-    /// Takes a line. `row NAME` ends the row before, which is played: what came of it, where it
-    /// isn't what was written. `let NAME BYTES` names bytes.
+    /// Reads a line. `row NAME` ends the row before, which is run: its outcome, if it isn't what
+    /// was written. `let NAME BYTES` names bytes.
     pub fn take(&mut self, line: &str) -> Result<Option<String>, Trouble> {
         match line.strip_prefix("row ") {
             Some(name) => self.next_row(name),
@@ -89,7 +89,7 @@ impl RunTable {
         Ok(())
     }
 
-    /// Plays the last row: what came of it, where it isn't what was written.
+    /// Runs the last test case: its outcome, if it isn't what was written.
     pub fn finish(&mut self) -> Result<Option<String>, Trouble> {
         let Some(mut row) = self.row.take() else {
             return Ok(None);
@@ -99,7 +99,7 @@ impl RunTable {
         recorded
     }
 
-    // Plays a row: what came of it, where it isn't what was expected.
+    // Runs a test case: its outcome, if it isn't what was expected.
     fn compare(&mut self, row: &mut Row) -> Result<Option<String>, Trouble> {
         let lines = play(self.alloc, row)?;
         self.rows = self.rows.saturating_add(1);

@@ -1,4 +1,4 @@
--- Dialogs read field by field: what bytes behind them change, and which bytes they are.
+-- Dialogs read field by field: what bytes after them change, and which bytes they are.
 use Rattle.std.proofs.Common.{◌≡◌, ◌≢◌, inl, inr, ◌∙◌, refl, sym, ap, subst, arith, ℕ, ◌+◌, ◌<◌, ◌≤◌, List, [], ◌∷◌, ◌++◌, length, Option, Some, None, Bool, true, false, append_assoc, length-append}
 use Rattle.std.specs.Prelude.{◌==◌}
 use Rattle.std.specs.List.{list_any}
@@ -28,7 +28,7 @@ pub record Front (f : List ℕ → Dialog) (a : List ℕ) : Type 0 where
   pub alone : f front ≡ ended (f a)
   pub wanting : (f a).outcome ≡ Wants → (f a).rest ≡ []
 
--- a reading that doesn't look behind what it reads
+-- a reading that doesn't look past what it reads
 pub record IsParse (f : List ℕ → Dialog) : Type 0 where
   pub stays : (a more : List ℕ) → (f a).outcome ≢ Wants → f (a ++ more) ≡ followed more (f a)
   pub grows : (a more : List ℕ) → Grows (f a) (f (a ++ more))

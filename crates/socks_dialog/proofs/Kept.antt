@@ -49,7 +49,7 @@ kept_wanting a e =
     ∙ ap (λ r. dialog_bytes a ++ r) (sym ((socks-parse.front a).wanting e))
     ∙ sym (kept_whole a)
 
--- bytes with nothing behind their dialog are that dialog
+-- bytes with nothing after their dialog are that dialog
 pub kept_none : (a : List ℕ) → (socks a).rest ≡ [] → dialog_bytes a ≡ a
 kept_none a e =
     sym (append-nil (dialog_bytes a)) ∙ ap (λ r. dialog_bytes a ++ r) (sym e) ∙ sym (kept_whole a)
@@ -67,7 +67,7 @@ kept_stays a b ne =
 pub kept_outcome : (a : List ℕ) → (socks (dialog_bytes a)).outcome ≡ (socks a).outcome
 kept_outcome a = ap (λ (d : Dialog). d.outcome) (kept_alone a)
 
--- the dialog's bytes stand for all of them
+-- the dialog's bytes represent all of them
 pub kept_joins : (a b : List ℕ) → dialog_bytes (dialog_bytes a ++ b) ≡ dialog_bytes (a ++ b)
 kept_joins a b = elim (wants_or_not (socks a).outcome) [
   | inl e ↦ ap (λ c. dialog_bytes (c ++ b)) (kept_wanting a e)
@@ -76,7 +76,7 @@ kept_joins a b = elim (wants_or_not (socks a).outcome) [
       ∙ sym (kept_stays a b ne)
 ]
 
--- bytes with nothing behind their dialog stay in front
+-- bytes with nothing after their dialog stay at the front
 pub kept_grows : (a b : List ℕ) → (socks a).rest ≡ [] → length a ≤ length (dialog_bytes (a ++ b))
 kept_grows a b none = elim (wants_or_not (socks (a ++ b)).outcome) [
   | inl e ↦ omega (arith, ap length (kept_wanting (a ++ b) e), length-append a b)
@@ -142,7 +142,7 @@ kept_first kept more bytes (inr long) =
 pub kept_size : (a : List ℕ) → length a ≡ length (dialog_bytes a) + length (socks a).rest
 kept_size a = ap length (kept_whole a) ∙ length-append (dialog_bytes a) (socks a).rest
 
--- bytes that stand in front of a dialog's are followed in it by the first of those behind them
+-- bytes that stand before a dialog's are followed in it by the first of those after them
 pub front_of : (a piece kept rest : List ℕ) → a ++ piece ≡ kept ++ rest → length a ≤ length kept
     → kept ≡ a ++ take (length kept - length a) piece
 front_of a piece kept rest e le =
@@ -191,7 +191,7 @@ kept_more front piece n least most bytes =
         let over : 520 - length front < length piece = more.1 in
         inr (omega (arith, length-append front (take n piece), length-take n piece))
 
--- what is kept of a room after a piece was put behind what was kept
+-- what is kept of a room after a piece was put after what was kept
 pub record Behind (room room' piece : List ℕ) (len result : ℕ) : Type 0 where
   pub exact : take result room' ≡ dialog_bytes (take len room ++ piece)
   pub kept : IsWithin result (take result room')

@@ -1,4 +1,4 @@
--- What a dialog stands for, from call to call.
+-- What a dialog represents, from call to call.
 use Rattle.std.proofs.Common.{◌≡◌, ◌≢◌, ◌∙◌, refl, sym, ap, subst, arith, ℕ, suc, ◌+◌, ◌<◌, ◌≤◌, List, [], ◌∷◌, ◌++◌, length, get_or, take, drop, add-zero, length-append, length-drop, drop-cons}
 use Rattle.std.proofs.lemmas.List.{take-append-le, take_more, length-take-le}
 use Rattle.socks_dialog.specs.Socks.{Dialog, socks}

@@ -13,7 +13,7 @@ decimal byte =
     (if nat_le 100 byte then digit (byte / 100) ∷ [] else [])
     ++ ((if nat_le 10 byte then digit (byte / 10) ∷ [] else []) ++ digit byte ∷ [])
 
--- bytes in decimal, each behind a dot
+-- bytes in decimal, each after a dot
 abbrev pub behind_dots : List ℕ → List ℕ
 behind_dots [] = []
 behind_dots (byte ∷ bytes) = 46 ∷ (decimal byte ++ behind_dots bytes)
@@ -36,7 +36,7 @@ hexadecimal group =
     ++ ((if nat_le 256 group then hex_digit (group / 256) ∷ [] else [])
     ++ ((if nat_le 16 group then hex_digit (group / 16) ∷ [] else []) ++ hex_digit group ∷ []))
 
--- groups in hexadecimal, each behind a colon
+-- groups in hexadecimal, each after a colon
 abbrev pub behind_colons : List ℕ → List ℕ
 behind_colons (high ∷ low ∷ bytes) = 58 ∷ (hexadecimal (high * 256 + low) ++ behind_colons bytes)
 behind_colons _ = []

@@ -8,7 +8,7 @@ use Rattle.socks_dialog.specs.declared.outcome.Outcome.TheVariants.{Wants}
 abbrev pub followed : List ℕ → Dialog → Dialog
 followed more d = record { replies = d.replies; outcome = d.outcome; rest = d.rest ++ more }
 
--- what a dialog came to stays, whatever bytes follow
+-- the outcome of a dialog stays, whatever bytes follow
 abbrev pub OutcomesStay : Type 0
 OutcomesStay = (bytes more : List ℕ) → (socks bytes).outcome ≢ Wants
     → socks (bytes ++ more) ≡ followed more (socks bytes)

@@ -1,4 +1,4 @@
--- What a SOCKS dialog comes to by all bytes of its client: SOCKS 4 and 4a, and SOCKS 5 without
+-- The outcome of a SOCKS dialog by all bytes of its client: SOCKS 4 and 4a, and SOCKS 5 without
 -- authentication (RFC 1928). It is read from its first byte on, up to its end or its first fault.
 use Rattle.std.specs.Prelude.{ℕ, ◌+◌, ◌*◌, Bool, not, ◌&&◌, List, [], ◌∷◌, length, take, drop, true, false, Option, Some, None, nat_le, ◌==◌, position}
 use Rattle.ssh_fields.specs.Fields.{take_u8, split_at}
@@ -14,7 +14,7 @@ pub record Dialog : Type 0 where
   pub outcome : Outcome
   pub rest : List ℕ
 
--- ---- what it comes to
+-- ---- its outcome
 
 -- more bytes are wanted
 abbrev pub wants : Dialog
@@ -71,7 +71,7 @@ name4 port None rest = breaks refused4 rest
 name4 port (Some []) rest = breaks refused4 rest
 name4 port (Some (byte ∷ bytes)) rest = connects (byte ∷ bytes) port rest
 
--- 0.0.0.x with x not 0 stands for a name that follows
+-- 0.0.0.x with x not 0 represents a name that follows
 abbrev pub is_for_name : List ℕ → Bool
 is_for_name (a ∷ b ∷ c ∷ d ∷ []) = a == 0 && (b == 0 && (c == 0 && not (d == 0)))
 is_for_name _ = false

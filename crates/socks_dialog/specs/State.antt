@@ -1,4 +1,4 @@
--- What contracts see of a dialog, and what it stands for.
+-- What contracts see of a dialog, and what it represents.
 use Rattle.std.specs.Prelude.{◌≡◌, ℕ, ◌+◌, ◌-◌, ◌≤◌, Bool, true, false, List, [], ◌∷◌, ◌++◌, length, take, drop, slice_index}
 use Rattle.socks_dialog.specs.Socks.{Dialog, socks}
 use Rattle.socks_dialog.specs.declared.outcome.Outcome.{Outcome}
@@ -20,7 +20,7 @@ count_given false = 0
 abbrev pub dialog_bytes : List ℕ → List ℕ
 dialog_bytes bytes = take (length bytes - length (socks bytes).rest) bytes
 
--- as many bytes are kept as are counted, and none behind the dialog
+-- as many bytes are kept as are counted, and none after the dialog
 pub record IsWithin (kept : ℕ) (bytes : List ℕ) : Type 0 where
   pub most : kept ≤ 520
   pub none : (socks bytes).rest ≡ []
@@ -110,15 +110,15 @@ pub record Represents (h : History) (d : State) : Type 0 where
   pub given : h.given ≡ take d.given (socks h.bytes).replies
   pub some : d.given ≤ length (socks h.bytes).replies
 
--- of each history that it stood for before a call, it stands afterwards for what that became
+-- of each history that it represented before a call, it represents afterwards what that became
 abbrev pub GoesOn : State → State → (History → History) → Type 0
 GoesOn old new event = (h : History) → Represents h old → Represents (event h) new
 
--- of each history that it stood for, this is what comes next
+-- of each history that it represented, this is what comes next
 abbrev pub IsNext : State → Step → Type 0
 IsNext old answer = (h : History) → Represents h old → answer ≡ next_of h
 
--- of each history that it stood for, what follows the dialog is what followed it, and then these
+-- of each history that it represented, what follows the dialog is what followed it, and then these
 -- bytes but for so many
 abbrev pub RestIs : State → List ℕ → ℕ → Type 0
 RestIs old piece taken = (h : History) → Represents h old

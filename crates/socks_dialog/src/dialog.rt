@@ -13,7 +13,7 @@ use std::marker::Model;
 /// How many bytes a dialog has at most: SOCKS 4 with a user and a host of 255 bytes each.
 pub const LONGEST_DIALOG: usize = 520;
 
-/// A SOCKS dialog, by the bytes that came of it so far.
+/// A SOCKS dialog, by the bytes of it that came so far.
 #[derive(Drop)]
 pub struct Dialog {
     bytes: [u8; LONGEST_DIALOG],
@@ -54,7 +54,7 @@ fn count_in_dialog(bytes: &[u8]) -> usize
     bytes.len() - read(bytes).rest
 }
 
-// Writes more bytes behind those of a dialog: how many of all are the dialog's.
+// Writes more bytes after those of a dialog: how many of all are the dialog's.
 fn put_behind(room: &mut [u8], kept: usize, bytes: &[u8]) -> usize
     requires room { length room.old ≡ LONGEST_DIALOG }
     requires within { IsWithin kept (take kept room.old) }

@@ -2,7 +2,7 @@
 
 ghost use Rattle.socks_dialog.specs.Laws.{OutcomesStay, RepliesStay, RepliesAreFew, DialogsEnd};
 
-/// What a dialog came to doesn't change by the bytes that follow, and it comes to something.
+/// The outcome of a dialog doesn't change by the bytes that follow, and it has an outcome.
 pub fn dialogs_of_a_stream()
     ensures outcome { OutcomesStay }
     ensures replies { RepliesStay }

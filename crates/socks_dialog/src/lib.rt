@@ -1,6 +1,6 @@
-//! The dialog by which a SOCKS client says to which host and port it wants to be connected: SOCKS 4
-//! and 4a, and SOCKS 5 without authentication (RFC 1928). No memory is taken: a dialog keeps its
-//! bytes, of which there are 520 at most, and reads them from the first one each time.
+//! The dialog by which a SOCKS client requests to which host and port it wants to be connected:
+//! SOCKS 4 and 4a, and SOCKS 5 without authentication (RFC 1928). No memory is allocated: a dialog
+//! keeps its bytes, of which there are 520 at most, and reads them from the first one each time.
 #![tactic(auto)]
 
 mod dialog;

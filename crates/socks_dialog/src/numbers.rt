@@ -8,7 +8,7 @@ pub const VERSION_5: u8 = 5;
 /// The method that needs no authentication.
 pub const NO_AUTHENTICATION: u8 = 0;
 
-/// None of the client's methods is taken.
+/// None of the client's methods is acceptable.
 pub const NO_ACCEPTABLE_METHOD: u8 = 0xff;
 
 /// The command that asks for a connection, in both versions.

@@ -4,7 +4,7 @@ ghost use Rattle.socks_dialog.specs.Reads.{IsPlain};
 
 use ssh_fields::Small;
 
-/// What a dialog comes to.
+/// The outcome of a dialog.
 #[derive(Drop)]
 pub enum Outcome {
     /// More bytes are wanted.
@@ -18,7 +18,7 @@ pub enum Outcome {
 /// What the bytes of a dialog are read as.
 #[derive(Drop)]
 pub struct Reading {
-    /// Whether the client offered the method that is taken, which is answered first.
+    /// Whether the client offered the method that is chosen, which is answered first.
     pub chosen: bool,
     pub outcome: Outcome,
     /// How many bytes follow the dialog.

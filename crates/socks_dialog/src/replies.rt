@@ -22,14 +22,14 @@ pub fn reply_of_5(code: u8) -> Small
     Small::copy(&[VERSION_5, code, RESERVED, IPV4, 0, 0, 0, 0, 0, 0])
 }
 
-/// The method is taken that needs no authentication.
+/// The method is chosen that needs no authentication.
 pub fn method_taken() -> Small
     ensures { result ≡ no_authentication }
 {
     Small::copy(&[VERSION_5, NO_AUTHENTICATION])
 }
 
-/// No method is taken.
+/// No method is chosen.
 pub fn no_method_taken() -> Small
     ensures { result ≡ no_method }
 {

@@ -27,7 +27,7 @@ fn read_name(port: u16, bytes: &[u8]) -> Reading
     }
 }
 
-// Whether an address stands for a name that follows.
+// Whether an address represents a name that follows.
 fn represents_name(address: &[u8]) -> bool
     ensures { result ≡ is_for_name address.now }
 {

@@ -118,7 +118,7 @@ fn needs_none(methods: &[u8]) -> bool
     methods.iter().any(|method| *method == NO_AUTHENTICATION)
 }
 
-// The request behind these methods, if one of them is taken.
+// The request after these methods, if one of them is chosen.
 fn read_offer(methods: &[u8], rest: &[u8]) -> Reading
     ensures { IsReading result (methods5 methods.now rest.now) }
 {

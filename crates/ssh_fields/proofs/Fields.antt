@@ -1,4 +1,4 @@
--- What is spelled reads back, what reads was spelled so, and bytes behind a field change nothing in
+-- What is spelled reads back, what reads was spelled so, and bytes after a field change nothing in
 -- it.
 use Rattle.std.proofs.Common.{◌≡◌, ℕ, zero, suc, ◌+◌, ◌/◌, ◌%◌, ◌^◌, ◌<◌, ◌≤◌, List, [], ◌∷◌, ◌++◌, length, get_or, take, drop, Option, Some, None, Bool, true, false, refl, sym, ◌∙◌, ap, subst, arith, append_assoc, length-append, length-take, length-drop}
 use Rattle.std.specs.Prelude.{nat_le}

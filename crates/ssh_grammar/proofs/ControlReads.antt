@@ -14,7 +14,7 @@ use Rattle.ssh_grammar.specs.IsControl.{IsAsk, IsPair, IsControl, SpellsControl}
 use Rattle.ssh_grammar.proofs.Steps.{u32_step, str_step}
 use Rattle.ssh_grammar.proofs.Tables.{by_number-holds}
 
--- the message's body is these bytes behind the number of its type
+-- the message's body is these bytes after the number of its type
 record IsBehind (kind : ℕ) (rest : List ℕ) (c : Control) : Type 0 where
   is_control : IsControl c
   spelled : u32 kind ++ rest ≡ spell_control c

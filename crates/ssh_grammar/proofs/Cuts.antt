@@ -10,7 +10,7 @@ use Rattle.ssh_grammar.specs.declared.numbers.TheConstants.{LONGEST_FRAME}
 use Rattle.ssh_grammar.specs.Frames.{Front, Frame, More, Faulty, cut_content, cut_padding, shortest, cut_rest, cut_length, first_frame, Cut, with_frame, cut_by, cut}
 use Rattle.ssh_grammar.specs.Laws.{cut_then}
 
--- ---- what is left behind a frame is shorter by its header at least
+-- ---- what is left after a frame is shorter by its header at least
 
 abbrev pub IsShorter : ℕ → Front → Type 0
 IsShorter n (Frame content rest) = length rest ≤ n
@@ -161,6 +161,6 @@ joins-by (suc n) framing [] b h = refl
 joins-by (suc n) framing (x ∷ a) b h = joins-at framing (x ∷ a) b (first_frame framing (x ∷ a)) refl (first-extends framing (x ∷ a) b) (λ content rest e.
     joins-by n framing rest b (let s : length rest ≤ length (x ∷ a) - 4 = subst (IsShorter (length (x ∷ a) - 4)) e (first-shorter framing (x ∷ a)) in omega arith))
 
--- what was cut stays, and what comes is cut behind the rest
+-- what was cut stays, and what comes is cut after the rest
 pub cut-append : (framing : Framing) (a b : List ℕ) → JoinsTo framing a b
 cut-append framing a b = joins-by (length a) framing a b (omega arith)

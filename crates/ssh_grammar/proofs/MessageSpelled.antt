@@ -93,7 +93,7 @@ extended_read bytes code s is e = u32_read _ _ _ bytes code _ is.0 e (λ r0 e0. 
 request_read : (bytes kind : List ℕ) (flag : ℕ) (want : Bool) (rest : List ℕ) → IsChannelMessage (Request kind want rest) → is_true flag ≡ want → bytes ≡ str kind ++ (flag ∷ rest) → read_request bytes ≡ Ok (Request kind want rest)
 request_read bytes kind flag want rest is same e = str_read _ _ _ bytes kind _ is e (λ r0 e0. bool_read _ _ _ r0 flag want rest same e0 (λ r1 e1. ap (λ r. Ok (Request kind want r)) e1))
 
--- a reader that reads the fields behind the recipient reads the message
+-- a reader that reads the fields after the recipient reads the message
 channel_read : (read : List ℕ → Result ChannelMessage Bad) (n recipient : ℕ) (m : ChannelMessage) (fields : List ℕ) → recipient < 2 ^ 32 → read fields ≡ Ok m → read_as n (OfChannel read) (u32 recipient ++ fields) ≡ Ok (To recipient m)
 channel_read read n recipient m fields fits reads = at_bytes (u32 recipient ++ fields) refl
   where

@@ -1,4 +1,4 @@
--- What is said in pieces is what is said by all bytes.
+-- What is sent in pieces is what is sent by all bytes.
 use Rattle.std.proofs.Common.{◌≡◌, ℕ, zero, suc, ◌-◌, ◌≤◌, List, [], ◌∷◌, ◌++◌, length, refl, sym, ◌∙◌, ap, arith, subst}
 use Rattle.ssh_grammar.specs.declared.framing.Framing.TheVariants as framing
 use Rattle.ssh_grammar.specs.Frames.{Front, Frame, More, Faulty}

@@ -1,4 +1,4 @@
--- What is said by bytes, by the frames of the whole.
+-- What is sent by bytes, by the frames of the whole.
 use Rattle.std.proofs.Common.{◌≡◌, ℕ, zero, suc, ◌-◌, ◌≤◌, List, [], ◌∷◌, ◌++◌, length, map, Option, Some, None, refl, sym, ◌∙◌, ap, subst, arith, append_assoc}
 use Rattle.ssh_fields.specs.Fields.{AreBytes}
 use Rattle.ssh_grammar.specs.declared.fault.BadFrame.{BadFrame}
@@ -28,7 +28,7 @@ payloads-by zero (b ∷ bytes) le = absurd (omega arith)
 payloads-by (suc n) (b ∷ bytes) le = payloads-at (b ∷ bytes) (first_frame framing.Proxy (b ∷ bytes)) refl (λ content rest e. payloads-by n rest
     (let s : length rest ≤ length (b ∷ bytes) - 4 = subst (IsShorter (length (b ∷ bytes) - 4)) e (first-shorter framing.Proxy (b ∷ bytes)) in omega arith))
 
--- what is said from the proxy's first byte on
+-- what is sent from the proxy's first byte on
 pub payloads : (bytes : List ℕ) → (parse InProxy bytes).says ≡ says framing.Proxy Payload bytes
 payloads bytes = payloads-by (length bytes) bytes (omega arith)
 

@@ -1,4 +1,4 @@
--- One field of a reader: what holds of all that is read behind it, and what is read where the field
+-- One field of a reader: what holds of all that is read after it, and what is read where the field
 -- is spelled.
 use Rattle.std.proofs.Common.{◌≡◌, ℕ, ◌<◌, ◌^◌, List, [], ◌∷◌, ◌++◌, length, Bool, Option, Some, None, Result, Err, IfOk, refl, subst, ap, ◌∙◌}
 use Rattle.ssh_fields.specs.Fields.{AreBytes, u32, str, is_true, take_bool, take_u32, take_str}

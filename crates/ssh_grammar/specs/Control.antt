@@ -10,7 +10,7 @@ pub record ForwardAsk : Type 0 where
   pub connect_host : List ℕ
   pub connect_port : ℕ
 
--- what clients say; `rest` are bytes that are not read
+-- what clients send; `rest` are bytes that are not read
 pub data Control : Type 0 where
   Hello : (version : ℕ) (extensions : List (List ℕ × List ℕ)) → Control
   NewSession : (id : ℕ) (rest : List ℕ) → Control
@@ -22,7 +22,7 @@ pub data Control : Type 0 where
   StopListening : (id : ℕ) → Control
   Proxy : (id : ℕ) → Control
 
--- what masters say
+-- what masters send
 pub data Answer : Type 0 where
   Greets : (version : ℕ) → Answer
   Okay : (id : ℕ) → Answer
@@ -38,7 +38,7 @@ pub data Answer : Type 0 where
 abbrev pub no_descriptors : List ℕ
 no_descriptors = codes "descriptors are not supported"
 
--- where the house refuses
+-- where the forwarder refuses
 abbrev pub no_forwardings : List ℕ
 no_forwardings = codes "forwardings are not served"
 

@@ -22,7 +22,7 @@ abbrev pub frame : Framing → List ℕ → List ℕ
 frame Control body = frame_body body
 frame Proxy payload = frame_payload payload
 
--- what a master says, as a frame
+-- what a master sends, as a frame
 abbrev pub frame_answer : Answer → List ℕ
 frame_answer answer = frame_body (spell_answer answer)
 

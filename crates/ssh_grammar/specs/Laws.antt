@@ -67,7 +67,7 @@ NoBodyForTwo = (a b : Control) → IsControl a → IsControl b
 
 -- ---- answers
 
--- what a master says reads as it
+-- what a master sends reads as it
 abbrev pub AnswersReadBack : Type 0
 AnswersReadBack = (a : Answer) → IsAnswer a → read_answer (spell_answer a) ≡ Some a
 
@@ -95,19 +95,19 @@ NoOtherCut =
 abbrev pub cut_then : Cut → Cut → Cut
 cut_then c more = record { frames = c.frames ++ more.frames; rest = more.rest; fault = more.fault }
 
--- bytes that come later are cut behind the rest, and add frames only
+-- bytes that come later are cut after the rest, and add frames only
 abbrev pub CutsJoin : Type 0
 CutsJoin =
     (framing : Framing) (a b : List ℕ)
     → cut framing (a ++ b) ≡ cut_then (cut framing a) (cut framing ((cut framing a).rest ++ b))
 
--- ---- what is said
+-- ---- what is sent
 
 -- bytes that come later are read where reading stood
 abbrev pub ParsesJoin : Type 0
 ParsesJoin = (mode : Mode) (a b : List ℕ) → parse mode (a ++ b) ≡ and_then (parse mode a) b
 
--- what was said stays said
+-- what was sent stays sent
 abbrev pub SentStays : Type 0
 SentStays = (a b : List ℕ) → (more : List Outgoing) × (said (a ++ b) ≡ said a ++ more)
 
@@ -127,7 +127,7 @@ KeepControl bodies = AllByRecursion (λ body. after_body body ≡ InControl) bod
 abbrev pub AreBodies : List (List ℕ) → Type 0
 AreBodies bodies = AllByRecursion (IsContent framing.Control) bodies
 
--- where no control message begins the proxy or ends the reading, all control messages are said, and
+-- where no control message begins the proxy or ends the reading, all control messages are sent, and
 -- then the fault
 abbrev pub ControlIsSent : Type 0
 ControlIsSent =
@@ -142,7 +142,7 @@ ProxyIsSent =
     → said (joined framing.Control bodies ++ (frame framing.Control last ++ rest))
     ≡ map Body bodies ++ (Body last ∷ says framing.Proxy Payload rest)
 
--- after the first that ends the reading, nothing is said
+-- after the first that ends the reading, nothing is sent
 abbrev pub NothingMoreIsSent : Type 0
 NothingMoreIsSent =
     (bodies : List (List ℕ)) (last rest : List ℕ) → AreBodies bodies → KeepControl bodies
@@ -150,6 +150,6 @@ NothingMoreIsSent =
     → said (joined framing.Control bodies ++ (frame framing.Control last ++ rest))
     ≡ map Body bodies ++ (Body last ∷ [])
 
--- the server says payloads from its first byte on
+-- the server sends payloads from its first byte on
 abbrev pub ServerIsReceived : Type 0
 ServerIsReceived = (bytes : List ℕ) → heard bytes ≡ says framing.Proxy Payload bytes

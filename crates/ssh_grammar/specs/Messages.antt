@@ -81,7 +81,7 @@ session_type = codes "session"
 abbrev pub direct_type : List ℕ
 direct_type = codes "direct-tcpip"
 
--- a connection that came to a forwarding
+-- a connection that arrived at a forwarding
 abbrev pub forwarded_type : List ℕ
 forwarded_type = codes "forwarded-tcpip"
 
@@ -89,7 +89,7 @@ forwarded_type = codes "forwarded-tcpip"
 abbrev pub direct_path_type : List ℕ
 direct_path_type = codes "direct-streamlocal@openssh.com"
 
--- a connection that came to a path
+-- a connection that arrived at a path
 abbrev pub forwarded_path_type : List ℕ
 forwarded_path_type = codes "forwarded-streamlocal@openssh.com"
 

@@ -79,7 +79,7 @@ forms =
     ∷ (number.PROXY, read_id Proxy)
     ∷ []
 
--- a type that no client says, and the id after it, if there is one
+-- a type that no client sends, and the id after it, if there is one
 abbrev pub read_unknown : ℕ → List ℕ → Reading
 read_unknown kind rest =
     elim (take_u32 rest) [

@@ -1,4 +1,4 @@
--- What a client has said by all its bytes (PROTOCOL.mux): control messages, and after a PROXY
+-- What a client has sent by all its bytes (PROTOCOL.mux): control messages, and after a PROXY
 -- payloads.
 use Rattle.std.specs.Prelude.{ℕ, List, [], ◌∷◌, ◌++◌, length, zero, suc, Ok, Err}
 use Rattle.ssh_grammar.specs.declared.fault.BadFrame.{BadFrame}
@@ -13,7 +13,7 @@ pub data Mode : Type 0 where
   InProxy : Mode
   Stopped : Mode
 
--- what is said at once: a control message's body, a payload, or a frame that is none
+-- what is sent at once: a control message's body, a payload, or a frame that is none
 pub data Outgoing : Type 0 where
   Body : (body : List ℕ) → Outgoing
   Payload : (payload : List ℕ) → Outgoing
@@ -37,7 +37,7 @@ first_in InControl bytes = first_frame framing.Control bytes
 first_in InProxy bytes = first_frame framing.Proxy bytes
 first_in Stopped bytes = More
 
--- what a frame says
+-- the item of a frame
 abbrev pub sending_in : Mode → List ℕ → Outgoing
 sending_in InControl content = Body content
 sending_in InProxy content = Payload content
@@ -49,7 +49,7 @@ mode_after InControl content = after_body content
 mode_after InProxy content = InProxy
 mode_after Stopped content = Stopped
 
--- what was said, how the next bytes are read, and the bytes that are not read yet
+-- what was sent, how the next bytes are read, and the bytes that are not read yet
 pub record Parsed : Type 0 where
   pub says : List Outgoing
   pub mode : Mode
@@ -82,10 +82,10 @@ and_then p bytes =
     let more = parse p.mode (p.rest ++ bytes) in
     record { says = p.says ++ more.says; mode = more.mode; rest = more.rest }
 
--- what a client has said by all its bytes
+-- what a client has sent by all its bytes
 abbrev pub said : List ℕ → List Outgoing
 said bytes = (parse InControl bytes).says
 
--- what the server has said by all its bytes: payloads from the first byte on
+-- what the server has sent by all its bytes: payloads from the first byte on
 abbrev pub heard : List ℕ → List Outgoing
 heard bytes = (parse InProxy bytes).says

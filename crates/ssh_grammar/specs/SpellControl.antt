@@ -14,7 +14,7 @@ abbrev pub spell_ask : ForwardAsk → List ℕ
 spell_ask a = u32 a.kind
     ++ (str a.listen_host ++ (u32 a.listen_port ++ (str a.connect_host ++ u32 a.connect_port)))
 
--- what a client says
+-- what a client sends
 abbrev pub spell_control : Control → List ℕ
 spell_control (Hello version extensions) =
     u32 number.HELLO ++ (u32 version ++ spell_pairs extensions)
@@ -27,7 +27,7 @@ spell_control (StdioForward id rest) = u32 number.NEW_STDIO_FWD ++ (u32 id ++ re
 spell_control (StopListening id) = u32 number.STOP_LISTENING ++ u32 id
 spell_control (Proxy id) = u32 number.PROXY ++ u32 id
 
--- what a master says
+-- what a master sends
 abbrev pub spell_answer : Answer → List ℕ
 spell_answer (Greets version) = u32 number.HELLO ++ u32 version
 spell_answer (Okay id) = u32 number.S_OK ++ u32 id

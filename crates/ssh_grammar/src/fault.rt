@@ -30,7 +30,7 @@ pub enum BadControl {
     /// Bytes from there on are left over.
     #[error("bytes from {at} on are left over")]
     Extra { at: usize },
-    /// The type is none that a client says. The id is the number after it, where there is one.
+    /// The type is none that a client sends. The id is the number after it, where there is one.
     #[error("control message {kind} is unknown")]
     Unknown { kind: u32, id: Option<u32> },
 }

@@ -24,7 +24,7 @@ pub fn control_messages_and_their_bodies()
     ensures no_two { NoBodyForTwo }
 {}
 
-/// What a master says reads as it.
+/// What a master sends reads as it.
 pub fn answers_and_their_bodies()
     ensures read_back { AnswersReadBack }
     ensures no_two { NoBodyForTwoAnswers }
@@ -37,7 +37,7 @@ pub fn frames_of_a_stream()
     ensures join { CutsJoin }
 {}
 
-/// What a client says by pieces is what it says by all its bytes: control messages, and after the
+/// What a client sends by pieces is what it sends by all its bytes: control messages, and after the
 /// one that begins the proxy payloads.
 pub fn what_is_sent_by_bytes()
     ensures join { ParsesJoin }

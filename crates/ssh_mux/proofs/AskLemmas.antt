@@ -130,7 +130,7 @@ abbrev SomeAsks : Result (List StartAsk) ResolveError → Type 0
 SomeAsks (Ok what) = 1 ≤ length what
 SomeAsks (Err e) = Unit {0}
 
--- the forwardings of a line and of those behind it
+-- the forwardings of a line and of those after it
 abbrev then_asks : Result (Option StartAsk) ResolveError → Result (List StartAsk) ResolveError → Result (List StartAsk) ResolveError
 then_asks here later = here >>= λ h. later >>= λ l. Ok (onto_asks h l)
 

@@ -80,7 +80,7 @@ fault-later status f f' r r' h = inr h
 
 -- ---- commands
 
--- the commands that the lines of what is asked reach, where the machine is told
+-- the commands that the lines of what is asked reach, if the machine is recorded
 abbrev pub Reaches : Command → Asked → Type 0
 Reaches command asked = (m : Machine) → command_execs m command ≡ execs (recorded_of m asked)
 

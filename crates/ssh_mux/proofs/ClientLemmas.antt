@@ -1,4 +1,4 @@
--- What a client leaves behind whose control path was found, and one that asks nobody.
+-- What a client leaves whose control path was found, and one that asks no master.
 use Rattle.std.proofs.Common.{◌≡◌, ◌⊎◌, inl, inr, ℕ, true, List, Option, Some, None, Result, Ok, Err, refl, sym, ap, subst}
 use Rattle.conf_rules.specs.declared.asked.Asked.{Asked}
 use Rattle.conf_rules.specs.declared.causes.Cause.TheVariants as causes
@@ -33,7 +33,7 @@ use Rattle.ssh_mux.proofs.TalkLemmas.{Unjoined, still-asked-cause, still-asked-w
 abbrev pub IsClient : Known → Asked → MasterCommand → Bytes → Type 0
 IsClient k asked what path = (k ≡ Certain (joins_at asked what path)) ⊎ (k ≡ Client asked what)
 
--- ---- one that asks nobody
+-- ---- one that asks no master
 
 pub unasked-leaves : (k : Known) (meant : Ending) (turns : ℕ) (w : WireState) (f : Faults) (out : OutState) → JoinsOnce k (status_of (shown meant)) w.joinings w.joinings → Unjoined k (shown meant) → ClientLeaves k turns (Err meant) w w f f out out
 unasked-leaves k meant turns w f out joined none = record {
@@ -48,7 +48,7 @@ unasked-leaves k meant turns w f out joined none = record {
   idle = λ z. still-idle (status_of (shown meant)) f;
 }
 
--- where its forwardings have no reading, or memory was wanting for them
+-- where its forwardings have no reading, or memory ran out for them
 pub bad-asks-unjoined : (k : Known) (meant : Ending) (reading : Result Asks ResolveError) → FindsAsks {A = Asks} (Err meant) reading → Unjoined k (shown meant)
 bad-asks-unjoined k endings.NoMemory reading h = inr refl
 bad-asks-unjoined k (endings.BadLine file line (causes.Value e)) reading h = inl refl
@@ -88,7 +88,7 @@ bad-asks-placed (Some recorded) endings.NoMemory reading ran ran' failed failed'
 bad-asks-placed (Some recorded) (endings.BadLine file line (causes.Value e)) reading ran ran' failed failed' h = tt
 bad-asks-placed (Some recorded) meant reading ran ran' failed failed' h = absurd h
 
--- no fault of files or commands is told of them
+-- no fault of files or commands is reported of them
 pub bad-asks-cause : (meant : Ending) (reading : Result Asks ResolveError) (f f' r r' : ℕ) → FindsAsks {A = Asks} (Err meant) reading → (f' ≡ f) × (r' ≡ r) → Caused {A = Status} (Err meant) f f' r r'
 bad-asks-cause endings.NoMemory reading f f' r r' h e = e
 bad-asks-cause (endings.BadLine file line (causes.Value x)) reading f f' r r' h e = e

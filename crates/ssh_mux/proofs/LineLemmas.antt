@@ -1,4 +1,4 @@
--- The lines of endings, and what was taken of them.
+-- The lines of endings, and what was accepted of them.
 use Rattle.std.proofs.Common.{◌≡◌, inl, inr, ℕ, List, [], ◌++◌, Option, Some, None, Result, Ok, Err, refl, sym, ap, subst, ◌∙◌, append_assoc}
 use Rattle.std.proofs.lemmas.List.{append-nil}
 use Rattle.std.specs.Prelude.{OnOk}
@@ -17,7 +17,7 @@ pub joined : {T E : Type 0} (r : Result T E) (out a b first new : List ℕ) → 
 joined (Ok x) out a b first new e h = h ∙ (ap (λ s. s ++ b) e ∙ append_assoc out a b)
 joined (Err x) out a b first new e h = tt
 
--- an ending with the status of want of memory has its line
+-- an ending with the status of out of memory has its line
 pub memory_line : (ending : Ending) → status_of ending ≡ statuses.Memory → line_of ending ≡ line_of ends.NoMemory
 unfolding line_of text_of
 memory_line ends.NoMemory e = refl
@@ -29,7 +29,7 @@ memory_line (ends.BadListing list_errors.OutOfMemory) e = refl
 memory_line (ends.BadListing (list_errors.Token key error)) e = absurd cc
 memory_line ending e = absurd cc
 
--- a line of which all was taken, or a prefix
+-- a line of which all was accepted, or a prefix
 some : (line : List ℕ) (before now : Option (List ℕ)) (f f' : ℕ) → TookLine line before now f f' → TookSome line before now
 some line None None f f' t = tt
 some line None (Some now) f f' t = elim t [ ]
@@ -37,7 +37,7 @@ some line (Some before) None f f' t = elim t [ ]
 some line (Some before) (Some now) f f' (inl e) = record { prefix = line; rest = []; whole = sym (append-nil line); taken = e }
 some line (Some before) (Some now) f f' (inr p) = p.0
 
--- nothing was taken
+-- nothing was accepted
 none : (line : List ℕ) (before now : Option (List ℕ)) → now ≡ before → TookSome line before now
 none line before now e = subst (λ n. TookSome line before n) (sym e) (same before) where
   same : (b : Option (List ℕ)) → TookSome line b b
@@ -52,7 +52,7 @@ reports result status ending line before now f f' es el (inl p) = by_result resu
   by_result statuses.Memory e t = some (line_of ends.NoMemory) before now f f' (subst (λ l. TookLine l before now f f') (memory_line ending (sym e)) t)
   by_result s e t = (e, t)
 
--- the line of want of memory was handed over
+-- the line of out of memory was handed over
 pub reports_memory : (result : Status) (ending : Ending) (line : List ℕ) (before now : Option (List ℕ)) (f f' : ℕ) → line ≡ line_of ends.NoMemory → PutsLine result statuses.Memory line before now f f' → Reports result ending before now f f'
 reports_memory result ending line before now f f' el (inr p) = subst (λ s. Reports s ending before now f f') (sym p.0) (none (line_of ends.NoMemory) before now p.1)
 reports_memory result ending line before now f f' el (inl p) = subst (λ s. Reports s ending before now f f') (sym p.0) (some (line_of ends.NoMemory) before now f f' (subst (λ l. TookLine l before now f f') el p.1))

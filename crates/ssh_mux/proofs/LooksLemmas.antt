@@ -30,7 +30,7 @@ use Rattle.ssh_mux.proofs.StillLemmas.{still-due}
 pub found-looks : {A : Type 0} (shows : A → Outcome) (unknown : Known) (facts : Facts) (command : Command) (asked : Asked) (meant : Ending) (s s' : Sources) → FoundFor shows unknown facts command asked (Err meant) s s' → Looks facts command asked (Err meant) s s'
 found-looks shows unknown facts command asked meant s s' h = record { exact = still-due _ _ h.exact; ran = h.ran; read = h.read; place = h.place; cause = h.cause }
 
--- behind what was found
+-- after what was found
 pub looks-on : {A : Type 0} (shows : A → Outcome) (unknown : Known) (facts : Facts) (command : Command) (asked : Asked) (x : A) (s s' : Sources) (result : Result Status Ending) → FoundFor shows unknown facts command asked (Ok x) s s' → Comes (coming s facts command) result
     → Placed (recorded_over (machine_of_sources s facts) asked) result s.commands.ran s'.commands.ran s.files.failed s'.files.failed
     → Caused result s.files.faults s'.files.faults s.commands.faults s'.commands.faults → Looks facts command asked result s s'
@@ -52,7 +52,7 @@ found-under shows part unknown facts command asked x s s' h = record { exact = h
 pub found-over : {A B : Type 0} (shows : A → Outcome) (shows' : B → Outcome) (unknown : Known) (facts : Facts) (command : Command) (asked : Asked) (meant : Ending) (s s' : Sources) → FoundFor shows unknown facts command asked (Err meant) s s' → FoundFor shows' unknown facts command asked (Err meant) s s'
 found-over shows shows' unknown facts command asked meant s s' h = record { exact = h.exact; ran = h.ran; read = h.read; place = h.place; cause = h.cause }
 
--- ---- an ending behind that tells no fault
+-- ---- an ending after that reports no fault
 
 pub master-placed : (recorded : Option Recorded) (result : Result Status Ending) (ran ran' : Option (List Bytes)) (failed failed' : FailedPaths) → EndsMaster result → Placed recorded result ran ran' failed failed'
 master-placed recorded (Ok status) ran ran' failed failed' h = tt

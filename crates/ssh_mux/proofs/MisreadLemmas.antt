@@ -24,7 +24,7 @@ use Rattle.ssh_mux.specs.Status.{status_of}
 
 -- ---- words without a command to obey
 
--- what comes of a reading
+-- the outcome of a reading
 abbrev outcome_by : Machine → ReadCommand → Outcome
 outcome_by m r = elim r [ Ok command ↦ command_outcome m command | Err e ↦ Ends (ends.BadWords e) ]
 

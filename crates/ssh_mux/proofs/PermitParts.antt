@@ -27,7 +27,7 @@ in-range : (t : Bool) (n : ℕ) → (elim t as (λ _. Option ℕ) [ true ↦ Som
 in-range true n = refl
 in-range false n = refl
 
--- the digits behind a number
+-- the digits after a number
 digits-same : (n : ℕ) (ds : Bytes) → digits n ds ≡ (if list_all is_ascii_digit ds && nat_le (digits_from n ds) 65535 then Some (digits_from n ds) else None)
 digits-same n [] = in-range (nat_le n 65535) n
 digits-same n (d ∷ ds) = one-digit (nat_le 48 d && nat_le d 57) (list_all is_ascii_digit ds) (nat_le (digits_from (n * 10 + (d - 48)) ds) 65535) (digits (n * 10 + (d - 48)) ds) (digits_from (n * 10 + (d - 48)) ds) (digits-same (n * 10 + (d - 48)) ds)
@@ -74,7 +74,7 @@ parts-make c (b ∷ bs) p e = by_case (parts-make c bs) (before_last c bs) refl 
     by_case ih None parts true here e = let same : ([], bs) ≡ p = cc in subst (λ r. b ∷ bs ≡ r.0 ++ c ∷ r.1) same (ap (λ x. x ∷ bs) (same-number b c here))
     by_case ih None parts false here e = absurd cc
 
--- a byte behind which there is none more parts the text
+-- a byte after which there is none more parts the text
 pub parts-here : (c : ℕ) (xs rest : Bytes) → before_last c rest ≡ None → before_last c (xs ++ c ∷ rest) ≡ Some (xs, rest)
 parts-here c [] rest none = rw (none, self c) refl
 parts-here c (x ∷ xs) rest none = rw (parts-here c xs rest none) refl
@@ -110,7 +110,7 @@ port-none c above text port = by_case (bytes_eq text (codes "*")) refl port
 
 -- ---- the closing bracket
 
--- the last byte stands behind the others
+-- the last byte stands after the others
 last-is : (text : Bytes) (p : Bytes × ℕ) → split_last text ≡ Some p → text ≡ p.0 ++ p.1 ∷ []
 last-is [] p e = absurd cc
 last-is (b ∷ bs) p e = by_case (last-is bs) (split_last bs) refl e

@@ -88,11 +88,11 @@ bare-same b bs plain = by_case (before_last 58 bs) (b == 58)
 
 -- ---- entries with brackets
 
--- the host in what stands behind the opening bracket
+-- the host in what stands after the opening bracket
 abbrev inner_host : Bytes → Bool
 inner_host text = elim (before_bracket (split_last text)) as (λ _. Bool) [ None ↦ false | Some h ↦ not (is_empty h || is_path h) ]
 
--- what a word has behind the opening bracket
+-- what a word has after the opening bracket
 abbrev by_inner : Option (Bytes × Bytes) → Bool
 by_inner None = false
 by_inner (Some p) = inner_host p.0 && is_port p.1
@@ -100,7 +100,7 @@ by_inner (Some p) = inner_host p.0 && is_port p.1
 closed-host : (host : Bytes) → inner_host (host ++ 93 ∷ []) ≡ is_some (read_host host)
 closed-host host = rw (last-here host 93, inner_host) (host-same host)
 
--- what is read behind the opening bracket
+-- what is read after the opening bracket
 abbrev read_inner : Option (Bytes × Bytes) → Bool
 read_inner None = false
 read_inner (Some p) = is_some (entry_of (read_host p.0) (read_colon_port p.1))

@@ -75,7 +75,7 @@ reads-starved (Some recorded) statuses.Outside before now h = h
 reads-starved (Some recorded) statuses.Memory before now h = h
 reads-starved (Some recorded) status before now h = all-some (all_reads recorded) before now h
 
--- behind the line
+-- after the line
 pub reads_after : (recorded : Option Recorded) (status : Status) (ending : Ending) (b n : Option (List ℕ)) (f f' : ℕ) (before now : Readings) → Reports status ending b n f f' → ReadsFor recorded (status_of ending) before now → ReadsFor recorded status before now
 reads_after recorded status ending b n f f' before now r h = carried (λ s. ReadsFor recorded s before now) status ending (reported status ending b n f f' r) (reads-starved recorded (status_of ending) before now h) h
 

@@ -1,4 +1,4 @@
--- What a house begins with, from settings to what is told, and what is so of it then.
+-- What a forwarder begins with, from settings to what is recorded, and what is so of it then.
 use Rattle.std.proofs.Common.{◌≡◌, inl, inr, ℕ, Bool, List, [], ◌∷◌, Option, Some, None, Result, Ok, Err, refl, ap, sym, subst}
 use Rattle.std.specs.Prelude.{◌++◌, flat_map, if◌then◌else◌}
 use Rattle.std.specs.List.{slice_get}
@@ -75,12 +75,12 @@ same-starts : (rows : List Row) (settings : List Given) → Keeps settings (flat
 same-starts rows settings keeps = same-made (first_value ClearAllForwardings settings) (value ClearAllForwardings rows) (first_value GatewayPorts settings) (value GatewayPorts rows) (first_value ExitOnForwardFailure settings) (value ExitOnForwardFailure rows) (values_among LocalForward settings) (values LocalForward rows) (values_among RemoteForward settings) (values RemoteForward rows) (values_among DynamicForward settings) (values DynamicForward rows)
     (same-first rows settings keeps ClearAllForwardings) (same-first rows settings keeps GatewayPorts) (same-first rows settings keeps ExitOnForwardFailure) (same-values rows settings keeps LocalForward) (same-values rows settings keeps RemoteForward) (same-values rows settings keeps DynamicForward)
 
--- a house begins as is due by what is told
+-- a forwarder begins as is due by what is recorded
 pub starts-recorded : (recorded : Option Recorded) (settings : List Given) → SettledFor recorded settings → StartsAs recorded (starts_for settings)
 starts-recorded None settings s = tt
 starts-recorded (Some recorded) settings s = same-starts (all_rows recorded) settings s
 
--- ---- a run with a house that has begun
+-- ---- a run with a forwarder that has begun
 
 rested-at : (R R' : AtWaits) → ((want : Want) (now : Option (List HouseMark)) (calls : List HouseCall) (ls : List ℕ) (os : List OwnStream) → R want now calls ls os → R' want now calls ls os) → (setting : Setting) (before : Option (List HouseMark)) (journal : List Mark) (mark : Mark) → RestedAt R setting before journal mark → RestedAt R' setting before journal mark
 rested-at R R' f setting before journal (Waits waiting want streams listens) h = f _ _ _ _ _ h
@@ -155,7 +155,7 @@ module _ {T : Type 0} (state : T → HouseState) (present : Bool) (first : T) (s
 
 -- ---- ExitOnForwardFailure
 
--- a house that was begun as the settings say
+-- a forwarder that was begun as the settings specify
 pub musts-begun : (status : Status) (due must : Bool) → must ≡ due → MustsAs status (Some due) must
 musts-begun statuses.Memory due must e = tt
 musts-begun status due must e = e

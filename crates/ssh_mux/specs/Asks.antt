@@ -145,7 +145,7 @@ NamesForwards control ls =
 
 -- ---- what the code returned
 
--- it is what the words ask, or their refusal, unless memory was wanting
+-- it is what the words request, or their refusal, unless memory ran out
 abbrev pub FindsAsks : {A : Type 0} → Result A MeantEnding → Result A ResolveError → Type 0
 FindsAsks (Ok x) reading = reading ≡ Ok x
 FindsAsks (Err endings.NoMemory) reading = Unit

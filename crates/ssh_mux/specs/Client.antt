@@ -31,7 +31,7 @@ use Rattle.ssh_mux.specs.World.{OutState, World}
 abbrev pub joined : Bytes → Option (List Bytes) → Option (List Bytes)
 joined control before = option_map (λ js. js ++ control ∷ []) before
 
--- the wire was joined once, at this control path, but for want of memory
+-- the wire was joined once, at this control path, unless memory ran out
 abbrev pub JoinsAt : Bytes → Status → Option (List Bytes) → Option (List Bytes) → Type 0
 JoinsAt control Memory before now = (now ≡ before) ⊎ (now ≡ joined control before)
 JoinsAt control status before now = now ≡ joined control before
@@ -41,15 +41,15 @@ pub record JoinsBy (before now : Option (List Bytes)) : Type 0 where
   pub control : Bytes
   pub once : now ≡ joined control before
 
--- it was joined so, unless the configuration is refused, a fault came before or memory was wanting
+-- it was joined so, unless the configuration is refused, a fault came before or memory ran out
 abbrev pub JoinsSome : Status → Option (List Bytes) → Option (List Bytes) → Type 0
 JoinsSome Config before now = now ≡ before
 JoinsSome Outside before now = now ≡ before
 JoinsSome Memory before now = (now ≡ before) ⊎ JoinsBy before now
 JoinsSome status before now = JoinsBy before now
 
--- the same of what comes of words: only a client joins the wire, and none whose forwardings are
--- refused or behind a fault
+-- the same of the outcome of words: only a client joins the wire, and none whose forwardings are
+-- refused or after a fault
 abbrev pub JoinsOnce : Known → Status → Option (List Bytes) → Option (List Bytes) → Type 0
 JoinsOnce (Certain (Joins control asked what)) Config before now = now ≡ before
 JoinsOnce (Certain (Joins control asked what)) Outside before now = now ≡ before
@@ -60,7 +60,7 @@ JoinsOnce known status before now = now ≡ before
 
 -- ---- the talk
 
--- how the end of a talk is told
+-- how the end of a talk is reported
 abbrev pub talk_recorded : Talked → Result Status MeantEnding
 talk_recorded talks.Done = Ok Done
 talk_recorded (talks.Refused id) = Err endings.MasterRefused
@@ -85,13 +85,13 @@ abbrev pub EndsClient : Result Status MeantEnding → Type 0
 EndsClient (Ok status) = IsTrue (is_silent status)
 EndsClient (Err ending) = IsTrue (ends_asking ending)
 
--- nobody was asked: the wire and the output tell what they told before
+-- no master was asked: the wire and the output record what they recorded before
 pub record IsUnasked (start recorded : Option (List Mark)) (out out' : Option (List ℕ)) : Type 0 where
   pub same_wire : recorded ≡ start
   pub same_out : out' ≡ out
 
--- A talk that keeps its promises, and its very end; `start` and `recorded` are what the wire tells,
--- `out` and `out'` what the output does.
+-- A talk that keeps its promises, and its very end; `start` and `recorded` are what the wire
+-- records, `out` and `out'` what the output records.
 pub record IsAsked (asks : Asks) (start recorded : Option (List Mark)) (out out' : Option (List ℕ))
     (result : Result Status MeantEnding) : Type 0 where
   pub answer : Talked
@@ -99,7 +99,7 @@ pub record IsAsked (asks : Asks) (start recorded : Option (List Mark)) (out out'
   pub talks : TalksRecorded asks answer start recorded
   pub shows : ShowsRecorded asks answer start recorded out out'
 
--- where the wire wasn't joined nobody was asked
+-- if the wire wasn't joined no master was asked
 abbrev pub Converses : Asks → Option (List Mark) → Option (List Mark)
     → Option (List ℕ) → Option (List ℕ) → Result Status MeantEnding → Type 0
 Converses asks start recorded out out' (Err endings.NotOpened) = IsUnasked start recorded out out'
@@ -119,7 +119,7 @@ asks_in (Certain (Joins control asked what)) = Some (asks_for asked what)
 asks_in (Client asked what) = Some (asks_for asked what)
 asks_in known = None
 
--- the same of what comes of words: only a client asks
+-- the same of the outcome of words: only a client asks
 abbrev pub ConversesBy : Option (Result Asks ResolveError) → Option (List Mark)
     → Option (List Mark) → Option (List ℕ) → Option (List ℕ) → Result Status MeantEnding → Type 0
 ConversesBy (Some asks) start recorded out out' result = ConversesOn asks start recorded out out' result
@@ -140,7 +140,7 @@ pub record IsAnswered (asks : Asks) (start recorded : Option (List Mark)) (out o
   pub shows : ShowsRecorded asks answer start recorded out out'
   pub line : RecordsEnd (talk_recorded answer) status err err' faults faults'
 
--- the same of the program: where its wire wasn't joined nobody was asked
+-- the same of the program: if its wire wasn't joined no master was asked
 abbrev pub Answers : Asks → Option (List Mark) → Option (List Mark) → Option (List ℕ)
     → Option (List ℕ) → Status → Option (List ℕ) → Option (List ℕ) → ℕ → ℕ → Type 0
 Answers asks start recorded out out' Open err err' faults faults' = IsUnasked start recorded out out'
@@ -160,7 +160,7 @@ AnswersBy (Some (Err e)) start recorded out out' status err err' faults faults' 
     IsUnasked start recorded out out'
 AnswersBy None start recorded out out' status err err' faults faults' = Unit
 
--- the same of what comes of words: only a client asks
+-- the same of the outcome of words: only a client asks
 abbrev pub AnswersFor : Known → Status → World → World → Type 0
 AnswersFor known status before after = OnTrue (may_ask known status) (AnswersBy (asks_in known)
     before.wire.seen.recorded after.wire.seen.recorded before.out.recorded after.out.recorded status
@@ -168,8 +168,8 @@ AnswersFor known status before after = OnTrue (may_ask known status) (AnswersBy 
 
 -- ---- turns
 
--- Where all turns were taken `wait` was called once for each, and a talk with another end but for
--- want of memory or a failed connection called it at least once; its count stays at the end of its
+-- If all turns were used `wait` was called once for each, and a talk with another end, except out
+-- of memory or a failed connection, called it at least once; its count stays at the end of its
 -- type.
 abbrev pub TalksFor : ℕ → Status → CallCounts → CallCounts → Type 0
 TalksFor turns Spent old new =
@@ -207,7 +207,7 @@ pub record ClientLeaves (known : Known) (turns : ℕ) (result : Result Status Me
       (WireCause (so_far result) faults faults')
   -- and the output only where that was
   pub out_cause : OutCause (so_far result) out.faults out'.faults
-  -- calls were few, and none came behind one that wanted memory
+  -- calls were few, and none came after one that ran out of memory
   pub calls : CallsEnd turns (so_far result) old.calls new.calls
   -- it waited once for each turn
   pub waited : OnTrue (may_ask known (so_far result))

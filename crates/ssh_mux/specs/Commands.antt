@@ -10,18 +10,18 @@ use Rattle.ssh_mux.specs.declared.status.Status.TheVariants.{Outside, Memory}
 use Rattle.ssh_mux.specs.Ending.{shown}
 use Rattle.ssh_mux.specs.Status.{status_of}
 
--- the commands that a command reaches, where the machine is told
+-- the commands that a command reaches, if the machine is recorded
 unfoldable pub commands_of : Option Machine → Command → Option (List Bytes)
 commands_of (Some m) command = Some (command_execs m command)
 commands_of None command = None
 
--- the commands that are run for words, where the machine is told
+-- the commands that are run for words, if the machine is recorded
 unfoldable pub commands_for : Option Machine → List Bytes → Option (List Bytes)
 commands_for (Some m) words = Some (ran_for m words)
 commands_for None words = None
 
--- these commands were run, in order and behind those before; where a fault or want of memory broke
--- off, the first of them
+-- these commands were run, in order and after those before; if a fault or running out of memory
+-- broke off, the first of them
 abbrev pub RunsFor :
     Option (List Bytes) → Status → Option (List Bytes) → Option (List Bytes) → Type 0
 RunsFor (Some commands) Outside before now = RanSome before now commands

@@ -32,7 +32,7 @@ use Rattle.ssh_mux.specs.World.{World}
 
 -- ---- texts
 
--- the transport: the three words behind `--drill`, as they were given, with spaces between them
+-- the transport: the three words after `--drill`, as they were given, with spaces between them
 unfoldable pub drill_transport : List Bytes → Bytes
 drill_transport (first ∷ seed ∷ clients ∷ messages ∷ more) =
     seed ++ (32 ∷ clients ++ (32 ∷ messages))
@@ -57,16 +57,16 @@ drill_text tally =
 abbrev pub RefusesAll : HouseReply → Type 0
 RefusesAll reply = reply ≡ Refused
 
--- it has no house, so none waits
+-- it has no forwarder, so none waits
 abbrev pub NoneRests : Resting
 NoneRests = RestsOf {T = NoHouse} (λ house. no_house) false (record {})
 
--- it stands for any calls
+-- it represents any calls
 abbrev pub AnyCalls : List HouseCall → Type 0
 AnyCalls calls = Unit {0}
 
 -- What was written of the end of a run. Where it ended well: the summary, without a word; a prefix
--- of it where it could not be written; or nothing but the line of want of memory. Else the line of
+-- of it where it could not be written; or nothing but the line of out of memory. Else the line of
 -- its ending.
 abbrev pub DrillRecords : Result Status MeantEnding → Tally → Status
     → Option (List ℕ) → Option (List ℕ) → Option (List ℕ) → Option (List ℕ) → ℕ → ℕ → Type 0
@@ -80,9 +80,9 @@ DrillRecords (Ok due) tally status out out' err err' faults faults' = ⊥
 DrillRecords (Err ending) tally status out out' err err' faults faults' =
     (out' ≡ out) × Reports status (shown ending) err err' faults faults'
 
--- A run that keeps its promises, for clients that are permitted anything and are told process id 0,
--- and what was written of its end; `start` is what the wire told before, and `seen` is seen of it
--- in the end.
+-- A run that keeps its promises, for clients that are permitted anything and are sent process id 0,
+-- and what was written of its end; `start` is what the wire recorded before, and `seen` is seen of
+-- it in the end.
 pub record IsDrilled (turns : ℕ) (start : Option (List Mark)) (seen : Seen) (tally : Tally)
     (status : Status) (out out' err err' : Option (List ℕ)) (faults faults' : ℕ) : Type 0 where
   pub answer : Ended
@@ -107,8 +107,8 @@ DrillServes turns start seen tally Memory out out' err err' faults faults' =
 DrillServes turns start seen tally status out out' err err' faults faults' =
     IsDrilled turns start seen tally status out out' err err' faults faults'
 
--- A drill: its wire was opened once, with an empty control path and its words for a transport, but
--- for want of memory. It was served, and its end was told.
+-- A drill: its wire was opened once, with an empty control path and its words for a transport,
+-- unless memory ran out. It was served, and its end was reported.
 pub record IsDrill (words : List Bytes) (turns : ℕ) (status : Status) (before after : World) :
     Type 0 where
   pub opened : OpensAt [] (drill_transport words) status before.wire.openings after.wire.openings

@@ -31,20 +31,20 @@ TookSome line (Some before) None = ⊥
 TookSome line (Some before) (Some now) = TookPrefix before now line
 
 -- a line was handed over; where there was no memory for it, that is the status, and nothing was
--- taken
+-- accepted
 abbrev pub PutsLine : Status → Status → List ℕ → Option (List ℕ) → Option (List ℕ) → ℕ → ℕ → Type 0
 PutsLine result status line before now faults faults' =
     ((result ≡ status) × TookLine line before now faults faults')
     ⊎ ((result ≡ Memory) × (now ≡ before))
 
--- the line of an ending was handed over, or that of want of memory
+-- the line of an ending was handed over, or that of out of memory
 abbrev pub Reports : Status → Ending → Option (List ℕ) → Option (List ℕ) → ℕ → ℕ → Type 0
 Reports Memory ending before now faults faults' = TookSome (line_of NoMemory) before now
 Reports result ending before now faults faults' =
     (result ≡ status_of ending) × TookLine (line_of ending) before now faults faults'
 
--- what a call came to was told so, with this status: without a line where it has a status of its
--- own, and else with the line of its ending, which was handed over once
+-- the outcome of a call was reported so, with this status: without a line where it has a status of
+-- its own, and else with the line of its ending, which was handed over once
 abbrev pub IsRecordedBy : Result Status MeantEnding → Status → OutState → OutState → Type 0
 IsRecordedBy (Ok due) status err err' = (status ≡ due) × (err' ≡ err)
 IsRecordedBy (Err ending) status err err' =
@@ -52,7 +52,7 @@ IsRecordedBy (Err ending) status err err' =
     × (err'.puts ≡ counted err.puts)
 
 -- the run ended by an ending that is due, whose line was handed over, and whose fault, if it is
--- one, raised its count and is told where it came up: a failed read with its path
+-- one, raised its count and is reported where it came up: a failed read with its path
 pub record EndsBy (known : Known) (recorded : Option Recorded) (status : Status) (before after : World) :
     Type 0 where
   pub ending : Ending
@@ -66,7 +66,7 @@ pub record EndsBy (known : Known) (recorded : Option Recorded) (status : Status)
       after.files.failed
 
 -- How a run ended: without a word where it went well or `out` failed, with the line of its ending
--- otherwise; of the line of want of memory some part may be written.
+-- otherwise; of the line of out of memory some part may be written.
 abbrev pub Ended : Known → Option Recorded → Status → World → World → Type 0
 Ended known recorded Done before after = IsWell known Done × (after.err.recorded ≡ before.err.recorded)
 Ended known recorded Write before after = IsWell known Write × (after.err.recorded ≡ before.err.recorded)

@@ -15,21 +15,21 @@ use Rattle.ssh_mux.specs.Places.{Placed, recorded_over}
 use Rattle.ssh_mux.specs.Reads.{ReadsFor, ReadsUnless}
 use Rattle.ssh_mux.specs.World.{Sources}
 
--- the machine of these sources, where they tell
+-- the machine of these sources, if they record
 abbrev pub machine_of_sources : Sources → Facts → Option Machine
 machine_of_sources from facts = machine from.files.recorded from.commands.recorded facts
 
--- what is known to come of a command over them
+-- what is known of the outcome of a command over them
 abbrev pub coming : Sources → Facts → Command → Known
 coming from facts command = of_command (machine_of_sources from facts) command
 
--- what is known to come of words over them
+-- what is known of the outcome of words over them
 abbrev pub coming_of_words : Sources → Facts → List Bytes → Known
 coming_of_words from facts words = of_words (machine_of_sources from facts) words
 
 -- What a call for a command leaves of them, which asks for the settings of `asked`: its end is one
 -- that is due; the commands of `Match exec` were run; the files of the lines were read; a fault is
--- told where it came up, and alone raised its count.
+-- reported where it came up, and alone raised its count.
 pub record Looks (facts : Facts) (command : Command) (asked : Asked) (result : Result Status Ending)
     (old new : Sources) : Type 0 where
   pub exact : Comes (coming old facts command) result

@@ -20,7 +20,7 @@ abbrev pub EndsMaster : Result Status Ending → Type 0
 EndsMaster (Ok status) = status ≡ Done
 EndsMaster (Err ending) = IsTrue (ends_sharing ending)
 
--- only memory may be wanting
+-- only memory may run out
 abbrev pub OnlyStarves : {A : Type 0} → Result A Ending → Type 0
 OnlyStarves (Ok x) = Unit
 OnlyStarves (Err ending) = ending ≡ endings.NoMemory

@@ -12,8 +12,8 @@ use Rattle.ssh_mux.specs.declared.status.Status.TheVariants.{Done, Write}
 use Rattle.ssh_mux.specs.Answers.{may_open}
 use Rattle.ssh_mux.specs.Outcomes.{Known, Certain, Listing, Client}
 
--- a text was handed over: all of it was taken, a prefix where that failed, or nothing for want of
--- memory
+-- a text was handed over: all of it was accepted, a prefix where that failed, or nothing if memory
+-- ran out
 abbrev pub HandsOver :
     Result Status Ending → Bytes → Option (List ℕ) → Option (List ℕ) → Type 0
 HandsOver (Ok Done) text before now = TakesRecorded (Ok tt) before now text
@@ -21,7 +21,7 @@ HandsOver (Ok Write) text before now = TakesRecorded (Err Failed) before now tex
 HandsOver (Err endings.NoMemory) text before now = now ≡ before
 HandsOver result text before now = ⊥
 
--- nothing more; but for a client that may have joined its wire, of which `AnswersFor` says what
+-- nothing more; but for a client that may have joined its wire, of which `AnswersFor` defines what
 abbrev pub OutStays : Status → Known → Option (List ℕ) → Option (List ℕ) → Type 0
 OutStays status (Certain (Joins control asked what)) before now =
     OnFalse (may_open status) (now ≡ before)
@@ -29,7 +29,7 @@ OutStays status (Client asked what) before now = OnFalse (may_open status) (now 
 OutStays status known before now = now ≡ before
 
 -- the listing, of which a prefix where it failed, and nothing with any other status; where it isn't
--- known, some listing; of a drill that writes, `IsDrill` says what
+-- known, some listing; of a drill that writes, `IsDrill` defines what
 abbrev pub OutTakes : Status → Known → Option (List ℕ) → Option (List ℕ) → Type 0
 OutTakes Done (Certain (Writes text)) before now = TakesRecorded (Ok tt) before now text
 OutTakes Write (Certain (Writes text)) before now = TakesRecorded (Err Failed) before now text

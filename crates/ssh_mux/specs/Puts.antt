@@ -14,7 +14,7 @@ prints Listing = true
 prints other = false
 
 -- how many calls of `put` there were: one where a text was handed over or that failed, one or none
--- for want of memory, and else none
+-- if memory ran out, and else none
 abbrev pub PutsOnce : Status → ℕ → ℕ → Type 0
 PutsOnce Done before now = now ≡ counted before
 PutsOnce Write before now = now ≡ counted before

@@ -11,7 +11,7 @@ use Rattle.ssh_mux.specs.Ending.{shown}
 use Rattle.ssh_mux.specs.Status.{status_of}
 
 -- the files that the lines name were read, in their order and each with its limit; where the
--- configuration is refused, or a fault or want of memory broke off, the first of them
+-- configuration is refused, or a fault or running out of memory broke off, the first of them
 abbrev pub ReadsFor : Option Recorded → Status → Readings → Readings → Type 0
 ReadsFor (Some recorded) Config before now = ReadsSome (all_reads recorded) before now
 ReadsFor (Some recorded) Outside before now = ReadsSome (all_reads recorded) before now

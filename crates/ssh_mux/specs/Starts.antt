@@ -104,23 +104,24 @@ starts_due rows = record {
   must = is_set (value ExitOnForwardFailure rows);
 }
 
--- what a house begins with is what the rows of all that is told ask for, if this is known
+-- what a forwarder begins with is what the rows of all that is recorded ask for, if this is known
 abbrev pub StartsAs : Option Recorded → Starts → Type 0
 StartsAs None starts = Unit
 StartsAs (Some recorded) starts = starts ≡ starts_due (all_rows recorded)
 
--- a house begins so by what is told of files and commands, and of this beginning something is so
+-- a forwarder begins so by what is recorded of files and commands, and of this beginning something
+-- is so
 pub record Begun (by : Option Recorded) (So : Starts → Type 0) : Type 0 where
   pub starts : Starts
   pub due : StartsAs by starts
   pub so : So starts
 
--- a house stands for its beginning alone
+-- a forwarder represents its beginning alone
 abbrev pub BeganWith : Starts → List HouseCall → Type 0
 BeganWith starts calls = calls ≡ Begins starts ∷ []
 
--- there is a house that has told this, knows these listeners and streams and is as it is right
--- before a wait, and that stands for its beginning and these calls behind it, unless none is
+-- there is a forwarder that has recorded this, knows these listeners and streams and is as it is
+-- right before a wait, and that represents its beginning and these calls after it, unless none is
 -- present
 abbrev pub BegunRests : {T : Type 0} → (T → HouseState) → Bool → Starts → Resting
 BegunRests {T} state present starts = record {
@@ -135,7 +136,7 @@ BegunRests {T} state present starts = record {
 
 -- ---- ExitOnForwardFailure
 
--- settings keep what the rows of all that is told give
+-- settings keep what the rows of all that is recorded give
 abbrev pub SettledFor : Option Recorded → List Given → Type 0
 SettledFor None settings = Unit
 SettledFor (Some recorded) settings = Keeps settings (flat_map given (all_rows recorded))
@@ -145,7 +146,7 @@ abbrev pub must_for : Option Recorded → Option Bool
 must_for None = None
 must_for (Some recorded) = Some (is_set (value ExitOnForwardFailure (all_rows recorded)))
 
--- but for want of memory, it ends so exactly where it is due, if this is known
+-- unless memory runs out, it ends so exactly where it is due, if this is known
 abbrev pub MustsAs : Status → Option Bool → Bool → Type 0
 MustsAs Memory due must = Unit
 MustsAs status None must = Unit

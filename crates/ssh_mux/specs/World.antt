@@ -16,7 +16,7 @@ use Rattle.mux_outside.specs.WireState.{WireState}
 
 -- ---- files and commands
 
--- the paths and contents of all files, where they are told; which were read, each with its limit;
+-- the paths and contents of all files, if they are recorded; which were read, each with its limit;
 -- the paths that failed; and how often one did
 pub record FilesState : Type 0 where
   pub recorded : Option (List Pair)
@@ -24,7 +24,7 @@ pub record FilesState : Type 0 where
   pub failed : FailedPaths
   pub faults : ℕ
 
--- how commands end, where this is told; which were run; and how often one could not be
+-- how commands end, if this is recorded; which were run; and how often one could not be
 pub record CommandsState : Type 0 where
   pub recorded : Option (List CommandStatus)
   pub ran : Option (List Bytes)
@@ -47,9 +47,9 @@ sources f r files runner = record {
   commands = record { recorded = r.recorded runner; ran = r.ran runner; faults = r.faults runner };
 }
 
--- ---- a wire and a house
+-- ---- a wire and a forwarder
 
--- the wire, how often something failed at it, and the house
+-- the wire, how often something failed at it, and the forwarder
 pub record Sockets : Type 1 where
   pub wire : WireState
   pub faults : Faults
@@ -61,7 +61,7 @@ sockets w h wire house =
 
 -- ---- outputs
 
--- what an output took, where it is told; how often bytes were handed to it; and how often that
+-- what an output accepted, if it is recorded; how often bytes were handed to it; and how often that
 -- failed
 pub record OutState : Type 0 where
   pub recorded : Option (List ℕ)

@@ -32,7 +32,7 @@ pub fn usage_text(cause: Usage) -> &'static [u8]
     }
 }
 
-/// Why a line or its words have no reading.
+// Why a line or its words have no reading.
 fn lex_text(error: LexError) -> &'static [u8]
     ensures { result.now ≡ lex_text error }
 {
@@ -45,7 +45,7 @@ fn lex_text(error: LexError) -> &'static [u8]
     }
 }
 
-/// Why words are no value.
+// Why words are no value.
 fn value_text(error: ValueError) -> &'static [u8]
     ensures { result.now ≡ value_text error }
 {
@@ -62,7 +62,7 @@ fn value_text(error: ValueError) -> &'static [u8]
     }
 }
 
-/// Why words are no criteria.
+// Why words are no criteria.
 fn match_text(error: MatchError) -> &'static [u8]
     ensures { result.now ≡ match_text error }
 {
@@ -119,7 +119,7 @@ pub fn put_cause_text(out: &mut Text, cause: &Cause) -> Result<(), OutOfMemory>
     }
 }
 
-/// A number between two texts.
+// A number between two texts.
 fn put_around(
     alloc: Global,
     out: &mut Text,

@@ -30,7 +30,7 @@ pub enum Ending {
     TransportFailed,
     /// The server broke the protocol, by its message with this number, counted from 1.
     ServerBroke { index: u64, why: Break },
-    /// All turns were taken.
+    /// All turns were used.
     TurnsSpent,
     /// A forwarding asked for at the start was refused, and none may be.
     StartRefused,

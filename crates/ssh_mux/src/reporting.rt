@@ -9,11 +9,11 @@ use crate::status::Status;
 use mux_outside::{FileError, Sink};
 use std::alloc::Global;
 
-/// The line of want of memory.
+/// The line of out of memory.
 const NO_MEMORY: &[u8] = b"ssh-mux: out of memory\n";
 
-/// Tells how the run ended, in one line, and its status. Want of memory for the line is the
-/// status then.
+/// Reports how the run ended, in one line, and returns its status. If memory runs out for the line,
+/// the status is out of memory.
 pub fn report<S: Sink>(alloc: Global, err: &mut S, ending: &Ending) -> Status
     ensures recorded { Reports result (shown ending.now)
         (S.recorded err.old) (S.recorded err.new) (S.faults err.old) (S.faults err.new) }

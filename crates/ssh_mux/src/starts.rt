@@ -81,7 +81,7 @@ fn start_of(alloc: Global, kind: u32, forward: &Forward) -> Result<StartAsk, Out
     })
 }
 
-// Takes the forwarding of a value behind the others.
+// Takes the forwarding of a value after the others.
 fn add_start(
     alloc: Global,
     asks: &mut StartAsks,
@@ -99,7 +99,7 @@ fn add_start(
     }
 }
 
-// Takes the forwardings of a key behind the others.
+// Takes the forwardings of a key after the others.
 fn add_starts(
     alloc: Global,
     asks: &mut StartAsks,

@@ -21,7 +21,7 @@ pub enum Status {
     Transport,
     /// The server broke the protocol.
     Broke,
-    /// All turns were taken.
+    /// All turns were used.
     Spent,
     /// There was no memory.
     Memory,

@@ -25,7 +25,7 @@ enum AskedWords {
     Entry(usize),
 }
 
-// The bytes at a place, `None` behind the last one. The room is doubled until they fit.
+// The bytes at a place, `None` after the last one. The room is doubled until they fit.
 fn bytes_at<E: Env>(rt: &E, alloc: Global, asked: AskedWords) -> Result<Option<Text>, OutOfMemory> {
     let mut room = FIRST_ROOM;
     for _ in 0..usize::BITS {
@@ -43,7 +43,7 @@ fn bytes_at<E: Env>(rt: &E, alloc: Global, asked: AskedWords) -> Result<Option<T
     Err(OutOfMemory)
 }
 
-/// The words behind the program's name.
+/// The words after the program's name.
 pub fn words_of<E: Env>(rt: &E, alloc: Global) -> Result<Texts, OutOfMemory> {
     let mut words = Texts::new(alloc);
     for place in 1..usize::MAX {
@@ -121,7 +121,7 @@ fn host_name_of<F: Files>(alloc: Global, files: &mut F) -> Result<Option<Text>, 
     }
 }
 
-/// What the environment and the files tell of the machine and its user.
+/// What the environment and the files contain about the machine and its user.
 pub fn facts_of<E: Env, F: Files>(
     rt: &E,
     alloc: Global,

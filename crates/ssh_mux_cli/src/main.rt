@@ -49,7 +49,7 @@ fn start(rt: &HostRuntime, err: &mut RealSink<Standard>) -> Result<Status, OutOf
     ended
 }
 
-// Runs over a wire in memory, with no house.
+// Runs over a wire in memory, with no forwarder.
 fn drill(
     rt: &HostRuntime,
     words: &Texts,
@@ -73,7 +73,7 @@ fn serve(
     ended
 }
 
-// The same, with this house.
+// The same, with this forwarder.
 fn serve_with<H: House>(
     rt: &HostRuntime,
     words: &Texts,
@@ -95,8 +95,8 @@ fn is_drill(words: &Texts) -> bool {
         .is_some_and(|word| word.as_bytes() == b"--drill".as_slice())
 }
 
-// Runs over this wire and this house, and over the files, commands and outputs of the system, with
-// as many turns as there are.
+// Runs over this wire and this forwarder, and over the files, commands and outputs of the system,
+// with as many turns as there are.
 fn run_over<W: Wire, H: House>(
     rt: &HostRuntime,
     words: &Texts,

@@ -33,7 +33,7 @@ data-case true e b = refl
 data-case false true b = refl
 data-case false false b = alone b
 
--- of what only the speaker's own close and one account tell
+-- of what only the speaker's own close and one account show
 plain-case : (c e : Bool) (b : Option Breach) → first_breach (while_open (speech c e) b) None ≡ unless_closed c b
 plain-case true e b = refl
 plain-case false true b = alone b

@@ -1,4 +1,4 @@
--- One act that breaks nothing: the accounts stand for the channel with that act.
+-- One act that breaks nothing: the accounts represent the channel with that act.
 use Rattle.std.proofs.Common.{◌≡◌, true, false, Bool, refl, sym, ap, ◌∙◌, subst, Option, Some, None, Ok, Err}
 use Rattle.ssh_grammar.specs.declared.side.Side.{Side}
 use Rattle.ssh_grammar.specs.declared.side.Side.TheVariants.{Up, Down}

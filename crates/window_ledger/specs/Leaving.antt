@@ -1,4 +1,4 @@
--- What a client that is lost leaves of an account: CLOSE is said in a channel that is confirmed.
+-- What a client that is lost leaves of an account: CLOSE is sent in a channel that is confirmed.
 use Rattle.std.specs.Prelude.{◌&&◌, Bool, true, false}
 use Rattle.window_ledger.specs.declared.account.Speech.{Speech}
 use Rattle.window_ledger.specs.declared.account.Speech.TheVariants.{Speaking, Ended, Closed}

@@ -1,4 +1,4 @@
--- A ledger stands for a channel of the history (RFC 4254, section 5).
+-- A ledger represents a channel of the history (RFC 4254, section 5).
 use Rattle.std.specs.Prelude.{◌≡◌, ◌+◌, ◌&&◌, ℕ, Bool, true, false, [], Option, Some, None, Result, Ok, Err}
 use Rattle.ssh_grammar.specs.declared.side.Side.{Side}
 use Rattle.ssh_grammar.specs.declared.side.Side.TheVariants.{Up, Down}
@@ -48,7 +48,7 @@ abbrev pub IsStateOf : State → Channel → Type 0
 IsStateOf (Opened by window maximum) x = IsBegun by window maximum x
 IsStateOf (Confirmed up down) x = AreAccounts up down x
 
--- a ledger stands for a channel
+-- a ledger represents a channel
 abbrev pub Stands : Ledger → Channel → Type 0
 Stands ledger x = IsStateOf ledger.state x
 

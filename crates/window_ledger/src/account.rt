@@ -34,7 +34,7 @@ pub fn is_closed(speech: Speech) -> bool
 pub struct Account {
     /// How many bytes of data the receiver takes for now.
     pub room: u32,
-    /// How many it takes at once.
+    /// How many it accepts at once.
     pub maximum: u32,
     /// How many wanted requests of this direction have no reply.
     pub unanswered: u32,

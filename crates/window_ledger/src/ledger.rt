@@ -22,7 +22,7 @@ enum State {
     Confirmed { up: Account, down: Account },
 }
 
-/// After an act, the account of its own direction and that of the other.
+// After an act, the account of its own direction and that of the other.
 fn exchange(own: Account, other: Account, act: Act) -> Result<(Account, Account), Breach>
     ensures { result ≡ judged (between act own other) (own_after act own, other_after act other) }
 {
@@ -49,7 +49,7 @@ fn after(state: State, way: Side, act: Act) -> Result<State, Breach>
     }
 }
 
-/// After the client's CLOSE, in a channel that is confirmed.
+// After the client's CLOSE, in a channel that is confirmed.
 fn left(state: State) -> State
     ensures { result ≡ left_state state }
 {
@@ -125,8 +125,8 @@ impl Ledger {
         };
     }
 
-    /// Any of the messages below, for a caller that has told them apart already. The master is such
-    /// a one: of these seven calls it makes this one alone.
+    /// Any of the messages below, for a caller that has distinguished them already. The master is
+    /// such a one: of these seven calls it makes this one alone.
     pub fn take(&mut self, way: Side, act: Act) -> Result<(), Breach>
         ensures exact { Judges self.old way (act_of act) result }
         ensures ok { OnOk result (GoesOn self.old self.new way (act_of act)) }
@@ -177,7 +177,7 @@ impl Ledger {
         self.take(way, Act::Close)
     }
 
-    /// A channel request; `want` says whether it wants a reply (RFC 4254, section 5.4).
+    /// A channel request; `want` is whether it wants a reply (RFC 4254, section 5.4).
     pub fn request(&mut self, way: Side, want: bool) -> Result<(), Breach>
         ensures exact { Judges self.old way (Asks want) result }
         ensures ok { OnOk result (GoesOn self.old self.new way (Asks want)) }

@@ -1,6 +1,6 @@
 //! The account of one channel (RFC 4254, section 5): the room of both directions, the channel
 //! requests that are unanswered, and what each side has ended. A ledger is a plain value without
-//! memory. It stands for the list of all that was done in its channel, and refuses exactly what
+//! memory. It represents the list of all that was done in its channel, and refuses exactly what
 //! would break the account.
 #![tactic(auto)]
 

@@ -1,5 +1,5 @@
-//! Each cause for which a core drops a client, and each break of the server that a core tells, with
-//! its values.
+//! Each cause for which a core drops a client, and each break of the server that a core reports,
+//! with its values.
 
 use super::{plays, plays_each};
 use std::test::Fail;

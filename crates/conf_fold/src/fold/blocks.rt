@@ -14,7 +14,7 @@ use conf_match::matches_words;
 use conf_rules::{Criteria, Key, ListAnswer, Value};
 use ssh_fields::{OutOfMemory, Texts};
 
-/// Whether an answer is yes; it names for the proof what the definition names.
+// Whether an answer is yes; it names for the proof what the definition names.
 fn is_yes(answer: ListAnswer) -> bool
     ensures { result ≡ is_yes answer }
 {
@@ -61,7 +61,7 @@ impl Fold {
         opens || self.applies.get(depth).copied().unwrap_or(true)
     }
 
-    /// Notes whether a line of a key is active, and says whether its value counts.
+    /// Notes whether a line of a key is active, and returns whether its value counts.
     pub(crate) fn note(&mut self, key: Key, active: bool) -> Result<bool, OutOfMemory>
         ensures ok { OnOk result ((result ≡ Ok (does_count key active self.old))
             × (self.new ≡ noted key active self.old)) }

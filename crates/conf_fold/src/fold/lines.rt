@@ -1,4 +1,4 @@
-//! One line of a file: what it says, and what comes of it.
+//! One line of a file: its content, and the outcome.
 
 ghost use Rattle.std.specs.Prelude.{◌≡◌, ◌≤◌, ◌<◌, ◌+◌, [], OnOk, OnErr, IfErr, IfOk, true, false, length, Ok};
 ghost use Rattle.conf_rules.specs.Texts.{or_text};
@@ -23,8 +23,8 @@ use mux_outside::{Facts, Runner};
 use ssh_fields::Text;
 use std::alloc::Global;
 
-/// What came of a line; an error is told at its file, whose path is given away for it, and its
-/// number. It takes no memory.
+// The outcome of a line; an error is reported at its file, whose path is given away for it, and
+// its number. It allocates no memory.
 fn placed(taken: Result<(), LineError>, file: Text, number: u64) -> Result<(), ResolveError>
     ensures { result ≡ as_error (λ e. refused_at e file number) taken }
 {
@@ -34,7 +34,7 @@ fn placed(taken: Result<(), LineError>, file: Text, number: u64) -> Result<(), R
     }
 }
 
-/// Whether criteria hold; an error is one of a line. It stands apart for its proof alone.
+// Whether criteria hold; an error is one of a line. It stands apart for its proof alone.
 fn evaluate<R: Runner>(
     alloc: Global,
     criteria: &Criteria,
@@ -131,7 +131,7 @@ impl Fold {
         }
     }
 
-    /// Takes what a line of a file says.
+    /// Applies the content of a line of a file.
     pub(crate) fn take<R: Runner>(
         &mut self,
         entry: LineContent,
@@ -185,11 +185,11 @@ impl Fold {
         }
     }
 
-    /// Takes one line of a file, behind those taken so far: `opens` where it is the first of its
+    /// Applies one line of a file, after those applied so far: `opens` where it is the first of its
     /// reading of the file, which lies at most as deep as files are open. A refusal is that of the
     /// line; settings stay. Criteria of an active Match line are evaluated here, and the runner's
-    /// fault comes only where its count rose, and always there: the memory for a refusal is taken
-    /// before a command is run.
+    /// fault comes only where its count rose, and always there: the memory for a refusal is
+    /// allocated before a command is run.
     pub fn line<R: Runner>(
         &mut self,
         line: &ConfLine,
@@ -224,7 +224,7 @@ impl Fold {
         placed(self.take(entry, line, facts, runner), file, line.number)
     }
 
-    /// What a line says behind those given so far.
+    /// The content of a line after those given so far.
     #[tactic(auto, unfolding(crate::specs::Stands::entry_so_far))]
     pub(crate) fn said(&self, line: &ConfLine) -> Result<LineContent, LineError>
         ensures fits { IfOk result (λ entry. entry_fits entry ≡ true) }

@@ -1,4 +1,4 @@
-//! What is asked of the house: at the start, and by clients.
+//! What is requested of the forwarder: at the start, and by clients.
 ghost use Rattle.std.specs.Prelude.{ℕ, ◌≡◌, ◌≤◌, ◌<◌, ◌+◌, ◌-◌, [], true, false, length, OnOk, IfOk, IfSome, None, Some, Ok};
 ghost use Rattle.mux_outside.specs.House.{nothing_known, ask_of};
 ghost use Rattle.mux_outside.specs.House.{known_after_ask};
@@ -76,7 +76,7 @@ impl ForwarderState {
         self.forwardings.start_all(starts)
     }
 
-    /// An ask to open or close a forwarding.
+    /// A request to open or close a forwarding.
     pub fn ask(
         &mut self,
         client: u64,
@@ -110,7 +110,7 @@ impl ForwarderState {
         }
     }
 
-    /// What comes of an ask.
+    // The outcome of a request.
     fn asked(
         &mut self,
         client: u64,

@@ -1,4 +1,4 @@
-//! What the house orders.
+//! What the forwarder orders.
 ghost use Rattle.std.specs.Prelude.{◌≡◌, ◌≤◌, ◌+◌, length, IsSome, None, Some};
 ghost use Rattle.mux_outside.specs.House.{gives_none, order_marks, OrderFits, NumberFits};
 ghost use Rattle.mux_outside.specs.House.{known_after_order, known_after_ordered};

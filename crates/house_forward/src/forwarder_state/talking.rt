@@ -1,4 +1,4 @@
-//! What the house says and hears.
+//! What the forwarder sends and receives.
 ghost use Rattle.std.specs.Prelude.{◌≡◌, ◌≤◌, ◌<◌, true, false, length, find, is_some, OnOk, IfOk, IfSome, IsSome, None, Some, Ok};
 ghost use Rattle.mux_outside.specs.House.{SendsFits, sends_nothing};
 ghost use Rattle.mux_outside.specs.declared.piece.TheConstants.{LONGEST_PIECE};
@@ -48,7 +48,7 @@ impl ForwarderState {
         self.relays.send(into)
     }
 
-    /// Puts the next request to the server into the piece, if there is one.
+    // Puts the next request to the server into the piece, if there is one.
     fn request(&self, into: &mut Piece) -> Result<Option<ForwardingRequest>, OutOfMemory>
         ensures exact { IfOk result (λ request. is_some request
             ≡ is_some (find has_request self.now.forwardings.all.items)) }
@@ -76,7 +76,7 @@ impl ForwarderState {
         Ok(Some(forwarding.request()))
     }
 
-    /// Takes bytes that are written to the house.
+    /// Receives bytes that are written to the forwarder.
     pub fn take(&mut self, bytes: &[u8]) -> Result<(), OutOfMemory>
         ensures others { self.new ≡ record self.old { framer = self.new.framer } }
         ensures heard { OnOk result (self.new.framer ≡ pushed bytes.now self.old.framer) }
@@ -84,7 +84,7 @@ impl ForwarderState {
         self.framer.push(bytes)
     }
 
-    /// Hears the next frame of them, and whether there was one.
+    /// Receives the next frame of them, and whether there was one.
     pub fn receive(&mut self) -> Result<bool, OutOfMemory>
         requires { self.old.ordering ≡ None }
         ensures fewer { IfOk result (λ heard. heard ≡ true
@@ -104,7 +104,7 @@ impl ForwarderState {
         }
     }
 
-    /// Hears the frame that is current.
+    // Receives the frame that is current.
     fn receive_frame(&mut self) -> Result<(), OutOfMemory>
         requires current { IsSome self.old.framer.current }
         requires ordering { self.old.ordering ≡ None }
@@ -133,7 +133,7 @@ impl ForwarderState {
     }
 }
 
-/// Whether a control message grants the proxy.
+// Whether a control message grants the proxy.
 fn grants(message: &[u8]) -> bool
     ensures { result ≡ is_grant (take_u32 message.now) }
 {

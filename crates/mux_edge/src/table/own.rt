@@ -77,7 +77,7 @@ impl StreamTable {
 }
 
 impl StreamTable {
-    /// Lets go of a listener.
+    /// Drops a listener.
     pub fn unlisten(&mut self, number: u64)
         ensures gone { get nat_eq self.new.own_listeners number ≡ None }
         ensures entries { self.new.entries ≡ self.old.entries }

@@ -6,11 +6,11 @@ ghost use Rattle.mux_edge.specs.Shares.{holds_own, no_shares, shares_after};
 
 use mux_outside::is_own;
 
-/// How many bytes came of the clients and of the master's own streams since the server's stream is
-/// waited for.
+/// How many bytes came from the clients and of the master's own streams since the server's stream
+/// is waited for.
 ///
 /// While it is, own streams are passed over where they stand in what is ready. None is lost: the
-/// server's room is waited for and told first, and then they are found there. And none starves:
+/// server's room is waited for and reported first, and then they are found there. And none starves:
 /// clients may keep the server's stream busy without end, so own streams may give as much as they.
 #[derive(Clone, Copy)]
 pub struct Shares {
@@ -38,7 +38,7 @@ impl Shares {
         !(self.own < self.clients)
     }
 
-    /// Counts bytes that came of a stream.
+    /// Counts bytes that came from a stream.
     pub fn count(&mut self, stream: u64, bytes: usize)
         ensures { self.new ≡ shares_after stream bytes self.old }
     {

@@ -11,7 +11,7 @@ ghost use Rattle.mux_history.specs.WorkedProxy.{past_window, overgrown_down, ove
 ghost use Rattle.mux_history.specs.WorkedForwards.{connected, cancelled_twice, one_of_two_ports, port_8080_only, recorded_too_late, two_ports};
 ghost use Rattle.mux_history.specs.WorkedLosses.{all_closed, held_back, leaves_opens};
 
-/// What a client is told and what is sent for it is the same where nobody else is.
+/// What is recorded for a client and what is sent for it is the same if there is no other client.
 pub fn a_client_sees_nothing_of_others()
     ensures opens { IsTrue (looks_unshared open_setting 1 (run past_window)) }
     ensures window { IsTrue (looks_unshared open_setting 2 (run past_window)) }

@@ -55,7 +55,7 @@ pub fn an_unknown_type_is_refused()
         ≡ (2, Some (why.BadControl (bad.Unknown 268435466 None))) ∷ [] }
 {}
 
-/// The house's answers come in the order of the asks; without a house each is refused.
+/// The forwarder's answers come in the order of the requests; without a forwarder each is refused.
 pub fn the_house_is_asked_in_order()
     ensures served { recorded 1 (run_of (under any_policy 42 (Port 40001 ∷ Done ∷ [])) forward_asks)
         ≡ hello ++ hex (codes "0000000c 80000007 00000001 00009c41 00000008 80000001 00000002") }

@@ -40,7 +40,7 @@ pub fn an_unknown_global_request_is_refused()
     ensures up { sent (run no_more_sessions) ≡ [] }
 {}
 
-/// A second cancel means no forwarding; after the first took effect the port is nobody's.
+/// A second cancel means no forwarding; after the first took effect the port belongs to no client.
 pub fn a_forwarding_is_cancelled_once()
     ensures down { recorded_in_proxy 1 (run cancelled_twice) ≡ bound_to 40001 ++ (success ++ failure) }
     ensures up { drop 64 (sent (run cancelled_twice))
@@ -48,13 +48,13 @@ pub fn a_forwarding_is_cancelled_once()
         ++ (codes "not permitted" ++ hex (codes "00000000"))) }
 {}
 
-/// A cancel that the server refuses after its client is lost is said again by the master.
+/// A cancel that the server refuses after its client is lost is sent again by the master.
 pub fn a_refused_cancel_is_sent_again_for_a_lost_client()
     ensures { sent (run cancel_refused_late)
         ≡ asks_port 8080 ++ (cancels 8080 ++ cancels_at_once 8080) }
 {}
 
-/// A client that fails while it is told its port loses the forwarding; the other goes on.
+/// A client that fails while its port is sent to it loses the forwarding; the other goes on.
 pub fn a_port_of_a_lost_client_is_given_back()
     ensures loss { losses (run recorded_too_late) ≡ (1, None) ∷ [] }
     ensures up { drop 64 (sent (run recorded_too_late)) ≡ cancels_at_once 40001 }

@@ -1,4 +1,4 @@
-//! The house: what it replies later, and what it is given as a client.
+//! The forwarder: what it replies later, and what it is given as a client.
 
 ghost use Rattle.std.specs.Prelude.{◌≡◌, [], ◌∷◌, ◌++◌, codes};
 ghost use Rattle.mux_outside.specs.declared.house.HouseReply.TheVariants.{Later, Port, Refused};
@@ -7,8 +7,8 @@ ghost use Rattle.mux_history.specs.Policy.{any_policy};
 ghost use Rattle.mux_history.specs.Worked.{hex, run, run_of, under, sent, recorded, recorded_in_proxy, hello};
 ghost use Rattle.mux_history.specs.WorkedHouse.{house_opens, own_streams, replied_in_proxy, replied_later};
 
-/// A client is told the reply when it comes, and nothing before; one that has said PROXY meanwhile
-/// isn't told it.
+/// A client is sent the reply when it comes, and nothing before; one that has sent PROXY meanwhile
+/// isn't sent it.
 pub fn a_reply_may_come_later()
     ensures bound { recorded 1 (run_of (under any_policy 42 (Later ∷ [])) (replied_later (Port 40001)))
         ≡ hello ++ hex (codes "0000000c 80000007 00000004 00009c41") }
@@ -19,8 +19,8 @@ pub fn a_reply_may_come_later()
         ≡ hello ++ hex (codes "00000008 8000000f 00000000") }
 {}
 
-/// The house is a client of the connection: what it says goes up, and what comes for its channel is
-/// its own.
+/// The forwarder is a client of the connection: what it sends goes up, and what comes for its
+/// channel is its own.
 pub fn the_house_is_a_client()
     ensures up { sent (run house_opens) ≡ hex (codes "00000039 00 5a 0000000c")
         ++ (codes "direct-tcpip" ++ (hex (codes "00000000 00200000 00008000 00000002")

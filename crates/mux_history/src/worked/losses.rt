@@ -9,7 +9,7 @@ ghost use Rattle.mux_history.specs.Journal.{is_blocked};
 ghost use Rattle.mux_history.specs.Worked.{hex, run, sent, recorded, hello};
 ghost use Rattle.mux_history.specs.WorkedLosses.{leaves, late_confirmation, late_success, all_closed, leaves_opens, sixty_five, dialogs_full, held_back, freed_again};
 
-/// What a client leaves behind is closed for it, at once and when the server answers later.
+/// What a client leaves after is closed for it, at once and when the server answers later.
 pub fn the_master_sends_farewell_for_a_lost_client()
     ensures at_once { drop 90 (sent (run leaves)) ≡ hex (codes "00000006 00 61 00000007") }
     ensures confirmation { drop 100 (sent (run late_confirmation))
@@ -37,7 +37,7 @@ pub fn the_sixty_fifth_client_is_refused()
     ensures lost_counts { losses (run dialogs_full) ≡ (1, None) ∷ (65, None) ∷ [] }
 {}
 
-/// A frame that fills the queue is taken, the next is not.
+/// A frame that fills the queue is accepted, the next is not.
 pub fn a_full_queue_drops_its_client()
     ensures fits { fitting 33554421 (replicate 11 0 ∷ replicate 6 0 ∷ []) ≡ replicate 11 0 ∷ [] }
     ensures full { overflow 33554421 (replicate 11 0 ∷ replicate 6 0 ∷ [])

@@ -5,7 +5,7 @@ ghost use Rattle.mux_history.specs.Worked.{hex, run, run_of, under, sent, record
 ghost use Rattle.mux_history.specs.WorkedForwards.{success, failure};
 ghost use Rattle.mux_history.specs.WorkedPaths.{asks_path, cancels_path, cancels_path_at_once, connects_to_path, forwards_path, path_connected, leaves_path, path_granted_late, path_kept_late, namesake_cancelled, opens_both, path_asked, a_port_and_a_path};
 
-/// A path is asked for as it is, and the client is told the server's success.
+/// A path is asked for as it is, and the client is sent the server's success.
 pub fn a_path_is_forwarded()
     ensures up { sent (run forwards_path) ≡ asks_path }
     ensures down { recorded_in_proxy 1 (run forwards_path) ≡ success }

@@ -17,7 +17,7 @@ impl Clients {
         i < self.all.len() && !self.all[i].is_lost()
     }
 
-    /// Whether it is here, and what it says is read.
+    /// Whether it is here, and what it sends is read.
     pub fn is_received(&self, number: u64) -> bool
         ensures { result ≡ is_received self.now.all number }
     {
@@ -50,7 +50,7 @@ impl Clients {
         }
     }
 
-    /// The clients for which bytes wait are listed behind these streams, in the order in which they
+    /// The clients for which bytes wait are listed after these streams, in the order in which they
     /// came.
     pub fn list_waiting(&self, list: &mut Streams) -> Result<(), OutOfMemory>
         ensures { OnOk result (list.new ≡ list.old ++ waiting_clients self.now.all) }

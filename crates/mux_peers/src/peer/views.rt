@@ -1,4 +1,4 @@
-//! What a seat shows, and what is taken from it.
+//! What a client shows, and what is removed from it.
 
 ghost use Rattle.std.specs.Prelude.{◌≡◌, ◌≤◌, drop, length};
 ghost use Rattle.mux_peers.specs.Stands.{is_read, is_proxied, is_greeted};
@@ -29,7 +29,7 @@ impl Peer {
         self.queue.front()
     }
 
-    /// So many of them were taken.
+    /// So many of them were accepted.
     pub fn took(&mut self, n: usize)
         requires { n ≤ length self.old.queue }
         ensures { self.new ≡ record self.old { queue = drop n self.old.queue } }
@@ -37,7 +37,7 @@ impl Peer {
         self.queue.took(n);
     }
 
-    /// Whether what it says is read.
+    /// Whether what it sends is read.
     pub fn is_read(&self) -> bool
         ensures { result ≡ is_read self.now.standing }
     {
@@ -54,7 +54,7 @@ impl Peer {
         matches!(self.standing, Standing::Proxied)
     }
 
-    /// Whether it has said its hello.
+    /// Whether it has sent its hello.
     pub fn is_greeted(&self) -> bool
         ensures { result ≡ is_greeted self.now.standing }
     {

@@ -1,4 +1,4 @@
-//! What an engine shows, and what is taken from it.
+//! What an engine shows, and what is removed from it.
 
 ghost use Rattle.std.specs.Prelude.{◌≡◌, ◌≤◌, ◌++◌, [], length, filter, List, ℕ, false, None};
 ghost use Rattle.ssh_fields.specs.Fields.{AreBytes};
@@ -50,7 +50,7 @@ impl Engine {
         self.clients.queue_of(stream)
     }
 
-    /// So many bytes that wait for a stream were taken.
+    /// So many bytes that wait for a stream were accepted.
     pub fn took(&mut self, stream: u64, n: usize)
         requires { n ≤ length (queue_in self.old stream) }
         ensures exact { self.new ≡ taken self.old stream n }

@@ -5,7 +5,7 @@ use Rattle.std.proofs.KnownBytes.{Appends-trans, Appends-kept}
 use Rattle.mux_edge.proofs.sink.write_whole.Goals.{in-Ok, in-Err}
 use Rattle.mux_edge.proofs.sink.write_whole.Goals as goal
 
--- what was taken of the rest goes to what was written
+-- what was accepted of the rest goes to what was written
 moves_front : (all done rest : List ℕ) (n : ℕ) → all ≡ done ++ rest → all ≡ (done ++ take n rest) ++ take (length rest - n) (drop n rest)
 moves_front all done rest n e =
     e ∙ ap (λ l. done ++ l) (sym (take-append-drop n rest)) ∙ sym (append_assoc done (take n rest) (drop n rest)) ∙ ap (λ l. (done ++ take n rest) ++ l) (sym (take_rest rest n))

@@ -14,7 +14,7 @@ use Rattle.mux_engine.proofs.housing.ask_house.Given.{Over}
 use Rattle.mux_engine.proofs.housing.ask_house.Goals.{In_ok-reply_all}
 use Rattle.mux_engine.proofs.housing.ask_house.Goals as goal
 
--- ---- no house
+-- ---- no forwarder
 
 pub returns-then-not-present-clause-serving : goal.returns-then-not-present-clause-serving
 returns-then-not-present-clause-serving g c first calls before policy pid start given hands v = handed-none _ hands (none-handed v (sym c.present.ensures.present ∙ c.if-not-present.true))
@@ -34,7 +34,7 @@ returns-in_err-reply_all-clause-serving g c =
 pub returns-in_err-reply_all-clause-wire : goal.returns-in_err-reply_all-clause-wire
 returns-in_err-reply_all-clause-wire g c = works-own-err c.from_residual.result c.from_residual.ensures.0 c.in_err-reply_all.ensures.wire
 
--- ---- a house
+-- ---- a forwarder
 
 -- it replied, and was handed over what waits for it
 replied : (g : Over) (c : In_ok-reply_all g) → Ran g.H.Asks.may g.H.Asks.state c.args.house.now c.reply_all.new.house (scene (g.W.Wire.state c.args.wire.now) c.args.lists.now c.args.engine.now) (scene (g.W.Wire.state c.reply_all.new.wire) c.reply_all.new.lists c.reply_all.new.engine) 0 (0 ∷ here c.args.engine.now) (0 ∷ without HOUSE (here c.reply_all.new.engine))

@@ -19,7 +19,7 @@ use Rattle.mux_engine.proofs.housing.reply_all.Goals as goal
 
 -- ---- the steps of a round
 
--- the house was handed over what waits for it
+-- the forwarder was handed over what waits for it
 handed : (g : Over) (c : In_ok-hand_over g) → Goes g.H.Asks.may g.H.Asks.state c.args.house.now c.hand_over.new.house (g.W.Wire.state c.args.wire.now) (g.W.Wire.state c.hand_over.new.wire) (g.W.Wire.faults c.args.wire.now) (g.W.Wire.faults c.hand_over.new.wire)
     (scene (g.W.Wire.state c.args.wire.now) c.args.lists.now c.args.engine.now) (scene_of (g.W.Wire.state c.hand_over.new.wire) c.loop-wire.lists.held c.loop-wire.lists.failed c.hand_over.new.engine) (0 ∷ here c.args.engine.now) (0 ∷ without HOUSE (here c.hand_over.new.engine))
 handed g c = goes-then c.loop-wire.invariant.goes record {
@@ -114,7 +114,7 @@ returns-then-not-branch g c =
       wire = works-own-any _ all.wire;
     }
 
--- ---- want of memory
+-- ---- out of memory
 
 pub returns-in_err-hand_over : goal.returns-in_err-hand_over
 returns-in_err-hand_over g c = let r = c.from_residual.result in let is_err = c.from_residual.ensures.0 in let before = c.loop-wire.invariant.goes in record {

@@ -25,7 +25,7 @@ pub returns-in_err-says-clause-serving : goal.returns-in_err-says-clause-serving
 returns-in_err-says-clause-serving g c held failed first calls before policy pid start given hands v = on-err c.from_residual.result _ _ c.from_residual.ensures.0
     (cut-here v (g.H.Asks.state c.says.new.self).recorded _ (given + 1) [] refl c.in_err-says.ensures.gave.recorded refl (omega arith))
 
--- ---- it said something
+-- ---- it sent something
 
 said : (g : Over) (c : In_ok-says g) → c.in_ok-says.field-0 ≡ true → Said (g.H.Asks.state c.args.house.now) (g.H.Asks.state c.says.new.self) c.says.new.into
 said g c more = let o = c.says.ensures in said-so c.says.result (g.H.Asks.state c.args.house.now) (g.H.Asks.state c.says.new.self) c.says.new.into (c.in_ok-says.was ∙ ap (λ (b : Bool). Ok b) more) o.gave.recorded c.in_ok-says.ensures.gave.known o.gave.stands o.fits
@@ -73,7 +73,7 @@ returns-clause-ends g c held failed served =
     let e = piece g p.After-event_of_bytes-said in
     asks-ends c.event_of_bytes-said.result c.says.new.into _ e.is (ok-serves c.apply.result _ _ c.in_ok-apply.was (said-ends (said g p.In_ok-says c.if-not-branch.false) served.serving c.requires.on c.requires.present c.requires.room e c.apply.result c.apply.new.engine c.apply.new.asks (g.H.Asks.state c.apply.new.house) _ (g.W.Wire.state c.apply.new.wire).seen c.apply.ensures.applied))
 
--- ---- nothing is said
+-- ---- nothing is sent
 
 pub returns-then-not-branch-clause-serving : goal.returns-then-not-branch-clause-serving
 returns-then-not-branch-clause-serving g c held failed first calls before policy pid start given hands v =

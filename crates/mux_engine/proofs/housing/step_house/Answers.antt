@@ -17,7 +17,8 @@ use Rattle.mux_engine.proofs.housing.step_house.Given.{Over}
 use Rattle.mux_engine.proofs.housing.step_house.Goals.{In_ok-ask_house, In_ok-flush}
 use Rattle.mux_engine.proofs.housing.step_house.Goals as goal
 
--- ---- the house was asked, and the streams were offered what waits for them
+-- ---- the forwarder was asked, and the streams were offered what waits
+-- for them
 
 -- whether it gave an order
 asked : (g : Over) (c : In_ok-ask_house g) (more : Bool) → c.in_ok-ask_house.field-0 ≡ more → Ran g.H.Asks.may g.H.Asks.state c.args.house.now c.ask_house.new.house (scene (g.W.Wire.state c.args.wire.now) c.args.lists.now c.args.engine.now) (scene (g.W.Wire.state c.ask_house.new.wire) c.ask_house.new.lists c.ask_house.new.engine)
@@ -52,7 +53,7 @@ returns-in_err-flush-clause-serving g c =
     runs-cut c.from_residual-in_err-flush.result 1 (λ (more : Bool). cond more 1 0) (λ (more : Bool). cond more (0 ∷ here c.flush.new.engine) []) c.from_residual-in_err-flush.ensures.0
     (cut-then c.in_ok-ask_house.ensures.house.present (unasked g (goal.at.returns-in_err-flush-clause-serving g c).In_ok-ask_house c.if-branch.false) (serves-cut (c.in_err-flush.ensures.serving []))) (omega arith)
 
--- ---- nothing is said
+-- ---- nothing is sent
 
 pub returns-then-not-present-clause-serving : goal.returns-then-not-present-clause-serving
 returns-then-not-present-clause-serving g c = let p = goal.at.returns-then-not-present-clause-serving g c in (offered g p.In_ok-flush (unasked g p.In_ok-ask_house c.if-branch.false)).runs
@@ -63,7 +64,7 @@ returns-then-not-present-clause-together g c =
     let served = served-then c.in_ok-ask_house.ensures.house.present c.requires.ongoing.served (offered g p.In_ok-flush (unasked g p.In_ok-ask_house c.if-branch.false)) in
     together-still c.in_ok-ask_house.ensures.together (same-house _ _ refl) c.flush.ensures.places refl served.serving.held_is
 
--- ---- what it says
+-- ---- what it sends
 
 pub returns-clause-serving : goal.returns-clause-serving
 returns-clause-serving g c =

@@ -44,7 +44,7 @@ returns-in_default-clause-none g c = λ e. let same = c.in_default.ensures.still
   still = refl;
 }
 
--- ---- the house and the wire
+-- ---- the forwarder and the wire
 
 pub returns-clause-house : goal.returns-clause-house
 returns-clause-house g c = let side = given-side c.in-Some.order _ _ c.in-Some.ensures.gave.known in record {

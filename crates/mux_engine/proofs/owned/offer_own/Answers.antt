@@ -39,7 +39,7 @@ loop-preserved g c = let v = c.loop.invariant in let o = c.in_ok-own_once.ensure
 pub loop-smaller : goal.loop-smaller
 loop-smaller g c = took-less (g.H.Asks.state c.loop.house).queue (g.H.Asks.state c.own_once.new.house).queue c.own_once.new.held c.own_once.new.failed c.args.stream _ c.if-branch.true c.in_ok-own_once.ensures.offered
 
--- ---- want of memory
+-- ---- out of memory
 
 pub returns-in_err-own_once-clause-serving : goal.returns-in_err-own_once-clause-serving
 returns-in_err-own_once-clause-serving g c present first before now policy pid start given todo s none hands v =

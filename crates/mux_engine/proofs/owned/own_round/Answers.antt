@@ -51,7 +51,7 @@ loop-stream-preserved g c = let v = c.loop-stream.invariant in let o = c.in_ok-o
 pub loop-stream-smaller : goal.loop-stream-smaller
 loop-stream-smaller g c = subst (λ (l : List ℕ). length l < length c.loop-stream.todo) (sym c.remove.ensures) (shorter c.in-Some.stream c.loop-stream.todo (sym c.get.ensures ∙ c.in-Some.is))
 
--- ---- want of memory
+-- ---- out of memory
 
 pub returns-in_err-offer_own-clause-serving : goal.returns-in_err-offer_own-clause-serving
 returns-in_err-offer_own-clause-serving g c present first before now policy pid start given todo s none hands v =

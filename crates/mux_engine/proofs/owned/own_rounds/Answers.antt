@@ -37,7 +37,7 @@ loop-wire-preserved g c = let v = c.loop-wire.invariant in let o = c.in_ok-own_r
 pub loop-wire-smaller : goal.loop-wire-smaller
 loop-wire-smaller g c = omega (arith, c.in_ok-own_round.ensures.fails.fewer c.args.own.now (λ t a. sym (ap (among t) (c.in_ok-refill.ensures.ok ∙ c.as_slice.ensures)) ∙ a))
 
--- ---- want of memory
+-- ---- out of memory
 
 pub returns-in_err-own_round-clause-serving : goal.returns-in_err-own_round-clause-serving
 returns-in_err-own_round-clause-serving g c present first before now policy pid start given todo s none hands v =

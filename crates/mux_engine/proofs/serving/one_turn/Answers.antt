@@ -16,9 +16,9 @@ use Rattle.mux_engine.proofs.serving.one_turn.Given.{Over}
 use Rattle.mux_engine.proofs.serving.one_turn.Goals.{After-close_lost, After-stop_accepting, In_err-went, In_ok-step_house, In_ok-went}
 use Rattle.mux_engine.proofs.serving.one_turn.Goals as goal
 
--- ---- the house's turn, and what is done before a wait
+-- ---- the forwarder's turn, and what is done before a wait
 
--- whether the house took a turn
+-- whether the forwarder used a turn
 stepped : (g : Over) (c : In_ok-step_house g) (more : Bool) → c.in_ok-step_house.field-0 ≡ more → Ran g.H.Asks.may g.H.Asks.state c.args.house.now c.step_house.new.house (scene (g.W.Wire.state c.args.wire.now) c.args.lists.now c.args.engine.now) (scene (g.W.Wire.state c.step_house.new.wire) c.step_house.new.lists c.step_house.new.engine)
     (cond more 1 0) (0 ∷ here c.args.engine.now) (cond more (0 ∷ here c.step_house.new.engine) [])
 stepped g c more is = ran-as c.step_house.result 1 (λ (b : Bool). cond b 1 0) (λ (b : Bool). cond b (0 ∷ here c.step_house.new.engine) []) more (c.in_ok-step_house.was ∙ ap (λ (b : Bool). Ok b) is) c.step_house.ensures.serving
@@ -52,7 +52,7 @@ waited g c = record { runs = c.in_ok-went.ensures.serving }
 wanting : (g : Over) (c : In_err-went g) → WasCut g.H.Asks.may g.H.Asks.state c.step_house.new.house c.turn.new.house (scene_of (g.W.Wire.state c.stop_accepting.new.wire) c.close_lost.new.held c.step_house.new.lists.failed c.close_lost.new.engine) (scene (g.W.Wire.state c.turn.new.wire) c.turn.new.lists c.turn.new.engine) 1 []
 wanting g c = record { runs = c.in_err-went.ensures.serving }
 
--- ---- the house took a turn
+-- ---- the forwarder used a turn
 
 pub returns-then-branch-clause-serving : goal.returns-then-branch-clause-serving
 returns-then-branch-clause-serving g c first calls before policy pid start given hands v =

@@ -130,7 +130,7 @@ returns-in_ok-hand_on-in-Own g c =
       wire = works-own-turn _ c.in-Own.recorded k.result c.list_waiting.new.todo c.wanted.result k.new.into (recorded-own g p.In-Own) k.ensures.state k.ensures.cause;
     }
 
--- ---- a stream takes bytes again
+-- ---- a stream accepts bytes again
 
 pub returns-in-Freed : goal.returns-in-Freed
 returns-in-Freed g c =

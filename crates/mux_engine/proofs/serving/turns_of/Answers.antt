@@ -97,7 +97,7 @@ returns g c = let H = g.H.Asks in let W = g.W.Wire in let i = c.loop.invariant i
   wire = i.wire;
 }
 
--- ---- want of memory
+-- ---- out of memory
 
 pub returns-in_err-one_turn : goal.returns-in_err-one_turn
 returns-in_err-one_turn g c = let H = g.H.Asks in let W = g.W.Wire in let i = c.loop.invariant in let r = c.from_residual-in_err-one_turn in let o = c.in_err-one_turn.ensures in record {

@@ -27,7 +27,7 @@ offer_once-requires-clause-served g c = let w = c.requires.served in
 pub offer_once-requires-clause-stream : goal.offer_once-requires-clause-stream
 offer_once-requires-clause-stream g c = record { opened = same-open c.args.engine.now c.loop.engine c.args.stream c.loop.invariant.engine.streams ∙ c.requires.stream.opened; no_house = c.requires.stream.no_house }
 
--- ---- want of memory
+-- ---- out of memory
 
 pub returns-in_err-offer_once-clause-serving : goal.returns-in_err-offer_once-clause-serving
 returns-in_err-offer_once-clause-serving g c todo zero present first before now policy pid start failed given v = on-err c.from_residual.result _ _ c.from_residual.ensures.0

@@ -37,7 +37,7 @@ write-requires g c = let w = c.requires.served in record {
   };
 }
 
--- ---- bytes that were taken
+-- ---- bytes that were accepted
 
 pub returns-in-Took-clause-serving : goal.returns-in-Took-clause-serving
 returns-in-Took-clause-serving g c todo zero present first before now policy pid start failed given v =

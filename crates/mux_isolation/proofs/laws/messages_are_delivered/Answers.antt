@@ -1,4 +1,4 @@
--- What the server says is told.
+-- What the server sends is recorded.
 use Rattle.mux_history.proofs.RightLogs.{right-known}
 use Rattle.mux_isolation.proofs.Delivered.{delivered}
 use Rattle.mux_isolation.proofs.laws.messages_are_delivered.Goals as goal

@@ -1,4 +1,4 @@
--- What a client says goes up.
+-- What a client sends goes up.
 use Rattle.mux_history.proofs.RightLogs.{right-known}
 use Rattle.mux_isolation.proofs.Passed.{passed}
 use Rattle.mux_isolation.proofs.laws.messages_are_sent.Goals as goal

@@ -1,4 +1,4 @@
--- What was taken, too.
+-- What was accepted, too.
 use Rattle.mux_history.specs.Journal.{log_of_journal}
 use Rattle.mux_history.specs.Settings.{by_lists}
 use Rattle.mux_history.proofs.Journals.{logs-right}

@@ -18,7 +18,7 @@ returns-in_err-push-clause-applies g c = applies_unnoted c.from_residual-in_err-
 pub returns-in_err-ask-clause-cut : goal.returns-in_err-ask-clause-cut
 returns-in_err-ask-clause-cut g c = on-err c.from_residual.result (inl refl)
 
--- the house that found no memory was asked nothing
+-- the forwarder that found no memory received no request
 pub returns-in_err-reply-clause-cut : goal.returns-in_err-reply-clause-cut
 returns-in_err-reply-clause-cut g c = on-err c.from_residual-in_err-reply.result (inl (c.in_err-reply.ensures.gave.recorded ∙ sym (records_none (g.H.Asks.state c.args.house.now).recorded)))
 

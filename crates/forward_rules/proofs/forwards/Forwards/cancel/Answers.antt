@@ -22,7 +22,7 @@ none-free k key false fs none = (sym (ap is_some none.found), sym none.without)
 free-found : (k : ℕ) (key : Key) (fs : List Listed) (i : ℕ) (d : Listed) → position (sees (is_free_at k key)) fs ≡ Some i → true ≡ some_free k key (map forward_of fs)
 free-found k key fs i d h = sym (ap is_some (found (is_free_at k key) fs i d h))
 
--- one that waits behind the others
+-- one that waits after the others
 leaves : (k : ℕ) (key : Key) (fs : List Listed) (i r : ℕ) (x d : Listed) → position (sees (is_free_at k key)) fs ≡ Some i → forward_of x ≡ record (forward_of d) { cancel = Some r } → r ≡ cancels k (map forward_of fs) → d ≡ slice_index_or fs i d → map forward_of (slice_set fs i x) ≡ cancelled k key true (map forward_of fs)
 leaves k key fs i r x d h is rank at =
     set-found (is_free_at k key) (λ f. record f { cancel = Some (cancels k (map forward_of fs)) }) fs i x d h (is ∙ (ap (λ (q : ℕ). record (forward_of d) { cancel = Some q }) rank ∙ ap (λ (e : Listed). record (forward_of e) { cancel = Some (cancels k (map forward_of fs)) }) at))

@@ -3,7 +3,7 @@ use Rattle.std.proofs.lemmas.List.{drop-drop, drop_min}
 use Rattle.mux_drill.specs.Outgoing.{Said, gone_on}
 use Rattle.mux_drill.proofs.outgoing.Outgoing.go_on.Goals as goal
 
--- what is left behind a piece
+-- what is left after a piece
 behind_piece : (text all : List ℕ) (given count : ℕ) → count ≡ min 37 (length all - given) → all ≡ text
     → drop (given + count) text ≡ drop 37 (drop given text)
 behind_piece text all given count many same =

@@ -48,7 +48,7 @@ send_next-requires g c = let read : is_read c.loop-self.self.peer.standing ≡ t
 pub returns-then-not-branch-clause-applies : goal.returns-then-not-branch-clause-applies
 returns-then-not-branch-clause-applies g c = applies_any _ (applies_then c.loop-self.invariant.applies c.in_ok-send_next.ensures.applies)
 
--- ---- what was asked where memory was wanting
+-- ---- what was requested if memory ran out
 
 pub returns-in_err-push-clause-cut : goal.returns-in_err-push-clause-cut
 returns-in_err-push-clause-cut g c = on-err c.from_residual.result (receives-none g.H.Asks.may (g.H.Asks.state c.args.house.now).recorded c.args.pid c.args.bytes.now c.args.core.now c.args.up.now c.args.self.now c.requires.read)

@@ -41,7 +41,7 @@ returns-in_err-says-in-Frame-clause-applies g c = applies_none c.from_residual.r
 pub returns-in_err-follows-in-Frame-clause-applies : goal.returns-in_err-follows-in-Frame-clause-applies
 returns-in_err-follows-in-Frame-clause-applies g c = applies_any c.from_residual-in_err-follows-in-Frame.result c.in_ok-decision-in-Frame.ensures.applies
 
--- ---- what was asked where memory was wanting
+-- ---- what was requested if memory ran out
 
 pub returns-in_err-says-in-Frame-clause-cut : goal.returns-in_err-says-in-Frame-clause-cut
 returns-in_err-says-in-Frame-clause-cut g c = on-err c.from_residual.result (inl refl)

@@ -98,7 +98,7 @@ returns-in_err-note_loss-clause-applies g c = applies_any c.from_residual-in_err
 pub returns-in_err-change-clause-applies : goal.returns-in_err-change-clause-applies
 returns-in_err-change-clause-applies g c = applies_err c.from_residual.result c.from_residual.ensures.0 c.in_err-change.ensures.applies
 
--- ---- what was asked where memory was wanting
+-- ---- what was requested if memory ran out
 
 pub returns-in_err-change-clause-cut : goal.returns-in_err-change-clause-cut
 returns-in_err-change-clause-cut g c =

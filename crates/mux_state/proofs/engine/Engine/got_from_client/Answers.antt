@@ -32,7 +32,7 @@ returns-clause-gains g c =
 pub returns-clause-applies : goal.returns-clause-applies
 returns-clause-applies g c = applies_any c.list_waiting.result c.in_ok-heard.ensures.applies
 
--- ---- what was asked where memory was wanting
+-- ---- what was requested if memory ran out
 
 pub returns-in_err-heard-clause-cut : goal.returns-in_err-heard-clause-cut
 returns-in_err-heard-clause-cut g c = on-err c.from_residual.result

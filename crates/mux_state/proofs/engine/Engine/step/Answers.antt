@@ -68,7 +68,7 @@ returns-in-HouseSays-clause-applies g c = applies_none c.answer.result c.args.as
 pub returns-in-FromServer-clause-applies : goal.returns-in-FromServer-clause-applies
 returns-in-FromServer-clause-applies g c = applies_none c.got_from_server.result c.args.asks.now (g.H.Asks.state c.args.house.now)
 
--- ---- what was asked where memory was wanting
+-- ---- what was requested if memory ran out
 
 pub returns-in-Accepted-clause-cut : goal.returns-in-Accepted-clause-cut
 returns-in-Accepted-clause-cut g c = on-err c.enter.result (λ mark t. cut-alone g.H.Asks.may (g.H.Asks.state c.args.house.now).recorded c.args.self.now mark)
