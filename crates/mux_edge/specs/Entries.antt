@@ -52,6 +52,21 @@ module _ {S : Type 0} where
   StopsShort number entries =
       IsSomeAnd (get nat_eq entries number) (λ entry. entry.stops_short ≡ true)
 
+  -- reads of a stream may stop short at descriptors
+  abbrev pub MayPass : ℕ → IndexMap ℕ StreamEntry S → Type 0
+  MayPass number entries =
+      IsSomeAnd (get nat_eq entries number) (λ entry. entry.passes ≡ true)
+
+  -- a stream is read once more untold, since its last read may have stopped at descriptors
+  abbrev pub IsDoubted : ℕ → IndexMap ℕ StreamEntry S → Type 0
+  IsDoubted number entries =
+      IsSomeAnd (get nat_eq entries number) (λ entry. entry.doubted ≡ true)
+
+  -- a stream has a socket, and has neither given its end nor failed
+  abbrev pub IsOpen : ℕ → IndexMap ℕ StreamEntry S → Type 0
+  IsOpen number entries =
+      IsSomeAnd (get nat_eq entries number) (λ entry. entry.ended ≡ false)
+
   -- a stream's connection is made
   abbrev pub IsConnected : ℕ → IndexMap ℕ StreamEntry S → Type 0
   IsConnected number entries =

@@ -16,6 +16,12 @@ IsOverTcp (Unix s) = ⊥
 IsOverTcp (Tcp s) = Unit {0}
 IsOverTcp Begun = ⊥
 
+-- descriptors can be passed beside the bytes of a stream
+abbrev pub passes_descriptors : Stream → Bool
+passes_descriptors (Unix s) = true
+passes_descriptors (Tcp s) = false
+passes_descriptors Begun = false
+
 -- a stream without a socket so far
 abbrev pub is_begun : Stream → Bool
 is_begun (Unix s) = false

@@ -1,6 +1,7 @@
 //! The sockets of a run, with the look-ups of names.
 ghost use Rattle.std.specs.Prelude.{◌≡◌, None, OnOk, nat_eq, true};
 ghost use Rattle.indexmap.specs.IndexMap.{get};
+ghost use Rattle.mux_outside.specs.declared.turn.Want.TheVariants.{WriteOnly};
 ghost use Rattle.mux_edge.specs.Entries.{HasEntry, IsBlocked, Stands};
 ghost use Rattle.mux_edge.specs.Names.{is_name};
 ghost use Rattle.mux_edge.specs.Shares.{PassesOwn, holds_own};
@@ -67,9 +68,13 @@ impl<C: Children + Drop> Sockets<C> {
         ensures fits { FoundFits result numbers into.old into.new }
         ensures stands { Stands result self.new.table.entries }
         ensures passes { holds_own waiting.now self.old.table.shares ≡ true → PassesOwn result }
+        ensures fails { want ≡ WriteOnly → self.old.table.broken ≡ true → result ≡ Turn.Failed 0 }
         ensures listener { self.new.table.listener ≡ self.old.table.listener }
     {
         let holds_own = self.table.shares.holds_own(waiting);
+        if self.table.fails_at_once(want) {
+            return Turn::Failed(0);
+        }
         for _ in 0..u64::MAX {
             let joins = numbers.own.is_some() && !self.table.joins_pause;
             let at = self
@@ -77,7 +82,7 @@ impl<C: Children + Drop> Sockets<C> {
                 .ready
                 .first(waiting, want, numbers.client.is_some(), joins, holds_own);
             if self.table.ready.is_round_over(at) {
-                if let Err(e) = self.look(rt, at.is_some()) {
+                if let Err(e) = self.look(rt, want, at.is_some()) {
                     return failure_of(&e);
                 }
                 continue;
@@ -94,12 +99,11 @@ impl<C: Children + Drop> Sockets<C> {
     }
 
     // Notes what became ready, and waits for it where nothing is. A round begins.
-    fn look<N: Clock>(&mut self, rt: &N, some: bool) -> io::Result<()>
+    fn look<N: Clock>(&mut self, rt: &N, want: Want, some: bool) -> io::Result<()>
         ensures { self.new.table.listener ≡ self.old.table.listener }
     {
         let is_busy = self.lookups.is_busy() || self.children.is_busy();
-        let timeout = self.table.timeout(some, is_busy);
-        self.table.look(&mut self.lookups, timeout)?;
+        self.table.look(&mut self.lookups, want, some, is_busy)?;
         if self.look_up(rt)? {
             self.table.note_begun();
         }

@@ -1,7 +1,7 @@
 //! A stream over a Unix socket or over TCP, whose calls do not wait. It has no socket yet while the
 //! name of its host is looked up.
 ghost use Rattle.std.specs.Prelude.{◌≡◌, false, true, Ok, IfOk, IsErr, IsNone, IsSome};
-ghost use Rattle.mux_edge.specs.Transport.{IsOverTcp, IsOverUnix, is_begun};
+ghost use Rattle.mux_edge.specs.Transport.{IsOverTcp, IsOverUnix, is_begun, passes_descriptors};
 
 use mio::net::{TcpStream, UnixStream};
 use mio::{Interest, Registry, Token};
@@ -25,6 +25,13 @@ impl Stream {
         let stream = TcpStream::connect(rt, address)?;
         stream.set_nodelay(true)?;
         Ok(Stream::Tcp(stream))
+    }
+
+    /// Whether descriptors can be passed beside its bytes.
+    pub fn passes_descriptors(&self) -> bool
+        ensures { result ≡ passes_descriptors self.now }
+    {
+        matches!(self, Stream::Unix(_))
     }
 
     /// Whether it has no socket yet.

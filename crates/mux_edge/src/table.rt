@@ -1,10 +1,12 @@
 //! The sockets of streams and listeners, and which of them are ready.
-ghost use Rattle.std.specs.Prelude.{◌≡◌, ◌≢◌, ◌*◌, ◌||◌, None, OnOk, false, true, is_some, IfOk, IfSome, IsNone, IsSome, IsSomeAnd, nat_eq};
-ghost use Rattle.std.specs.Duration.{as_nanos};
-ghost use Rattle.mux_edge.specs.Entries.{HasEntry, IsBlocked, StopsShort};
+ghost use Rattle.std.specs.Prelude.{◌≡◌, ◌≢◌, None, OnOk, false, true, IfOk, IsNone, IsSome, nat_eq};
+ghost use Rattle.mux_edge.specs.Entries.{HasEntry, IsBlocked, MayPass};
 ghost use Rattle.mux_edge.specs.StreamTable.{Touches};
+ghost use Rattle.mux_edge.specs.Transport.{passes_descriptors};
 ghost use Rattle.indexmap.specs.IndexMap.{get};
 
+mod look;
+mod outgoing;
 mod own;
 mod ready;
 mod served;
@@ -15,14 +17,13 @@ pub use self::shares::Shares;
 use crate::lookups::Lookups;
 use crate::stream::Stream;
 use indexmap::IndexMap;
-use mio::event::Event;
 use mio::net::UnixListener;
 use mio::{Events, Interest, Poll, Registry, Token};
+use mux_exchange::Outbox;
 use mux_outside::Piece;
 use std::alloc::{AllocError, Global};
 use std::io;
 use std::net::Net;
-use std::time::Duration;
 
 /// The sockets of a run, each under the number of its stream or listener, which is the system's
 /// token for it too.
@@ -32,10 +33,18 @@ use std::time::Duration;
 ///
 /// The system tells once that bytes came, and not again while they are there. So a stream stays
 /// noted until a read shows that none are left: one that would wait, or one that takes fewer bytes
-/// than it may (epoll(7)). Such a short read shows nothing where descriptors may be passed, since a
-/// read of a Unix socket stops at them: so nothing on the streams of clients. Nobody passes any on
-/// the server's stream. There a read stops short at urgent bytes over TCP, and before the end: once
-/// the system told of one, or of an error, a short read shows nothing any more.
+/// than it may (epoll(7)). Such a short read shows less where descriptors may be passed, since a
+/// read of a Unix socket stops at them, so on the streams of clients: the bytes behind a descriptor
+/// may be there, and the system doesn't tell of them. So a client whose read was short is doubted:
+/// it is read once more when nothing came for a while, or when the system was asked often since.
+/// Nobody passes any on the server's stream. There, and over TCP, a read stops short at urgent bytes
+/// and before the end: once the system told of one, or of an error, a short read shows nothing any
+/// more.
+///
+/// Few bytes to the server go to its socket together: they wait in an outbox until the system is
+/// asked again, which is never done before the socket was given them or took no more. The end of the
+/// table, or of the stream, gives it what it takes of them. Where a write to that socket fails, what
+/// the server still says is read first, and then its stream fails.
 ///
 /// Of a stream that is paused, or whose connection isn't made, it is kept that it may be read,
 /// since the system won't tell again.
@@ -45,7 +54,6 @@ use std::time::Duration;
 ///
 /// While the server's stream is waited for, the master's own streams are read no further than the
 /// clients are. What is ready of them keeps its place, and is passed over.
-#[derive(Drop)]
 pub struct StreamTable {
     poll: Poll,
     events: Events,
@@ -62,6 +70,14 @@ pub struct StreamTable {
     pub shares: Shares,
     /// what is read into
     pub spare: Piece,
+    /// what was taken for the server's stream, and wasn't given to its socket yet
+    pub outbox: Outbox,
+    /// its socket takes none of that for now
+    pub full: bool,
+    /// a write to its socket failed, which is told once its last words were read
+    pub broken: bool,
+    /// some streams are doubted, and so often the system was asked since
+    pub doubts: Option<u32>,
 }
 
 // The listener of clients has this token, and no stream has this number.
@@ -69,8 +85,6 @@ const LISTENER: Token = Token(usize::MAX);
 
 // How many events one look takes.
 const EVENTS: usize = 64;
-
-const PAUSE_MILLIS: u64 = 100;
 
 impl StreamTable {
     /// Stream 0 alone, without a listener.
@@ -90,11 +104,12 @@ impl StreamTable {
         let poll = Poll::new(rt)?;
         let events = Events::with_capacity(alloc, EVENTS)?;
         let spare = Piece::new(alloc).map_err(|_| AllocError)?;
-        Ok(StreamTable::over(alloc, poll, events, spare))
+        let outbox = Outbox::new(alloc)?;
+        Ok(StreamTable::over(alloc, poll, events, spare, outbox))
     }
 
     // No stream yet, over this.
-    fn over(alloc: Global, poll: Poll, events: Events, spare: Piece) -> StreamTable
+    fn over(alloc: Global, poll: Poll, events: Events, spare: Piece, outbox: Outbox) -> StreamTable
         ensures { IsNone result.listener }
     {
         StreamTable {
@@ -108,6 +123,10 @@ impl StreamTable {
             ready: ReadyQueue::new(alloc),
             shares: Shares::new(),
             spare,
+            outbox,
+            full: false,
+            broken: false,
+            doubts: None,
         }
     }
 
@@ -115,14 +134,16 @@ impl StreamTable {
     /// descriptors.
     pub fn add(&mut self, number: u64, mut stream: Stream, connecting: bool) -> io::Result<()>
         ensures there { OnOk result (HasEntry number self.new.entries) }
-        ensures client { OnOk result (number ≢ 0 → StopsShort number self.new.entries) }
+        ensures client { OnOk result (number ≢ 0 → passes_descriptors stream ≡ true
+            → MayPass number self.new.entries) }
         ensures waits { OnOk result (connecting ≡ true → IsBlocked number self.new.entries) }
         ensures rest { Touches number self.old self.new }
     {
         self.make_room()?;
         self.entries.reserve(1)?;
+        let passes = number != 0 && stream.passes_descriptors();
         stream.register(self.poll.registry(), Token(number as usize))?;
-        let entry = StreamEntry::new(stream, number != 0, connecting);
+        let entry = StreamEntry::new(stream, passes, connecting);
         self.entries.insert(number, entry).map_err(|_| AllocError)?;
         Ok(())
     }
@@ -145,6 +166,7 @@ impl StreamTable {
         ensures gone { get nat_eq self.new.entries number ≡ None }
         ensures rest { Touches number self.old self.new }
     {
+        self.give_last(number);
         let Some(entry) = self.entries.swap_remove(&number) else {
             return;
         };
@@ -189,42 +211,6 @@ impl StreamTable {
 }
 
 impl StreamTable {
-    /// How long to wait for what becomes ready: not where something is, and not for long where
-    /// something is to be tried again.
-    pub fn timeout(&self, some: bool, is_busy: bool) -> Option<Duration>
-        ensures at_once { some ≡ true → IsSomeAnd result (λ d. as_nanos d ≡ 0) }
-        ensures ends { some ≡ false
-            → is_some result ≡ (self.now.pauses || (self.now.joins_pause || is_busy)) }
-        ensures short { some ≡ false
-            → IfSome result (λ d. as_nanos d ≡ PAUSE_MILLIS * 1_000_000) }
-    {
-        if some {
-            Some(Duration::from_millis(0))
-        } else {
-            (self.pauses || self.joins_pause || is_busy).then_some(Duration::from_millis(
-                PAUSE_MILLIS,
-            ))
-        }
-    }
-
-    /// Notes what became ready, and waits so long for it.
-    pub fn look(&mut self, lookups: &mut Lookups, timeout: Option<Duration>) -> io::Result<()>
-        ensures listener { self.new.listener ≡ self.old.listener }
-    {
-        self.poll.poll(&mut self.events, timeout)?;
-        for event in self.events.iter() {
-            if !lookups.note(event.token().0 as u64) {
-                note_event(
-                    event,
-                    &mut self.entries,
-                    &mut self.own_listeners,
-                    &mut self.ready,
-                )?;
-            }
-        }
-        Ok(())
-    }
-
     /// Notes the streams that wait for look-ups, of which one is over.
     pub fn note_begun(&mut self)
         ensures { self.new ≡ record self.old { entries = self.new.entries; ready = self.new.ready } }
@@ -245,6 +231,28 @@ impl StreamTable {
     }
 }
 
+impl Drop for StreamTable {
+    fn drop(mut self) {
+        self.give_last(0);
+        let StreamTable {
+            poll: _,
+            events: _,
+            listener: _,
+            entries: _,
+            own_listeners: _,
+            pauses: _,
+            joins_pause: _,
+            ready: _,
+            shares: _,
+            spare: _,
+            outbox: _,
+            full: _,
+            broken: _,
+            doubts: _,
+        } = self;
+    }
+}
+
 // Notes the streams that wait for look-ups, of which one is over.
 fn note_begun(entries: &mut IndexMap<u64, StreamEntry>, ready: &mut ReadyQueue) {
     for (number, entry) in entries.iter_mut() {
@@ -252,44 +260,4 @@ fn note_begun(entries: &mut IndexMap<u64, StreamEntry>, ready: &mut ReadyQueue) 
             let _ = ready.note_connect(*number, entry);
         }
     }
-}
-
-fn note_event(
-    event: &Event,
-    entries: &mut IndexMap<u64, StreamEntry>,
-    own_listeners: &mut IndexMap<u64, OwnListener>,
-    ready: &mut ReadyQueue,
-) -> Result<(), AllocError> {
-    if event.token() == LISTENER {
-        return ready.note_accept();
-    }
-    let number = event.token().0 as u64;
-    if let Some(entry) = entries.get_mut(&number) {
-        return note_stream(event, number, entry, ready);
-    }
-    match own_listeners.get_mut(&number) {
-        Some(own_listener) => ready.note_join(number, own_listener),
-        None => Ok(()),
-    }
-}
-
-fn note_stream(
-    event: &Event,
-    number: u64,
-    entry: &mut StreamEntry,
-    ready: &mut ReadyQueue,
-) -> Result<(), AllocError> {
-    // An error and a peer that went away show at the next read or write.
-    let ends = event.is_read_closed() || event.is_error();
-    entry.stops_short |= ends || event.is_priority();
-    if (event.is_readable() || ends) && !entry.ended {
-        ready.note_bytes(number, entry)?;
-    }
-    let writes = event.is_writable() || event.is_write_closed() || event.is_error();
-    if writes && entry.connecting {
-        ready.note_connect(number, entry)?;
-    } else if writes && entry.blocked {
-        ready.note_write(number, entry)?;
-    }
-    Ok(())
 }

@@ -53,6 +53,14 @@ received_last Nothing = false
 received_last Interrupted = false
 received_last Failed = true
 
+-- what a stream gives of which a write failed: no end, and nothing only for a signal
+abbrev pub IsLastWord : Heard → Type 0
+IsLastWord (Bytes n) = Unit {0}
+IsLastWord End = ⊥
+IsLastWord Nothing = ⊥
+IsLastWord Interrupted = Unit {0}
+IsLastWord Failed = Unit {0}
+
 -- a stream is read again untold: after the most that a read takes, where reads stop short, and
 -- after a signal
 abbrev pub received_again : Heard → Bool → ℕ → Bool

@@ -1,7 +1,7 @@
 //! What one read of a stream and one write to it come to.
 ghost use Rattle.std.specs.Prelude.{◌≡◌, ◌≢◌, ◌<◌, length, IfErr, IfOk};
 ghost use Rattle.std.specs.IoError.{error_kind};
-ghost use Rattle.mux_exchange.specs.Exchange.{Receives, Sends, received_again, received_last, received_len, received_turn, most_read, sent_wrote};
+ghost use Rattle.mux_exchange.specs.Exchange.{IsLastWord, Receives, Sends, received_again, received_last, received_len, received_turn, most_read, sent_wrote};
 
 use mux_outside::{LONGEST_PIECE, Piece, Turn, Wrote, is_own};
 use std::io::{ErrorKind, Read, Write};
@@ -117,6 +117,25 @@ pub fn receive<S: Read>(from: &mut S, most: usize, spare: &mut Piece, into: &mut
         mem::swap(spare, into);
     }
     heard
+}
+
+/// Reads a stream once of which a write failed: what it still gives, and where nothing is left its
+/// failure.
+pub fn receive_last_words<S: Read>(
+    from: &mut S,
+    most: usize,
+    spare: &mut Piece,
+    into: &mut Piece,
+) -> Heard
+    requires { 0 < most }
+    ensures bytes { Receives result most (S.remaining from.old) (S.remaining from.new) into.old into.new }
+    ensures last { IsLastWord result }
+{
+    match receive(from, most, spare, into) {
+        Heard::Bytes(count) => Heard::Bytes(count),
+        Heard::Interrupted => Heard::Interrupted,
+        Heard::End | Heard::Nothing | Heard::Failed => Heard::Failed,
+    }
 }
 
 // What a read's result says.

@@ -16,6 +16,10 @@ pub struct StreamEntry {
     pub stream: Stream,
     /// a read may stop short of what is there
     pub stops_short: bool,
+    /// descriptors may be passed beside its bytes, at which a read stops short
+    pub passes: bool,
+    /// its last read may have stopped at descriptors
+    pub doubted: bool,
     /// nothing more is read
     pub ended: bool,
     /// a write would wait, as far as is known
@@ -68,14 +72,16 @@ impl StreamEntry {
     ghost use Rattle.mux_edge.specs.Entries.{is_silent};
 
     /// A stream, whose connection is made or is being made.
-    pub fn new(stream: Stream, stops_short: bool, connecting: bool) -> StreamEntry
-        ensures short { result.stops_short ≡ stops_short }
+    pub fn new(stream: Stream, passes: bool, connecting: bool) -> StreamEntry
+        ensures passes { result.passes ≡ passes }
         ensures connecting { result.connecting ≡ connecting }
         ensures blocked { result.blocked ≡ connecting }
     {
         StreamEntry {
             stream,
-            stops_short,
+            stops_short: false,
+            passes,
+            doubted: false,
             ended: false,
             blocked: connecting,
             reads: false,

@@ -1,9 +1,11 @@
 //! What is done with a socket that is ready, and the write to one.
-ghost use Rattle.std.specs.Prelude.{◌≡◌, ◌<◌, length, IfSome, IfNone, IsNone, OnSome};
+ghost use Rattle.std.specs.Prelude.{◌≡◌, ◌≢◌, ◌<◌, length, true, IfSome, IfNone, IsNone, IsSome, OnSome};
 ghost use Rattle.mux_outside.specs.Wire.{WroteFits};
 ghost use Rattle.mux_edge.specs.Sockets.{FoundFits, IsOf, Serves};
-ghost use Rattle.mux_edge.specs.Entries.{HasEntry, IsBlocked, IsConnected, Stands};
-ghost use Rattle.mux_edge.specs.StreamTable.{ReadsOnce, Touches};
+ghost use Rattle.std.specs.Io.KnownBytes.{append_known};
+ghost use Rattle.mux_exchange.specs.Exchange.{IsLastWord, Receives, Sends, sent_wrote};
+ghost use Rattle.mux_edge.specs.Entries.{HasEntry, IsBlocked, IsConnected, IsOpen, MayPass, Stands};
+ghost use Rattle.mux_edge.specs.StreamTable.{ReadsLastWords, ReadsOnce, Touches};
 ghost use Rattle.mux_edge.specs.declared.numbers.Numbers.{Numbers};
 
 use super::StreamTable;
@@ -12,10 +14,10 @@ use crate::lookups::Lookups;
 use crate::numbers::Numbers;
 use crate::stream::Stream;
 use mio::net::UnixStream;
-use mux_exchange::{Sent, most_read, receive, send};
+use mux_exchange::{Heard, Outbox, Sent, most_read, receive, receive_last_words, send};
 use mux_outside::{Piece, Turn, Wrote};
 use std::io;
-use std::io::ErrorKind;
+use std::io::{ErrorKind, Read, Write};
 use std::net::Net;
 
 impl StreamTable {
@@ -49,6 +51,7 @@ impl StreamTable {
     fn accept(&mut self, number: u64) -> Option<Turn>
         ensures turn { IfSome result (λ turn. turn ≡ Turn.Accepted number) }
         ensures there { OnSome result (HasEntry number self.new.entries) }
+        ensures passes { OnSome result (number ≢ 0 → MayPass number self.new.entries) }
         ensures rest { Touches number self.old self.new }
     {
         match self.listener.as_ref()?.accept() {
@@ -64,6 +67,7 @@ impl StreamTable {
     fn admit(&mut self, number: u64, stream: UnixStream) -> Option<Turn>
         ensures turn { IfSome result (λ turn. turn ≡ Turn.Accepted number) }
         ensures there { OnSome result (HasEntry number self.new.entries) }
+        ensures passes { OnSome result (number ≢ 0 → MayPass number self.new.entries) }
         ensures rest { Touches number self.old self.new }
     {
         if let Err(e) = self.add(number, Stream::Unix(stream), false) {
@@ -90,6 +94,8 @@ impl StreamTable {
     fn read(&mut self, number: u64, into: &mut Piece) -> Option<Turn>
         ensures turn { IfSome result (IsOf number) }
         ensures reads { ReadsOnce number result into.new self.old self.new }
+        ensures last_words { number ≡ 0 → self.old.broken ≡ true
+            → ReadsLastWords result self.old self.new }
         ensures fits { IfSome result (λ turn.
             (numbers : Numbers) → FoundFits turn numbers into.old into.new) }
         ensures kept { IfNone result (into.new ≡ into.old) }
@@ -102,9 +108,14 @@ impl StreamTable {
             return None;
         }
         let most = most_read(number);
-        let heard = receive(&mut entry.stream, most, &mut self.spare, into);
+        let broken = number == 0 && self.broken;
+        let heard = receive_from(broken, &mut entry.stream, most, &mut self.spare, into);
         entry.ended = heard.is_last();
-        if heard.leaves_more(entry.stops_short, most) {
+        self.broken = self.broken && !(broken && entry.ended);
+        let more = heard.leaves_more(entry.stops_short, most);
+        entry.doubted = entry.passes && !more && heard.len() > 0;
+        self.doubts = doubts_begun(self.doubts, entry.doubted);
+        if more {
             let _ = self.ready.note_read(number, entry);
         }
         self.shares.count(number, heard.len());
@@ -126,21 +137,77 @@ impl StreamTable {
         Some(Turn::Writable(number))
     }
 
-    /// Hands bytes to a stream, which takes one of them at least, or none for now.
+    /// Hands bytes to a stream, which takes one of them at least, or none for now. Where a write to
+    /// the server fails, its last words are to be read first, so it takes none for now either.
     pub fn write(&mut self, number: u64, bytes: &[u8]) -> Wrote
         requires { 0 < length bytes.now }
         ensures fits { WroteFits result (length bytes.now) }
         ensures waits { result ≡ Wrote.Later → IsBlocked number self.new.entries }
+        ensures last_words { number ≡ 0 → IsOpen 0 self.old.entries → result ≢ Wrote.Failed }
         ensures rest { Touches number self.old self.new }
     {
         let Some(entry) = self.entries.get_mut(&number) else {
             return Wrote::Failed;
         };
-        let sent = send(&mut entry.stream, bytes);
+        let sent = send_to(number, &mut entry.stream, &mut self.outbox, bytes);
+        if number == 0 && sent == Sent::Failed && !entry.ended {
+            entry.blocked = true;
+            self.break_off();
+            return Wrote::Later;
+        }
         entry.blocked = sent.wrote() == Wrote::Later;
+        self.full |= number == 0 && sent == Sent::Waits;
         if sent == Sent::Interrupted {
             let _ = self.ready.note_write(number, entry);
         }
         sent.wrote()
     }
+}
+
+// Hands bytes to the socket of a stream of this number. Those to the server go behind what is in
+// the outbox, which is for no other stream.
+fn send_to<W: Write>(number: u64, to: &mut W, outbox: &mut Outbox, bytes: &[u8]) -> Sent
+    requires { 0 < length bytes.now }
+    ensures server { number ≡ 0 → Sends result (append_known (W.contents to.old) outbox.old)
+        (append_known (W.contents to.new) outbox.new) bytes.now }
+    ensures other { number ≢ 0
+        → Sends result (W.contents to.old) (W.contents to.new) bytes.now }
+    ensures apart { number ≢ 0 → outbox.new ≡ outbox.old }
+    ensures fits { WroteFits (sent_wrote result) (length bytes.now) }
+{
+    if number == 0 {
+        outbox.send(to, bytes)
+    } else {
+        send(to, bytes)
+    }
+}
+
+// Reads the socket of a stream once. Where a write to it failed, nothing left to read is a failure.
+fn receive_from<S: Read>(
+    broken: bool,
+    from: &mut S,
+    most: usize,
+    spare: &mut Piece,
+    into: &mut Piece,
+) -> Heard
+    requires { 0 < most }
+    ensures bytes { Receives result most (S.remaining from.old) (S.remaining from.new) into.old into.new }
+    ensures last { broken ≡ true → IsLastWord result }
+{
+    if broken {
+        receive_last_words(from, most, spare, into)
+    } else {
+        receive(from, most, spare, into)
+    }
+}
+
+// How often the system was asked since a read stopped short first, behind one that may have.
+fn doubts_begun(doubts: Option<u32>, doubted: bool) -> Option<u32>
+    ensures begun { doubted ≡ true → IsSome result }
+    ensures kept { IsSome doubts → result ≡ doubts }
+{
+    if doubted && doubts.is_none() {
+        return Some(0);
+    }
+    doubts
 }

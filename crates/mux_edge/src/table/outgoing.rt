@@ -1,0 +1,102 @@
+//! What was taken for the server's stream: when its socket is given it, and what its failure comes
+//! to.
+ghost use Rattle.std.specs.Prelude.{◌≡◌, ◌≢◌, length, false, true};
+ghost use Rattle.mux_outside.specs.declared.turn.Want.TheVariants.{Read, WriteOnly};
+ghost use Rattle.mux_edge.specs.Entries.{HasEntry, IsBlocked, IsOpen, StopsShort};
+ghost use Rattle.mux_edge.specs.StreamTable.{IsHandedOn, MayRead, Touches};
+
+use super::StreamTable;
+use mux_exchange::Given;
+use mux_outside::Want;
+
+impl StreamTable {
+    /// Gives the server's socket what was taken for it, as far as it takes it now.
+    pub(super) fn hand_on(&mut self)
+        ensures handed { IsHandedOn self.new }
+        ensures rest { Touches 0 self.old self.new }
+    {
+        if self.full || self.outbox.is_empty() {
+            return;
+        }
+        let Some(entry) = self.entries.get_mut(&0) else {
+            self.full = true;
+            return;
+        };
+        let given = self.outbox.give(&mut entry.stream);
+        self.note_given(given);
+    }
+
+    // Notes how far the server's socket took what it was given.
+    fn note_given(&mut self, given: Given)
+        ensures all { given ≡ Given.All → self.new ≡ self.old }
+        ensures waits { given ≡ Given.Waits → self.new ≡ record self.old { full = true } }
+        ensures failed { given ≡ Given.Failed → IsOpen 0 self.old.entries
+            → self.new.broken ≡ true }
+        ensures full { given ≢ Given.All → self.new.full ≡ true }
+        ensures outbox { self.new.outbox ≡ self.old.outbox }
+        ensures rest { Touches 0 self.old self.new }
+    {
+        match given {
+            Given::All => {}
+            Given::Waits => self.full = true,
+            Given::Failed => self.break_off(),
+        }
+    }
+
+    /// The server's socket failed at a write: it is given no more, and what it still says is read
+    /// before the failure is told. Behind its end there is nothing to read.
+    pub(super) fn break_off(&mut self)
+        ensures broken { IsOpen 0 self.old.entries → self.new.broken ≡ true }
+        ensures short { IsOpen 0 self.old.entries → StopsShort 0 self.new.entries }
+        ensures noted { IsOpen 0 self.old.entries → MayRead 0 self.old self.new }
+        ensures full { self.new.full ≡ true }
+        ensures blocked { IsBlocked 0 self.old.entries → IsBlocked 0 self.new.entries }
+        ensures outbox { self.new.outbox ≡ self.old.outbox }
+        ensures rest { Touches 0 self.old self.new }
+    {
+        self.full = true;
+        let Some(entry) = self.entries.get_mut(&0) else {
+            return;
+        };
+        if entry.ended {
+            return;
+        }
+        self.broken = true;
+        entry.stops_short = true;
+        let _ = self.ready.note_read(0, entry);
+    }
+
+    /// Whether the server's stream fails at once: a write to it failed, and only writes are wanted,
+    /// so that its last words aren't read.
+    pub fn fails_at_once(&mut self, want: Want) -> bool
+        ensures at_once { want ≡ WriteOnly → result ≡ self.old.broken }
+        ensures told { result ≡ true → self.new.broken ≡ false }
+        ensures reads { want ≡ Read → result ≡ false }
+        ensures goes_on { result ≡ false → self.new ≡ self.old }
+        ensures rest { Touches 0 self.old self.new }
+    {
+        if want == Want::Read || !self.broken {
+            return false;
+        }
+        self.broken = false;
+        if let Some(entry) = self.entries.get_mut(&0) {
+            entry.ended = true;
+        }
+        true
+    }
+
+    /// Gives a stream that goes what its socket takes of the outbox, if that is for it.
+    pub(super) fn give_last(&mut self, number: u64)
+        ensures empty { number ≡ 0 → HasEntry number self.old.entries
+            → length self.new.outbox ≡ 0 }
+        ensures apart { number ≢ 0 → self.new ≡ self.old }
+        ensures rest { Touches number self.old self.new }
+    {
+        if number != 0 {
+            return;
+        }
+        if let Some(entry) = self.entries.get_mut(&number) {
+            let _ = self.outbox.end(&mut entry.stream);
+        }
+    }
+}
