@@ -15,13 +15,13 @@ pub data Happening : Type 0 where
   Failed : (stream : ℕ) → Happening
 
 -- what a house is asked for at the start, what it gave or was asked, what it took in as a client,
--- what happened to a listener or a stream of its own, and how many bytes such a stream took
+-- what happened to a listener or a stream of its own, and the bytes that such a stream took
 pub data HouseCall : Type 0 where
   Begins : (starts : Starts) → HouseCall
   Marks : (mark : HouseMark) → HouseCall
   Receives : (bytes : List ℕ) → HouseCall
   Turns : (happening : Happening) → HouseCall
-  Takes : (stream size : ℕ) → HouseCall
+  Takes : (stream : ℕ) (bytes : List ℕ) → HouseCall
 
 -- what a turn of one of them tells
 abbrev pub happening_of : OwnTurn → Happening

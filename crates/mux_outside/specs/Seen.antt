@@ -1,12 +1,16 @@
 -- What is seen of a wire, and what each call leaves of it.
-use Rattle.std.specs.Prelude.{ℕ, Bool, true, false, List, [], ◌∷◌, ◌++◌, take, Result, Ok, Err, Option, None}
+use Rattle.std.specs.Prelude.{ℕ, Bool, true, false, List, [], ◌∷◌, ◌++◌, take, Result, Ok, Err, Option, Some, None}
 use Rattle.std.specs.Option.{option_map}
 use Rattle.mux_outside.specs.OwnStreams.{new_stream, with_end, with_finish, with_pause, without_stream}
 use Rattle.mux_outside.specs.Streams.{without}
 use Rattle.mux_outside.specs.declared.file_error.FileError.{FileError}
+use Rattle.mux_outside.specs.declared.file_error.FileError.TheVariants.{Failed as FailedFile, OutOfMemory}
 use Rattle.mux_outside.specs.declared.house_mark.HouseMark.{HouseMark}
+use Rattle.mux_outside.specs.declared.house_mark.HouseMark.TheVariants.{HouseOrder}
 use Rattle.mux_outside.specs.declared.mark.Mark.{Mark}
 use Rattle.mux_outside.specs.declared.mark.Mark.TheVariants.{Waits, Accepts, Gets, Ends, Frees, Fails, Takes, Holds, WriteFails, Joins, House}
+use Rattle.mux_outside.specs.declared.order.Order.{Order}
+use Rattle.mux_outside.specs.declared.order.Order.TheVariants.{Listen, Connect}
 use Rattle.mux_outside.specs.declared.own_streams.OwnStream.{OwnStream}
 use Rattle.mux_outside.specs.declared.own_streams.TheConstants.{LAST_CLIENT}
 use Rattle.mux_outside.specs.declared.turn.Turn.{Turn}
@@ -206,20 +210,39 @@ seen_after_note (Ok x) mark seen =
     record seen { recorded = option_map (λ m. m ++ House mark ∷ []) seen.recorded }
 seen_after_note (Err e) mark seen = seen
 
--- after a listener was to be opened
-abbrev pub seen_after_listen : Result ℕ FileError → Seen → Seen
-seen_after_listen (Ok n) seen = record seen { listeners = seen.listeners ++ n ∷ []; last_own = n }
-seen_after_listen (Err e) seen = seen
+-- the mark of an order that was to make something, with the number of what was made: for want of
+-- memory none
+abbrev pub made_marks : Result ℕ FileError → Order → List Mark
+made_marks (Ok n) order = House (HouseOrder order (Some n)) ∷ []
+made_marks (Err FailedFile) order = House (HouseOrder order None) ∷ []
+made_marks (Err OutOfMemory) order = []
 
--- after a stream was to be made, which is blocked until it is connected
-abbrev pub seen_after_connect : Result ℕ FileError → Seen → Seen
-seen_after_connect (Ok n) seen = record seen {
+-- the listeners after one was to be opened
+abbrev pub moved_by_listen : Result ℕ FileError → Seen → Seen
+moved_by_listen (Ok n) seen = record seen { listeners = seen.listeners ++ n ∷ []; last_own = n }
+moved_by_listen (Err e) seen = seen
+
+-- after a listener was to be opened there
+abbrev pub seen_after_listen : Result ℕ FileError → List ℕ → ℕ → Seen → Seen
+seen_after_listen answer host port seen = record (moved_by_listen answer seen) {
+  recorded = option_map (λ m. m ++ made_marks answer (Listen host port)) seen.recorded;
+}
+
+-- the streams after one was to be made, which is blocked until it is connected
+abbrev pub moved_by_connect : Result ℕ FileError → Seen → Seen
+moved_by_connect (Ok n) seen = record seen {
   streams = seen.streams ++ n ∷ [];
   blocked = seen.blocked ++ n ∷ [];
   own = seen.own ++ new_stream n ∷ [];
   last_own = n;
 }
-seen_after_connect (Err e) seen = seen
+moved_by_connect (Err e) seen = seen
+
+-- after a stream was to be made that connects there
+abbrev pub seen_after_connect : Result ℕ FileError → List ℕ → ℕ → Seen → Seen
+seen_after_connect answer host port seen = record (moved_by_connect answer seen) {
+  recorded = option_map (λ m. m ++ made_marks answer (Connect host port)) seen.recorded;
+}
 
 -- after a listener was closed
 abbrev pub seen_after_unlisten : ℕ → Seen → Seen

@@ -7,7 +7,10 @@ use Rattle.mux_outside.specs.Streams.{among}
 use Rattle.mux_outside.specs.Whose.{whose}
 use Rattle.mux_outside.specs.declared.file_error.FileError.{FileError}
 use Rattle.mux_outside.specs.declared.file_error.FileError.TheVariants.{Failed as FailedFile, OutOfMemory}
+use Rattle.mux_outside.specs.declared.house_mark.HouseMark.{HouseMark}
+use Rattle.mux_outside.specs.declared.house_mark.HouseMark.TheVariants.{HouseOrder}
 use Rattle.mux_outside.specs.declared.mark.OpenCall.{OpenCall}
+use Rattle.mux_outside.specs.declared.order.Order.TheVariants.{Listen, Connect}
 use Rattle.mux_outside.specs.declared.own_streams.TheConstants.{LAST_CLIENT, LAST_OWN}
 use Rattle.mux_outside.specs.declared.piece.TheConstants.{LONGEST_PIECE}
 use Rattle.mux_outside.specs.declared.turn.Turn.{Turn}
@@ -119,6 +122,15 @@ WroteFaults FailedWrite t old new = FaultOf (whose t) old new
 WroteFaults (Took n) t old new = new ≡ old
 WroteFaults Later t old new = new ≡ old
 WroteFaults NoMemoryToWrite t old new = new ≡ old
+
+-- ---- note
+
+-- a mark that may be noted: an order that is to make something is told by the call that carries it
+-- out
+abbrev pub MayNote : HouseMark → Type 0
+MayNote (HouseOrder (Listen host port) number) = ⊥
+MayNote (HouseOrder (Connect host port) number) = ⊥
+MayNote mark = Unit {0}
 
 -- ---- listen and connect
 

@@ -1,6 +1,7 @@
 -- What a wire in memory keeps of its calls.
-use Rattle.std.specs.Prelude.{◌≡◌, ◌<◌, ◌≤◌, ◌⊎◌, ℕ, Bool, true, false, [], Result, Ok, Err}
+use Rattle.std.specs.Prelude.{◌≡◌, ◌<◌, ◌≤◌, ◌⊎◌, ℕ, Bool, true, false, [], Option, Some, None, Result, Ok, Err}
 use Rattle.mux_outside.specs.Faults.{Faults, no_faults}
+use Rattle.mux_outside.specs.Wire.{IsNewOwn}
 use Rattle.mux_outside.specs.WireState.{WireState, nothing_called, recording}
 use Rattle.mux_outside.specs.declared.file_error.FileError.{FileError}
 use Rattle.mux_outside.specs.declared.file_error.FileError.TheVariants.{Failed, OutOfMemory as NoMemory}
@@ -20,6 +21,11 @@ abbrev pub OpensAs : Bool → Result (Unit {0}) FileError → Type 0
 OpensAs opens (Ok x) = opens ≡ true
 OpensAs opens (Err Failed) = opens ≡ false
 OpensAs opens (Err NoMemory) = Unit {0}
+
+-- the number of what is to be made, where one is left and it isn't to fail
+abbrev pub NextOwn : Bool → ℕ → Option ℕ → Type 0
+NextOwn fails last (Some n) = IsNewOwn last n × (fails ≡ false) × (last < LAST_OWN)
+NextOwn fails last None = (fails ≡ true) ⊎ (LAST_OWN ≤ last)
 
 -- whether a number was left for a listener or a stream that was to be made, and it wasn't to fail
 abbrev pub MakesAs : Bool → ℕ → Result ℕ FileError → Type 0

@@ -1,4 +1,4 @@
-ghost use Rattle.std.specs.Prelude.{◌≡◌, ◌∷◌, ◌≤◌, ℕ, false, [], List, length, OnOk, IfOk, IsSome, IsTrue, Ok};
+ghost use Rattle.std.specs.Prelude.{◌≡◌, ◌∷◌, ◌≤◌, ℕ, false, [], List, length, take, OnOk, IfOk, IsSome, IsTrue, Ok};
 ghost use Rattle.mux_outside.specs.OwnStreams.{is_one, is_finished};
 ghost use Rattle.mux_outside.specs.declared.house.HouseReply.{HouseReply as TheReply};
 ghost use Rattle.mux_outside.specs.House.{HouseState as TheState, Gave, GaveOr, IsBlank, IsFresh, OffersSame, recorded_more};
@@ -172,7 +172,7 @@ pub trait House: Asks {
         ensures must { (Self.state self.new).must ≡ (Self.state self.old).must }
         ensures recorded { (Self.state self.new).recorded ≡ (Self.state self.old).recorded }
         ensures stands { HandsOn (Self.state self.old).stands (Self.state self.new).stands
-            (Takes stream n ∷ []) };
+            (Takes stream (take n ((Self.state self.old).queue stream)) ∷ []) };
 
     /// The first of the forwardings asked for at the start that was refused, if any was.
     fn refused_start(&self) -> Option<usize>

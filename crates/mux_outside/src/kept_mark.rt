@@ -28,6 +28,14 @@ impl KeptMark {
         Ok(KeptMark { place })
     }
 
+    /// This mark, in a place of its own.
+    pub fn keep(alloc: Global, mark: HouseMark) -> Result<KeptMark, OutOfMemory>
+        ensures { IfOk result (λ kept. kept ≡ mark) }
+    {
+        let place = Box::new(alloc, mark)?;
+        Ok(KeptMark { place })
+    }
+
     /// The mark.
     pub fn as_mark(&self) -> &HouseMark
         ensures { result.now ≡ self.now }

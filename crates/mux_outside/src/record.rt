@@ -2,11 +2,16 @@
 ghost use Rattle.std.specs.Prelude.{◌≡◌, ◌≢◌, ◌≤◌, ◌+◌, OnOk, IfOk, ◌∷◌, [], length, vec_len, vec_capacity};
 ghost use Rattle.mux_outside.specs.Wire.{WroteFits};
 ghost use Rattle.mux_outside.specs.Seen.{turn_marks, wait_marks, write_marks};
+ghost use Rattle.mux_outside.specs.declared.house_mark.HouseMark.TheVariants.{HouseOrder};
+ghost use Rattle.mux_outside.specs.declared.mark.Mark.TheVariants.{House as TheHouse};
 ghost use Rattle.mux_outside.specs.declared.turn.Turn.TheVariants.{NoMemory};
 ghost use Rattle.mux_outside.specs.declared.turn.Wrote.TheVariants.{NoMemory as NoMemoryToWrite};
 
+use crate::house_mark::HouseMark;
+use crate::kept_mark::KeptMark;
 use crate::mark::Mark;
 use crate::marks::Marks;
+use crate::order::Order;
 use crate::streams::Streams;
 use crate::turn::{Turn, Want, Wrote};
 use crate::wire_state::WireState;
@@ -76,4 +81,21 @@ pub fn mark_of_write(
     };
     marks.recorded.reserve(1)?;
     Ok(mark)
+}
+
+/// The mark of an order that is to make something, which has this number. There is room for it, and
+/// it isn't told yet.
+pub fn mark_of_made(
+    alloc: Global,
+    marks: &mut Marks,
+    order: Order,
+    number: Option<u64>,
+) -> Result<Mark, OutOfMemory>
+    ensures mark { IfOk result (λ mark. mark ≡ TheHouse (HouseOrder order number)) }
+    ensures recorded { marks.new.recorded.items ≡ marks.old.recorded.items }
+    ensures room { OnOk result (vec_len marks.new.recorded + 1 ≤ vec_capacity marks.new.recorded) }
+{
+    let kept = KeptMark::keep(alloc, HouseMark::HouseOrder { order, number })?;
+    marks.recorded.reserve(1)?;
+    Ok(Mark::House(kept))
 }

@@ -198,32 +198,32 @@ impl Wire for ScriptWire {
         self.log.noted(m)
     }
 
-    fn listen(&mut self, _host: &[u8], _port: u32) -> Result<u64, FileError>
+    fn listen(&mut self, host: &[u8], port: u32) -> Result<u64, FileError>
         ensures fits { NumberFits result self.old.log.state.seen.last_own }
         ensures state { self.new.log.state
-            ≡ seeing (seen_after_listen result) self.old.log.state }
+            ≡ seeing (seen_after_listen result host.now port) self.old.log.state }
         ensures cause { MakeFaults result self.old.log.faults self.new.log.faults }
         ensures exact { MakesByNumber result self.old self.new }
         ensures script { KeepsSteps self.old self.new × KeepsWrites self.old self.new }
     {
         let opens = counted(self.opens);
-        let answer = self.log.listened(self.fails.contains(opens));
+        let answer = self.log.listened(host, port, self.fails.contains(opens));
         if answer != Err(FileError::OutOfMemory) {
             self.opens = opens;
         }
         answer
     }
 
-    fn connect(&mut self, _host: &[u8], _port: u32) -> Result<u64, FileError>
+    fn connect(&mut self, host: &[u8], port: u32) -> Result<u64, FileError>
         ensures fits { NumberFits result self.old.log.state.seen.last_own }
         ensures state { self.new.log.state
-            ≡ seeing (seen_after_connect result) self.old.log.state }
+            ≡ seeing (seen_after_connect result host.now port) self.old.log.state }
         ensures cause { MakeFaults result self.old.log.faults self.new.log.faults }
         ensures exact { MakesByNumber result self.old self.new }
         ensures script { KeepsSteps self.old self.new × KeepsWrites self.old self.new }
     {
         let opens = counted(self.opens);
-        let answer = self.log.connected(self.fails.contains(opens));
+        let answer = self.log.connected(host, port, self.fails.contains(opens));
         if answer != Err(FileError::OutOfMemory) {
             self.opens = opens;
         }

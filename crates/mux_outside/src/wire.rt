@@ -3,7 +3,7 @@ ghost use Rattle.mux_outside.specs.declared.turn.Turn.TheVariants.{NoMemory};
 ghost use Rattle.mux_outside.specs.declared.turn.Wrote.TheVariants.{NoMemory as NoMemoryToWrite};
 ghost use Rattle.mux_outside.specs.Faults.{Faults as TheFaults};
 ghost use Rattle.mux_outside.specs.Seen.{seen_after_close, seen_after_connect, seen_after_finish, seen_after_listen, seen_after_note, seen_after_pause, seen_after_silence, seen_after_unlisten};
-ghost use Rattle.mux_outside.specs.Wire.{JoinFaults, MakeFaults, MayWait, MayWrite, NumberFits, OpenFaults, OwnFits, TurnFaults, TurnFits, WroteFaults, WroteFits};
+ghost use Rattle.mux_outside.specs.Wire.{JoinFaults, MakeFaults, MayNote, MayWait, MayWrite, NumberFits, OpenFaults, OwnFits, TurnFaults, TurnFits, WroteFaults, WroteFits};
 ghost use Rattle.mux_outside.specs.WireState.{WireState as TheState, seeing, state_after_join, state_after_open, state_after_wait, state_after_write};
 
 use crate::file_error::FileError;
@@ -67,22 +67,26 @@ pub trait Wire {
         ensures state { state self.new ≡ seeing (seen_after_close stream) (state self.old) }
         ensures faults { faults self.new ≡ faults self.old };
 
-    /// Adds a mark of a house to those that are told.
+    /// Adds a mark of a house to those that are told. What is made by an order is told by `listen`
+    /// and `connect`.
     fn note(&mut self, m: &HouseMark) -> Result<(), OutOfMemory>
+        requires may { MayNote m.now }
         ensures state { state self.new ≡ seeing (seen_after_note result m.now) (state self.old) }
         ensures faults { faults self.new ≡ faults self.old };
 
-    /// Opens a listener of the master's own.
+    /// Opens a listener of the master's own there, and tells the mark of that order.
     fn listen(&mut self, host: &[u8], port: u32) -> Result<u64, FileError>
         ensures fits { NumberFits result (state self.old).seen.last_own }
-        ensures state { state self.new ≡ seeing (seen_after_listen result) (state self.old) }
+        ensures state { state self.new
+            ≡ seeing (seen_after_listen result host.now port) (state self.old) }
         ensures cause { MakeFaults result (faults self.old) (faults self.new) };
 
-    /// Makes a stream of the master's own that connects there. It is blocked until it is
-    /// connected.
+    /// Makes a stream of the master's own that connects there, and tells the mark of that order.
+    /// The stream is blocked until it is connected.
     fn connect(&mut self, host: &[u8], port: u32) -> Result<u64, FileError>
         ensures fits { NumberFits result (state self.old).seen.last_own }
-        ensures state { state self.new ≡ seeing (seen_after_connect result) (state self.old) }
+        ensures state { state self.new
+            ≡ seeing (seen_after_connect result host.now port) (state self.old) }
         ensures cause { MakeFaults result (faults self.old) (faults self.new) };
 
     /// Closes a listener of the master's own.

@@ -4,7 +4,7 @@ ghost use Rattle.std.specs.Option.{option_map};
 ghost use Rattle.mux_outside.specs.Marks.{bytes_taken as all_taken};
 ghost use Rattle.mux_outside.specs.Seen.{seen_after_close, seen_after_connect, seen_after_finish, seen_after_listen, seen_after_note, seen_after_pause, seen_after_silence, seen_after_unlisten, untold};
 ghost use Rattle.mux_outside.specs.Wire.{JoinFaults, MakeFaults, NumberFits, OpenFaults, OwnFits, TurnFaults, WroteFaults, WroteFits};
-ghost use Rattle.mux_outside.specs.WireLog.{MakesAs, OpensAs, nothing_logged};
+ghost use Rattle.mux_outside.specs.WireLog.{MakesAs, NextOwn, OpensAs, nothing_logged};
 ghost use Rattle.mux_outside.specs.WireState.{answer_kept, seeing, state_after_join, state_after_open, state_after_wait, state_after_write, turn_kept};
 ghost use Rattle.mux_outside.specs.declared.own_streams.TheConstants.{LAST_CLIENT};
 ghost use Rattle.mux_outside.specs.declared.turn.Turn.TheVariants.{NoMemory};
@@ -15,7 +15,8 @@ use crate::house_mark::HouseMark;
 use crate::kept_mark::KeptMark;
 use crate::mark::{Mark, OpenCall, bytes_taken};
 use crate::marks::Marks;
-use crate::record::{mark_of_write, marks_of_wait};
+use crate::order::Order;
+use crate::record::{mark_of_made, mark_of_write, marks_of_wait};
 use crate::streams::Streams;
 use crate::turn::{Turn, Want, Wrote};
 use crate::whose::Whose;
@@ -247,43 +248,57 @@ impl WireLog {
         Ok(())
     }
 
-    /// Keeps that a listener was to be opened.
-    pub fn listened(&mut self, fails: bool) -> Result<u64, FileError>
+    /// Keeps that a listener was to be opened there.
+    pub fn listened(&mut self, host: &[u8], port: u32, fails: bool) -> Result<u64, FileError>
         ensures makes { MakesAs fails self.old.state.seen.last_own result }
         ensures fits { NumberFits result self.old.state.seen.last_own }
-        ensures state { self.new.state ≡ seeing (seen_after_listen result) self.old.state }
+        ensures state { self.new.state
+            ≡ seeing (seen_after_listen result host.now port) self.old.state }
         ensures cause { MakeFaults result self.old.faults self.new.faults }
     {
-        let number = self.next_own(fails)?;
+        let host = Text::copy(self.alloc, host)?;
+        let number = self.next_own(fails);
+        let order = Order::Listen { host, port };
+        let mark = mark_of_made(self.alloc, &mut self.marks, order, number)?;
+        let Some(number) = number else {
+            self.faults.of(Whose::Own);
+            self.marks.recorded.push_reserved(mark);
+            return Err(FileError::Failed);
+        };
         self.state.listened(number)?;
+        self.marks.recorded.push_reserved(mark);
         Ok(number)
     }
 
-    /// Keeps that a stream was to be made.
-    pub fn connected(&mut self, fails: bool) -> Result<u64, FileError>
+    /// Keeps that a stream was to be made that connects there.
+    pub fn connected(&mut self, host: &[u8], port: u32, fails: bool) -> Result<u64, FileError>
         ensures makes { MakesAs fails self.old.state.seen.last_own result }
         ensures fits { NumberFits result self.old.state.seen.last_own }
-        ensures state { self.new.state ≡ seeing (seen_after_connect result) self.old.state }
+        ensures state { self.new.state
+            ≡ seeing (seen_after_connect result host.now port) self.old.state }
         ensures cause { MakeFaults result self.old.faults self.new.faults }
     {
-        let number = self.next_own(fails)?;
+        let host = Text::copy(self.alloc, host)?;
+        let number = self.next_own(fails);
+        let order = Order::Connect { host, port };
+        let mark = mark_of_made(self.alloc, &mut self.marks, order, number)?;
+        let Some(number) = number else {
+            self.faults.of(Whose::Own);
+            self.marks.recorded.push_reserved(mark);
+            return Err(FileError::Failed);
+        };
         self.state.connected(number)?;
+        self.marks.recorded.push_reserved(mark);
         Ok(number)
     }
 
-    // The number of what is to be made. It counts that it fails, or that no number is left.
-    fn next_own(&mut self, fails: bool) -> Result<u64, FileError>
-        ensures makes { MakesAs fails self.old.state.seen.last_own result }
-        ensures fits { NumberFits result self.old.state.seen.last_own }
-        ensures same { self.new ≡ record self.old { faults = self.new.faults } }
-        ensures cause { MakeFaults result self.old.faults self.new.faults }
+    // The number of what is to be made, where one is left and it isn't to fail.
+    fn next_own(&self, fails: bool) -> Option<u64>
+        ensures { NextOwn fails self.now.state.seen.last_own result }
     {
         match self.state.next_own() {
-            Some(number) if !fails => Ok(number),
-            _ => {
-                self.faults.of(Whose::Own);
-                Err(FileError::Failed)
-            }
+            Some(number) if !fails => Some(number),
+            _ => None,
         }
     }
 

@@ -1,7 +1,7 @@
 //! What is always known of a wire.
 ghost use Rattle.std.specs.Prelude.{◌≡◌, ◌<◌, ◌≤◌, ◌+◌, ◌⊎◌, [], ◌∷◌, ◌++◌, Ok, Err, false, true, IfNone, IfOk, IfSome, OnErr, OnOk};
 ghost use Rattle.mux_outside.specs.OwnStreams.{new_stream};
-ghost use Rattle.mux_outside.specs.Seen.{moved_by_turn, seen_after_close, seen_after_connect, seen_after_finish, seen_after_join, seen_after_listen, seen_after_pause, seen_after_silence, seen_after_unlisten};
+ghost use Rattle.mux_outside.specs.Seen.{moved_by_connect, moved_by_listen, moved_by_turn, seen_after_close, seen_after_finish, seen_after_join, seen_after_pause, seen_after_silence, seen_after_unlisten};
 ghost use Rattle.mux_outside.specs.Wire.{IsNewOwn, OwnFits};
 ghost use Rattle.mux_outside.specs.WireState.{WireState as TheState, answer_kept, nothing_called, opens_stream, seeing, state_in_write, state_opened, state_waited, state_written, turn_kept};
 ghost use Rattle.mux_outside.specs.declared.file_error.FileError.TheVariants.{Failed as FailedFile};
@@ -349,7 +349,7 @@ impl WireState {
     /// A listener is opened with this number. An `Err` changes nothing.
     pub fn listened(&mut self, number: u64) -> Result<(), OutOfMemory>
         requires { IsNewOwn self.old.seen.last_own number }
-        ensures ok { OnOk result (self.new ≡ seeing (seen_after_listen (Ok number)) self.old) }
+        ensures ok { OnOk result (self.new ≡ seeing (moved_by_listen (Ok number)) self.old) }
         ensures err { OnErr result (self.new ≡ self.old) }
     {
         self.listeners.push(number)?;
@@ -360,7 +360,7 @@ impl WireState {
     /// A stream is made with this number, and isn't connected yet. An `Err` changes nothing.
     pub fn connected(&mut self, number: u64) -> Result<(), OutOfMemory>
         requires { IsNewOwn self.old.seen.last_own number }
-        ensures ok { OnOk result (self.new ≡ seeing (seen_after_connect (Ok number)) self.old) }
+        ensures ok { OnOk result (self.new ≡ seeing (moved_by_connect (Ok number)) self.old) }
         ensures err { OnErr result (self.new ≡ self.old) }
     {
         self.blocked.push(number)?;
