@@ -198,7 +198,7 @@ fed-more calls call None s acts silent h = h
 fed-more calls call (Some own) s acts silent h =
     let its = silent own refl in of-none calls call own.number acts its.gives its.takes h
 
-fed-acts : (calls : List HouseCall) (o : Option OwnStream) (s : Socket) (old new : List Act) → read new ≡ read old → taken new ≡ taken old
+fed-acts : (calls : List HouseCall) (o : Option OwnStream) (s : Socket) (old new : List Act) → read new ≡ read old → took new ≡ took old
     → FedBy o calls s old → FedBy o calls s new
 fed-acts calls None s old new e f h = λ is. (let its = h is in record { reads = e ∙ its.reads; takes = f ∙ its.takes })
 fed-acts calls (Some own) s old new e f h = of-acts calls own.number old new e f h

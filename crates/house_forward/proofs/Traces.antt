@@ -25,7 +25,7 @@ use Rattle.house_forward.specs.Forwardings.{has_request, has_listener}
 use Rattle.house_forward.specs.Going.{GoesAt, LeavesAt, Gets, GetsOn, TakesOf, TakesOn, SendsOn, ReceivesOn, Obeys, AwaitsAt, MakesAt, MayBeFirst, swept}
 use Rattle.house_forward.specs.Links.{has_sending, has_order, is_of, is_offered, is_awaited, link_after, streams_of, Offers, Joins, has_number, is_number, own_of, is_full, has_full_dialogs, dials, ConnectsAt, made_stream, OrdersIn, IsJoined}
 use Rattle.house_forward.specs.Links as linking
-use Rattle.house_forward.specs.RelayTraces.{Trace, Held, LinksGo, GoesFurther, ForwardingStateGoes, OnForwardingState, TakesFurther, Represents, Follows, taken_in, with_forwarding_state}
+use Rattle.house_forward.specs.RelayTraces.{One, Trace, Held, LinksGo, GoesFurther, ForwardingStateGoes, OnForwardingState, TakesFurther, Represents, Follows, taken_in, with_forwarding_state}
 use Rattle.house_forward.specs.RelayTraces.{ReceivesAt, OffersOne, SendsIn, SendsBy, GivesOrder, JoinsOne, OrdersSocket, MakesOne, held, are_full, are_dialogs_full, is_unmade, IsEndOf}
 use Rattle.house_forward.specs.RelayTraces.{Life, Listens, Speaks, GoesBy, IsLife, IsSocketOf, AreRelayTraces, IsTrace, IsAllowed, StepsBy, Reaches, first_trace, with_relay_traces, left_in, has_channel, has_words, has_stream, is_stream, stepped, made_life}
 use Rattle.house_forward.specs.Said.{framed, sent_by, request_payload}
