@@ -130,8 +130,7 @@ pub takes-of : (old new : Relay) (n : ℕ) (queue : List ℕ) → queue ≡ old.
     → TakesOf (take n queue) old new
 takes-of old new n queue is few h = λ small.
     let size : length (take n queue) ≡ n = grind (arith, common_steps, length-take) in
-    let both = h (subst (λ k. owed_in old.line + k < 2 ^ 64) size small) in
-    (
+    let both = h (subst (λ k. owed_in old.line + k < 2 ^ 64) size small) in (
       both.0 ∙ ap (λ k. taken_of k old) (sym size),
       subst (λ q. GoesOn old new (Takes (take n q))) (sym is) both.1,
       ap (take n) is ∙ ap (λ k. take k old.queue.waiting) (sym size),

@@ -1,5 +1,5 @@
 -- How many bytes the socket took.
-use Rattle.std.proofs.Common.{◌≡◌, ◌∙◌, refl, ap, ℕ, ◌+◌, List, [], ◌∷◌, ◌++◌, length, length-append}
+use Rattle.std.proofs.Common.{◌≡◌, ◌∙◌, refl, ap, ◌+◌, List, [], ◌∷◌, length, length-append}
 use Rattle.house_relay.specs.Acts.{Act, Reads, Ends, Takes, Fails, Confirms, Refuses, Delivers, ReceivesEof, ReceivesClose, SendsData, SendsAdjust, SendsEof, SendsClose, Other, took, taken}
 
 pub took-length : (acts : List Act) → length (took acts) ≡ taken acts
