@@ -51,7 +51,7 @@ use Rattle.house_forward.proofs.Sound.{Each, All, Sound, KeptSound, Both, with-s
 failed-more : (act : Act) (acts : List Act) → has_failed acts ≡ true → has_failed (act ∷ acts) ≡ true
 failed-more (Reads bytes) acts e = e
 failed-more Ends acts e = e
-failed-more (Takes n) acts e = e
+failed-more (Takes bytes) acts e = e
 failed-more Fails acts e = refl
 failed-more Confirms acts e = e
 failed-more (Refuses reason) acts e = e
@@ -67,7 +67,7 @@ failed-more Other acts e = e
 heard-more : (act : Act) (acts : List Act) → received_close acts ≡ true → received_close (act ∷ acts) ≡ true
 heard-more (Reads bytes) acts e = e
 heard-more Ends acts e = e
-heard-more (Takes n) acts e = e
+heard-more (Takes bytes) acts e = e
 heard-more Fails acts e = e
 heard-more Confirms acts e = e
 heard-more (Refuses reason) acts e = e
@@ -83,7 +83,7 @@ heard-more Other acts e = e
 said-more : (act : Act) (acts : List Act) → sent_close acts ≡ true → sent_close (act ∷ acts) ≡ true
 said-more (Reads bytes) acts e = e
 said-more Ends acts e = e
-said-more (Takes n) acts e = e
+said-more (Takes bytes) acts e = e
 said-more Fails acts e = e
 said-more Confirms acts e = e
 said-more (Refuses reason) acts e = e
@@ -292,14 +292,14 @@ receives-right (message.Request recipient kind want rest) r dials acts s h =
 receives-right (message.Success recipient) r dials acts s h = receives-other r.line r.socket dials acts h
 receives-right (message.Failure recipient) r dials acts s h = receives-other r.line r.socket dials acts h
 
-takes-right : (n : ℕ) (line : ChannelState) (s : Socket) (dials : Bool) (acts : List Act) → OverRight line s dials acts
-    → OverRight (takes_in n line) s dials (Takes n ∷ acts)
-takes-right n (Dialing dialog) s dials acts h = tt
-takes-right n (Asked host port version) s dials acts h = tt
-takes-right n (Opened version) s dials acts h = tt
-takes-right n (Offered remote window maximum) s dials acts h = tt
-takes-right n (Live live) s dials acts h = tt
-takes-right n Over s dials acts h = λ whole. over-more dials (Takes n) acts refl refl (h whole)
+takes-right : (bytes : List ℕ) (line : ChannelState) (s : Socket) (dials : Bool) (acts : List Act) → OverRight line s dials acts
+    → OverRight (takes_in (length bytes) line) s dials (Takes bytes ∷ acts)
+takes-right bytes (Dialing dialog) s dials acts h = tt
+takes-right bytes (Asked host port version) s dials acts h = tt
+takes-right bytes (Opened version) s dials acts h = tt
+takes-right bytes (Offered remote window maximum) s dials acts h = tt
+takes-right bytes (Live live) s dials acts h = tt
+takes-right bytes Over s dials acts h = λ whole. over-more dials (Takes bytes) acts refl refl (h whole)
 
 -- ---- why a socket is broken
 
@@ -618,9 +618,9 @@ caused calls = record {
             (subst (λ (d : Bool). OverRight b.relay.line b.relay.socket d (Reads bytes ∷ a.acts)) (sym h.dials) its.1);
       }
       );
-  takes = λ t n a b s p is h. caused-on calls _ _ a b h (ap (λ (r : Relay). r.socket) h.relay.0)
-      (subst (λ (r : Relay). OverRight r.line a.relay.socket a.dials (Takes n ∷ a.acts)) (sym h.relay.0)
-      (takes-right n a.relay.line a.relay.socket a.dials a.acts p.over))
+  takes = λ t bytes a b s p is h. caused-on calls _ _ a b h (ap (λ (r : Relay). r.socket) h.relay.0)
+      (subst (λ (r : Relay). OverRight r.line a.relay.socket a.dials (Takes bytes ∷ a.acts)) (sym h.relay.0)
+      (takes-right bytes a.relay.line a.relay.socket a.dials a.acts p.over))
       p.broken;
   steps = λ s t call old now causes a sounds p is. record {
     broken = cause-step calls s a.own a.acts a.relay p.broken;

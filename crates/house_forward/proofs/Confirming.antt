@@ -411,8 +411,8 @@ wired before call old apart = record {
       (subst (λ (o : Option Place). WiredTo o before b.dials b.relay.line b.relay.socket) (sym h.to)
       (subst (λ (d : Bool). WiredTo a.to before d b.relay.line b.relay.socket) (sym h.dials)
       (gets-wired before (not (are_full old.relay_traces)) bytes a.to a b s h.relay.0 p)));
-  takes = λ t n e a b s p is h. wired-more before call b.to b.dials b.relay.line b.relay.socket (wired-on before _ _ a b h
-      (settles-takes offer later n a b h)
+  takes = λ t bytes e a b s p is h. wired-more before call b.to b.dials b.relay.line b.relay.socket (wired-on before _ _ a b h
+      (settles-takes offer later bytes a b h)
       (ap (λ (r : Relay). r.socket) h.relay.0) p);
   steps = λ s t ord a sa may p is.
       subst (λ (line : ChannelState). WiredTo a.to (before ++ call ∷ []) a.dials line (relay_after s a.relay).socket) (sym (line-step s a.relay))

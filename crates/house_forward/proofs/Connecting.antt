@@ -81,8 +81,8 @@ due-says bytes a b h = due-same _ _ a b h.1
 due-receives : (m : Message) (a b : Life) → Listens m a b → due b ≡ due a
 due-receives m a b h = due-same _ _ a b h (ap (λ (r : Relay). r.socket) h.relay.0 ∙ (stays-heard m a.relay).socket_is)
 
-due-takes : (n : ℕ) (a b : Life) → GoesBy (TakesOn n) (Takes n) a b → due b ≡ due a
-due-takes n a b h = due-same _ _ a b h (ap (λ (r : Relay). r.socket) h.relay.0)
+due-takes : (bytes : List ℕ) (a b : Life) → GoesBy (TakesOn bytes) (Takes bytes) a b → due b ≡ due a
+due-takes bytes a b h = due-same _ _ a b h (ap (λ (r : Relay). r.socket) h.relay.0)
 
 due-gets : (free : Bool) (bytes : List ℕ) (t : ℕ) (a b : Life) → Sound a → has_stream t a ≡ true
     → GoesBy (GetsOn free bytes) (Reads bytes) a b → due b ≡ due a
@@ -237,10 +237,10 @@ due-follow (ReceivesBytes bytes) old new h connects taken s owes =
 due-follow (Turns happening) old new h connects taken s owes =
     connected-more connects [] old.relay_traces new.relay_traces taken
     (sym (ap (λ (c : Trace). still_to_connect c.relay_traces) h.2 ∙ due-turns happening old.joins old.forwarding_state.all old.relay_traces h.0 h.1 s.relay_traces)) owes
-due-follow (TakesBytes t n) old new h connects taken s owes =
+due-follow (TakesBytes t bytes) old new h connects taken s owes =
     connected-more connects [] old.relay_traces new.relay_traces taken
     (sym (ap (λ (c : Trace). still_to_connect c.relay_traces) h.2
-    ∙ most-picks due Sound (has_stream t) (GoesBy (TakesOn n) (Takes n)) old.relay_traces h.0 (λ a b x is goes. due-takes n a b goes) s.relay_traces h.1)) owes
+    ∙ most-picks due Sound (has_stream t) (GoesBy (TakesOn bytes) (Takes bytes)) old.relay_traces h.0 (λ a b x is goes. due-takes bytes a b goes) s.relay_traces h.1)) owes
 
 due-reach : (calls : List HouseCall) (old new : Trace) (h : Reaches old calls new) (connects taken : List Place) → All Sound old
     → Owes connects old.relay_traces taken → Owes (connects ++ connects_in calls) new.relay_traces (taken ++ taken_in calls old new h)

@@ -215,7 +215,7 @@ aimed calls = record {
         (gets-right calls a.relay.line (not (are_full old.relay_traces)) bytes a b refl h.relay.0 s s' h.dials p.right));
     unmade_none = not-unmade b (owned t b.own b.relay.socket (ap (is_stream t) h.own ∙ is) s'.stream);
   };
-  takes = λ t n a b s p is h. aimed-on calls _ _ a b h (settles-takes may_open may-later n a b h) (ap (λ (r : Relay). r.socket) h.relay.0) p;
+  takes = λ t bytes a b s p is h. aimed-on calls _ _ a b h (settles-takes may_open may-later bytes a b h) (ap (λ (r : Relay). r.socket) h.relay.0) p;
   steps = λ s t call old now causes a sounds p is. record {
     right = subst (Right calls (own_after s a.own) a.joined) (sym (line-step s a.relay)) (right-after calls s a.own a.joined a.relay.line p.right);
     unmade_none = not-unmade (step_of s a) (step-made s a.relay (owned t a.own a.relay.socket is sounds.stream));

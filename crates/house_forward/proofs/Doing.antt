@@ -196,7 +196,7 @@ happens (Marks mark) forwarder_events old new left h = marks mark forwarder_even
 happens (Receives bytes) forwarder_events old new left h =
     (recorded_in old.stage h.0, (h.0, h.1, refl), receives-frames h.0 old.stage forwarder_events (with_received bytes old) new refl left h.1)
 happens (Turns happening) forwarder_events old new left h = ([], refl, same forwarder_events old new left (ap (λ (c : Trace). c.forwarding_state) h.2))
-happens (Takes t n) forwarder_events old new left h = ([], refl, same forwarder_events old new left (ap (λ (c : Trace). c.forwarding_state) h.2))
+happens (Takes t bytes) forwarder_events old new left h = ([], refl, same forwarder_events old new left (ap (λ (c : Trace). c.forwarding_state) h.2))
 
 -- ---- by all of them
 

@@ -30,7 +30,7 @@ nothing-yet dials = record {
 plain : (number : ℕ) (line : ChannelState) (s : Socket) → LineStands line false [] → Stands false [] (fresh_relay number line s)
 plain number line s h = record {
   sends = refl;
-  delivers = ([], refl, refl);
+  delivers = refl;
   ends = refl;
   last = λ said. absurd (false≢true said);
   few = omega arith;
@@ -53,7 +53,7 @@ dialed : (number : ℕ) (s : Socket) → Stands true [] (fresh_relay number fres
 unfolding outcome_in before_in behind_in replies_in
 dialed number s = record {
   sends = refl;
-  delivers = ([], refl, refl);
+  delivers = refl;
   ends = refl;
   last = λ said. absurd (false≢true said);
   few = omega arith;

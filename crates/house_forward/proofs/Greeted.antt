@@ -24,7 +24,7 @@ greets-first greeted (Marks (HouseAnswer client id reply) ∷ calls) h = greets-
 greets-first greeted (Marks (HouseOrder o number) ∷ calls) h = greets-first greeted calls h
 greets-first greeted (Receives bytes ∷ calls) h = greets-first greeted calls h
 greets-first greeted (Turns happening ∷ calls) h = greets-first greeted calls h
-greets-first greeted (Takes t n ∷ calls) h = greets-first greeted calls h
+greets-first greeted (Takes t bytes ∷ calls) h = greets-first greeted calls h
 
 said-more : (calls more : List HouseCall) → sent_in (calls ++ more) ≡ sent_in calls ++ sent_in more
 said-more [] more = refl

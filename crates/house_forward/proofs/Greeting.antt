@@ -144,7 +144,7 @@ call-silent (IsBegun starts) old new more e h = is-silent more (Begins starts �
 call-silent (Marks mark) old new more e h = mark-silent mark more e h
 call-silent (Receives bytes) old new more e h = is-silent more (recorded_in old.stage h.0) h.2 (in-silent old.stage h.0)
 call-silent (Turns happening) old new more e h = is-silent more [] h tt
-call-silent (Takes t n) old new more e h = is-silent more [] h tt
+call-silent (Takes t bytes) old new more e h = is-silent more [] h tt
 
 same-greeting : (call : HouseCall) (forwarder_events : List ForwarderEvent) (old new : Trace) → sent_on call ≡ [] → Leave forwarder_events old.forwarding_state
     → Follows call old new → new.forwarding_state.greeted ≡ old.forwarding_state.greeted
@@ -192,7 +192,7 @@ is-said (Marks (HouseAnswer client id reply)) = inl refl
 is-said (Marks (HouseOrder o number)) = inl refl
 is-said (Receives bytes) = inl refl
 is-said (Turns happening) = inl refl
-is-said (Takes t n) = inl refl
+is-said (Takes t bytes) = inl refl
 
 -- behind the greeting
 frames : (calls : List HouseCall) (forwarder_events : List ForwarderEvent) (old new : Trace) → Leave forwarder_events old.forwarding_state → old.forwarding_state.greeted ≡ true

@@ -1,17 +1,18 @@
 -- What the relays' own laws give of all relays of the house.
-use Rattle.std.proofs.Common.{◌≡◌, ◌∙◌, refl, sym, ap, subst, ℕ, true, false, List, [], ◌∷◌, ◌++◌, Option}
+use Rattle.std.proofs.Common.{◌≡◌, ◌∙◌, refl, sym, ap, subst, arith, ℕ, ◌+◌, ◌-◌, ◌≤◌, Bool, true, false, length, length-append, length-drop, List, [], ◌∷◌, ◌++◌, Option}
 use Rattle.std.specs.Prelude.{not, is_some, IfSome}
 use Rattle.std.specs.List.{All, list_any}
 use Rattle.std.proofs.lemmas.Bool.{and_parts, or_parts, eq-eqb, not-true}
 use Rattle.std.proofs.lemmas.List.Elements.{All-nil, All-cons, All-append, All-weaker}
 use Rattle.mux_outside.specs.declared.own_streams.OwnStream.{OwnStream}
-use Rattle.house_relay.specs.Acts.{Relays}
+use Rattle.house_relay.specs.Acts.{Act, Relays, adjusted, delivered, replies, taken, to_take}
 use Rattle.house_relay.specs.Next.{sends_of, orders_of}
 use Rattle.house_relay.specs.Relay.{Stands, Keeps, SilentIn, IsResting, stream_of}
+use Rattle.house_relay.specs.declared.TheConstants.{WINDOW}
 use Rattle.house_relay.specs.declared.relay.Relay.{Relay}
 use Rattle.house_relay.proofs.Resting.{silent, rests}
 use Rattle.house_relay.proofs.Whole.{relays, keeps}
-use Rattle.house_forward.specs.Laws.{EachRelays, EachKeeps, EachRests, Rests}
+use Rattle.house_forward.specs.Laws.{EachRelays, EachKeeps, EachIsBounded, EachRests, IsBounded, KeepsWindow, Rests}
 use Rattle.house_forward.specs.Links.{own_of, is_number, order_in, has_order, has_sending}
 use Rattle.house_forward.specs.RelayTraces.{Life, IsLife, AreRelayTraces, IsSocketOf}
 use Rattle.house_forward.specs.declared.link.Link.{Link}
@@ -43,6 +44,30 @@ pub each-keeps : EachKeeps
 each-keeps calls h lived =
     All-weaker (λ (l : Life). Stands l.dials l.acts l.relay) (λ (l : Life). Keeps l.dials l.acts l.relay)
     (λ l stands. keeps l.dials l.acts l.relay stands) (lived.trace.relay_traces ++ lived.trace.past)
+    (All-append (λ (l : Life). Stands l.dials l.acts l.relay) lived.trace.relay_traces lived.trace.past
+    (stands-in _ lived.trace.relay_traces h.links lived.is.relay_traces) lived.is.past)
+
+-- ---- what waits
+
+bound-by : (window replied came took room : ℕ) → room ≤ took - replied → came ≤ window + room
+    → (replied + came) - took ≤ window + (replied - took)
+bound-by window replied came took room granted kept = omega arith
+
+bounded : (dials : Bool) (acts : List Act) (r : Relay) → Stands dials acts r → KeepsWindow acts
+    → length r.queue.waiting ≤ WINDOW + (length (replies dials acts) - taken acts)
+bounded dials acts r stands kept =
+    let size : length r.queue.waiting ≡ (length (replies dials acts) + length (delivered acts)) - taken acts =
+    ap length (keeps dials acts r stands).waits
+    ∙ length-drop (taken acts) (to_take dials acts)
+    ∙ ap (λ n. n - taken acts) (length-append (replies dials acts) (delivered acts)) in
+    subst (λ n. n ≤ WINDOW + (length (replies dials acts) - taken acts)) (sym size)
+    (bound-by WINDOW (length (replies dials acts)) (length (delivered acts)) (taken acts) (adjusted acts)
+    (relays dials acts r stands).granted kept)
+
+pub each-is-bounded : EachIsBounded
+each-is-bounded calls h lived =
+    All-weaker (λ (l : Life). Stands l.dials l.acts l.relay) IsBounded
+    (λ l stands. bounded l.dials l.acts l.relay stands) (lived.trace.relay_traces ++ lived.trace.past)
     (All-append (λ (l : Life). Stands l.dials l.acts l.relay) lived.trace.relay_traces lived.trace.past
     (stands-in _ lived.trace.relay_traces h.links lived.is.relay_traces) lived.is.past)
 

@@ -187,15 +187,16 @@ gets free bytes t most life link r is of going rests short h =
 
 -- ---- what its socket takes
 
-pub takes : (n least : ℕ) (life : Life) (link : Link) (r : Relay) → n + least < 2 ^ 64 → IsLife least life link
-    → TakesOf n link.relay r → Onward (TakesOn n) (λ (z : Relay). Takes n) (n + least) life (record link { relay = r })
-takes n least life link r small is h =
+pub takes : (bytes : List ℕ) (least : ℕ) (life : Life) (link : Link) (r : Relay) → length bytes + least < 2 ^ 64 → IsLife least life link
+    → TakesOf bytes link.relay r → Onward (TakesOn bytes) (λ (z : Relay). Takes bytes) (length bytes + least) life (record link { relay = r })
+takes bytes least life link r small is h =
+    let n = length bytes in
     let owed = is.owed in
     let few = is.few in
     let both = h (omega (arith, owed, few, small)) in
     let more = owed-takes n link.relay.line in
     let line : owed_in r.line ≡ owed_in (taken_of n link.relay).line = ap (λ (z : Relay). owed_in z.line) both.0 in
-    onward (TakesOn n) (λ (z : Relay). Takes n) least (n + least) life link r is both both.1
+    onward (TakesOn bytes) (λ (z : Relay). Takes bytes) least (n + least) life link r is both both.1
     (socket-same link.stream link.relay r (ap (λ (z : Relay). z.socket) both.0) (ap (λ (z : Relay). z.ended) both.0) is.socket)
     (omega (arith, owed, more, line)) (omega (arith, few))
 

@@ -344,7 +344,7 @@ joins-follow (Begins starts) old new h = let its = ap (λ (c : Trace). c.joins) 
 joins-follow (Marks mark) old new h = let its = joins-mark mark old new h in omega (arith, its)
 joins-follow (ReceivesBytes bytes) old new h = let its = joins-frames h.0 (with_received bytes old) new h.1 in omega (arith, its)
 joins-follow (Turns happening) old new h = joins-turn happening old new h.0 h.2
-joins-follow (TakesBytes t n) old new h = let its = ap (λ (c : Trace). c.joins) h.2 in omega (arith, its)
+joins-follow (TakesBytes t bytes) old new h = let its = ap (λ (c : Trace). c.joins) h.2 in omega (arith, its)
 
 joins-reach : (calls : List HouseCall) (old new : Trace) → Reaches old calls new → new.joins ≡ joins_in calls + old.joins
 joins-reach [] old new h = let its = ap (λ (c : Trace). c.joins) h in omega (arith, its)
@@ -443,9 +443,9 @@ follow-total n (Turns happening) old new h s =
     let are = ap (λ (c : Trace). total n c.relay_traces) h.2 in
     let joins = ap (λ (c : Trace). room n c.joins) h.2 in
     omega (arith, all, are, joins)
-follow-total n (TakesBytes t m) old new h s =
-    let less = total-most n (has_stream t) (GoesBy (TakesOn m) (Takes m)) old.relay_traces h.0
-    (λ a b goes. weighs-less n a b goes.joined (takes-one m a b goes)) h.1 in
+follow-total n (TakesBytes t bytes) old new h s =
+    let less = total-most n (has_stream t) (GoesBy (TakesOn bytes) (Takes bytes)) old.relay_traces h.0
+    (λ a b goes. weighs-less n a b goes.joined (takes-one bytes a b goes)) h.1 in
     let are = ap (λ (c : Trace). total n c.relay_traces) h.2 in
     let same = ap (λ (c : Trace). room n c.joins) h.2 in
     omega (arith, less, are, same)
@@ -497,7 +497,7 @@ follow-recorded (Begins starts) old new h = refl
 follow-recorded (Marks mark) old new h = marks-recorded mark old new h
 follow-recorded (ReceivesBytes bytes) old new h = refl
 follow-recorded (Turns happening) old new h = refl
-follow-recorded (TakesBytes t n) old new h = refl
+follow-recorded (TakesBytes t bytes) old new h = refl
 
 reach-recorded : (calls : List HouseCall) (old new : Trace) (h : Reaches old calls new) → length (openers_in calls old new h) ≡ opens_in calls
 reach-recorded [] old new h = refl
@@ -590,7 +590,7 @@ follow-joined before (Begins starts) old new h p = All-nil (IsOneJoined before)
 follow-joined before (Marks mark) old new h p = marks-joined before mark old new h p
 follow-joined before (ReceivesBytes bytes) old new h p = All-nil (IsOneJoined before)
 follow-joined before (Turns happening) old new h p = All-nil (IsOneJoined before)
-follow-joined before (TakesBytes t n) old new h p = All-nil (IsOneJoined before)
+follow-joined before (TakesBytes t bytes) old new h p = All-nil (IsOneJoined before)
 
 reach-joined : (before calls : List HouseCall) (old new : Trace) → Reaches first_trace before old → (h : Reaches old calls new)
     → All (IsOneJoined (before ++ calls)) (openers_in calls old new h)

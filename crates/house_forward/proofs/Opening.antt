@@ -199,8 +199,8 @@ count-stepped s t (l ∷ ls) =
 pub receives-one : (m : Message) (a b : Life) → Listens m a b → one b ≤ one a
 receives-one m a b h = settled-most a.relay.line b.relay.line (settles-receives may_open may-later m a b h)
 
-pub takes-one : (n : ℕ) (a b : Life) → GoesBy (TakesOn n) (Takes n) a b → one b ≤ one a
-takes-one n a b h = settled-most a.relay.line b.relay.line (settles-takes may_open may-later n a b h)
+pub takes-one : (bytes : List ℕ) (a b : Life) → GoesBy (TakesOn bytes) (Takes bytes) a b → one b ≤ one a
+takes-one bytes a b h = settled-most a.relay.line b.relay.line (settles-takes may_open may-later bytes a b h)
 
 pub gets-one : (free : Bool) (bytes : List ℕ) (a b : Life) → GoesBy (GetsOn free bytes) (Reads bytes) a b → one b ≤ one a
 gets-one free bytes a b h = gets-line a.relay.line free bytes a.relay b.relay refl h.relay.0
@@ -326,8 +326,8 @@ follow-count (Turns happening) old new h s =
     let all = turns-count happening old.joins old.forwarding_state.all old.relay_traces h.0 h.1 in
     let are = ap (λ (c : Trace). count c.relay_traces) h.2 in
     omega (arith, all, are)
-follow-count (TakesBytes t n) old new h s =
-    let less = count-most (has_stream t) (GoesBy (TakesOn n) (Takes n)) old.relay_traces h.0 (λ a b is goes. takes-one n a b goes) h.1 in
+follow-count (TakesBytes t bytes) old new h s =
+    let less = count-most (has_stream t) (GoesBy (TakesOn bytes) (Takes bytes)) old.relay_traces h.0 (λ a b is goes. takes-one bytes a b goes) h.1 in
     let are = ap (λ (c : Trace). count c.relay_traces) h.2 in
     omega (arith, less, are)
 

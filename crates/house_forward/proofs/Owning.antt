@@ -215,8 +215,8 @@ receives-same m a b h = ap (λ (r : Relay). r.number) h.relay.0 ∙ number-heard
 gets-same : (free : Bool) (bytes : List ℕ) (a b : Life) → GoesBy (GetsOn free bytes) (Reads bytes) a b → channel b ≡ channel a
 gets-same free bytes a b h = h.relay.3
 
-takes-same : (n : ℕ) (a b : Life) → GoesBy (TakesOn n) (Takes n) a b → channel b ≡ channel a
-takes-same n a b h = ap (λ (r : Relay). r.number) h.relay.0
+takes-same : (bytes : List ℕ) (a b : Life) → GoesBy (TakesOn bytes) (Takes bytes) a b → channel b ≡ channel a
+takes-same bytes a b h = ap (λ (r : Relay). r.number) h.relay.0
 
 -- ---- the channels of a course
 
@@ -290,9 +290,9 @@ channels-follow (ReceivesBytes bytes) old new h s a =
     (record { relay_traces = s.relay_traces; past = s.past }) a
 channels-follow (Turns happening) old new h s a =
     subst (λ (c : Trace). ChannelsApart c.relay_traces) (sym h.2) (channels-turn happening old.joins old.forwarding_state.all old.relay_traces h.0 h.1 a)
-channels-follow (TakesBytes t n) old new h s a =
+channels-follow (TakesBytes t bytes) old new h s a =
     subst (λ (c : Trace). ChannelsApart c.relay_traces) (sym h.2)
-    (subst Apart (sym (most-maps channel (has_stream t) (GoesBy (TakesOn n) (Takes n)) old.relay_traces h.0 (takes-same n) h.1)) a)
+    (subst Apart (sym (most-maps channel (has_stream t) (GoesBy (TakesOn bytes) (Takes bytes)) old.relay_traces h.0 (takes-same bytes) h.1)) a)
 
 channels-reach : (calls : List HouseCall) (old new : Trace) → Reaches old calls new → All Sound old → ChannelsApart old.relay_traces
     → ChannelsApart new.relay_traces
@@ -319,7 +319,7 @@ small-kept = record {
   says = λ bytes a b p is h. small-stays a b (says-same bytes a b h) p;
   receives = λ m a b p h. small-stays a b (receives-same m a b h) p;
   gets = λ t bytes old now a b p is h. small-stays a b (gets-same (not (are_full old.relay_traces)) bytes a b h) p;
-  takes = λ t n a b p is h. small-stays a b (takes-same n a b h) p;
+  takes = λ t bytes a b p is h. small-stays a b (takes-same bytes a b h) p;
   steps = λ s t call old now causes a p is. small-stays a (step_of s a) (number-step s a.relay) p;
   makes = λ host port number old now a p is. p;
   joins = λ l t old now r h small. small;
@@ -490,9 +490,9 @@ streams-follow (ReceivesBytes bytes) old new h s =
     h.1 (record { relay_traces = s.relay_traces; past = s.past }) refl)
 streams-follow (Turns happening) old new h s =
     ap (λ (c : Trace). open_streams c.relay_traces) h.2 ∙ streams-turn happening old.joins old.forwarding_state.all old.relay_traces h.0 h.1 s.relay_traces
-streams-follow (TakesBytes t n) old new h s =
+streams-follow (TakesBytes t bytes) old new h s =
     more _ _ (ap (λ (c : Trace). open_streams c.relay_traces) h.2
-    ∙ most-picks stream Sound (has_stream t) (GoesBy (TakesOn n) (Takes n)) old.relay_traces h.0 (λ a b x is goes. goes-same _ _ a b goes) s.relay_traces h.1)
+    ∙ most-picks stream Sound (has_stream t) (GoesBy (TakesOn bytes) (Takes bytes)) old.relay_traces h.0 (λ a b x is goes. goes-same _ _ a b goes) s.relay_traces h.1)
 
 streams-reach : (calls : List HouseCall) (old new : Trace) → Reaches old calls new → All Sound old
     → open_streams new.relay_traces ≡ open_after (open_streams old.relay_traces) calls
@@ -576,7 +576,7 @@ new-follow (Begins starts) old new h = tt
 new-follow (Marks mark) old new h = new-mark mark old new h
 new-follow (ReceivesBytes bytes) old new h = tt
 new-follow (Turns happening) old new h = new-turn happening old h.0 h.1
-new-follow (TakesBytes t n) old new h = tt
+new-follow (TakesBytes t bytes) old new h = tt
 
 new-reach : (calls : List HouseCall) (old new : Trace) → Reaches old calls new → All Sound old → BringsNew (open_streams old.relay_traces) calls
 new-reach [] old new h s = tt

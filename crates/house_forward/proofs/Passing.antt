@@ -112,7 +112,7 @@ Untouched (Begins starts) old a = Unit {0}
 Untouched (Marks mark) old a = Unit {0}
 Untouched (ReceivesBytes bytes) old a = Unit {0}
 Untouched (Turns happening) old a = UntouchedBy happening old a
-Untouched (TakesBytes t n) old a = IsOther t old.relay_traces a
+Untouched (TakesBytes t bytes) old a = IsOther t old.relay_traces a
 
 -- a call that takes a step of a stream
 abbrev pub Orders : HouseCall → LinkStep → ℕ → Type 0
@@ -141,8 +141,8 @@ pub record Passes (call : HouseCall) (old : Trace) (P Q : Life → Type 0) : Typ
       → Speaks bytes a b → Q b
   pub gets : (t : ℕ) (bytes : List ℕ) → call ≡ Turns (Got t bytes) → (a b : Life) → Sound a → Sound b → P a
       → has_stream t a ≡ true → GoesBy (GetsOn (not (are_full old.relay_traces)) bytes) (Reads bytes) a b → Q b
-  pub takes : (t n : ℕ) → call ≡ TakesBytes t n → (a b : Life) → Sound a → P a → has_stream t a ≡ true
-      → GoesBy (TakesOn n) (Takes n) a b → Q b
+  pub takes : (t : ℕ) (bytes : List ℕ) → call ≡ TakesBytes t bytes → (a b : Life) → Sound a → P a → has_stream t a ≡ true
+      → GoesBy (TakesOn bytes) (Takes bytes) a b → Q b
   pub steps : (s : LinkStep) (t : ℕ) → Orders call s t → (a : Life) → Sound a → MayStep s old a → P a → has_stream t a ≡ true
       → Q (step_of s a)
   pub makes : (host : List ℕ) (port : ℕ) (number : Option ℕ) → call ≡ Marks (HouseOrder (order.Connect host port) number)
@@ -334,10 +334,10 @@ pass-follow (ReceivesBytes bytes) old new P Q k h s all =
     (record { relay_traces = s.relay_traces; past = s.past }) all)
 pass-follow (Turns happening) old new P Q k h s all =
     subst (λ (c : Trace). Each Q c.relay_traces) (sym h.2) (pass-turns happening old h.0 P Q k h.1 s.relay_traces all)
-pass-follow (TakesBytes t n) old new P Q k h s all =
+pass-follow (TakesBytes t bytes) old new P Q k h s all =
     subst (λ (c : Trace). Each Q c.relay_traces) (sym h.2)
-    (pass-most P Q t (GoesBy (TakesOn n) (Takes n)) old.relay_traces h.0 h.1 s.relay_traces all (λ a p other. k.stays a p other)
-    (λ a b sa p is goes. k.takes t n refl a b sa p is goes))
+    (pass-most P Q t (GoesBy (TakesOn bytes) (Takes bytes)) old.relay_traces h.0 h.1 s.relay_traces all (λ a p other. k.stays a p other)
+    (λ a b sa p is goes. k.takes t bytes refl a b sa p is goes))
 
 -- ---- from the first call on
 

@@ -1,16 +1,22 @@
 -- What waits for a stream, as another or this one takes some of it.
-use Rattle.std.proofs.Common.{◌≡◌, ◌∙◌, refl, sym, ap, subst, ℕ, zero, suc, ◌<◌, Bool, true, false, List, [], ◌∷◌, length, get_or, set, drop, Option, Some, None, arith, inl, inr}
-use Rattle.std.specs.Prelude.{◌==◌, ◌&&◌, find, if◌then◌else◌, IfSome}
+use Rattle.std.proofs.Common.{◌≡◌, ◌∙◌, refl, sym, ap, subst, ℕ, zero, suc, ◌+◌, ◌<◌, ◌≤◌, Bool, true, false, List, [], ◌∷◌, length, get_or, set, take, drop, length-take, Option, Some, None, arith, inl, inr}
+use Rattle.std.specs.Prelude.{◌==◌, ◌&&◌, ◌^◌, not, find, if◌then◌else◌, IfSome}
 use Rattle.std.specs.List.{position, sum_by}
+use Rattle.std.proofs.lemmas.Grind.{common_steps}
 use Rattle.std.proofs.lemmas.Bool.{cases_Bool, eqb-true, eqb-false, ne_eqb, and_parts, and_left}
 use Rattle.std.proofs.lemmas.List.Folds.{find_past}
 use Rattle.std.proofs.lemmas.List.Sums.{sum_by-set}
 use Rattle.std.proofs.lemmas.List.Quantifiers.{position-Some}
 use Rattle.mux_outside.specs.House.{queue_after_took}
-use Rattle.house_relay.specs.Relay.{stream_of, stuck_in}
+use Rattle.mux_outside.specs.OwnStreams.{is_one, is_finished}
+use Rattle.house_relay.specs.Acts.{Takes}
+use Rattle.house_relay.specs.ChannelState.{owed_in}
+use Rattle.house_relay.specs.Relay.{GoesOn, stream_of, stuck_in}
+use Rattle.house_relay.specs.Steps.{taken_of}
 use Rattle.house_relay.specs.declared.relay.Relay.{Relay}
 use Rattle.house_forward.specs.Due.{stream_due, link_due}
-use Rattle.house_forward.specs.Links.{is_of, has_number, numbered, is_number, queue_in}
+use Rattle.house_forward.specs.Going.{TakesOf}
+use Rattle.house_forward.specs.Links.{is_of, has_number, numbered, is_number, queue_in, queue_at, streams_of}
 use Rattle.house_forward.specs.declared.link.Link.{Link}
 use Rattle.house_forward.specs.declared.link.Stream.{Stream}
 use Rattle.house_forward.specs.declared.link.Stream.TheVariants.{Offered, Awaited, Made, Gone}
@@ -115,3 +121,42 @@ rests-first ls i stream x e at rests =
     let found = found-first (is_of stream) ls i x first.0 first.1 first.2 in
     ap (λ (z : Link). z.relay.held.waiting) at
     ∙ subst (λ (o : Option Link). IfSome o (λ l. l.relay.held.waiting ≡ [])) found rests
+
+-- ---- the bytes that are taken
+
+-- the first of those that wait
+pub takes-of : (old new : Relay) (n : ℕ) (queue : List ℕ) → queue ≡ old.queue.waiting → n ≤ length queue
+    → (owed_in old.line + n < 2 ^ 64 → (new ≡ taken_of n old) × GoesOn old new (Takes (take n old.queue.waiting)))
+    → TakesOf (take n queue) old new
+takes-of old new n queue is few h = λ small.
+    let size : length (take n queue) ≡ n = grind (arith, common_steps, length-take) in
+    let both = h (subst (λ k. owed_in old.line + k < 2 ^ 64) size small) in (
+      both.0 ∙ ap (λ k. taken_of k old) (sym size),
+      subst (λ q. GoesOn old new (Takes (take n q))) (sym is) both.1,
+      ap (take n) is ∙ ap (λ k. take k old.queue.waiting) (sym size),
+    )
+
+-- none, where no stream is that one
+pub none-taken : (ls : List Link) (stream n : ℕ) (queue : List ℕ) → queue ≡ queue_in (find (is_of stream) ls)
+    → position (is_of stream) ls ≡ None → take n queue ≡ []
+none-taken ls stream n queue is e =
+    let none = none-found (is_of stream) ls (none-passes (is_of stream) ls e) in
+    ap (take n) (is ∙ ap queue_in none) ∙ taken-nil n
+  where
+    taken-nil : (k : ℕ) → take {A = ℕ} k [] ≡ []
+    taken-nil zero = refl
+    taken-nil (suc k) = refl
+
+-- as many wait where the stream is finished or isn't one of the house's: none
+pub front-at : (ls : List Link) (stream n : ℕ) → n ≤ length (queue_at ls stream)
+    → take n (queue_at ls stream) ≡ take n (queue_in (find (is_of stream) ls))
+front-at ls stream n few =
+    front-if (is_one stream (streams_of ls) && not (is_finished stream (streams_of ls))) (queue_in (find (is_of stream) ls)) few
+  where
+    front-if : (b : Bool) (q : List ℕ) → n ≤ length (if b then q else []) → take n (if b then q else []) ≡ take n q
+    front-if true q few = refl
+    front-if false q few = by_size n few
+      where
+        by_size : (k : ℕ) → k ≤ length {A = ℕ} [] → take {A = ℕ} k [] ≡ take k q
+        by_size zero few = refl
+        by_size (suc k) few = absurd (omega arith)

@@ -84,9 +84,9 @@ pub settles-receives : (q : ChannelState → Bool) → FailsLater q → (m : Mes
 settles-receives q fails m a b h =
     subst (λ (r : Relay). SettlesBy q a.relay.line r.line) (sym h.relay.0) (settles-heard q fails m a.relay)
 
-pub settles-takes : (q : ChannelState → Bool) → FailsLater q → (n : ℕ) (a b : Life) → GoesBy (TakesOn n) (Takes n) a b
+pub settles-takes : (q : ChannelState → Bool) → FailsLater q → (bytes : List ℕ) (a b : Life) → GoesBy (TakesOn bytes) (Takes bytes) a b
     → SettlesBy q a.relay.line b.relay.line
-settles-takes q fails n a b h =
+settles-takes q fails bytes a b h =
     subst (λ (r : Relay). SettlesBy q a.relay.line r.line) (sym h.relay.0) (in-live q _ a.relay.line (λ live. fails.live _))
 
 abbrev pub with-line : ChannelState → Relay → Relay

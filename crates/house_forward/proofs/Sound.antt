@@ -104,7 +104,7 @@ pub record Kept (Now : HouseCall → Trace → Type 0) (P : Life → Type 0) : T
   pub receives : (m : Message) (a b : Life) → P a → Listens m a b → P b
   pub gets : (t : ℕ) (bytes : List ℕ) (old : Trace) → Now (Turns (Got t bytes)) old → (a b : Life) → P a
       → has_stream t a ≡ true → GoesBy (GetsOn (not (are_full old.relay_traces)) bytes) (Reads bytes) a b → P b
-  pub takes : (t n : ℕ) (a b : Life) → P a → has_stream t a ≡ true → GoesBy (TakesOn n) (Takes n) a b → P b
+  pub takes : (t : ℕ) (bytes : List ℕ) (a b : Life) → P a → has_stream t a ≡ true → GoesBy (TakesOn bytes) (Takes bytes) a b → P b
   pub steps : (s : LinkStep) (t : ℕ) (call : HouseCall) (old : Trace) → Now call old → Causes call s t → (a : Life) → P a
       → has_stream t a ≡ true → P (step_of s a)
   pub makes : (host : List ℕ) (port : ℕ) (number : Option ℕ) (old : Trace)
@@ -317,8 +317,8 @@ all-follow Now P k (Turns happening) old new now h all = subst (All P) (sym h.2)
   relay_traces = each-turn Now P k happening old h.0 now h.1 all.relay_traces;
   past = all.past;
 })
-all-follow Now P k (TakesBytes t n) old new now h all = subst (All P) (sym h.2) (record {
-  relay_traces = each-most P (has_stream t) (GoesBy (TakesOn n) (Takes n)) old.relay_traces h.0 (λ a b p is goes. k.takes t n a b p is goes) h.1 all.relay_traces;
+all-follow Now P k (TakesBytes t bytes) old new now h all = subst (All P) (sym h.2) (record {
+  relay_traces = each-most P (has_stream t) (GoesBy (TakesOn bytes) (Takes bytes)) old.relay_traces h.0 (λ a b p is goes. k.takes t bytes a b p is goes) h.1 all.relay_traces;
   past = all.past;
 })
 
@@ -376,8 +376,8 @@ pub sound-gets : (free : Bool) (bytes : List ℕ) (a b : Life) → Sound a → G
 sound-gets free bytes a b s h = went (GetsOn free bytes) (Reads bytes) a b h s h.relay.2
     (keeps-stream a.dials free a.acts bytes a.relay b.relay s.stands h.relay.0).stream_is
 
-pub sound-takes : (n : ℕ) (a b : Life) → Sound a → GoesBy (TakesOn n) (Takes n) a b → Sound b
-sound-takes n a b s h = went (TakesOn n) (Takes n) a b h s h.relay.1 (ap (λ (r : Relay). stream_of r.socket) h.relay.0)
+pub sound-takes : (bytes : List ℕ) (a b : Life) → Sound a → GoesBy (TakesOn bytes) (Takes bytes) a b → Sound b
+sound-takes bytes a b s h = went (TakesOn bytes) (Takes bytes) a b h s h.relay.1 (ap (λ (r : Relay). stream_of r.socket) h.relay.0)
 
 pub sound-steps : (s : LinkStep) (t : ℕ) (a : Life) → Sound a → has_stream t a ≡ true → Sound (step_of s a)
 sound-steps s t a h is = record {
@@ -407,7 +407,7 @@ pub record KeptSound (Now : HouseCall → Trace → Type 0) (P : Life → Type 0
   pub receives : (m : Message) (a b : Life) → Sound a → P a → Listens m a b → P b
   pub gets : (t : ℕ) (bytes : List ℕ) (old : Trace) → Now (Turns (Got t bytes)) old → (a b : Life) → Sound a → Sound b → P a
       → has_stream t a ≡ true → GoesBy (GetsOn (not (are_full old.relay_traces)) bytes) (Reads bytes) a b → P b
-  pub takes : (t n : ℕ) (a b : Life) → Sound a → P a → has_stream t a ≡ true → GoesBy (TakesOn n) (Takes n) a b → P b
+  pub takes : (t : ℕ) (bytes : List ℕ) (a b : Life) → Sound a → P a → has_stream t a ≡ true → GoesBy (TakesOn bytes) (Takes bytes) a b → P b
   pub steps : (s : LinkStep) (t : ℕ) (call : HouseCall) (old : Trace) → Now call old → Causes call s t → (a : Life) → Sound a
       → P a → has_stream t a ≡ true → P (step_of s a)
   pub makes : (host : List ℕ) (port : ℕ) (number : Option ℕ) (old : Trace)
@@ -429,7 +429,7 @@ with-sound Now P k = record {
       let its = sound-gets (not (are_full old.relay_traces)) bytes a b p.0 h in
       (its, k.gets t bytes old now a b p.0 its p.1 is h)
       );
-  takes = λ t n a b p is h. (sound-takes n a b p.0 h, k.takes t n a b p.0 p.1 is h);
+  takes = λ t bytes a b p is h. (sound-takes bytes a b p.0 h, k.takes t bytes a b p.0 p.1 is h);
   steps = λ s t call old now causes a p is. (sound-steps s t a p.0 is, k.steps s t call old now causes a p.0 p.1 is);
   makes = λ host port number old now a p is. (sound-makes number a p.0, k.makes host port number old now a p.0 p.1 is);
   joins = λ l t old now r h small.
@@ -446,7 +446,7 @@ sound = record {
   says = λ bytes a b s is h. sound-says bytes a b s h;
   receives = λ m a b s h. sound-receives m a b s h;
   gets = λ t bytes old now a b s is h. sound-gets (not (are_full old.relay_traces)) bytes a b s h;
-  takes = λ t n a b s is h. sound-takes n a b s h;
+  takes = λ t bytes a b s is h. sound-takes bytes a b s h;
   steps = λ s t call old now causes a h is. sound-steps s t a h is;
   makes = λ host port number old now a h is. sound-makes number a h;
   joins = λ l t old now r h small. sound-joins (are_full old.relay_traces) (are_dialogs_full old.relay_traces) (find (has_listener l) old.forwarding_state.all) old.joins t r h;

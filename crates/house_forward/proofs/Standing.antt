@@ -3,7 +3,7 @@ use Rattle.std.proofs.Common.{◌≡◌, ◌∙◌, refl, sym, ap, subst, arith,
 use Rattle.std.specs.Prelude.{IsTrue}
 use Rattle.socks_dialog.specs.declared.outcome.Outcome.{Outcome}
 use Rattle.socks_dialog.specs.declared.outcome.Outcome.TheVariants.{Connects}
-use Rattle.house_relay.specs.Acts.{Act, Ends, Fails, Other, read, sent, delivered, taken, adjusted, has_ended, received_eof, received_close, sent_eof, sent_close, answer, outcome_in, before_in, replies, replies_if, to_take, behind_if, taken_data}
+use Rattle.house_relay.specs.Acts.{Act, Ends, Fails, Other, read, sent, delivered, took, taken, adjusted, has_ended, received_eof, received_close, sent_eof, sent_close, answer, outcome_in, before_in, replies, replies_if, to_take, behind_if, taken_data}
 use Rattle.house_relay.specs.Relay.{Stands, GoesOn, LineStands, IsLive, NothingYet, WaitsFor, IsSettled, HasAsked}
 use Rattle.house_relay.specs.declared.line.Live.{Live as LiveState}
 use Rattle.house_relay.specs.declared.line.ChannelState.{ChannelState}
@@ -22,6 +22,7 @@ record SameIn (old new : List Act) : Type 0 where
   bytes : read new ≡ read old
   data_sent : sent new ≡ sent old
   data_received : delivered new ≡ delivered old
+  took : took new ≡ took old
   takes : taken new ≡ taken old
   grants : adjusted new ≡ adjusted old
   eof_received : received_eof new ≡ received_eof old
@@ -116,25 +117,22 @@ stands-same : (dials : Bool) (old new : List Act) (r : Relay) (s : Socket) (ende
     → Stands dials new (record r { socket = s; ended = ended })
 stands-same dials old new r s ended same is more h = record {
   sends = ap (λ b. b ++ r.held.waiting) same.data_sent ∙ h.sends ∙ ap (behind_if dials) (sym same.bytes);
-  delivers = (
-    h.delivers.0,
-    h.delivers.1 ∙ sym (take-same dials old new same),
-    h.delivers.2 ∙ sym same.takes,
-  );
+  delivers = ap (λ b. b ++ r.queue.waiting) same.took ∙ h.delivers ∙ sym (take-same dials old new same);
   ends = is;
   last = λ said. let both = h.last (sym same.eof_sent ∙ said) in (more both.0, both.1);
   few = h.few;
   line = line-same r.line dials old new same h.line;
 }
 
-same-behind : (act : Act) (acts : List Act) → read (act ∷ acts) ≡ read acts → sent (act ∷ acts) ≡ sent acts → delivered (act ∷ acts) ≡ delivered acts → taken (act ∷ acts) ≡ taken acts
+same-behind : (act : Act) (acts : List Act) → read (act ∷ acts) ≡ read acts → sent (act ∷ acts) ≡ sent acts → delivered (act ∷ acts) ≡ delivered acts → took (act ∷ acts) ≡ took acts → taken (act ∷ acts) ≡ taken acts
     → adjusted (act ∷ acts) ≡ adjusted acts → received_eof (act ∷ acts) ≡ received_eof acts → received_close (act ∷ acts) ≡ received_close acts
     → sent_eof (act ∷ acts) ≡ sent_eof acts → sent_close (act ∷ acts) ≡ sent_close acts → answer (act ∷ acts) ≡ answer acts
     → SameIn acts (act ∷ acts)
-same-behind act acts a b c d e f g h i j = record {
+same-behind act acts a b c t d e f g h i j = record {
   bytes = a;
   data_sent = b;
   data_received = c;
+  took = t;
   takes = d;
   grants = e;
   eof_received = f;
@@ -145,13 +143,13 @@ same-behind act acts a b c d e f g h i j = record {
 }
 
 same-other : (acts : List Act) → SameIn acts (Other ∷ acts)
-same-other acts = same-behind Other acts refl refl refl refl refl refl refl refl refl refl
+same-other acts = same-behind Other acts refl refl refl refl refl refl refl refl refl refl refl
 
 same-ends : (acts : List Act) → SameIn acts (Ends ∷ acts)
-same-ends acts = same-behind Ends acts refl refl refl refl refl refl refl refl refl refl
+same-ends acts = same-behind Ends acts refl refl refl refl refl refl refl refl refl refl refl
 
 same-fails : (acts : List Act) → SameIn acts (Fails ∷ acts)
-same-fails acts = same-behind Fails acts refl refl refl refl refl refl refl refl refl refl
+same-fails acts = same-behind Fails acts refl refl refl refl refl refl refl refl refl refl refl
 
 -- its socket is another
 pub goes-other : (r : Relay) (s : Socket) → GoesOn r (record r { socket = s }) Other

@@ -1,5 +1,5 @@
 -- What the relays read and took is what their streams gave and took.
-use Rattle.std.proofs.Common.{◌≡◌, ◌∙◌, refl, sym, ap, subst, arith, ℕ, ◌+◌, Bool, true, false, List, [], ◌∷◌, ◌++◌, append_assoc, Option, Some, None}
+use Rattle.std.proofs.Common.{◌≡◌, ◌∙◌, refl, sym, ap, subst, ℕ, Bool, true, false, List, [], ◌∷◌, ◌++◌, append_assoc, Option, Some, None}
 use Rattle.std.specs.Prelude.{◌==◌, if◌then◌else◌, IfSome}
 use Rattle.std.specs.List.{All}
 use Rattle.std.proofs.lemmas.List.{append-nil}
@@ -11,7 +11,7 @@ use Rattle.mux_outside.specs.HouseCalls.{Joined, Got, End, Writable, Failed}
 use Rattle.mux_outside.specs.declared.house_mark.HouseMark.TheVariants.{HouseOrder}
 use Rattle.mux_outside.specs.declared.order.Order.TheVariants as order
 use Rattle.mux_outside.specs.declared.own_streams.OwnStream.{OwnStream}
-use Rattle.house_relay.specs.Acts.{Act, Reads, Takes, Confirms, Refuses, Delivers, ReceivesEof, ReceivesClose, Other, read, taken}
+use Rattle.house_relay.specs.Acts.{Act, Reads, Takes, Confirms, Refuses, Delivers, ReceivesEof, ReceivesClose, SendsData, SendsAdjust, SendsEof, SendsClose, Other, read, took}
 use Rattle.house_relay.specs.Next.{sends_of}
 use Rattle.house_relay.specs.Relay.{stream_of, delivers, answered_in, received_in, sent_act}
 use Rattle.house_relay.specs.Steps.{made_as}
@@ -32,62 +32,105 @@ use Rattle.house_forward.specs.Streaming.{EachHasItsStream, IsOf, got_in, got_ca
 use Rattle.house_forward.specs.declared.link.LinkStep.{LinkStep}
 use Rattle.house_forward.specs.declared.link.LinkStep.TheVariants as step
 use Rattle.house_forward.proofs.Differing.{Apart}
-use Rattle.house_forward.proofs.Keeping.{none-heard, none-after, stays-heard, stays-after}
+use Rattle.house_forward.proofs.Keeping.{stays-heard, stays-after}
 use Rattle.house_forward.proofs.Passing.{Passes, Untouched, Orders, pass-all}
 use Rattle.house_forward.proofs.Sound.{Each}
 
--- ---- what a step reads
+-- ---- what a step reads and takes
 
-read-answered : (line : ChannelState) (act : Act) (acts : List Act) → read (act ∷ acts) ≡ read acts → read (answered_in line act ∷ acts) ≡ read acts
-read-answered (Dialing dialog) act acts e = refl
-read-answered (Asked host port version) act acts e = refl
-read-answered (Opened version) act acts e = e
-read-answered (Offered remote window maximum) act acts e = refl
-read-answered (Live live) act acts e = refl
-read-answered Over act acts e = refl
+-- what is heard and said in the channel adds nothing to these bytes
+record IsOfSocket (f : List Act → List ℕ) : Type 0 where
+  other : (acts : List Act) → f (Other ∷ acts) ≡ f acts
+  confirms : (acts : List Act) → f (Confirms ∷ acts) ≡ f acts
+  refuses : (reason : ℕ) (acts : List Act) → f (Refuses reason ∷ acts) ≡ f acts
+  delivers : (bytes : List ℕ) (acts : List Act) → f (Delivers bytes ∷ acts) ≡ f acts
+  eof_received : (acts : List Act) → f (ReceivesEof ∷ acts) ≡ f acts
+  close_received : (acts : List Act) → f (ReceivesClose ∷ acts) ≡ f acts
+  data_sent : (bytes : List ℕ) (acts : List Act) → f (SendsData bytes ∷ acts) ≡ f acts
+  adjust_sent : (n : ℕ) (acts : List Act) → f (SendsAdjust n ∷ acts) ≡ f acts
+  eof_sent : (acts : List Act) → f (SendsEof ∷ acts) ≡ f acts
+  close_sent : (acts : List Act) → f (SendsClose ∷ acts) ≡ f acts
 
-read-in : (line : ChannelState) (act : Act) (acts : List Act) → read (act ∷ acts) ≡ read acts → read (received_in line act ∷ acts) ≡ read acts
-read-in (Dialing dialog) act acts e = refl
-read-in (Asked host port version) act acts e = refl
-read-in (Opened version) act acts e = refl
-read-in (Offered remote window maximum) act acts e = refl
-read-in (Live live) act acts e = e
-read-in Over act acts e = refl
+of-read : IsOfSocket read
+of-read = record {
+  other = λ acts. refl;
+  confirms = λ acts. refl;
+  refuses = λ reason acts. refl;
+  delivers = λ bytes acts. refl;
+  eof_received = λ acts. refl;
+  close_received = λ acts. refl;
+  data_sent = λ bytes acts. refl;
+  adjust_sent = λ n acts. refl;
+  eof_sent = λ acts. refl;
+  close_sent = λ acts. refl;
+}
 
-read-data : (b : Bool) (bytes : List ℕ) (acts : List Act) → read ((if b then Delivers bytes else Other) ∷ acts) ≡ read acts
-read-data true bytes acts = refl
-read-data false bytes acts = refl
+of-took : IsOfSocket took
+of-took = record {
+  other = λ acts. refl;
+  confirms = λ acts. refl;
+  refuses = λ reason acts. refl;
+  delivers = λ bytes acts. refl;
+  eof_received = λ acts. refl;
+  close_received = λ acts. refl;
+  data_sent = λ bytes acts. refl;
+  adjust_sent = λ n acts. refl;
+  eof_sent = λ acts. refl;
+  close_sent = λ acts. refl;
+}
 
-read-heard : (m : Message) (r : Relay) (acts : List Act) → read (act_received m r ∷ acts) ≡ read acts
-read-heard (message.Transport number rest) r acts = refl
-read-heard (message.GlobalRequest name want rest what) r acts = refl
-read-heard (message.RequestSuccess rest) r acts = refl
-read-heard message.RequestFailure r acts = refl
-read-heard (message.Open kind sender window maximum rest what) r acts = refl
-read-heard (message.Confirmation recipient sender window maximum rest) r acts = read-answered r.line Confirms acts refl
-read-heard (message.OpenFailure recipient reason text language) r acts = read-answered r.line (Refuses reason) acts refl
-read-heard (message.Adjust recipient add) r acts = refl
-read-heard (message.Data recipient bytes) r acts = read-data (delivers r) bytes.now acts
-read-heard (message.Extended recipient code bytes) r acts = refl
-read-heard (message.Eof recipient) r acts = read-in r.line ReceivesEof acts refl
-read-heard (message.Close recipient) r acts = read-in r.line ReceivesClose acts refl
-read-heard (message.Request recipient kind want rest) r acts = refl
-read-heard (message.Success recipient) r acts = refl
-read-heard (message.Failure recipient) r acts = refl
+same-answered : (f : List Act → List ℕ) → IsOfSocket f → (line : ChannelState) (act : Act) (acts : List Act) → f (act ∷ acts) ≡ f acts
+    → f (answered_in line act ∷ acts) ≡ f acts
+same-answered f k (Dialing dialog) act acts e = k.other acts
+same-answered f k (Asked host port version) act acts e = k.other acts
+same-answered f k (Opened version) act acts e = e
+same-answered f k (Offered remote window maximum) act acts e = k.other acts
+same-answered f k (Live live) act acts e = k.other acts
+same-answered f k Over act acts e = k.other acts
 
-read-said : (s : Outgoing) (r : Relay) (acts : List Act) → read (sent_act s r ∷ acts) ≡ read acts
-read-said outgoing.Open r acts = refl
-read-said outgoing.Confirmation r acts = refl
-read-said outgoing.OpenFailure r acts = refl
-read-said outgoing.Close r acts = refl
-read-said outgoing.Failure r acts = refl
-read-said (outgoing.Data n) r acts = refl
-read-said outgoing.Eof r acts = refl
-read-said (outgoing.Adjust n) r acts = refl
+same-in : (f : List Act → List ℕ) → IsOfSocket f → (line : ChannelState) (act : Act) (acts : List Act) → f (act ∷ acts) ≡ f acts
+    → f (received_in line act ∷ acts) ≡ f acts
+same-in f k (Dialing dialog) act acts e = k.other acts
+same-in f k (Asked host port version) act acts e = k.other acts
+same-in f k (Opened version) act acts e = k.other acts
+same-in f k (Offered remote window maximum) act acts e = k.other acts
+same-in f k (Live live) act acts e = e
+same-in f k Over act acts e = k.other acts
 
-read-after : (o : Option Outgoing) (r : Relay) (acts : List Act) → read (act_of_sending o r ∷ acts) ≡ read acts
-read-after None r acts = refl
-read-after (Some s) r acts = read-said s r acts
+same-data : (f : List Act → List ℕ) → IsOfSocket f → (b : Bool) (bytes : List ℕ) (acts : List Act) → f ((if b then Delivers bytes else Other) ∷ acts) ≡ f acts
+same-data f k true bytes acts = k.delivers bytes acts
+same-data f k false bytes acts = k.other acts
+
+same-heard : (f : List Act → List ℕ) → IsOfSocket f → (m : Message) (r : Relay) (acts : List Act) → f (act_received m r ∷ acts) ≡ f acts
+same-heard f k (message.Transport number rest) r acts = k.other acts
+same-heard f k (message.GlobalRequest name want rest what) r acts = k.other acts
+same-heard f k (message.RequestSuccess rest) r acts = k.other acts
+same-heard f k message.RequestFailure r acts = k.other acts
+same-heard f k (message.Open kind sender window maximum rest what) r acts = k.other acts
+same-heard f k (message.Confirmation recipient sender window maximum rest) r acts = same-answered f k r.line Confirms acts (k.confirms acts)
+same-heard f k (message.OpenFailure recipient reason text language) r acts = same-answered f k r.line (Refuses reason) acts (k.refuses reason acts)
+same-heard f k (message.Adjust recipient add) r acts = k.other acts
+same-heard f k (message.Data recipient bytes) r acts = same-data f k (delivers r) bytes.now acts
+same-heard f k (message.Extended recipient code bytes) r acts = k.other acts
+same-heard f k (message.Eof recipient) r acts = same-in f k r.line ReceivesEof acts (k.eof_received acts)
+same-heard f k (message.Close recipient) r acts = same-in f k r.line ReceivesClose acts (k.close_received acts)
+same-heard f k (message.Request recipient kind want rest) r acts = k.other acts
+same-heard f k (message.Success recipient) r acts = k.other acts
+same-heard f k (message.Failure recipient) r acts = k.other acts
+
+same-said : (f : List Act → List ℕ) → IsOfSocket f → (s : Outgoing) (r : Relay) (acts : List Act) → f (sent_act s r ∷ acts) ≡ f acts
+same-said f k outgoing.Open r acts = k.other acts
+same-said f k outgoing.Confirmation r acts = k.other acts
+same-said f k outgoing.OpenFailure r acts = k.other acts
+same-said f k outgoing.Close r acts = k.close_sent acts
+same-said f k outgoing.Failure r acts = k.other acts
+same-said f k (outgoing.Data n) r acts = k.data_sent _ acts
+same-said f k outgoing.Eof r acts = k.eof_sent acts
+same-said f k (outgoing.Adjust n) r acts = k.adjust_sent n acts
+
+same-after : (f : List Act → List ℕ) → IsOfSocket f → (o : Option Outgoing) (r : Relay) (acts : List Act) → f (act_of_sending o r ∷ acts) ≡ f acts
+same-after f k None r acts = k.other acts
+same-after f k (Some s) r acts = same-said f k s r acts
 
 -- ---- more calls
 
@@ -96,13 +139,14 @@ got-more s [] call = append-nil (got_call s call)
 got-more s (c ∷ calls) call =
     ap (λ bs. got_call s c ++ bs) (got-more s calls call) ∙ sym (append_assoc (got_call s c) (got_in s calls) (got_call s call))
 
-took-more : (s : ℕ) (calls : List HouseCall) (call : HouseCall) → took_in s (calls ++ call ∷ []) ≡ took_in s calls + took_call s call
-took-more s [] call = omega arith
-took-more s (c ∷ calls) call = let rest = took-more s calls call in omega (arith, rest)
+took-more : (s : ℕ) (calls : List HouseCall) (call : HouseCall) → took_in s (calls ++ call ∷ []) ≡ took_in s calls ++ took_call s call
+took-more s [] call = append-nil (took_call s call)
+took-more s (c ∷ calls) call =
+    ap (λ bs. took_call s c ++ bs) (took-more s calls call) ∙ sym (append_assoc (took_call s c) (took_in s calls) (took_call s call))
 
 -- a call in which so much was given and taken
 of-more : (calls : List HouseCall) (call : HouseCall) (t : ℕ) (old new : List Act) → read new ≡ read old ++ got_call t call
-    → taken new ≡ taken old + took_call t call → IsOf calls t old → IsOf (calls ++ call ∷ []) t new
+    → took new ≡ took old ++ took_call t call → IsOf calls t old → IsOf (calls ++ call ∷ []) t new
 of-more calls call t old new e f h = record {
   before = h.before;
   birth = h.birth;
@@ -110,10 +154,10 @@ of-more calls call t old new e f h = record {
   are = ap (λ (cs : List HouseCall). cs ++ call ∷ []) h.are ∙ append_assoc h.before (h.birth ∷ h.since) (call ∷ []);
   brings = h.brings;
   reads = e ∙ ap (λ bs. bs ++ got_call t call) h.reads ∙ sym (got-more t h.since call);
-  takes = f ∙ ap (λ n. n + took_call t call) h.takes ∙ sym (took-more t h.since call);
+  takes = f ∙ ap (λ bs. bs ++ took_call t call) h.takes ∙ sym (took-more t h.since call);
 }
 
-of-acts : (calls : List HouseCall) (t : ℕ) (old new : List Act) → read new ≡ read old → taken new ≡ taken old → IsOf calls t old → IsOf calls t new
+of-acts : (calls : List HouseCall) (t : ℕ) (old new : List Act) → read new ≡ read old → took new ≡ took old → IsOf calls t old → IsOf calls t new
 of-acts calls t old new e f h = record {
   before = h.before;
   birth = h.birth;
@@ -125,16 +169,17 @@ of-acts calls t old new e f h = record {
 }
 
 -- nothing was
-of-none : (calls : List HouseCall) (call : HouseCall) (t : ℕ) (acts : List Act) → got_call t call ≡ [] → took_call t call ≡ 0 → IsOf calls t acts
+of-none : (calls : List HouseCall) (call : HouseCall) (t : ℕ) (acts : List Act) → got_call t call ≡ [] → took_call t call ≡ [] → IsOf calls t acts
     → IsOf (calls ++ call ∷ []) t acts
 of-none calls call t acts e f h =
-    of-more calls call t acts acts (sym (append-nil (read acts)) ∙ ap (λ bs. read acts ++ bs) (sym e)) (omega (arith, f)) h
+    of-more calls call t acts acts (sym (append-nil (read acts)) ∙ ap (λ bs. read acts ++ bs) (sym e))
+    (sym (append-nil (took acts)) ∙ ap (λ bs. took acts ++ bs) (sym f)) h
 
 -- ---- of a relay
 
 record Fresh (acts : List Act) : Type 0 where
   reads : read acts ≡ []
-  takes : taken acts ≡ 0
+  takes : took acts ≡ []
 
 abbrev FedBy : Option OwnStream → List HouseCall → Socket → List Act → Type 0
 FedBy None calls s acts = unmade s ≡ true → Fresh acts
@@ -145,7 +190,7 @@ Fed calls l = FedBy l.own calls l.relay.socket l.acts
 
 record Silent (t : ℕ) (call : HouseCall) : Type 0 where
   gives : got_call t call ≡ []
-  takes : took_call t call ≡ 0
+  takes : took_call t call ≡ []
 
 fed-more : (calls : List HouseCall) (call : HouseCall) (o : Option OwnStream) (s : Socket) (acts : List Act)
     → ((own : OwnStream) → o ≡ Some own → Silent own.number call) → FedBy o calls s acts → FedBy o (calls ++ call ∷ []) s acts
@@ -153,18 +198,18 @@ fed-more calls call None s acts silent h = h
 fed-more calls call (Some own) s acts silent h =
     let its = silent own refl in of-none calls call own.number acts its.gives its.takes h
 
-fed-acts : (calls : List HouseCall) (o : Option OwnStream) (s : Socket) (old new : List Act) → read new ≡ read old → taken new ≡ taken old
+fed-acts : (calls : List HouseCall) (o : Option OwnStream) (s : Socket) (old new : List Act) → read new ≡ read old → took new ≡ took old
     → FedBy o calls s old → FedBy o calls s new
 fed-acts calls None s old new e f h = λ is. (let its = h is in record { reads = e ∙ its.reads; takes = f ∙ its.takes })
 fed-acts calls (Some own) s old new e f h = of-acts calls own.number old new e f h
 
 -- where its socket stays, and nothing is read or taken
 fed-on : (calls : List HouseCall) (so : Relay → Relay → Type 0) (act : Act) (a b : Life) → GoesBy so act a b
-    → b.relay.socket ≡ a.relay.socket → read (act ∷ a.acts) ≡ read a.acts → taken (act ∷ a.acts) ≡ taken a.acts → Fed calls a → Fed calls b
+    → b.relay.socket ≡ a.relay.socket → read (act ∷ a.acts) ≡ read a.acts → took (act ∷ a.acts) ≡ took a.acts → Fed calls a → Fed calls b
 fed-on calls so act a b h same e f p =
     subst (λ (o : Option OwnStream). FedBy o calls b.relay.socket b.acts) (sym h.own)
     (subst (λ (s : Socket). FedBy a.own calls s b.acts) (sym same)
-    (fed-acts calls a.own a.relay.socket a.acts b.acts (ap read h.acts ∙ e) (ap taken h.acts ∙ f) p))
+    (fed-acts calls a.own a.relay.socket a.acts b.acts (ap read h.acts ∙ e) (ap took h.acts ∙ f) p))
 
 untouched : (call : HouseCall) (old : Trace) (a : Life) → Apart (open_streams old.relay_traces) → Untouched call old a → (own : OwnStream)
     → a.own ≡ Some own → Silent own.number call
@@ -179,30 +224,30 @@ untouched (Turns (Got t bytes)) old a apart u own e = record {
 untouched (Turns (End t)) old a apart u own e = record { gives = refl; takes = refl }
 untouched (Turns (Writable t)) old a apart u own e = record { gives = refl; takes = refl }
 untouched (Turns (Failed t)) old a apart u own e = record { gives = refl; takes = refl }
-untouched (TakesBytes t n) old a apart u own e = record {
+untouched (TakesBytes t bytes) old a apart u own e = record {
   gives = refl;
-  takes = ap {B = ℕ} (λ (b : Bool). if b then n else 0) (ap (is_stream t) (sym e) ∙ u apart);
+  takes = ap (λ (b : Bool). if b then bytes else []) (ap (is_stream t) (sym e) ∙ u apart);
 }
 
 gave : (t n : ℕ) (bytes : List ℕ) → (n == t) ≡ true → got_call n (Turns (Got t bytes)) ≡ bytes
 gave t n bytes e = ap (λ (b : Bool). if b then bytes else []) e
 
-took : (t n size : ℕ) → (n == t) ≡ true → took_call n (TakesBytes t size) ≡ size
-took t n size e = ap {B = ℕ} (λ (b : Bool). if b then size else 0) e
+was-taken : (t n : ℕ) (bytes : List ℕ) → (n == t) ≡ true → took_call n (TakesBytes t bytes) ≡ bytes
+was-taken t n bytes e = ap (λ (b : Bool). if b then bytes else []) e
 
 gets-fed : (calls : List HouseCall) (t : ℕ) (bytes : List ℕ) (o : Option OwnStream) (s s' : Socket) (acts : List Act) → is_stream t o ≡ true
     → FedBy o calls s acts → FedBy o (calls ++ Turns (Got t bytes) ∷ []) s' (Reads bytes ∷ acts)
 gets-fed calls t bytes None s s' acts is h = cc
 gets-fed calls t bytes (Some own) s s' acts is h =
     of-more calls (Turns (Got t bytes)) own.number acts (Reads bytes ∷ acts)
-    (ap (λ bs. read acts ++ bs) (sym (gave t own.number bytes is))) (omega arith) h
+    (ap (λ bs. read acts ++ bs) (sym (gave t own.number bytes is))) (sym (append-nil (took acts))) h
 
-takes-fed : (calls : List HouseCall) (t n : ℕ) (o : Option OwnStream) (s s' : Socket) (acts : List Act) → is_stream t o ≡ true
-    → FedBy o calls s acts → FedBy o (calls ++ TakesBytes t n ∷ []) s' (Takes n ∷ acts)
-takes-fed calls t n None s s' acts is h = cc
-takes-fed calls t n (Some own) s s' acts is h =
-    of-more calls (TakesBytes t n) own.number acts (Takes n ∷ acts) (sym (append-nil (read acts)))
-    (ap (λ k. taken acts + k) (sym (took t own.number n is))) h
+takes-fed : (calls : List HouseCall) (t : ℕ) (bytes : List ℕ) (o : Option OwnStream) (s s' : Socket) (acts : List Act) → is_stream t o ≡ true
+    → FedBy o calls s acts → FedBy o (calls ++ TakesBytes t bytes ∷ []) s' (Takes bytes ∷ acts)
+takes-fed calls t bytes None s s' acts is h = cc
+takes-fed calls t bytes (Some own) s s' acts is h =
+    of-more calls (TakesBytes t bytes) own.number acts (Takes bytes ∷ acts) (sym (append-nil (read acts)))
+    (ap (λ bs. took acts ++ bs) (sym (was-taken t own.number bytes is))) h
 
 -- a step of a stream gives and takes nothing
 silent-step : (call : HouseCall) (s : LinkStep) (t n : ℕ) → Orders call s t → Silent n call
@@ -270,22 +315,22 @@ fed : (before : List HouseCall) (call : HouseCall) (old : Trace) → Apart (open
 fed before call old apart = record {
   stays = λ a p u. fed-more before call a.own a.relay.socket a.acts (untouched call old a apart u) p;
   receives = λ m a b s p h. fed-on before _ _ a b h (ap (λ (r : Relay). r.socket) h.relay.0 ∙ (stays-heard m a.relay).socket_is)
-      (read-heard m a.relay a.acts) (none-heard m a.relay a.acts) p;
+      (same-heard read of-read m a.relay a.acts) (same-heard took of-took m a.relay a.acts) p;
   offers = λ f number remote window maximum. λ is. record { reads = refl; takes = refl };
   says = λ bytes e a b s p is h.
       fed-more before call b.own b.relay.socket b.acts (λ own its. record { gives = ap (got_call own.number) e; takes = ap (took_call own.number) e })
       (fed-on before _ _ a b h.1 (ap (λ (r : Relay). r.socket) h.1.relay.0 ∙ (stays-after (sends_of a.relay) a.relay).socket_is)
-      (read-after (sends_of a.relay) a.relay a.acts) (none-after (sends_of a.relay) a.relay a.acts) p);
+      (same-after read of-read (sends_of a.relay) a.relay a.acts) (same-after took of-took (sends_of a.relay) a.relay a.acts) p);
   gets = λ t bytes e a b s s' p is h.
       subst (λ (c : HouseCall). FedBy b.own (before ++ c ∷ []) b.relay.socket b.acts) (sym e)
       (subst (λ (o : Option OwnStream). FedBy o (before ++ Turns (Got t bytes) ∷ []) b.relay.socket b.acts) (sym h.own)
       (subst (λ (acts : List Act). FedBy a.own (before ++ Turns (Got t bytes) ∷ []) b.relay.socket acts) (sym h.acts)
       (gets-fed before t bytes a.own a.relay.socket b.relay.socket a.acts is p)));
-  takes = λ t n e a b s p is h.
+  takes = λ t bytes e a b s p is h.
       subst (λ (c : HouseCall). FedBy b.own (before ++ c ∷ []) b.relay.socket b.acts) (sym e)
-      (subst (λ (o : Option OwnStream). FedBy o (before ++ TakesBytes t n ∷ []) b.relay.socket b.acts) (sym h.own)
-      (subst (λ (acts : List Act). FedBy a.own (before ++ TakesBytes t n ∷ []) b.relay.socket acts) (sym h.acts)
-      (takes-fed before t n a.own a.relay.socket b.relay.socket a.acts is p)));
+      (subst (λ (o : Option OwnStream). FedBy o (before ++ TakesBytes t bytes ∷ []) b.relay.socket b.acts) (sym h.own)
+      (subst (λ (acts : List Act). FedBy a.own (before ++ TakesBytes t bytes ∷ []) b.relay.socket acts) (sym h.acts)
+      (takes-fed before t bytes a.own a.relay.socket b.relay.socket a.acts is p)));
   steps = λ s t ord a sa may p is. steps-fed before call s t a.own a.relay a.acts ord is p;
   makes = λ host port number e a s p is there.
       subst (λ (c : HouseCall). Fed (before ++ c ∷ []) (made_life number a)) (sym e)

@@ -25,7 +25,7 @@ use Rattle.house_forward.specs.Forwardings.{has_request, has_listener}
 use Rattle.house_forward.specs.Going.{GoesAt, LeavesAt, Gets, GetsOn, TakesOf, TakesOn, SendsOn, ReceivesOn, Obeys, AwaitsAt, MakesAt, MayBeFirst, swept}
 use Rattle.house_forward.specs.Links.{has_sending, has_order, is_of, is_offered, is_awaited, link_after, streams_of, Offers, Joins, has_number, is_number, own_of, is_full, has_full_dialogs, dials, ConnectsAt, made_stream, OrdersIn, IsJoined}
 use Rattle.house_forward.specs.Links as linking
-use Rattle.house_forward.specs.RelayTraces.{Trace, Held, LinksGo, GoesFurther, ForwardingStateGoes, OnForwardingState, TakesFurther, Represents, Follows, taken_in, with_forwarding_state}
+use Rattle.house_forward.specs.RelayTraces.{One, Trace, Held, LinksGo, GoesFurther, ForwardingStateGoes, OnForwardingState, TakesFurther, Represents, Follows, taken_in, with_forwarding_state}
 use Rattle.house_forward.specs.RelayTraces.{ReceivesAt, OffersOne, SendsIn, SendsBy, GivesOrder, JoinsOne, OrdersSocket, MakesOne, held, are_full, are_dialogs_full, is_unmade, IsEndOf}
 use Rattle.house_forward.specs.RelayTraces.{Life, Listens, Speaks, GoesBy, IsLife, IsSocketOf, AreRelayTraces, IsTrace, IsAllowed, StepsBy, Reaches, first_trace, with_relay_traces, left_in, has_channel, has_words, has_stream, is_stream, stepped, made_life}
 use Rattle.house_forward.specs.Said.{framed, sent_by, request_payload}
@@ -591,32 +591,53 @@ fails t old = λ framer stage forwarding_state most trace is. (
   stepped-on step.Failed t old framer stage forwarding_state most trace is,
 )
 
-takes-by : (t n : ℕ) (old new : List Link) (framer : FramerState) (stage : Stage) (forwarding_state : ForwardingState) (o : Option ℕ) → position (is_of t) old ≡ o
-    → GoesAt o (TakesOf n) old new → TakesFurther t n (held old framer stage forwarding_state) (held new framer stage forwarding_state)
-takes-by t n old new framer stage forwarding_state None e h = λ most trace small is.
+or-true : (b : Bool) → (b || true) ≡ true
+or-true true = refl
+or-true false = refl
+
+any-at : (which : Life → Bool) (before behind : List Life) (l : Life) → which l ≡ true
+    → list_any which (before ++ l ∷ behind) ≡ true
+any-at which [] behind l is = ap (λ b. b || list_any which behind) is
+any-at which (x ∷ before) behind l is = ap (λ b. which x || b) (any-at which before behind l is) ∙ or-true (which x)
+
+-- where one goes on there is one
+has-one : (which : Life → Bool) (to : Life → Life → Type 0) (old new : List Life) → One which to old new
+    → list_any which old ≡ false → ⊥
+has-one which to old new one none =
+    both_ways (list_any which old) none
+    (ap (list_any which) one.were ∙ any-at which one.before one.behind one.life one.is)
+
+takes-by : (t : ℕ) (bytes : List ℕ) (old new : List Link) (framer : FramerState) (stage : Stage) (forwarding_state : ForwardingState) (o : Option ℕ)
+    → position (is_of t) old ≡ o → (o ≡ None → bytes ≡ [])
+    → GoesAt o (TakesOf bytes) old new → TakesFurther t bytes (held old framer stage forwarding_state) (held new framer stage forwarding_state)
+takes-by t bytes old new framer stage forwarding_state None e nothing h = λ most trace small is.
+    let n = length bytes in
     let none = none-relay_traces most (has_stream t) (is_of t) (living.is-of t most) trace.relay_traces old is.relay_traces (none-passes (is_of t) old e) in (
       trace,
-      (trace.relay_traces, inr (none, refl), refl),
+      (trace.relay_traces, inr (none, refl), refl, λ without. nothing refl),
       of-same (n + most) trace framer stage forwarding_state old new h
           (with-links most (n + most) trace old old framer stage forwarding_state is trace.relay_traces
           (all-more most (n + most) trace.relay_traces old (omega arith) is.relay_traces)),
     )
-takes-by t n old new framer stage forwarding_state (Some i) e h = λ most trace small is.
+takes-by t bytes old new framer stage forwarding_state (Some i) e nothing h = λ most trace small is.
+    let n = length bytes in
     let x = h.0 in
     let r = h.1 in
-    let went = goes-one (has_stream t) (is_of t) (GoesBy (TakesOn n) (Takes n)) most (n + most) trace.relay_traces old i x (record x { relay = r })
+    let went = goes-one (has_stream t) (is_of t) (GoesBy (TakesOn bytes) (Takes bytes)) most (n + most) trace.relay_traces old i x (record x { relay = r })
     (omega arith) (living.is-of t most) e h.2 is.relay_traces
-    (λ life its. let on = living.takes n most life x r small its h.3 in record { next = on.next; goes = on.goes; is = on.is }) in (
+    (λ life its. let on = living.takes bytes most life x r small its h.3 in record { next = on.next; goes = on.goes; is = on.is }) in (
       record trace { relay_traces = went.relay_traces },
-      (went.relay_traces, inl went.one, refl),
+      (went.relay_traces, inl went.one, refl, λ without. absurd (has-one (has_stream t) _ trace.relay_traces went.relay_traces went.one without)),
       of-same (n + most) (record trace { relay_traces = went.relay_traces }) framer stage forwarding_state (set old i (record x { relay = r })) new h.4
           (with-links most (n + most) trace old (set old i (record x { relay = r })) framer stage forwarding_state is went.relay_traces went.are),
     )
 
 -- one took bytes
-pub takes : (t n : ℕ) (old new : List Link) (framer : FramerState) (stage : Stage) (forwarding_state : ForwardingState)
-    → GoesAt (position (is_of t) old) (TakesOf n) old new → TakesFurther t n (held old framer stage forwarding_state) (held new framer stage forwarding_state)
-takes t n old new framer stage forwarding_state h = takes-by t n old new framer stage forwarding_state (position (is_of t) old) refl h
+pub takes : (t : ℕ) (bytes : List ℕ) (old new : List Link) (framer : FramerState) (stage : Stage) (forwarding_state : ForwardingState)
+    → (position (is_of t) old ≡ None → bytes ≡ [])
+    → GoesAt (position (is_of t) old) (TakesOf bytes) old new → TakesFurther t bytes (held old framer stage forwarding_state) (held new framer stage forwarding_state)
+takes t bytes old new framer stage forwarding_state nothing h =
+    takes-by t bytes old new framer stage forwarding_state (position (is_of t) old) refl nothing h
 
 -- ---- over the calls
 
@@ -627,7 +648,7 @@ reaches-more (first ∷ calls) call a b c h f = (h.0, h.1, reaches-more calls ca
 
 taken-more : (calls : List HouseCall) (call : HouseCall) → taken_in (calls ++ call ∷ []) ≡ taken_in (call ∷ []) + taken_in calls
 taken-more [] call = omega arith
-taken-more (TakesBytes t n ∷ calls) call = let rest = taken-more calls call in omega (arith, rest)
+taken-more (TakesBytes t bytes ∷ calls) call = let rest = taken-more calls call in omega (arith, rest)
 taken-more (Begins starts ∷ calls) call = taken-more calls call
 taken-more (Marks mark ∷ calls) call = taken-more calls call
 taken-more (ReceivesBytes bytes ∷ calls) call = taken-more calls call
@@ -647,16 +668,17 @@ stands-on calls call old new none goes h = λ few.
     }
 
 -- one in which bytes are taken
-pub stands-taken : (calls : List HouseCall) (t n : ℕ) (old new : Held) → TakesFurther t n old new → Represents calls old
-    → Represents (calls ++ TakesBytes t n ∷ []) new
-stands-taken calls t n old new goes h = λ few.
-    let more : taken_in (calls ++ TakesBytes t n ∷ []) ≡ n + taken_in calls =
-    let all = taken-more calls (TakesBytes t n) in omega (arith, all) in
+pub stands-taken : (calls : List HouseCall) (t : ℕ) (bytes : List ℕ) (old new : Held) → TakesFurther t bytes old new → Represents calls old
+    → Represents (calls ++ TakesBytes t bytes ∷ []) new
+stands-taken calls t bytes old new goes h = λ few.
+    let n = length bytes in
+    let more : taken_in (calls ++ TakesBytes t bytes ∷ []) ≡ n + taken_in calls =
+    let all = taken-more calls (TakesBytes t bytes) in omega (arith, all) in
     let small : n + taken_in calls < 2 ^ 64 = subst (λ k. k < 2 ^ 64) more few in
     let lived = h (omega (arith, small)) in
     let went = goes (taken_in calls) lived.trace small lived.is in
     record {
       trace = went.0;
-      reached = reaches-more calls (TakesBytes t n) first_trace lived.trace went.0 lived.reached went.1;
+      reached = reaches-more calls (TakesBytes t bytes) first_trace lived.trace went.0 lived.reached went.1;
       is = subst (λ k. IsTrace k went.0 new) (sym more) went.2;
     }

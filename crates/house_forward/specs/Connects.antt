@@ -45,7 +45,7 @@ connect_of (Begins starts) = []
 connect_of (Marks mark) = connect_marked mark
 connect_of (Receives bytes) = []
 connect_of (Turns happening) = []
-connect_of (Takes t n) = []
+connect_of (Takes t bytes) = []
 
 -- where the Connects are to that are ordered in these calls, in their order
 abbrev pub connects_in : List HouseCall → List Place
@@ -108,7 +108,7 @@ taken_call (Marks mark) old new follows = []
 taken_call (Receives bytes) old new follows =
     taken_frames follows.0 (with_received bytes old) new follows.1
 taken_call (Turns happening) old new follows = []
-taken_call (Takes t n) old new follows = []
+taken_call (Takes t bytes) old new follows = []
 
 -- where the OPENs are to be connected that are taken in these calls, in their order
 abbrev pub taken_in : (calls : List HouseCall) (old new : Trace) → Reaches old calls new → List Place

@@ -122,7 +122,7 @@ HappenBy (Marks mark) old forwarder_events new = AreMarked mark forwarder_events
 HappenBy (Receives bytes) old forwarder_events new = (contents : List (List ℕ))
     × ReceivesFrames contents (with_received bytes old) new × (forwarder_events ≡ recorded_in old.stage contents)
 HappenBy (Turns happening) old forwarder_events new = forwarder_events ≡ []
-HappenBy (Takes t n) old forwarder_events new = forwarder_events ≡ []
+HappenBy (Takes t bytes) old forwarder_events new = forwarder_events ≡ []
 
 -- what happens by the calls, one behind the other
 abbrev pub Happen : Trace → List HouseCall → List ForwarderEvent → Trace → Type 0

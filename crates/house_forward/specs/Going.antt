@@ -1,5 +1,5 @@
 -- How the relays go on: a call changes one of them, and it is known which and how.
-use Rattle.std.specs.Prelude.{◌≡◌, ◌+◌, ◌<◌, ◌^◌, ℕ, Bool, List, [], ◌∷◌, ◌++◌, get_or, set, find, IfSome, false, Option, Some, None}
+use Rattle.std.specs.Prelude.{◌≡◌, ◌+◌, ◌<◌, ◌^◌, ℕ, Bool, List, [], ◌∷◌, ◌++◌, length, take, get_or, set, find, IfSome, false, Option, Some, None}
 use Rattle.std.specs.List.{position, remove}
 use Rattle.conn_messages.specs.declared.message.Message.{Message}
 use Rattle.house_relay.specs.Acts.{Act, Reads, Takes, Other}
@@ -46,14 +46,14 @@ abbrev pub GetsOn : Bool → List ℕ → Relay → Relay → Type 0
 GetsOn free bytes old new = Dials free bytes old new × MayRead bytes old
     × GoesOn old new (Reads bytes) × (new.number ≡ old.number)
 
--- its socket took so many bytes
-abbrev pub TakesOf : ℕ → Relay → Relay → Type 0
-TakesOf n old new =
-    owed_in old.line + n < 2 ^ 64 → (new ≡ taken_of n old) × GoesOn old new (Takes n)
+-- its socket took these bytes, the first of those that wait for it, and the relay stands for that too
+abbrev pub TakesOn : List ℕ → Relay → Relay → Type 0
+TakesOn bytes old new = (new ≡ taken_of (length bytes) old) × GoesOn old new (Takes bytes)
+    × (bytes ≡ take (length bytes) old.queue.waiting)
 
--- the relay stands for that too
-abbrev pub TakesOn : ℕ → Relay → Relay → Type 0
-TakesOn n old new = (new ≡ taken_of n old) × GoesOn old new (Takes n)
+-- unless it is to give back room for 2^64 bytes or more
+abbrev pub TakesOf : List ℕ → Relay → Relay → Type 0
+TakesOf bytes old new = owed_in old.line + length bytes < 2 ^ 64 → TakesOn bytes old new
 
 -- it said what it had to say
 abbrev pub Says : Relay → Relay → Type 0

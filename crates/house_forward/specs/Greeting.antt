@@ -25,7 +25,7 @@ sent_on (Begins starts) = []
 sent_on (Marks mark) = sent_at mark
 sent_on (Receives bytes) = []
 sent_on (Turns happening) = []
-sent_on (Takes t n) = []
+sent_on (Takes t bytes) = []
 
 -- what it says, in order
 abbrev pub sent_in : List HouseCall → List (List ℕ)

@@ -1,9 +1,10 @@
 -- What holds of the relays of the house, whatever calls were made.
-use Rattle.std.specs.Prelude.{◌≡◌, true, List, ◌++◌, IfSome}
+use Rattle.std.specs.Prelude.{◌≡◌, ◌≤◌, ◌+◌, ◌-◌, true, List, ◌++◌, length, IfSome}
 use Rattle.std.specs.List.{All}
 use Rattle.mux_outside.specs.HouseCalls.{HouseCall}
-use Rattle.house_relay.specs.Acts.{Relays}
+use Rattle.house_relay.specs.Acts.{Act, Relays, adjusted, delivered, replies, taken}
 use Rattle.house_relay.specs.Relay.{Keeps, SilentIn, IsResting}
+use Rattle.house_relay.specs.declared.TheConstants.{WINDOW}
 use Rattle.house_forward.specs.RelayTraces.{Life, Held, HasLived}
 use Rattle.house_forward.specs.Quiet.{sends_none, orders_none}
 
@@ -16,6 +17,21 @@ EachRelays = (calls : List HouseCall) (h : Held) (lived : HasLived calls h)
 abbrev pub EachKeeps : Type 0
 EachKeeps = (calls : List HouseCall) (h : Held) (lived : HasLived calls h)
     → All (λ l. Keeps l.dials l.acts l.relay) (lived.trace.relay_traces ++ lived.trace.past)
+
+-- the server keeps to the window of a channel: no more data is delivered in it than that and the room
+-- that was given back since
+abbrev pub KeepsWindow : List Act → Type 0
+KeepsWindow acts = length (delivered acts) ≤ WINDOW + adjusted acts
+
+-- where it does, no more waits for the socket than a window, and what is left of the replies of its dialog
+abbrev pub IsBounded : Life → Type 0
+IsBounded l = KeepsWindow l.acts
+    → length l.relay.queue.waiting ≤ WINDOW + (length (replies l.dials l.acts) - taken l.acts)
+
+-- this is so of each that the calls leave, and of each of which nothing is left
+abbrev pub EachIsBounded : Type 0
+EachIsBounded = (calls : List HouseCall) (h : Held) (lived : HasLived calls h)
+    → All IsBounded (lived.trace.relay_traces ++ lived.trace.past)
 
 -- one is at rest, and so is its stream, while it is open
 pub record Rests (l : Life) : Type 0 where

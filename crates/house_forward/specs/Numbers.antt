@@ -68,7 +68,7 @@ made_by (Begins starts) = None
 made_by (Marks mark) = made_by_mark mark
 made_by (Receives bytes) = None
 made_by (Turns happening) = joined_by happening
-made_by (Takes t n) = None
+made_by (Takes t bytes) = None
 
 -- the number of the stream that an order or a call closes, if it does
 abbrev pub closed_by_order : Order → Option ℕ
@@ -93,7 +93,7 @@ closed_by (Begins starts) = None
 closed_by (Marks mark) = closed_by_mark mark
 closed_by (Receives bytes) = None
 closed_by (Turns happening) = None
-closed_by (Takes t n) = None
+closed_by (Takes t bytes) = None
 
 abbrev pub without_closed : Option ℕ → List ℕ → List ℕ
 without_closed None there = there

@@ -37,7 +37,7 @@ opens_by (Begins starts) = 0
 opens_by (Marks mark) = opens_by_mark mark
 opens_by (Receives bytes) = 0
 opens_by (Turns happening) = 0
-opens_by (Takes t n) = 0
+opens_by (Takes t bytes) = 0
 
 -- how many OPENs were said
 abbrev pub opens_in : List HouseCall → ℕ
@@ -56,7 +56,7 @@ joins_by (Begins starts) = 0
 joins_by (Marks mark) = 0
 joins_by (Receives bytes) = 0
 joins_by (Turns happening) = joins_by_turn happening
-joins_by (Takes t n) = 0
+joins_by (Takes t bytes) = 0
 
 -- how many sockets were joined
 abbrev pub joins_in : List HouseCall → ℕ
@@ -104,7 +104,7 @@ opener_of (Begins starts) old new follows = []
 opener_of (Marks mark) old new follows = opener_marked mark old new follows
 opener_of (Receives bytes) old new follows = []
 opener_of (Turns happening) old new follows = []
-opener_of (Takes t n) old new follows = []
+opener_of (Takes t bytes) old new follows = []
 
 -- of which sockets the OPENs are that are said in these calls, in their order
 abbrev pub openers_in : (calls : List HouseCall) (old new : Trace) → Reaches old calls new

@@ -450,9 +450,10 @@ Follows (ReceivesBytes bytes) old new =
 Follows (Turns happening) old new = (relay_traces : List Life)
     × TurnsTo happening old.joins old.forwarding_state.all old.relay_traces relay_traces
     × (new ≡ record old { relay_traces = relay_traces; joins = joins_after happening old.joins })
-Follows (TakesBytes t n) old new = (relay_traces : List Life)
-    × OneAtMost (has_stream t) (GoesBy (TakesOn n) (Takes n)) old.relay_traces relay_traces
+Follows (TakesBytes t bytes) old new = (relay_traces : List Life)
+    × OneAtMost (has_stream t) (GoesBy (TakesOn bytes) (Takes bytes)) old.relay_traces relay_traces
     × (new ≡ record old { relay_traces = relay_traces })
+    × (list_any (has_stream t) old.relay_traces ≡ false → bytes ≡ [])
 
 -- what the calls leave of it, one behind the other
 abbrev pub Reaches : Trace → List HouseCall → Trace → Type 0
@@ -463,7 +464,7 @@ Reaches old (call ∷ calls) new =
 -- how many bytes the streams took in all
 abbrev pub taken_in : List HouseCall → ℕ
 taken_in [] = 0
-taken_in (TakesBytes t n ∷ calls) = n + taken_in calls
+taken_in (TakesBytes t bytes ∷ calls) = length bytes + taken_in calls
 taken_in (Begins starts ∷ calls) = taken_in calls
 taken_in (Marks mark ∷ calls) = taken_in calls
 taken_in (ReceivesBytes bytes ∷ calls) = taken_in calls
@@ -592,9 +593,10 @@ GetsNumber ordering number old new = IfSome (ordering_of ordering) (λ order. (b
     → AwaitsNumber ordering before old → GoesFurther (OrdersIn order number) before new)
 
 -- what is taken is counted
-abbrev pub TakesFurther : ℕ → ℕ → Held → Held → Type 0
-TakesFurther t n old new = (most : ℕ) (trace : Trace) → n + most < 2 ^ 64 → IsTrace most trace old
-    → (next : Trace) × Follows (TakesBytes t n) trace next × IsTrace (n + most) next new
+abbrev pub TakesFurther : ℕ → List ℕ → Held → Held → Type 0
+TakesFurther t bytes old new = (most : ℕ) (trace : Trace) → length bytes + most < 2 ^ 64
+    → IsTrace most trace old → (next : Trace) × Follows (TakesBytes t bytes) trace next
+    × IsTrace (length bytes + most) next new
 
 -- the calls were made, and this is what they leave
 pub record HasLived (calls : List HouseCall) (h : Held) : Type 0 where

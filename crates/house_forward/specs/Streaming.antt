@@ -1,9 +1,9 @@
 -- What the streams gave and took, by the calls.
-use Rattle.std.specs.Prelude.{◌≡◌, ◌+◌, ◌==◌, ℕ, if◌then◌else◌, List, [], ◌∷◌, ◌++◌, IfSome, Some}
+use Rattle.std.specs.Prelude.{◌≡◌, ◌==◌, ℕ, if◌then◌else◌, List, [], ◌∷◌, ◌++◌, IfSome, Some}
 use Rattle.std.specs.List.{All}
 use Rattle.mux_outside.specs.HouseCalls.{HouseCall, Happening, Begins, Marks, Receives, Turns, Takes}
 use Rattle.mux_outside.specs.HouseCalls.{Joined, Got, End, Writable, Failed}
-use Rattle.house_relay.specs.Acts.{Act, read, taken}
+use Rattle.house_relay.specs.Acts.{Act, read, took}
 use Rattle.house_forward.specs.RelayTraces.{Trace, Reaches, first_trace}
 use Rattle.house_forward.specs.Numbers.{made_by}
 
@@ -19,24 +19,24 @@ got_call s (Begins starts) = []
 got_call s (Marks mark) = []
 got_call s (Receives bytes) = []
 got_call s (Turns happening) = got_turn s happening
-got_call s (Takes t n) = []
+got_call s (Takes t bytes) = []
 
 -- the bytes that a stream gave in these calls, in order
 abbrev pub got_in : ℕ → List HouseCall → List ℕ
 got_in s [] = []
 got_in s (call ∷ calls) = got_call s call ++ got_in s calls
 
-abbrev pub took_call : ℕ → HouseCall → ℕ
-took_call s (Begins starts) = 0
-took_call s (Marks mark) = 0
-took_call s (Receives bytes) = 0
-took_call s (Turns happening) = 0
-took_call s (Takes t n) = if s == t then n else 0
+abbrev pub took_call : ℕ → HouseCall → List ℕ
+took_call s (Begins starts) = []
+took_call s (Marks mark) = []
+took_call s (Receives bytes) = []
+took_call s (Turns happening) = []
+took_call s (Takes t bytes) = if s == t then bytes else []
 
--- how many bytes it took in them
-abbrev pub took_in : ℕ → List HouseCall → ℕ
-took_in s [] = 0
-took_in s (call ∷ calls) = took_call s call + took_in s calls
+-- the bytes that it took in them, in order
+abbrev pub took_in : ℕ → List HouseCall → List ℕ
+took_in s [] = []
+took_in s (call ∷ calls) = took_call s call ++ took_in s calls
 
 -- what was read and taken is what this stream gave and took since a call brought it
 pub record IsOf (calls : List HouseCall) (t : ℕ) (acts : List Act) : Type 0 where
@@ -46,7 +46,7 @@ pub record IsOf (calls : List HouseCall) (t : ℕ) (acts : List Act) : Type 0 wh
   pub are : calls ≡ before ++ birth ∷ since
   pub brings : made_by birth ≡ Some t
   pub reads : read acts ≡ got_in t since
-  pub takes : taken acts ≡ took_in t since
+  pub takes : took acts ≡ took_in t since
 
 -- this is so of each relay and its stream
 abbrev pub EachHasItsStream : Type 0

@@ -7,19 +7,27 @@ ghost use Rattle.house_forward.specs.Confirming.{ConfirmsConnected, RefusesUncon
 ghost use Rattle.house_forward.specs.Connects.{OneConnectEach};
 ghost use Rattle.house_forward.specs.ForwarderEvents.{EachHappens};
 ghost use Rattle.house_forward.specs.Greeting.{EachGreets};
-ghost use Rattle.house_forward.specs.Laws.{EachRelays, EachKeeps, EachRests};
+ghost use Rattle.house_forward.specs.Laws.{EachRelays, EachKeeps, EachIsBounded, EachRests};
 ghost use Rattle.house_forward.specs.Numbers.{ChannelsAreSmall, ChannelsDiffer, EachIsNew, StreamsAreTheirs, StreamsDiffer};
 ghost use Rattle.house_forward.specs.Opening.{EachIsRecorded, EachWasJoined, OneOpenAtMost, OneOpenEach, OpensGoRight};
 ghost use Rattle.house_forward.specs.Starting.{EachQuiet, EachStart};
 ghost use Rattle.house_forward.specs.Streaming.{EachHasItsStream};
 
 /// Of each relay that the house has, or had: what is sent in its channel was read from its socket
-/// before, behind the dialog, in order; what its socket takes are the replies to the dialog, and then
-/// what was delivered in the channel before, in order; no more room is given back than data was taken;
-/// and EOF goes on behind everything alone. What it holds and what waits are exactly the rest.
+/// before, behind the dialog, in order; the bytes that its socket took, and then those that wait for it,
+/// are the replies to the dialog, and then what was delivered in the channel before; no more room is
+/// given back than data was taken; and EOF goes on behind everything alone. What it holds and what waits
+/// are exactly the rest.
 pub fn every_relay_relays()
     ensures relays { EachRelays }
     ensures keeps { EachKeeps }
+{}
+
+/// What waits for a socket is bounded: while the server keeps to the window of the channel, it is no more
+/// than that window, 2,097,152 bytes, and what is left of the replies of its dialog. A relay of which
+/// nothing is left is counted too.
+pub fn what_waits_for_a_socket_is_bounded()
+    ensures { EachIsBounded }
 {}
 
 /// Where the house has nothing to say and nothing to order, each of its relays is at rest.
@@ -75,7 +83,8 @@ pub fn each_open_is_answered_by_its_socket()
 {}
 
 /// What a relay read are the bytes that its stream gave since that was joined or connected, all of them
-/// and in order; and as many bytes as it has as taken its stream took since.
+/// and in order; and what it has as taken are the bytes that its stream took since, all of them and in
+/// order.
 pub fn each_relay_has_what_its_stream_gave()
     ensures { EachHasItsStream }
 {}

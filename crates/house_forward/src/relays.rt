@@ -1,5 +1,5 @@
 //! The relays of the house, each with its stream.
-ghost use Rattle.std.specs.Prelude.{◌≡◌, ◌≤◌, ◌<◌, ◌^◌, ◌%◌, ◌+◌, ◌++◌, ◌∷◌, [], ℕ, true, false, not, length, map, find, ◌==◌, IfOk, IfSome, OnOk, OnErr, OnSome, None, Some, Ok};
+ghost use Rattle.std.specs.Prelude.{◌≡◌, ◌≤◌, ◌<◌, ◌^◌, ◌%◌, ◌+◌, ◌++◌, ◌∷◌, [], ℕ, true, false, not, length, map, take, find, ◌==◌, IfOk, IfSome, OnOk, OnErr, OnSome, None, Some, Ok};
 ghost use Rattle.std.specs.List.{All, list_any, position, sum_by};
 ghost use Rattle.std.specs.Option.{option_copied};
 ghost use Rattle.mux_outside.specs.House.{SendsFits, sends_nothing, gives_none, order_marks, OrderFits, Known as TheKnown, known_after_order, queue_after_took};
@@ -231,10 +231,11 @@ impl Relays {
         link.relay.got(self.alloc, bytes, free)
     }
 
-    /// A stream took so many bytes of what waits.
+    /// A stream took the first bytes of those that wait for it.
     pub fn took(&mut self, stream: u64, n: usize)
         requires { n ≤ length (queue_in (find (is_of stream) self.old.all.items)) }
-        ensures takes { GoesAt (position (is_of stream) self.old.all.items) (TakesOf n)
+        ensures takes { GoesAt (position (is_of stream) self.old.all.items)
+            (TakesOf (take n (queue_in (find (is_of stream) self.old.all.items))))
             self.old.all.items self.new.all.items }
         ensures streams { streams_of self.new.all.items ≡ streams_of self.old.all.items }
         ensures queues { (t : ℕ) → queue_in (find (is_of t) self.new.all.items)

@@ -181,12 +181,12 @@ gets-view free bytes a b e s h i = record {
       (dials-view a.relay.line free bytes a.relay b.relay a.acts e.1 (is-reading a.dials a.acts a.relay s.stands) refl h.relay.0 i.view));
 }
 
-took-view : (n : ℕ) (a b : Life) (e : Entry) → Sound a → GoesBy (TakesOn n) (Takes n) a b → IsView a e → IsView b e
-took-view n a b e s h i = record {
+took-view : (bytes : List ℕ) (a b : Life) (e : Entry) → Sound a → GoesBy (TakesOn bytes) (Takes bytes) a b → IsView a e → IsView b e
+took-view bytes a b e s h i = record {
   number = i.number ∙ ap (λ (r : Relay). Some r.number) (sym h.relay.0);
   view = subst (λ (acts : List Act). ViewOf b.relay.line acts e.1) (sym h.acts)
-      (acts-view b.relay.line a.acts (Takes n ∷ a.acts) e.1 refl refl
-      (subst (λ (r : Relay). ViewOf r.line a.acts e.1) (sym h.relay.0) (takes-view n a.relay.line a.acts e.1 i.view)));
+      (acts-view b.relay.line a.acts (Takes bytes ∷ a.acts) e.1 refl refl
+      (subst (λ (r : Relay). ViewOf r.line a.acts e.1) (sym h.relay.0) (takes-view (length bytes) a.relay.line a.acts e.1 i.view)));
 }
 
 step-view : (s : LinkStep) (l : Life) (e : Entry) → IsView l e → IsView (step_of s l) e
@@ -383,7 +383,7 @@ IsCalm (Begins starts) = Unit {0}
 IsCalm (Marks mark) = IsCalmMark mark
 IsCalm (Receives bytes) = ⊥
 IsCalm (Turns happening) = Unit {0}
-IsCalm (TakesBytes t n) = Unit {0}
+IsCalm (TakesBytes t bytes) = Unit {0}
 
 calm-mark : (hs : List Channel) (notes : List Note) (mark : HouseMark) (old new : Trace) → IsCalmMark mark → MarksIn mark old new → Seen hs old.relay_traces notes → Seen hs new.relay_traces notes
 calm-mark hs notes HouseIn old new c h s = seen-same hs notes old new (same-of old new _ h refl) s
@@ -413,9 +413,9 @@ calm hs notes (Marks mark) old new all c h s = calm-mark hs notes mark old new c
 calm hs notes (Receives bytes) old new all c h s = absurd c
 calm hs notes (Turns happening) old new all c h s =
     subst (λ (x : Trace). Seen hs x.relay_traces notes) (sym h.2) (calm-turn hs notes happening old h.0 all.relay_traces h.1 s)
-calm hs notes (TakesBytes t n) old new all c h s =
+calm hs notes (TakesBytes t bytes) old new all c h s =
     subst (λ (x : Trace). Seen hs x.relay_traces notes) (sym h.2)
-    (seen-relay_traces hs notes old.relay_traces h.0 (views-most (has_stream t) (GoesBy (TakesOn n) (Takes n)) old.relay_traces h.0 (took-view n) h.1 all.relay_traces) s)
+    (seen-relay_traces hs notes old.relay_traces h.0 (views-most (has_stream t) (GoesBy (TakesOn bytes) (Takes bytes)) old.relay_traces h.0 (took-view bytes) h.1 all.relay_traces) s)
 
 -- ---- no two have the same number
 

@@ -369,7 +369,7 @@ module _ (policy : Policy) (pid : ℕ) (picks : List ℕ) (given : List HouseRep
 
   takes-mark : (before : List Mark) (t : ℕ) (bytes : List ℕ) (trace new : Trace) (recorded : Recorded) → OneMore before (Takes t bytes) trace new → Going (log_of_journal setting before) trace recorded → SentSo trace.forwarding_state.greeted (bytes_of HOUSE before)
       → Inv setting (Takes t bytes ∷ before) new
-  takes-mark before t bytes trace new recorded one g said = other-mark before (Takes t bytes) trace new recorded one g said refl (if-calm t (call.Takes t (length bytes)) tt) (takes-other t (length bytes) (is_own_stream t) one.other)
+  takes-mark before t bytes trace new recorded one g said = other-mark before (Takes t bytes) trace new recorded one g said refl (if-calm t (call.Takes t bytes) tt) (takes-other t (length bytes) (is_own_stream t) one.other)
 
   -- ---- the house takes
 

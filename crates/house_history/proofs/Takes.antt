@@ -72,7 +72,7 @@ calm-rest (Begins starts) old new c h = rest-forwarding_state old new h.0 h.2 (a
 calm-rest (Marks mark) old new c h = rest-mark mark old new c h
 calm-rest (Receives bytes) old new c h = absurd c
 calm-rest (Turns happening) old new c h = rest-is old new _ h.2 (record { framer = refl; stage = refl; greeted = refl; requests = refl })
-calm-rest (TakesBytes t n) old new c h = rest-is old new _ h.2 (record { framer = refl; stage = refl; greeted = refl; requests = refl })
+calm-rest (TakesBytes t bytes) old new c h = rest-is old new _ h.2 (record { framer = refl; stage = refl; greeted = refl; requests = refl })
 
 -- where the relays are sound a run goes on behind such a call
 pub calm-step : (rows : List Row) (trace new : Trace) (call : HouseCall) (recorded : Recorded) → All Sound trace → IsCalm call → Follows call trace new → Going rows trace recorded → Going rows new recorded

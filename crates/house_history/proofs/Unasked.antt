@@ -68,7 +68,7 @@ trace-greets (Marks (HouseAnswer client id reply) ∷ calls) old new e h = trace
 trace-greets (Marks (HouseOrder order number) ∷ calls) old new e h = trace-greets calls h.0 new ((calm-rest (Marks (HouseOrder order number)) old h.0 tt h.1).greeted ∙ e) h.2
 trace-greets (Receives bytes ∷ calls) old new e h = trace-greets calls h.0 new (frames-greeted h.1.0 (with_received bytes old) h.0 h.1.1 ∙ e) h.2
 trace-greets (Turns happening ∷ calls) old new e h = trace-greets calls h.0 new ((calm-rest (Turns happening) old h.0 tt h.1).greeted ∙ e) h.2
-trace-greets (TakesBytes t n ∷ calls) old new e h = trace-greets calls h.0 new ((calm-rest (TakesBytes t n) old h.0 tt h.1).greeted ∙ e) h.2
+trace-greets (TakesBytes t bytes ∷ calls) old new e h = trace-greets calls h.0 new ((calm-rest (TakesBytes t bytes) old h.0 tt h.1).greeted ∙ e) h.2
 
 -- ---- what asks nothing
 

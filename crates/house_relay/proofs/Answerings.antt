@@ -5,13 +5,14 @@ use Rattle.std.proofs.lemmas.List.{append-nil}
 use Rattle.std.specs.List.{concat}
 use Rattle.proxy_frames.specs.Queued.{with_bytes}
 use Rattle.socks_dialog.specs.declared.outcome.Outcome.TheVariants.{Connects}
-use Rattle.house_relay.specs.Acts.{Act, Confirms, Refuses, Answer, Unanswered, Confirmed, Refused, read, delivered, taken, adjusted, before_in, last_reply, replies_in, replies_if, replies}
+use Rattle.house_relay.specs.Acts.{Act, Confirms, Refuses, Answer, Unanswered, Confirmed, Refused, read, delivered, took, taken, adjusted, before_in, last_reply, replies_in, replies_if, replies}
 use Rattle.house_relay.specs.Dialing.{grant_of, refusal_of}
 use Rattle.house_relay.specs.ChannelState.{fresh_live}
 use Rattle.house_relay.specs.Relay.{Stands, LineStands, IsOpened, WaitsFor}
 use Rattle.house_relay.specs.declared.line.ChannelState.TheVariants.{Opened, Live, Over}
 use Rattle.house_relay.specs.declared.relay.Relay.{Relay}
 use Rattle.house_relay.proofs.Readings.{settled-waits, asked-waits}
+use Rattle.house_relay.proofs.Taken.{took-length}
 
 -- the last reply by an answer
 abbrev reply_of : Option ℕ → Answer → List ℕ
@@ -52,9 +53,7 @@ one-more (Some version) host port a true acts s =
 
 -- what the socket is to take then
 record Answered (r : Relay) (more : List ℕ) (a : Answer) (dials : Bool) (acts : List Act) : Type 0 where
-  pub before : List ℕ
-  pub whole : before ++ (r.queue.waiting ++ more) ≡ replies_if dials (read acts) a ++ delivered acts
-  pub had : length before ≡ taken acts
+  pub whole : took acts ++ (r.queue.waiting ++ more) ≡ replies_if dials (read acts) a ++ delivered acts
   pub size : length (r.queue.waiting ++ more) ≡ length (replies_if dials (read acts) a) - taken acts
   pub within : taken acts ≤ length (replies_if dials (read acts) a)
 
@@ -66,21 +65,19 @@ answered r version a dials acts o s =
     let then = replies_if dials (read acts) a in
     let grows : then ≡ front ++ more = one-more version o.host o.port a dials acts o.waits in
     let none : delivered acts ≡ [] = o.nothing.no_data in
-    let before = s.delivers.0 in
+    let before = took acts in
     let waits : before ++ r.queue.waiting ≡ front =
-    s.delivers.1
+    s.delivers
     ∙ ap (λ b. replies dials acts ++ b) none
     ∙ append-nil (replies dials acts)
     ∙ ap (replies_if dials (read acts)) o.nothing.no_answer in
-    let had : length before ≡ taken acts = s.delivers.2 in
+    let had : length before ≡ taken acts = took-length acts in
     let all : before ++ (r.queue.waiting ++ more) ≡ then =
     sym (append_assoc before r.queue.waiting more) ∙ ap (λ b. b ++ more) waits ∙ sym grows in
     let sizes : length before + length (r.queue.waiting ++ more) ≡ length then =
     sym (length-append before (r.queue.waiting ++ more)) ∙ ap length all in
     record {
-      before = before;
       whole = all ∙ sym (append-nil then) ∙ ap (λ b. then ++ b) (sym none);
-      had = had;
       size = omega arith;
       within = omega arith;
     }
@@ -112,7 +109,7 @@ confirms r version remote window maximum dials acts is s =
     let no_room : adjusted acts ≡ 0 = n.no_room in
     record {
       sends = s.sends;
-      delivers = (a.before, a.whole, a.had);
+      delivers = a.whole;
       ends = s.ends;
       last = s.last;
       few = s.few;
@@ -142,7 +139,7 @@ refuses r version reason dials acts is s =
     let no_room : adjusted acts ≡ 0 = o.nothing.no_room in
     record {
       sends = s.sends;
-      delivers = (a.before, a.whole, a.had);
+      delivers = a.whole;
       ends = s.ends;
       last = s.last;
       few = s.few;

@@ -3,5 +3,6 @@ mod Comings
 mod Dialings
 mod Readings
 pub mod Resting
+mod Taken
 mod Takings
 pub mod Whole

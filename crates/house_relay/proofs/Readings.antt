@@ -11,7 +11,7 @@ use Rattle.socks_dialog.specs.State.{State, IsConnect}
 use Rattle.socks_dialog.specs.declared.outcome.Outcome.{Outcome}
 use Rattle.socks_dialog.specs.declared.outcome.Outcome.TheVariants.{Wants, Connects, Breaks}
 use Rattle.socks_dialog.proofs.Dialogs.{socks-parse}
-use Rattle.house_relay.specs.Acts.{Act, Reads, Answer, Unanswered, answer, read, sent, delivered, taken, adjusted, has_ended, sent_eof, outcome_in, before_in, behind_in, last_reply, replies_in, replies_if, replies, behind_if}
+use Rattle.house_relay.specs.Acts.{Act, Reads, Answer, Unanswered, answer, read, sent, delivered, took, taken, adjusted, has_ended, sent_eof, outcome_in, before_in, behind_in, last_reply, replies_in, replies_if, replies, behind_if}
 use Rattle.house_relay.specs.Dialing.{CameTo, IsReceived, IsReading}
 use Rattle.house_relay.specs.Relay.{Stands, LineStands, IsDialing, IsSettled, HasAsked, WaitsFor, NothingYet, MayRead, holding}
 use Rattle.house_relay.specs.declared.dialing.Came.{Came}
@@ -187,11 +187,7 @@ reads-more r piece dials acts other may s =
     let same = same-dialog dials (read acts) piece settled in
     record {
       sends = sym (append_assoc (sent acts) r.held.waiting piece) ∙ ap (λ b. b ++ piece) s.sends ∙ sym same.behind;
-      delivers = (
-        s.delivers.0,
-        s.delivers.1 ∙ ap (λ f. f ++ delivered acts) (sym (same.replies (answer acts))),
-        s.delivers.2,
-      );
+      delivers = s.delivers ∙ ap (λ f. f ++ delivered acts) (sym (same.replies (answer acts)));
       ends = s.ends;
       last = λ said. absurd (unsaid r dials acts may.unended s said);
       few = let room : length r.held.waiting + length piece ≤ LONGEST_PIECE = may.room in
@@ -268,22 +264,18 @@ reads-dialog r old new piece heard q' line' socket' dials acts is receives after
         let replied' : replies true (Reads piece ∷ acts) ≡ replies true acts ++ more =
         ap (replies_in (read acts ++ piece)) unanswered ∙ replied
         ∙ ap (λ a. replies_in (read acts) a ++ more) (sym unanswered) in
-        let before = s.delivers.0 in
+        let before = took acts in
         let none : delivered acts ≡ [] = d.nothing.no_data in
         let behind_none : sent acts ++ r.held.waiting ≡ [] = s.sends ∙ none-behind (read acts) d.wants in
         record {
           sends = sym (append_assoc (sent acts) r.held.waiting (drop heard.count piece))
               ∙ ap (λ b. b ++ drop heard.count piece) behind_none ∙ sym all.1;
-          delivers = (
-            before,
-            ap (λ q. before ++ q) queued
-                ∙ sym (append_assoc before r.queue.waiting more)
-                ∙ ap (λ b. b ++ more) (s.delivers.1 ∙ ap (λ b. replies true acts ++ b) none ∙ append-nil (replies true acts))
-                ∙ sym replied'
-                ∙ sym (append-nil (replies true (Reads piece ∷ acts)))
-                ∙ ap (λ b. replies true (Reads piece ∷ acts) ++ b) (sym none),
-            s.delivers.2,
-          );
+          delivers = ap (λ q. before ++ q) queued
+              ∙ sym (append_assoc before r.queue.waiting more)
+              ∙ ap (λ b. b ++ more) (s.delivers ∙ ap (λ b. replies true acts ++ b) none ∙ append-nil (replies true acts))
+              ∙ sym replied'
+              ∙ sym (append-nil (replies true (Reads piece ∷ acts)))
+              ∙ ap (λ b. replies true (Reads piece ∷ acts) ++ b) (sym none);
           ends = s.ends;
           last = λ said. absurd (unsaid r true acts may.unended s said);
           few = let room : length r.held.waiting + length piece ≤ LONGEST_PIECE = may.room in

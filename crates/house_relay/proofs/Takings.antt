@@ -1,8 +1,8 @@
 -- A socket takes some of what waits for it.
-use Rattle.std.proofs.Common.{◌≡◌, ◌∙◌, refl, sym, ap, arith, ℕ, ◌+◌, ◌-◌, ◌≤◌, Bool, true, false, if◌then◌else◌, List, ◌∷◌, ◌++◌, length, take, drop, length-take, length-append, Option, Some, None}
+use Rattle.std.proofs.Common.{◌≡◌, ◌∙◌, refl, sym, ap, subst, arith, ℕ, ◌+◌, ◌-◌, ◌≤◌, Bool, true, false, if◌then◌else◌, List, ◌∷◌, ◌++◌, length, take, drop, length-take, length-append, Option, Some, None}
 use Rattle.std.proofs.lemmas.Grind.{common_steps}
 use Rattle.std.proofs.lemmas.List.{append_assoc, take-append-drop}
-use Rattle.house_relay.specs.Acts.{Act, Takes, taken, delivered, adjusted, replies, to_take, taken_data}
+use Rattle.house_relay.specs.Acts.{Act, Takes, took, taken, delivered, adjusted, replies, to_take, taken_data}
 use Rattle.house_relay.specs.ChannelState.{takes_in, takes_more}
 use Rattle.house_relay.specs.Steps.{taken_of}
 use Rattle.socks_dialog.specs.declared.outcome.Outcome.{Outcome}
@@ -12,14 +12,18 @@ use Rattle.house_relay.specs.declared.line.Live.{Live as LiveState}
 use Rattle.house_relay.specs.declared.line.ChannelState.{ChannelState}
 use Rattle.house_relay.specs.declared.line.ChannelState.TheVariants.{Dialing, Asked, Opened, Offered, Live, Over}
 use Rattle.house_relay.specs.declared.relay.Relay.{Relay}
+use Rattle.house_relay.proofs.Taken.{took-length}
 
 -- one that is confirmed owes as much more room as is taken behind the replies, until CLOSE is said
-pub live-takes : (live : LiveState) (n : ℕ) (dials : Bool) (acts : List Act) → IsLive live dials acts
-    → IsLive (takes_more n live) dials (Takes n ∷ acts)
-live-takes live n dials acts s = by_case live.close_sent refl
+pub live-takes : (live : LiveState) (bytes : List ℕ) (dials : Bool) (acts : List Act) → IsLive live dials acts
+    → IsLive (takes_more (length bytes) live) dials (Takes bytes ∷ acts)
+live-takes live bytes dials acts s = by_case live.close_sent refl
   where
+    n : ℕ
+    n = length bytes
+
     by_case : (b : Bool) → live.close_sent ≡ b
-        → IsLive (if b then live else record live { owed = live.owed + (n - live.replies); replies = live.replies - n }) dials (Takes n ∷ acts)
+        → IsLive (if b then live else record live { owed = live.owed + (n - live.replies); replies = live.replies - n }) dials (Takes bytes ∷ acts)
     by_case true e = record {
       eof_sent = s.eof_sent;
       eof_received = s.eof_received;
@@ -47,10 +51,12 @@ live-takes live n dials acts s = by_case live.close_sent refl
     }
 
 -- before the OPEN is answered no more than the replies is taken
-pub nothing-takes : (n : ℕ) (dials : Bool) (acts : List Act) (before queue : List ℕ) → NothingYet dials acts
-    → before ++ queue ≡ to_take dials acts → length before ≡ taken acts → n ≤ length queue
-    → NothingYet dials (Takes n ∷ acts)
-nothing-takes n dials acts before queue s whole had few =
+pub nothing-takes : (bytes : List ℕ) (dials : Bool) (acts : List Act) (queue : List ℕ) → NothingYet dials acts
+    → took acts ++ queue ≡ to_take dials acts → length bytes ≤ length queue
+    → NothingYet dials (Takes bytes ∷ acts)
+nothing-takes bytes dials acts queue s whole few =
+    let before = took acts in
+    let had : length before ≡ taken acts = took-length acts in
     let sizes : length before + length queue ≡ length (replies dials acts) + length (delivered acts) =
     sym (length-append before queue) ∙ ap length whole ∙ length-append (replies dials acts) (delivered acts) in
     let none : length (delivered acts) ≡ 0 = ap length s.no_data in
@@ -65,57 +71,64 @@ nothing-takes n dials acts before queue s whole had few =
       none_closed = s.none_closed;
     }
 
-waits-takes : (n : ℕ) (dials : Bool) (acts : List Act) (version : Option ℕ) (outcome : Outcome)
-    → WaitsFor version outcome dials acts → WaitsFor version outcome dials (Takes n ∷ acts)
-waits-takes n dials acts None outcome s = s
-waits-takes n dials acts (Some version) outcome s = s
+waits-takes : (bytes : List ℕ) (dials : Bool) (acts : List Act) (version : Option ℕ) (outcome : Outcome)
+    → WaitsFor version outcome dials acts → WaitsFor version outcome dials (Takes bytes ∷ acts)
+waits-takes bytes dials acts None outcome s = s
+waits-takes bytes dials acts (Some version) outcome s = s
 
-pub line-takes : (line : ChannelState) (n : ℕ) (dials : Bool) (acts : List Act) (before queue : List ℕ)
-    → before ++ queue ≡ to_take dials acts → length before ≡ taken acts → n ≤ length queue
-    → LineStands line dials acts → LineStands (takes_in n line) dials (Takes n ∷ acts)
-line-takes (Dialing dialog) n dials acts before queue whole had few s = record {
+pub line-takes : (line : ChannelState) (bytes : List ℕ) (dials : Bool) (acts : List Act) (queue : List ℕ)
+    → took acts ++ queue ≡ to_take dials acts → length bytes ≤ length queue
+    → LineStands line dials acts → LineStands (takes_in (length bytes) line) dials (Takes bytes ∷ acts)
+line-takes (Dialing dialog) bytes dials acts queue whole few s = record {
   socks = s.socks;
   bytes = s.bytes;
   given = s.given;
   wants = s.wants;
-  nothing = nothing-takes n dials acts before queue s.nothing whole had few;
+  nothing = nothing-takes bytes dials acts queue s.nothing whole few;
 }
-line-takes (Asked host port version) n dials acts before queue whole had few s = record {
-  waits = waits-takes n dials acts version (Connects host port) s.waits;
-  nothing = nothing-takes n dials acts before queue s.nothing whole had few;
+line-takes (Asked host port version) bytes dials acts queue whole few s = record {
+  waits = waits-takes bytes dials acts version (Connects host port) s.waits;
+  nothing = nothing-takes bytes dials acts queue s.nothing whole few;
 }
-line-takes (Opened version) n dials acts before queue whole had few s = record {
+line-takes (Opened version) bytes dials acts queue whole few s = record {
   host = s.host;
   port = s.port;
-  waits = waits-takes n dials acts version (Connects s.host s.port) s.waits;
-  nothing = nothing-takes n dials acts before queue s.nothing whole had few;
+  waits = waits-takes bytes dials acts version (Connects s.host s.port) s.waits;
+  nothing = nothing-takes bytes dials acts queue s.nothing whole few;
 }
-line-takes (Offered remote window maximum) n dials acts before queue whole had few s = record {
+line-takes (Offered remote window maximum) bytes dials acts queue whole few s = record {
   plain = s.plain;
-  nothing = nothing-takes n dials acts before queue s.nothing whole had few;
+  nothing = nothing-takes bytes dials acts queue s.nothing whole few;
 }
-line-takes (Live live) n dials acts before queue whole had few s = live-takes live n dials acts s
-line-takes Over n dials acts before queue whole had few s = record {
+line-takes (Live live) bytes dials acts queue whole few s = live-takes live bytes dials acts s
+line-takes Over bytes dials acts queue whole few s = record {
   most = let m : adjusted acts ≤ taken_data dials acts = s.most in omega arith;
   settled = s.settled;
 }
 
 -- the relay goes on
-pub goes : (r : Relay) (n : ℕ) (dials : Bool) (acts : List Act) → n ≤ length r.queue.waiting → Stands dials acts r
-    → Stands dials (Takes n ∷ acts) (taken_of n r)
-goes r n dials acts few s =
-    let before = s.delivers.0 in
-    let queue = r.queue.waiting in
+goes-front : (r : Relay) (bytes rest : List ℕ) (dials : Bool) (acts : List Act) → r.queue.waiting ≡ bytes ++ rest
+    → drop (length bytes) r.queue.waiting ≡ rest → Stands dials acts r
+    → Stands dials (Takes bytes ∷ acts) (taken_of (length bytes) r)
+goes-front r bytes rest dials acts front left s =
+    let few : length bytes ≤ length r.queue.waiting = omega (arith, ap length front, length-append bytes rest) in
     record {
       sends = s.sends;
-      delivers = (
-        before ++ take n queue,
-        append_assoc before (take n queue) (drop n queue) ∙ ap (λ q. before ++ q) (take-append-drop n queue) ∙ s.delivers.1,
-        length-append before (take n queue)
-            ∙ (let had : length before ≡ taken acts = s.delivers.2 in grind (arith, common_steps, length-take)),
-      );
+      delivers = append_assoc (took acts) bytes (drop (length bytes) r.queue.waiting)
+          ∙ ap (λ q. took acts ++ (bytes ++ q)) left
+          ∙ ap (λ q. took acts ++ q) (sym front)
+          ∙ s.delivers;
       ends = s.ends;
       last = s.last;
       few = s.few;
-      line = line-takes r.line n dials acts before queue s.delivers.1 s.delivers.2 few s.line;
+      line = line-takes r.line bytes dials acts r.queue.waiting s.delivers few s.line;
     }
+
+pub goes : (r : Relay) (n : ℕ) (dials : Bool) (acts : List Act) → n ≤ length r.queue.waiting → Stands dials acts r
+    → Stands dials (Takes (take n r.queue.waiting) ∷ acts) (taken_of n r)
+goes r n dials acts few s =
+    let queue = r.queue.waiting in
+    let size : length (take n queue) ≡ n = grind (arith, common_steps, length-take) in
+    subst (λ k. Stands dials (Takes (take n queue) ∷ acts) (taken_of k r)) size
+    (goes-front r (take n queue) (drop n queue) dials acts (sym (take-append-drop n queue))
+    (ap (λ k. drop k queue) size) s)

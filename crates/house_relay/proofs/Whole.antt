@@ -3,9 +3,9 @@ use Rattle.std.proofs.Common.{◌≡◌, ◌∙◌, sym, ap, subst, arith, ℕ, 
 use Rattle.std.specs.Prelude.{◌||◌, ◌==◌}
 use Rattle.mux_outside.specs.declared.own_streams.OwnStream.{OwnStream}
 use Rattle.house_relay.specs.ChannelState.{takes}
-use Rattle.std.proofs.lemmas.List.{length-append, take-append-drop}
+use Rattle.std.proofs.lemmas.List.{length-append}
 use Rattle.std.proofs.Math.Seq.{drop-append_seam}
-use Rattle.house_relay.specs.Acts.{Act, Relays, read, sent, taken, adjusted, held, waiting, to_take, taken_data, outcome_in}
+use Rattle.house_relay.specs.Acts.{Act, Relays, read, sent, took, taken, adjusted, held, waiting, to_take, taken_data, outcome_in}
 use Rattle.house_relay.specs.Relay.{Stands, Keeps, OwesRight, AsksRight, SilentIn, IsResting, stuck_in, is_stuck, LineStands, NothingYet, WaitsFor}
 use Rattle.mux_outside.specs.declared.piece.TheConstants.{LONGEST_PIECE}
 use Rattle.socks_dialog.specs.declared.outcome.Outcome.TheVariants.{Connects}
@@ -13,23 +13,22 @@ use Rattle.house_relay.specs.declared.line.ChannelState.{ChannelState}
 use Rattle.house_relay.proofs.Readings.{asked-waits}
 use Rattle.house_relay.specs.declared.line.ChannelState.TheVariants.{Dialing, Asked, Opened, Offered, Live, Over}
 use Rattle.house_relay.specs.declared.relay.Relay.{Relay}
+use Rattle.house_relay.proofs.Taken.{took-length}
 
 pub holds : (dials : Bool) (acts : List Act) (r : Relay) → Stands dials acts r → r.held.waiting ≡ held dials acts
 holds dials acts r s = sym (drop-append_seam (sent acts) r.held.waiting) ∙ ap (drop (length (sent acts))) s.sends
 
 pub waits : (dials : Bool) (acts : List Act) (r : Relay) → Stands dials acts r → r.queue.waiting ≡ waiting dials acts
 waits dials acts r s =
-    let before = s.delivers.0 in
-    sym (drop-append_seam before r.queue.waiting)
-    ∙ ap (drop (length before)) s.delivers.1
-    ∙ ap (λ n. drop n (to_take dials acts)) s.delivers.2
+    sym (drop-append_seam (took acts) r.queue.waiting)
+    ∙ ap (drop (length (took acts))) s.delivers
+    ∙ ap (λ n. drop n (to_take dials acts)) (took-length acts)
 
 few : (dials : Bool) (acts : List Act) (r : Relay) → Stands dials acts r → taken acts ≤ length (to_take dials acts)
 few dials acts r s =
-    let before = s.delivers.0 in
-    let e : length before + length r.queue.waiting ≡ length (to_take dials acts) =
-    sym (length-append before r.queue.waiting) ∙ ap length s.delivers.1 in
-    let t : length before ≡ taken acts = s.delivers.2 in
+    let e : length (took acts) + length r.queue.waiting ≡ length (to_take dials acts) =
+    sym (length-append (took acts) r.queue.waiting) ∙ ap length s.delivers in
+    let t : length (took acts) ≡ taken acts = took-length acts in
     omega arith
 
 none-yet : (dials : Bool) (acts : List Act) → NothingYet dials acts → adjusted acts ≤ taken_data dials acts
@@ -72,7 +71,7 @@ asks Over dials acts s = s.settled
 pub relays : (dials : Bool) (acts : List Act) (r : Relay) → Stands dials acts r → Relays dials acts
 relays dials acts r s = record {
   prefix = ap (λ h. sent acts ++ h) (sym (holds dials acts r s)) ∙ s.sends;
-  in_order = take-append-drop (taken acts) (to_take dials acts);
+  in_order = ap (λ w. took acts ++ w) (sym (waits dials acts r s)) ∙ s.delivers;
   fits = few dials acts r s;
   granted = most r.line dials acts s.line;
   last = λ said. ((s.last said).0, sym (holds dials acts r s) ∙ (s.last said).1);

@@ -1,6 +1,6 @@
 -- What happens in one relay, the newest first, and what comes of it. Some begin with a dialog of
 -- SOCKS, which says to which end the channel is.
-use Rattle.std.specs.Prelude.{◌≡◌, ◌+◌, ◌-◌, ◌≤◌, ℕ, Bool, true, false, List, [], ◌∷◌, ◌++◌, length, take, drop, slice_index, IsTrue}
+use Rattle.std.specs.Prelude.{◌≡◌, ◌+◌, ◌-◌, ◌≤◌, ℕ, Bool, true, false, List, [], ◌∷◌, ◌++◌, length, drop, slice_index, IsTrue}
 use Rattle.std.specs.List.{concat}
 use Rattle.mux_outside.specs.declared.piece.TheConstants.{LONGEST_PIECE}
 use Rattle.socks_dialog.specs.Replies.{granted_to, refused_to}
@@ -8,13 +8,13 @@ use Rattle.socks_dialog.specs.Socks.{socks}
 use Rattle.socks_dialog.specs.declared.outcome.Outcome.{Outcome}
 use Rattle.socks_dialog.specs.declared.outcome.Outcome.TheVariants.{Wants, Connects, Breaks}
 
--- the socket gave bytes, or its end, or took so many bytes of what waited for it, or failed; the OPEN
+-- the socket gave bytes, or its end, or took bytes of those that waited for it, or failed; the OPEN
 -- was confirmed, or refused for a reason; data was delivered in the channel; EOF or CLOSE was heard
 -- there; data, room for so many bytes, EOF or CLOSE was said there; or nothing of this
 pub data Act : Type 0 where
   Reads : (bytes : List ℕ) → Act
   Ends : Act
-  Takes : (n : ℕ) → Act
+  Takes : (bytes : List ℕ) → Act
   Fails : Act
   Confirms : Act
   Refuses : (reason : ℕ) → Act
@@ -45,10 +45,16 @@ delivered [] = []
 delivered (Delivers bytes ∷ acts) = delivered acts ++ bytes
 delivered (_ ∷ acts) = delivered acts
 
--- how many bytes the socket took
+-- all bytes that the socket took
+abbrev pub took : List Act → List ℕ
+took [] = []
+took (Takes bytes ∷ acts) = took acts ++ bytes
+took (_ ∷ acts) = took acts
+
+-- how many they are
 abbrev pub taken : List Act → ℕ
 taken [] = 0
-taken (Takes n ∷ acts) = taken acts + n
+taken (Takes bytes ∷ acts) = taken acts + length bytes
 taken (_ ∷ acts) = taken acts
 
 -- for how many bytes room was given back
@@ -153,10 +159,7 @@ held dials acts = drop (length (sent acts)) (behind dials acts)
 abbrev pub to_take : Bool → List Act → List ℕ
 to_take dials acts = replies dials acts ++ delivered acts
 
--- that of it which the socket took, and that which it didn't take
-abbrev pub taken_bytes : Bool → List Act → List ℕ
-taken_bytes dials acts = take (taken acts) (to_take dials acts)
-
+-- that of it which the socket didn't take
 abbrev pub waiting : Bool → List Act → List ℕ
 waiting dials acts = drop (taken acts) (to_take dials acts)
 
@@ -171,7 +174,7 @@ taken_data dials acts = taken acts - length (replies dials acts)
 -- data was taken; EOF goes on behind everything alone; and no more is held than one piece has at most
 pub record Relays (dials : Bool) (acts : List Act) : Type 0 where
   pub prefix : sent acts ++ held dials acts ≡ behind dials acts
-  pub in_order : taken_bytes dials acts ++ waiting dials acts ≡ to_take dials acts
+  pub in_order : took acts ++ waiting dials acts ≡ to_take dials acts
   pub fits : taken acts ≤ length (to_take dials acts)
   pub granted : adjusted acts ≤ taken_data dials acts
   pub last : IsTrue (sent_eof acts) → IsTrue (has_ended acts) × (held dials acts ≡ [])

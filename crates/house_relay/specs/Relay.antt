@@ -1,7 +1,7 @@
 -- How a relay stands, for what happened in it.
 use Rattle.std.specs.Prelude.{◌≡◌, ◌≢◌, ◌+◌, ◌-◌, ◌≤◌, ◌<◌, ◌&&◌, ◌||◌, ◌==◌, ℕ, Bool, true, false, not, is_some, List, [], ◌∷◌, ◌++◌, length, take, slice_index, IsTrue, Option, Some, None}
 use Rattle.house_relay.specs.Acts.{Act, SendsData, SendsAdjust, SendsEof, SendsClose, Other}
-use Rattle.house_relay.specs.Acts.{read, sent, delivered, taken, adjusted, has_ended, received_eof, received_close, sent_eof, sent_close}
+use Rattle.house_relay.specs.Acts.{read, sent, delivered, took, taken, adjusted, has_ended, received_eof, received_close, sent_eof, sent_close}
 use Rattle.house_relay.specs.Acts.{Unanswered, answer, outcome_in, before_in, replies, behind, held, to_take, waiting, taken_data}
 use Rattle.mux_outside.specs.declared.order.Order.{Order}
 use Rattle.mux_outside.specs.declared.order.Order.TheVariants.{Listen, Connect, Unlisten, Pause, Resume, Finish}
@@ -200,8 +200,7 @@ LineStands Over dials acts = IsOver dials acts
 -- a relay stands for what happened in it; it began with a dialog, or not
 pub record Stands (dials : Bool) (acts : List Act) (r : Relay) : Type 0 where
   pub sends : sent acts ++ r.held.waiting ≡ behind dials acts
-  pub delivers : (before : List ℕ) × (before ++ r.queue.waiting ≡ to_take dials acts)
-      × (length before ≡ taken acts)
+  pub delivers : took acts ++ r.queue.waiting ≡ to_take dials acts
   pub ends : r.ended ≡ has_ended acts
   pub last : IsTrue (sent_eof acts) → IsTrue (has_ended acts) × (r.held.waiting ≡ [])
   pub few : length r.held.waiting ≤ LONGEST_PIECE

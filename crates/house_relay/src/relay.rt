@@ -513,11 +513,11 @@ impl Relay {
         }
     }
 
-    /// It took so many bytes of what waits.
+    /// It took the first bytes of those that wait.
     pub fn took(&mut self, n: usize)
         requires { n ≤ length self.old.queue.waiting }
         ensures stands { owed_in self.old.line + n < 2 ^ 64
-            → GoesOn self.old self.new (Takes n) }
+            → GoesOn self.old self.new (Takes (take n self.old.queue.waiting)) }
         ensures exact { owed_in self.old.line + n < 2 ^ 64 → self.new ≡ taken_of n self.old }
         ensures stuck { stuck_in self.new.line ≡ stuck_in self.old.line }
         ensures others { self.new ≡ record self.old {

@@ -1,5 +1,5 @@
 //! What comes of the sockets of the house.
-ghost use Rattle.std.specs.Prelude.{ℕ, ◌≡◌, ◌≤◌, ◌+◌, ◌++◌, ◌∷◌, [], false, length, find, OnOk, IfOk, None, Some, Ok};
+ghost use Rattle.std.specs.Prelude.{ℕ, ◌≡◌, ◌≤◌, ◌+◌, ◌++◌, ◌∷◌, [], false, length, take, find, OnOk, IfOk, None, Some, Ok};
 ghost use Rattle.mux_outside.specs.House.{OwnTurnFits};
 ghost use Rattle.mux_outside.specs.House.{known_after_own_turn, queue_after_took};
 ghost use Rattle.mux_outside.specs.OwnStreams.{is_one, new_stream};
@@ -106,7 +106,7 @@ impl ForwarderState {
         }
     }
 
-    /// A stream took so many bytes of what waits for it.
+    /// A stream took the first bytes of those that wait for it.
     pub fn took(&mut self, stream: u64, n: usize)
         requires ordering { self.old.ordering ≡ None }
         requires fits { n ≤ length (queue_at self.old.relays.all.items stream) }
@@ -115,7 +115,7 @@ impl ForwarderState {
             ≡ queue_after_took stream n t (queue_at self.old.relays.all.items t) }
         ensures due { due_in self.new ≡ due_in self.old }
         ensures others { ChangesRelays self.old self.new }
-        ensures takes { TakesFurther stream n
+        ensures takes { TakesFurther stream (take n (queue_at self.old.relays.all.items stream))
             (held_in self.old) (held_in self.new) }
     {
         self.relays.took(stream, n);

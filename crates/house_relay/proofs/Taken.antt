@@ -1,0 +1,21 @@
+-- How many bytes the socket took.
+use Rattle.std.proofs.Common.{◌≡◌, ◌∙◌, refl, ap, ◌+◌, List, [], ◌∷◌, length, length-append}
+use Rattle.house_relay.specs.Acts.{Act, Reads, Ends, Takes, Fails, Confirms, Refuses, Delivers, ReceivesEof, ReceivesClose, SendsData, SendsAdjust, SendsEof, SendsClose, Other, took, taken}
+
+pub took-length : (acts : List Act) → length (took acts) ≡ taken acts
+took-length [] = refl
+took-length (Takes bytes ∷ acts) =
+    length-append (took acts) bytes ∙ ap (λ n. n + length bytes) (took-length acts)
+took-length (Reads bytes ∷ acts) = took-length acts
+took-length (Ends ∷ acts) = took-length acts
+took-length (Fails ∷ acts) = took-length acts
+took-length (Confirms ∷ acts) = took-length acts
+took-length (Refuses reason ∷ acts) = took-length acts
+took-length (Delivers bytes ∷ acts) = took-length acts
+took-length (ReceivesEof ∷ acts) = took-length acts
+took-length (ReceivesClose ∷ acts) = took-length acts
+took-length (SendsData bytes ∷ acts) = took-length acts
+took-length (SendsAdjust n ∷ acts) = took-length acts
+took-length (SendsEof ∷ acts) = took-length acts
+took-length (SendsClose ∷ acts) = took-length acts
+took-length (Other ∷ acts) = took-length acts
