@@ -72,7 +72,7 @@ no-directory : (dir : Bytes) (files : List Pair) → is_directory files (or_root
 no-directory [] files e = absurd cc
 no-directory (b ∷ bs) files e = ap (fold with_name []) (no-names (b ∷ bs) files (or-second (bytes_eq (b ∷ bs) (47 ∷ [])) (list_any (λ p. is_some (inside (b ∷ bs) p.name)) files) e))
 
--- the paths of the names that a component takes
+-- the paths of the names that a component matches
 abbrev pub taken : Bytes → Bytes → List Bytes → List Bytes
 taken component base names = map (λ name. base ++ 47 ∷ name) (filter (component_takes component) names)
 

@@ -1,4 +1,4 @@
--- Which errors are out of memory, at which any call may end.
+-- Which errors are `OutOfMemory`, at which any call may end.
 use Rattle.std.specs.Prelude.{Bool, true, false}
 use Rattle.conf_rules.specs.declared.causes.LexError.{LexError}
 use Rattle.conf_rules.specs.declared.causes.LexError.TheVariants as lex_errors
@@ -11,27 +11,27 @@ use Rattle.conf_rules.specs.declared.causes.TokenError.TheVariants as token_erro
 use Rattle.conf_rules.specs.declared.causes.ListError.{ListError}
 use Rattle.conf_rules.specs.declared.causes.ListError.TheVariants as list_errors
 
--- whether a lexer's error is out of memory
+-- whether a lexer's error is `OutOfMemory`
 abbrev pub lex_wants_memory : LexError → Bool
 lex_wants_memory lex_errors.OutOfMemory = true
 lex_wants_memory e = false
 
--- whether a value's error is out of memory
+-- whether a value's error is `OutOfMemory`
 abbrev pub value_wants_memory : ValueError → Bool
 value_wants_memory value_errors.OutOfMemory = true
 value_wants_memory e = false
 
--- whether a criterion's error is out of memory
+-- whether a criterion's error is `OutOfMemory`
 abbrev pub match_wants_memory : MatchError → Bool
 match_wants_memory match_errors.OutOfMemory = true
 match_wants_memory e = false
 
--- whether a token's error is out of memory
+-- whether a token's error is `OutOfMemory`
 abbrev pub token_wants_memory : TokenError → Bool
 token_wants_memory token_errors.OutOfMemory = true
 token_wants_memory e = false
 
--- whether a listing's error is out of memory
+-- whether a listing's error is `OutOfMemory`
 abbrev pub list_wants_memory : ListError → Bool
 list_wants_memory list_errors.OutOfMemory = true
 list_wants_memory e = false

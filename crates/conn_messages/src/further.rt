@@ -68,7 +68,7 @@ fn cancel_path<'a>(fields: &mut FieldReader<'a>) -> Result<Request<'a>, Bad>
     Ok(Request::Cancel(key))
 }
 
-/// A global request's data, by its name.
+// A global request's data, by its name.
 pub(crate) fn request_data<'a>(
     name: &[u8],
     fields: &mut FieldReader<'a>,
@@ -149,7 +149,7 @@ fn forwarded_path<'a>(fields: &mut FieldReader<'a>) -> Result<Opening<'a>, Bad>
     Ok(Opening::Forwarded(Key::Path(path)))
 }
 
-/// An open's data, by its type.
+// An open's data, by its type.
 pub(crate) fn opening_data<'a>(
     kind: &[u8],
     fields: &mut FieldReader<'a>,

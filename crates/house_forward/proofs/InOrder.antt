@@ -201,7 +201,7 @@ among-more (Some k) l ls e = or_right (k == l) _ e
 pub among-first : (l : ℕ) (ls : List ℕ) → among l (l ∷ ls) ≡ true
 among-first l ls = or_left _ _ (eq-eqb l l refl)
 
--- a listener that is to be closed is that of a forwarding, which takes room for one mark
+-- a listener that is to be closed is that of a forwarding, which uses room for one mark
 pub record Unlistens (l : ℕ) (fs : List Forwarding) : Type 0 where
   pub among : among l (listeners_of fs) ≡ true
   pub due : sum_by forwarding_due (filter (λ f. not (has_listener l f)) fs) + 1 ≤ sum_by forwarding_due fs

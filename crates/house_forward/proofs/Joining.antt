@@ -1,4 +1,4 @@
--- The relay of a socket that is joined.
+-- The relay of an accepted socket.
 use Rattle.std.proofs.Common.{◌≡◌, refl, sym, ℕ, Bool, true, false, Option, Some, None}
 use Rattle.house_relay.specs.Steps.{fresh_relay, fresh_dialing}
 use Rattle.house_relay.specs.declared.line.ChannelState.TheVariants.{Over}

@@ -42,7 +42,7 @@ module _ {X : Type 0} where
   in-remove q x (y ∷ xs) (suc i) d l is isnt (inl e) = inl e
   in-remove q x (y ∷ xs) (suc i) d l is isnt (inr h) = inr (in-remove q x xs i d (omega arith) is isnt h)
 
-  -- one stays where another takes a place, or it was there
+  -- one stays where another gets a place, or it was there
   pub in-set : (x : X) (xs : List X) (i : ℕ) (y d : X) → i < length xs → In x xs → In x (set xs i y) ⊎ (x ≡ get_or xs i d)
   in-set x [] i y d l h = absurd h
   in-set x (z ∷ xs) zero y d l (inl e) = inr (sym e)

@@ -176,7 +176,7 @@ keeps-fate : (starts : Starts) (j : ℕ) (ask : StartAsk) (r more : Option ℕ) 
 keeps-fate starts j ask r more old new keeps records (inl f) = inl (f.0, records f.1)
 keeps-fate starts j ask r more old new keeps records (inr p) = inr (record { f = p.f; here = keeps p.f p.here; first = p.first; is_for = p.is_for })
 
--- who is recorded after one more
+-- which one is recorded after one more
 records-one : (b gateway : Bool) (ask : StartAsk) (i j : ℕ) (old new : Standing) → StartsIf b gateway ask i old new
     → IsRecorded old.refused j → IsRecorded new.refused j
 records-one true gateway ask i j old new s recorded =
@@ -453,7 +453,7 @@ goes starts ask (Unlistens l) forwarder_events old new t d p =
     (pending-in starts ask old.all (filter keep old.all) p
     (in-filter keep p.f old.all (ap not (first-lacks l p.f.stage p.first)) p.here)))
 
--- who is recorded stays
+-- which one is recorded stays
 recorded-begins : (gateway : Bool) (asks : List StartAsk) (i j : ℕ) (old new : Standing) → i ≤ length asks → BeginsAt gateway asks i old new
     → IsRecorded old.refused j → IsRecorded new.refused j
 recorded-begins gateway asks zero j old new l begins recorded = subst (λ (t : Standing). IsRecorded t.refused j) (sym begins) recorded

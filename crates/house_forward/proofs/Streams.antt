@@ -57,7 +57,7 @@ has-stream [] k t x l e n = absurd (omega arith)
 has-stream (y ∷ ls) zero t x l e n = has-one y.stream (streams_of ls) t (subst (λ (z : Link). has_number t z ≡ true) (sym e) n)
 has-stream (y ∷ ls) (suc k) t x l e n = behind-one (own_of y.stream) (streams_of ls) t (has-stream ls k t x (omega arith) e n)
 
--- where none has it no link takes the step
+-- where none has it no link makes the step
 pub unmoved : (step : LinkStep) (t : ℕ) (ls : List Link) → is_one t (streams_of ls) ≡ false → map (link_after step t) ls ≡ ls
 unmoved step t [] e = refl
 unmoved step t (y ∷ ls) e =

@@ -1,5 +1,5 @@
 -- What the forwarder has besides its relays, as its calls go on: the forwardings, the requests to
--- the server and the requests.
+-- the server and those of clients.
 use Rattle.std.specs.Prelude.{◌≡◌, ◌+◌, ◌-◌, ℕ, Bool, true, false, not, List, [], ◌∷◌, ◌++◌, drop, length, filter, find, IfSome, Option, Some, None}
 use Rattle.std.specs.List.{position}
 use Rattle.mux_outside.specs.Streams.{among}

@@ -2,19 +2,14 @@
 //! socket accepted at a listener becomes a channel, and an OPEN of the server becomes a connection;
 //! between the two the forwarder relays.
 //!
-//! A relay has two sides: the channel, as the connection protocol has it, and the socket, as the
-//! wire has it. Neither side keeps a list of what it is still to do: what a relay sends or orders
-//! next follows from the states of its sides. So a forwarder at rest is one whose relays and
-//! forwardings have nothing to do, and no memory is allocated for what waits.
+//! A relay has two sides: the channel and the socket. How bytes and ends go between them is
+//! described in the crate `house_relay`. An accepted socket is a relay whose OPEN is to be sent. An
+//! OPEN of the server is a relay whose socket is to be connected, and whose CONFIRMATION waits for
+//! that.
 //!
-//! - An accepted socket is a relay whose OPEN is to be sent. An OPEN of the server is a relay whose
-//!   socket is to be connected, and whose CONFIRMATION waits for that.
-//! - Bytes read from a socket are held until the channel accepts them. While it accepts none, the
-//!   socket is paused.
-//! - Bytes received in the channel are queued for the socket. The window is given back as the
-//!   socket accepts them.
-//! - The end of a side goes on to the other after all bytes. When both have ended and nothing
-//!   waits, or a side fails, the channel is closed, and then the socket.
+//! No side keeps a list of what it is still to do: what a relay sends or orders next follows from
+//! the states of its sides. So a forwarder at rest is one whose relays and forwardings have nothing
+//! to do, and no memory is allocated for what waits.
 //!
 //! What the calls of the forwarder record, call by call, is defined in specs/RelayTraces.antt for
 //! its relays, and in specs/ForwardingState.antt for everything else; the forwarder represents

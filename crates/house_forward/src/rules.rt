@@ -131,8 +131,9 @@ fn kind_of(kind: u32) -> Option<Kind>
     }
 }
 
-// The host that is listened on for a host that was requested: `localhost` and nothing represent
-// this machine alone, and `*` for all its addresses, as nothing does where others may come in.
+// The host that is listened on for a host that was requested: `localhost` and an empty host mean
+// this machine alone, and `*` means all its addresses, as an empty host does where others may
+// connect.
 fn local_host(host: &[u8], gateway: bool) -> &[u8]
     ensures { result.now ≡ local_host gateway host.now }
 {

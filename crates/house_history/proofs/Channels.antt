@@ -357,7 +357,7 @@ heard-other k own p down m reads out =
     (each-any (λ (y : Channel). does (Heard p) [] y ≡ y) (λ y. reading-ok p m (λ m. with_down m y) y reads ∙ outside-stays m y out) (held_of own))
     (heard-none k p [] m reads (outside-begins k m out))
 
--- an item that no one says
+-- an item that no one sends
 abbrev pub IsUnsaid : Item → Type 0
 IsUnsaid (Says j outgoing given) = ⊥
 IsUnsaid (Heard p) = ⊥

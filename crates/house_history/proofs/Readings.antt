@@ -62,7 +62,7 @@ as-four n =
 reads-as : (m : Message) (p : List ℕ) → Spells m p → read_summary p ≡ Ok (summary m)
 reads-as m p is = ap (λ (r : Result Message Bad). elim r as (λ _. Result Summary Bad) [ Ok m ↦ Ok (summary m) | Err e ↦ Err e ]) (spelled_reads m p is)
 
--- ---- what a relay says
+-- ---- what a relay sends
 
 -- the numbers of both ends are uint32
 abbrev pub SmallIn : ChannelState → Type 0
@@ -107,7 +107,7 @@ ReadsIn (Offered remote window maximum) number s p = ReadsOffer remote number s 
 ReadsIn (Live live) number s p = ReadsLive live.remote s p
 ReadsIn Over number s p = ⊥
 
--- the payload reads as what the relay says
+-- the payload reads as what the relay sends
 abbrev pub Reads : Relay → Outgoing → List ℕ → Type 0
 Reads r s p = ReadsIn r.line r.number s p
 

@@ -277,7 +277,7 @@ pub recorded-confirmed : (hs fs bs : List Channel) (x : Channel) (c s w m : ℕ)
 recorded-confirmed hs fs bs x c s w m good are own up none le vs fit =
     through (Accepts c s w m) hs fs bs x c (fs ++ (record x { remote = Some s; acts = (Down, Confirms w m) ∷ x.acts }) ∷ bs) (λ es gs v k. confirmed-at fs bs x c s w m none le es gs v k) good are own vs fit
 
--- ---- the server opens one, or says nothing of a channel
+-- ---- the server opens one, or sends nothing about a channel
 
 pub recorded-offered : (hs : List Channel) (s w m : ℕ) (y : Channel) → Each (λ (z : Channel). is_number z.remote s ≡ false) hs → y.remote ≡ Some s → IsFreshDown w m y
     → (vs : List Entry) → Fit hs vs → Each (Bound (Offers s w m)) vs × Fit (hs ++ y ∷ []) (noted (Offers s w m) vs)

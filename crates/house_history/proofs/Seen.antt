@@ -70,7 +70,7 @@ pub record Seen (hs : List Channel) (relay_traces : List Life) (notes : List Not
 abbrev pub note-in : List ℕ → Note
 note-in p = elim (read_summary p) [ Ok g ↦ note-of g | Err bad ↦ Nothing ]
 
--- ---- what a relay says
+-- ---- what a relay sends
 
 abbrev pub act-of : Outgoing → summary.Act
 act-of outgoing.Open = summary.Fails

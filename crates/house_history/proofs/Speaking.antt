@@ -179,7 +179,7 @@ record Does (line : ChannelState) (r : Relay) (s : Outgoing) (acts : List Act) (
   does : SentAs line s v now
   next : ViewOf (sent_of s (with-line line r)).line (sent_act s (with-line line r) ∷ acts) now
 
--- EOF wasn't said where bytes are held
+-- EOF wasn't sent where bytes are held
 eof-unsaid : (held : List ℕ) (said : Bool) → (IsTrue said → held ≡ []) → 0 < length held → said ≡ false
 eof-unsaid held true none some = absurd (let e : length held ≡ 0 = ap length (none refl) in omega (arith, e, some))
 eof-unsaid held false none some = refl
@@ -366,7 +366,7 @@ does-in Over r dials acts s v e stands fits last h = absurd (cc)
 relay-does : (r : Relay) (dials : Bool) (acts : List Act) (s : Outgoing) (v : View) → sends_of r ≡ Some s → Stands dials acts r → ViewOf r.line acts v → Does r.line r s acts v
 relay-does r dials acts s v e stands h = does-in r.line r dials acts s v e stands.line (relays dials acts r stands).fits (λ said. (stands.last said).1) h
 
--- ---- the first that has something to say says it
+-- ---- the first that has something to send sends it
 
 record Word (r : Relay) : Type 0 where
   word : Outgoing
@@ -419,7 +419,7 @@ spoken hs bytes old new sound says seen =
           }));
     }
 
--- the relay that says it is one of those
+-- the relay that sends it is one of those
 pub spoken-its : (P : Relay → Type 0) (hs : List Channel) (bytes : List ℕ) (old new : Trace) (sound : EachLife Sound old.relay_traces) (speaks : SendsBy true None bytes old new) (seen : Seen hs old.relay_traces []) → Each (λ (l : Life). P l.relay) old.relay_traces → P (spoken hs bytes old new sound speaks seen).relay
 unfolding spoken
 spoken-its P hs bytes old new sound speaks seen all =

@@ -389,7 +389,7 @@ says-live policy own pick p given n s act a front behind reads remote may good m
     (fits-said act x a f.before f.behind front behind n its-own account may held f.none more
     (subst (λ (hs : List Channel). Fit hs (front ++ (Some n, IsLive a) ∷ behind)) f.are fit))))
 
--- ---- whatever a relay says
+-- ---- whatever a relay sends
 
 -- the window of one that the server opened is uint32
 abbrev pub IsWindowed : View → Type 0

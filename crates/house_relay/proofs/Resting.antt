@@ -25,7 +25,7 @@ behind : {X : Type 0} (b : Bool) (o : Option X) → b ≡ false → (if b then N
 behind true o f e = cc
 behind false o f e = e
 
--- ---- says
+-- ---- sends
 
 offered : (s : Socket) → sends_offered s ≡ None → is_broken s ≡ false
 offered (socket.Open t) e = cc

@@ -1,4 +1,4 @@
--- What a relay says and orders next, as a function of its state.
+-- What a relay sends and orders next, as a function of its state.
 use Rattle.std.specs.Prelude.{◌-◌, ◌^◌, ◌&&◌, ◌==◌, ℕ, not, min, nat_lt, if◌then◌else◌, length, Option, Some, None}
 use Rattle.mux_outside.specs.declared.order.Order.{Order}
 use Rattle.mux_outside.specs.declared.order.Order.TheVariants as order

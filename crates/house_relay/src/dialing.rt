@@ -1,4 +1,4 @@
-//! The dialog of SOCKS before a relay.
+//! The SOCKS dialog before a relay.
 ghost use Rattle.std.specs.Prelude.{◌≡◌, ◌≤◌, length, IfOk, OnOk};
 ghost use Rattle.socks_dialog.specs.State.{HasConnect, GivesConnect, version_of};
 ghost use Rattle.house_relay.specs.Dialing.{GivesAll, GaveSome, IsCame, IsReading, IsReceived, grant_of, refusal_of};

@@ -1,8 +1,7 @@
-//! One relay of the master's own forwardings: a channel and a socket, and the bytes between them.
-//! The channel side is as the connection protocol has it, the socket side as the wire has it.
-//! Neither side keeps a list of what it is still to do: what a relay sends or orders next follows
-//! from the states of its sides. So a relay at rest has nothing to do, and no memory is allocated
-//! for what waits.
+//! One relay of the master's own forwardings: a channel, a socket, and the bytes between them. The
+//! channel side is as the connection protocol has it, the socket side as the wire has it. Neither
+//! side keeps a list of things to do: what a relay sends or orders next follows from the states of
+//! its sides. So a relay at rest has nothing to do, and no memory is allocated for what waits.
 //!
 //! - A relay of a dynamic forwarding begins with a SOCKS dialog, which gives the end that the
 //!   channel is for. The replies to it are queued before what is received in the channel, and the

@@ -90,7 +90,7 @@ stays-closed row own nothing lost begins wants =
     let fewer : length (asks (row ∷ own)) ≤ length (replies (row ∷ own)) = omega (arith, before) in
     all-closed (any_of is_admit (row ∷ own)) (is_lost (row ∷ own)) (any_of is_held (held_of (row ∷ own))) (nat_lt (length (replies (row ∷ own))) (length (asks (row ∷ own)))) (or-yes (loses row) (is_lost own) lost) (ap (any_of is_held) held) (no-less (length (replies (row ∷ own))) (length (asks (row ∷ own))) fewer)
 
--- lost, where the matters of one that was let in are closed
+-- lost, where the matters of one that was admitted are closed
 lost-of : (a l r : Bool) → a ≡ true → ((a && not l) || r) ≡ false → l ≡ true
 lost-of true true r a e = refl
 lost-of true false r a e = cc

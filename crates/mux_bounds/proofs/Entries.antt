@@ -27,7 +27,7 @@ use Rattle.mux_history.proofs.SentApart.{admits_client}
 use Rattle.mux_bounds.proofs.Knowns.{LetFirst, is_own}
 use Rattle.mux_bounds.proofs.Matters.{still-in}
 
--- ---- a client whose admission made a row, and that isn't out, was let in
+-- ---- a client whose admission made a row, and that isn't out, was admitted
 
 abbrev pub Has : ℕ → List Row → Type 0
 Has k rows = any_of (λ row. admits_client k row.item) rows ≡ true

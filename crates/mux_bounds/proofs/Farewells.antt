@@ -85,7 +85,7 @@ bounds-of policy pid before row known each few fits = record {
 pub row-bounds : (policy : Policy) (pid : ℕ) (before : List Row) (row : Row) → RowKnown policy pid before row → ForEach (RowKnown policy pid) before → Bounds (rows_of row.client before) row
 row-bounds policy pid before row known each = bounds-of policy pid before row known each (few-rows policy pid (row ∷ before) (known, each)).0 (fits-rows policy pid (row ∷ before) (known, each)).0
 
--- what each row leaves after
+-- what each row leaves
 abbrev pub LeavesLittle : List Row → Row → Type 0
 LeavesLittle before row = weight row.farewell ≤ if_lost (loses row)
 

@@ -28,7 +28,7 @@ use Rattle.mux_bounds.proofs.Begun.{heard-begins-none}
 use Rattle.mux_bounds.proofs.Matters.{still-in}
 use Rattle.mux_bounds.proofs.Owed.{asks-none}
 
--- ---- one that never said anything has nothing
+-- ---- one that never sent anything has nothing
 
 not-wanted : (row : Row) → is_sends row.item ≡ false → wanted_by row ≡ None
 not-wanted row still = by_item row.item still
@@ -159,7 +159,7 @@ to-greeted policy pid before p k each to = by_case (greeted (rows_of k before)) 
     by_case true e = e
     by_case false e = absurd (by_read e (read_summary p) refl)
 
--- ---- which was let in
+-- ---- which was admitted
 
 -- an item of a client alone
 abbrev pub is_own : Item → Bool
@@ -168,7 +168,7 @@ is_own (HouseSays k id given) = true
 is_own (Gone k) = true
 is_own item = false
 
--- a row of such an item is of a client that was let in
+-- a row of such an item is of a client that was admitted
 abbrev pub LetFirst : List Row → Row → Type 0
 LetFirst before row = is_own row.item ≡ true → any_of is_admit (rows_of row.client before) ≡ true
 

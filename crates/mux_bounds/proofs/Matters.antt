@@ -1,5 +1,5 @@
--- At most 64 clients have open matters: closed ones stay closed, and one more is let in only below
--- the limit.
+-- At most 64 clients have open matters: closed ones stay closed, and one more is admitted only
+-- below the limit.
 use Rattle.std.proofs.Common.{◌≡◌, ℕ, ◌+◌, ◌≤◌, List, [], ◌∷◌, ◌++◌, true, false, Bool, refl, ◌∙◌, ap, arith, sym, subst}
 use Rattle.std.specs.Prelude.{◌==◌, ◌||◌, not, nat_lt}
 use Rattle.std.proofs.lemmas.Bool.Decides.{nat_tests}
@@ -25,7 +25,7 @@ abbrev pub LetIn : List Row → List ℕ → Type 0
 LetIn rows [] = Unit {0}
 LetIn rows (k ∷ ks) = (any_of is_admit (rows_of k rows) ≡ true) × LetIn rows ks
 
--- closed matters of a client that was let in stay closed
+-- closed matters of a client that was admitted stay closed
 abbrev pub StayClosed : List Row → Row → Type 0
 StayClosed before row =
     (k : ℕ) → any_of is_admit (rows_of k before) ≡ true → has_open_matters (rows_of k before) ≡ false → has_open_matters (rows_of k (row ∷ before)) ≡ false
@@ -52,7 +52,7 @@ matters-one rows (k ∷ ks) c = by_case (has_open_matters (rows_of k rows)) (mat
     by_case true ih = omega (arith, ih)
     by_case false ih = ih
 
--- ---- who is let in
+-- ---- who is admitted
 
 pub still-in : (row : Row) (before : List Row) (k : ℕ) → any_of is_admit (rows_of k before) ≡ true → any_of is_admit (rows_of k (row ∷ before)) ≡ true
 still-in row before k admitted = by_case (row.client == k) refl
@@ -77,7 +77,7 @@ let-entered (row ∷ before) = let-append (row ∷ before) (entered before) (eli
     by_case true e = (ap (any_of is_admit) (filter-yes (λ (r : Row). r.client == row.client) row before (self row.client)) ∙ ap (λ b. b || any_of is_admit (rows_of row.client before)) e, tt)
     by_case false e = tt
 
--- ---- one is let in below the limit
+-- ---- one is admitted below the limit
 
 is-less : (a b : ℕ) → nat_lt a b ≡ true → a + 1 ≤ b
 is-less a b e = grind (arith, nat_tests)

@@ -134,7 +134,7 @@ sum-few g rows (k ∷ ks) few none = by_case (has_open_matters (rows_of k rows))
     by_case true e ih = let f = few k in omega (arith, f, ih)
     by_case false e ih = let f = none k e in omega (arith, f, ih)
 
--- ---- who asked was let in
+-- ---- who asked was admitted
 
 each-of : (P Q : Ask → Type 0) → ((a : Ask) → P a → Q a) → (us : List Ask) → EachAsk P us → EachAsk Q us
 each-of P Q step [] all = tt

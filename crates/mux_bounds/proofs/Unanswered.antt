@@ -103,7 +103,7 @@ fits-rows policy pid (row ∷ before) each = (subst (Fits before) each.0.is (fit
 less : (w f a m : ℕ) → (w - a) + f ≤ 1024 → (w + f) - (a + m) ≤ 1024
 less w f a m le = omega arith
 
--- a row adds what it wants, and takes away what it answers
+-- a row adds what it wants, and removes what it answers
 unanswered-next : (row : Row) (own : List Row) → unanswered_asks own + length (sent_flags (is_sent row) (wanted_by row)) ≤ 1024 → unanswered_asks (row ∷ own) ≤ 1024
 unanswered-next row own le =
     let grow = answers-grow row own in

@@ -119,7 +119,7 @@ pub record IsJournal (asks : Asks) (marks : List Mark) : Type 0 where
   pub throughout : Throughout asks [] marks
   pub opens : AtEach (WaitOpen asks) [] marks
 
--- the client represents what the wire recorded since the start, and for what was shown
+-- the client represents what the wire recorded since the start, and what was shown
 pub record Talking (asks : Asks) (start recorded : Option (List Mark)) (held shown : List ℕ)
     (s : ClientState) : Type 0 where
   pub marks : List Mark

@@ -56,7 +56,7 @@ matters-few s rows n st exact = exact (let f = st.clients.few in omega arith) �
 
 -- ---- the rows of a new client
 
--- a client that was let in has rows
+-- a client that was admitted has rows
 in-rows : (j : ℕ) (rows : List Row) → any_of (λ i. i == j) (entered rows) ≡ true → any_of is_admit (rows_of j rows) ≡ true
 in-rows j [] h = absurd (cc)
 in-rows j (row ∷ rows) h = by_admit (in-rows j rows) (is_admit row) refl (row.client == j) refl
@@ -132,7 +132,7 @@ refused-stands s k rows st new =
       known = st.known;
     }
 
--- ---- one that is let in
+-- ---- one that is admitted
 
 abbrev pub admit_row : ℕ → List ℕ → Row
 admit_row k frame = bare (Admit k) k (records frame)

@@ -138,7 +138,7 @@ apart-remote n s l es free apart = apart-all (λ e. has_remote s e ≡ false) (a
             by_same false e = e
         by_numbers u false p false q h = ap (λ (e : Entry). is_number e.channel.remote u) (at-other n (confirm_remote s l) b q) ∙ t.remote u (sym (ap (λ (e : Entry). is_number e.channel.remote u) (at-other n (confirm_remote s l) a p)) ∙ h)
 
--- what is known of each where the client of one entry takes a number in
+-- what is known of each where the client of one entry gets a number
 pub record TakesOwn (n k c : ℕ) (e : Entry) : Type 0 where
   pub free : has_own k c e ≡ false
   pub mine : (e.number == n) ≡ true → (e.channel.client == k) ≡ true

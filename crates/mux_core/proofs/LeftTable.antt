@@ -24,7 +24,7 @@ use Rattle.mux_core.proofs.Leaves.{AllDiffer, Differ, Leaving}
 
 -- ---- one entry
 
--- the entry with CLOSE said, where it may be
+-- the entry with CLOSE sent, where it may be
 abbrev closing : Entry → Entry
 closing e = record e { ledger = account.left e.ledger }
 

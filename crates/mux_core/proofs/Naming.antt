@@ -1,4 +1,4 @@
--- A channel takes the other side's number: whether it may, and the state after its account is set
+-- A channel gets the other side's number: whether it may, and the state after its account is set
 -- too.
 use Rattle.std.proofs.Common.{◌≡◌, ℕ, List, true, false, Bool, refl, ◌∙◌, ap, sym, Option, Some, None}
 use Rattle.std.specs.Prelude.{◌==◌, ◌&&◌, not, is_some}

@@ -10,7 +10,7 @@ use Rattle.mux_history.proofs.OwnRows.{idle_row, own_row}
 use Rattle.forward_rules.specs.Stands.{places_of}
 use Rattle.mux_core.specs.Stands.{look}
 
--- a row that neither asks nor replies, changes no forwarding, loses no client and lets no client in
+-- a row that neither asks nor replies, changes no forwarding, loses no client and admits no client
 pub record IsQuiet (row : Row) : Type 0 where
   pub asks : asks_of row.client (is_sent row) (wanted_by row) ≡ []
   pub flags : sent_flags (is_sent row) (wanted_by row) ≡ []

@@ -36,7 +36,7 @@ use Rattle.mux_core.proofs.OpensSent.{served-known}
 to-is : (j k : ℕ) → ToClient j ≡ ToClient k → j ≡ k
 to-is j k h = cc
 
--- the channel that a number names is one of a client that was let in
+-- the channel that a number names is one of a client that was admitted
 holder-known : (s : CoreState) (n : ℕ) (rows : List Row) (x : Channel) → Stands s rows → holder rows n ≡ Some x → is_known s.clients x.client ≡ true
 holder-known s n rows x st found = by_entry (find (shown_at n) s.channels) refl (subst (FoundFit (find (shown_at n) s.channels)) found (holder-fit s n rows st))
   where

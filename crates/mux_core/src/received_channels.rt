@@ -1,4 +1,4 @@
-//! What the server sends of channels.
+//! The server's messages about channels.
 
 ghost use Rattle.std.specs.Prelude.{◌≡◌, IfOk, OnErr};
 ghost use Rattle.mux_history.specs.Summary.{Confirmation, Fails, Open, Within};

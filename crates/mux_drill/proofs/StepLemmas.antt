@@ -40,7 +40,7 @@ some_of : (xs : List ℕ) → IsNonEmpty xs → 0 < length xs
 some_of [] h = absurd h
 some_of (x ∷ xs) h = omega arith
 
--- each step that speaks says something
+-- each step that speaks sends something
 pub sends_some : (picks waiting : List ℕ) (plan : Plan) (stage : DrillStage)
     → SendsSome (step_at picks waiting plan stage).turn (step_at picks waiting plan stage).says
 unfolding greeting confirmation_frame adjust_frame data_frame close_frame

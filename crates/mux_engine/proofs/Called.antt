@@ -46,7 +46,7 @@ pub calls-heard : (now : Side) (size : ℕ) (bytes : List ℕ) → now.unnoted �
 calls-heard now size bytes took all was =
     append-nil (all ++ Receives bytes ∷ []) ∙ ap (λ (l : List HouseCall). l ++ Receives bytes ∷ []) (sym (append-nil all) ∙ (ap (λ (l : List HouseMark). all ++ calls_of l) (sym took) ∙ was))
 
--- ---- from house to house
+-- ---- from forwarder to forwarder
 
 pub handed-none : {stands stands' : List HouseCall → Type 0} {So : List HouseCall → Type 0} (calls : List HouseCall) → HandsOn stands stands' calls → So calls → Handed stands stands' So
 handed-none calls hands so = record { all = calls; hands = hands; so = so }

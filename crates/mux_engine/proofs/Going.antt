@@ -11,8 +11,8 @@ use Rattle.mux_engine.proofs.HouseCalls.{house-then, same-house}
 use Rattle.mux_engine.proofs.Places.{places-same, places-then}
 use Rattle.mux_engine.proofs.Wired.{WorkedOwn, worked-own-none, works-own-then}
 
--- from one house to another, over a wire: a run was served on with no turn, no stream of the wire
--- came or went, and only the master's own were written to
+-- from one forwarder to another, over a wire: a run was served on with no turn, no stream of the
+-- wire came or went, and only the master's own were written to
 pub record Goes {T : Type 0} (May : HouseReply → Type 0) (state : T → HouseState) (a b : T) (old new : WireState) (f f' : Faults) (s s' : Scene) (todo rest : List ℕ) : Type 0 where
   pub ran : Ran May state a b s s' 0 todo rest
   pub known : SameHouse (state a).known (state b).known

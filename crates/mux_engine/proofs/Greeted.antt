@@ -240,7 +240,7 @@ counted-other present ended.OutOfMemory a b other over = over
 greets-since : (present : Bool) (stands stands' : List HouseCall → Type 0) (since : List HouseCall) (calls : List HouseCall) → list_any is_piece calls ≡ false → stands calls → HandsOn stands stands' since → StandsGreeting present stands' → present ≡ true → GreetsFirst since
 greets-since present stands stands' since calls none stood hands greets p = greets-behind calls since none (greets p (calls ++ since) (hands calls stood))
 
--- what came by the end of a run whose house greets first
+-- what came by the end of a run whose forwarder greets first
 pub run-came : {May : HouseReply → Type 0} {Rest : AtWaits} (house : HouseState) (stands' : List HouseCall → Type 0) (policy : Policy) (pid turns : ℕ) (before now : Option (List HouseMark)) (start : Option (List Mark)) (seen : Seen) (refused : Option ℕ) (answer : Ended) (a b : CallCounts)
     → IsRun May Rest house.stands stands' house.known.present policy pid turns before now start seen refused answer → (answer ≢ ended.OutOfMemory → StandsGreeting house.known.present stands') → OverBy house.known.present (Some answer) a b → HasSentNothing house → EndedBy answer a b
 run-came house stands' policy pid turns before now start seen refused answer a b run greets over silent = counted-other house.known.present answer a b other over

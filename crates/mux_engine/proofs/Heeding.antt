@@ -37,7 +37,7 @@ noted-next asks i m seen mid seen' less is so next =
     ∙ (ap (λ (recorded : Option (List Mark)). record seen { recorded = recorded }) (one-more m (take i asks) seen.recorded)
     ∙ ap (λ (l : List HouseMark). seen-with l seen) (ap (λ (a : HouseMark). take i asks ++ a ∷ []) is ∙ sym (take_more asks i m less))))
 
--- ---- the engine took in the event
+-- ---- the engine applied the event
 
 -- what was asked is all that is noted, where nothing was before
 all-asked : {A E : Type 0} {x : A} (none asks : List HouseMark) (old new : HouseState) → none ≡ [] → (h : Applies {A = A} {E = E} (Ok x) none asks old new) → asks ≡ h.more

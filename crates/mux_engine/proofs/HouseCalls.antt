@@ -171,7 +171,7 @@ module _ {May : HouseReply → Type 0} {Rest : Resting} {before : Option (List H
       let w = serve-recorded v (noting (HouseAnswer client id reply ∷ []) recorded' known (calls ++ calls_of (HouseAnswer client id reply ∷ []))) (HouseAnswer client id reply ∷ []) h refl refl refl refl refl in
       reply-so (λ k i. list_any (is_deferred k i) w.stands.asks ≡ true) reply client id known.asks fits w.deferred
 
--- ---- it is let in
+-- ---- it is admitted
 
 module _ {May : HouseReply → Type 0} {Rest : Resting} {before : Option (List HouseMark)} {now : Side} {policy : Policy} {pid : ℕ} {start : Option (List Mark)} {seen : Seen} {held failed : List ℕ} {given : ℕ} {s : State} where
   pub let-in : {May' : HouseReply → Type 0} {recorded recorded' : Option (List HouseMark)} (v : Serving May Rest before now policy pid start seen held failed given (0 ∷ here s) s) (s' : State) → v.journal ≡ [] → Rest.present ≡ true → s.ended ≡ None → s.refused ≡ [] → GoesOn May' recorded recorded' s s' (Accepts HOUSE) → Keeps (Accepted HOUSE) s s'
@@ -186,7 +186,7 @@ module _ {May : HouseReply → Type 0} {Rest : Resting} {before : Option (List H
 -- ---- it is handed what waits for it
 
 module _ {May : HouseReply → Type 0} {Rest : Resting} {before : Option (List HouseMark)} {policy : Policy} {pid : ℕ} {start : Option (List Mark)} {seen : Seen} {held failed : List ℕ} {given : ℕ} {s : State} where
-  -- something waits for it alone where it was let in
+  -- something waits for it alone where it was admitted
   waits-in : {now : Side} {todo : List ℕ} (v : Serving May Rest before now policy pid start seen held failed given todo s) (bytes : List ℕ) → bytes ≡ queue_in s HOUSE → 0 < length bytes → now.let_in ≡ true
   waits-in v bytes queue some = sym v.house_in ∙ by_in (is_accepted HOUSE v.journal) refl
     where

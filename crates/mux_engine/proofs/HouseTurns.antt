@@ -117,7 +117,7 @@ reply-fewer Later client id asks fits = absurd fits
 
 module _ {May : HouseReply → Type 0} {Rest : Resting} {before : Option (List HouseMark)} {now : Side} {policy : Policy} {pid : ℕ} {start : Option (List Mark)} {seen : Seen} {held failed : List ℕ} {given : ℕ} {todo : List ℕ} {s : State}
     (v : Serving May Rest before now policy pid start seen held failed given todo s) where
-  -- ---- it is let in
+  -- ---- it is admitted
 
   alone : v.journal ≡ [] → is_accepted HOUSE v.journal ≡ false
   alone e = ap (is_accepted HOUSE) e
@@ -136,7 +136,7 @@ module _ {May : HouseReply → Type 0} {Rest : Resting} {before : Option (List H
       (placed-house-in v (seen-with (HouseIn ∷ []) seen) s' ((wire-keeps seen v.journal).note HouseIn first refl v.of_wire) refl refl refl refl refl (came (Accepted HOUSE) HOUSE s s' refl admitted (keeps.streams live))
       (owns-plain v.journal seen (seen-with (HouseIn ∷ []) seen) (House HouseIn) tt v.places refl refl refl))
 
-  -- there was no memory to let it in
+  -- there was no memory to admit it
   pub cut-let-in : v.journal ≡ [] → Rest.present ≡ true → Promised May Rest before now.recorded policy pid start (seen-with (HouseIn ∷ []) seen).recorded given
   cut-let-in first there = cut-next v now.recorded (seen-with (HouseIn ∷ []) seen).recorded given (House HouseIn) [] now.unnoted refl (records-none now.recorded) (sym (append-nil now.unnoted))
       (of-streams seen.streams seen.blocked seen.last (House HouseIn ∷ v.journal) ((wire-keeps seen v.journal).note HouseIn first refl v.of_wire)) (record { opened = tt; gives = tt; writes = tt; joins = tt; others = refl })

@@ -25,7 +25,7 @@ more-yes set rows item e = ap (λ b. elim b as (λ _. List Row) [ false ↦ rows
 more-no : (set : Setting) (rows : List Row) (item : Item) → makes_next rows item ≡ false → more_of set rows item ≡ rows
 more-no set rows item e = ap (λ b. elim b as (λ _. List Row) [ false ↦ rows | true ↦ next_row set rows item ∷ rows ]) e
 
--- ---- what no row takes away
+-- ---- what no row removes
 
 all-keep : (P : List Row → Type 0) → ((row : Row) (rows : List Row) → P rows → P (row ∷ rows)) → (set : Setting) (items : List Item) (rows : List Row) → P rows → P (more_all set rows items)
 all-keep P more set [] rows p = p

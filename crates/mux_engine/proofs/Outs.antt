@@ -69,7 +69,7 @@ pub record ReceivesNothing (k : ℕ) (rows : List Row) : Type 0 where
   pub out : is_out (rows_of k rows) ≡ true
   pub silent : (is_lost (rows_of k rows) ≡ true) ⊎ (greeted (rows_of k rows) ≡ false)
 
--- it accepts nothing, and does not let this client in
+-- it accepts nothing, and does not admit this client
 abbrev pub Passes : ℕ → Item → Type 0
 Passes k (Took stream size) = ⊥
 Passes k (Admit j) = j ≢ k

@@ -35,7 +35,7 @@ use Rattle.mux_engine.proofs.OwnFaults.{own-asks, own-still}
 use Rattle.mux_engine.proofs.Places.{at-stream, open-stream}
 use Rattle.mux_engine.proofs.WireTurns.{client-number}
 
--- whoever says something
+-- whoever sends something
 abbrev Anyone : ℕ → Type 0
 Anyone k = Unit {0}
 

@@ -142,7 +142,7 @@ module _ {May : HouseReply → Type 0} {Rest : Resting} {before : Option (List H
         shut : (t : ℕ) → among t (0 ∷ here s) ≡ false → k ≡ t → ⊥
         shut t a e = true-false (sym (open-stream v k client found) ∙ (sym (among-open s k) ∙ (ap (λ i. among i (0 ∷ here s)) e ∙ a)))
 
-  -- a socket was joined
+  -- a socket was accepted
   pub own-joins : (l k : ℕ) → IsTrue (among l seen.listeners) → now.unnoted ≡ [] → IsNewOwn seen.last_own k → (seen' : Seen) → seen'.recorded ≡ option_map (λ m. m ++ Joins l k ∷ []) seen.recorded → OfWire seen'.streams seen'.blocked seen'.last (Joins l k ∷ v.journal)
       → seen'.streams ≡ seen.streams ++ k ∷ [] → seen'.blocked ≡ seen.blocked → seen'.last ≡ seen.last → seen'.last_own ≡ k → seen'.listens ≡ seen.listens → seen'.own ≡ seen.own ++ new_stream k ∷ [] → seen'.listeners ≡ seen.listeners → Serving May Rest before (calling now (Turns (Joined l k) ∷ [])) policy pid start seen' held failed given [] s
   own-joins l k there none new seen' recorded of streams blocked last last_own listens own listeners =

@@ -161,7 +161,7 @@ pub owns-accepts : (journal : List Mark) (seen seen' : Seen) (k : ℕ) → HasPl
 owns-accepts journal seen seen' k p client streams own listeners =
     owns-by journal seen seen' (Accepts k) p record { opened = tt; gives = tt; writes = tt; joins = tt; others = refl } own listeners (ap (filter is_own) streams ∙ (streams-client seen journal k p client ∙ ap numbers_of (sym own)))
 
--- a socket was joined
+-- a socket was accepted
 pub owns-joins : (journal : List Mark) (seen seen' : Seen) (l k : ℕ) → HasPlaces seen journal → IsTrue (among l seen.listeners) → is_own k ≡ true → seen'.streams ≡ seen.streams ++ k ∷ [] → seen'.own ≡ seen.own ++ new_stream k ∷ [] → seen'.listeners ≡ seen.listeners → Owns journal seen' (Joins l k)
 owns-joins journal seen seen' l k p listens is streams own listeners =
     owns-by journal seen seen' (Joins l k) p record { opened = tt; gives = tt; writes = tt; joins = ap (among l) (sym p.listeners) ∙ listens; others = refl } own listeners (ap (filter is_own) streams ∙ (streams-more seen journal k p is ∙ ap numbers_of (sym own)))
@@ -179,7 +179,7 @@ holds-placed journal k takes other = record { opened = tt; gives = tt; writes = 
 pub fails-placed : (journal : List Mark) (k : ℕ) → (IsTrue (is_own k) → IsTaking k (own_in journal)) → (k == HOUSE) ≡ false → IsPlaced journal (WriteFails k)
 fails-placed journal k takes other = record { opened = tt; gives = tt; writes = takes; joins = tt; others = other }
 
--- an open stream of the master's own that is not finished takes bytes
+-- an open stream of the master's own that is not finished accepts bytes
 pub taking : (seen : Seen) (journal : List Mark) → HasPlaces seen journal → (k : ℕ) → among k seen.streams ≡ true → is_finished k seen.own ≡ false → IsTrue (is_own k) → IsTaking k (own_in journal)
 taking seen journal p k found unfinished own = record {
   is = ap (is_one k) (sym p.own) ∙ own-open seen journal p k own found;

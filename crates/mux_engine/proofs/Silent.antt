@@ -20,7 +20,7 @@ use Rattle.mux_state.specs.Stands.{BytesFit, ClientReads, EachReads, IsStrange, 
 use Rattle.mux_state.specs.Twins.{AreAlike}
 use Rattle.mux_engine.proofs.Lists.{test-other, true-false}
 
--- ---- the wire was waited for, or a stream holds back or takes bytes again
+-- ---- the wire was waited for, or a stream holds back or accepts bytes again
 
 pub waits-alike : (waiting streams : List ℕ) (want : Want) (listens : Bool) (marks : List Mark) → AreAlike marks (Waits waiting want streams listens ∷ marks)
 waits-alike waiting streams want listens marks = record { log = λ set. refl; bytes = λ t. sym (append-nil (bytes_of t marks)); accepted = λ k. refl }

@@ -83,7 +83,7 @@ took-less s s' k n e one fits =
     let l : length (queue_in s' k) ≡ length (queue_in s k) - n = ap length q ∙ length-drop n (queue_in s k) in
     omega arith
 
--- a client for which something waits was let in
+-- a client for which something waits was admitted
 pub queue-present : (s : State) (k : ℕ) (bytes : List ℕ) → bytes ≡ queue_in s k → 0 < length bytes → k ≢ 0 → is_present s.clients k ≡ true
 queue-present s k bytes e some nz = by_present (is_present s.clients k) refl
   where

@@ -95,7 +95,7 @@ asks-are asks more e = held e
     held : Some asks ≡ Some more → asks ≡ more
     held h = cc
 
--- the same event with a mark that says the same
+-- the same event with a mark that records the same
 pub goes-twin : {May : HouseReply → Type 0} {recorded recorded' : Option (List HouseMark)} {picked : List ℕ} {replies : List HouseReply} {s s' : State} (twin mark : Mark) {marks : List Mark} {closed : List ℕ} → AreAlike (twin ∷ marks) (mark ∷ marks) → GoesBy May recorded recorded' picked replies s s' twin marks closed → GoesBy May recorded recorded' picked replies s s' mark marks closed
 goes-twin {picked = picked} {replies = replies} {s = s} {s' = s'} twin mark {marks} {closed} alike g = record {
   picks = g.picks;

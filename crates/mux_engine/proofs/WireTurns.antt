@@ -73,7 +73,7 @@ module _ {May : HouseReply → Type 0} {Rest : Resting} {before : Option (List H
   pub of-turn : (t : Turn) (bytes : List ℕ) → AreBytes bytes → Fits t bytes → OwnTurnFits t → OfWire (open_after t seen.streams) (blocked_after t seen.blocked) (last_after t seen.last) (reverse (wait_marks t (all-waiting v none admitted live o) (want_of s) seen.streams seen.listens bytes) ++ v.journal)
   of-turn t bytes are fits own_fits = (wire-keeps seen v.journal).turn t (all-waiting v none admitted live o) (want_of s) bytes are (waiting-blocked v none admitted live o) fits own_fits v.of_wire
 
-  -- whoever says something is the server or was accepted
+  -- whoever sends something is the server or was accepted
   accepted : (k : ℕ) → is_own k ≡ false → among k seen.streams ≡ true → k ≢ 0 → is_accepted k v.journal ≡ true
   accepted k client found nz = (at-stream v.stands k (open-stream v k client found)).accepted nz
 

@@ -102,30 +102,27 @@ pub record AsksOn (May : HouseReply → Type 0) (policy : Policy) (pid : ℕ) (p
       (asked_of (log_of_journal
       (by_lists policy pid (picks ++ more_picks) (replies ++ more_replies)) journal))
 
--- A run. The journal is what the wire recorded in this run, if it records, with the forwarder's
--- marks; it is one that a wire can give.
+-- A run. The journal is what the wire recorded in it, if it records, with the forwarder's marks; a
+-- wire can give it.
 --
 -- - There are numbers that were picked, and replies that the forwarder may give at once, for which
---   all is written and kept open as it must be. Each number is fresh at its row. There is one
---   number for each row that takes one, and one reply for each row that asks.
+--   all is written and kept open as it must be. Each number is fresh at its row. Each row that uses
+--   one has one, and each row that asks has one reply.
 -- - The rows are those of the whole journal; if memory ran out, those of its last event may be cut.
---   These rows, and all others that running out of memory may have left, keep what is promised of
---   rows.
--- - What the forwarder recorded (`before` at the start, `now` at the end) is what the journal has
---   of it, with the requests of these rows. If memory ran out, there may follow the first of those
---   that the whole journal has after them. If no forwarder is present, the journal has nothing of
---   one but the requests of clients.
+--   They, and all others that running out of memory may have left, keep what is promised of rows.
+-- - What the forwarder recorded since `before`, up to `now`, is what the journal has of it, with
+--   the requests of these rows. If memory ran out, the first of those that the whole journal has
+--   after them may follow. If no forwarder is present, the journal has only the requests of
+--   clients.
 -- - The master's own listeners and streams are at each mark those that the forwarder's orders leave
---   open. At each wait these streams are among the open ones, and the forwarder knows both; one
---   that is paused gives nothing, and one that is finished is not written to.
+--   open. At each wait these streams are among the open ones, and the forwarder knows both. A
+--   paused one gives nothing; a finished one is not written to.
 -- - The forwarder has no stream itself. It answers only requests of the rows so far that it
 --   deferred.
--- - Unless memory runs out, the run ends right, where `refused` is the forwarding of the start that
---   was refused, if none may be.
--- - Unless memory runs out, the forwarder was handed all that the journal has for it, once and in
---   the order of the journal.
--- - Unless memory runs out, these streams and listeners are those of the wire at the end, too, when
---   `seen` is seen of it.
+-- - Unless memory runs out, the run ends right: `refused` is the forwarding of the start that was
+--   refused, if none may be. The forwarder was handed all that the journal has for it, once and in
+--   order, and these streams and listeners are those of the wire at the end, when `seen` is seen of
+--   it.
 pub record IsRun (May : HouseReply → Type 0)
     (Rest : AtWaits)
     (stands stands' : List HouseCall → Type 0) (present : Bool) (policy : Policy) (pid turns : ℕ)

@@ -372,29 +372,27 @@ fn run<W: Wire, H: House>(
 /// forwarder sent.
 ///
 /// - It permits what the policy permits, and sends the process id to clients that check. What the
-///   wire records of this run is written, kept open and ended as [`RunKept`] requires.
-/// - Without a forwarder it waits once for each turn, and writes nothing before the first wait.
+///   wire records of the run is written, kept open and ended as it must be.
+/// - Without a forwarder it waits once for each turn, writes nothing before, and opens no listener
+///   or stream of its own.
 /// - The forwarder is handed each request of the clients. If it is present, it is admitted as a
-///   client.
-/// - At each wait a present forwarder has nothing to order and nothing to answer, is at rest if
-///   more is read, has no refusal that ends the run, and knows the wire's own listeners and streams
-///   as it ordered them. Whatever holds of every such forwarder by what it recorded, by its calls
-///   and by these listeners and streams, holds there. These streams are among the open ones; one
-///   that the forwarder paused gives nothing, and one that it finished is not written to.
+///   client. At each wait it then has nothing to order or to answer, is at rest if more is read,
+///   and has no refusal that ends the run. Whatever holds of every such forwarder, by what it
+///   recorded, its calls, its listeners and its streams, holds there.
+/// - The wire's own listeners and streams are those that the forwarder ordered and knows: at each
+///   wait and, unless memory runs out, at the end. These streams are among the open ones. A paused
+///   one gives nothing; a finished one is not written to.
 /// - Unless memory runs out, the forwarder is handed, once and in order, all that happens at its
-///   own streams and listeners, each write there that fails, how many bytes each stream accepts,
-///   and what waits for the forwarder as a client. After a call that ran out of memory no call is
-///   made.
-/// - Unless memory runs out, the wire's own listeners and streams at the end, too, are those that
-///   the forwarder ordered and knows. Without a forwarder none was opened.
-/// - If the answer names a forwarding of the start, that forwarding was refused, and none may be.
-///   Each order to listen or to connect that got no number is counted as an own fault, unless that
+///   streams and listeners, each write there that fails, how many bytes each stream accepts, and
+///   what waits for it as a client. No call follows one that ran out of memory.
+/// - A forwarding of the start that the answer names was refused, where none may be.
+/// - Each order to listen or to connect that got no number is counted as an own fault, unless that
 ///   count is at its last value.
-/// - Whatever the wire records, its counts show the cause. The run ends as the server disconnects
-///   or breaks the protocol only if a piece of the server came, or its end inside a frame; as the
-///   server ends only if its end came; and by a client's request only if a piece of a client came.
-///   A forwarder that has sent nothing before greets first, and after its greeting it ends no run;
-///   one that has sent something before may end it, by what it sends.
+/// - Whatever the wire records, its counts show why the run ended. The server disconnects or breaks
+///   the protocol only by a piece of it, or by its end inside a frame. It ends only by its end, and
+///   a client ends the run only by a piece of a client. A forwarder that has sent nothing before
+///   greets first, and ends no run after that; one that has sent something may end it, by what it
+///   sends.
 pub fn serve<W: Wire, H: House>(
     alloc: Global,
     policy: Policy,

@@ -16,7 +16,7 @@ use Rattle.mux_history.proofs.OwnRows.{same-client}
 use Rattle.mux_history.proofs.RightLogs.{LogKnown, RowKnown}
 use Rattle.mux_history.proofs.SentApart.{LawfulItem, admits_client}
 
--- ---- a client is let in once
+-- ---- a client is admitted once
 
 abbrev pub admits_one : Item → Bool
 admits_one (Admit j) = true
@@ -30,7 +30,7 @@ admit-item row admitted = by_item row.item row.fate admitted
     by_item i Refused e = cc
     by_item i fate e = cc
 
--- the item that lets a client in, and no row before it did
+-- the item that admits a client, and no row before it did
 pub record LetsIn (before : List Row) (row : Row) : Type 0 where
   pub own : admits_client row.client row.item ≡ true
   pub new : any_of (λ r. admits_client row.client r.item) before ≡ false

@@ -1,4 +1,4 @@
--- A row that says nothing to the server asks it for nothing.
+-- A row that sends nothing to the server asks it for nothing.
 use Rattle.std.proofs.Common.{◌≡◌, None, refl}
 use Rattle.ssh_grammar.specs.Said.{Body, Payload, BadFraming}
 use Rattle.mux_history.specs.Rows.{Row, Item, Says, Heard}

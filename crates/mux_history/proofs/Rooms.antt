@@ -93,7 +93,7 @@ by-items before row good harmless step known =
     (each-mapped (KnownIn before) Accounted (after_item row) step (channels_of before) (known-in before good known))
     (begun-accounted row.client row.up row.item))
 
--- a row that says nothing in a channel
+-- a row that sends nothing in a channel
 still-item : (before : List Row) (row : Row) → Every Harmless row.up → ((x : Channel) → received_by row.item x ≡ x) → (x : Channel) → KnownIn before x → Accounted (after_item row x)
 still-item before row harmless stays x known = elim (x.client == row.client) as (λ b. Accounted (elim b as (λ _. Channel) [ true ↦ with_ups (own_of row.item) row.up (received_by row.item x) | false ↦ x ])) [ true ↦ accounted-harmless (own_of row.item) row.up harmless (received_by row.item x) (subst Accounted (sym (stays x)) known.accounted) | false ↦ known.accounted ]
 

@@ -185,7 +185,7 @@ own-of s e = by_case (is_own s) e
     by_case true e = refl
     by_case false e = e
 
--- what another takes
+-- what another accepts
 holds-other : (t s n : ℕ) (taken : List ℕ) (rows : List Row) → (s == t) ≡ false → Holds t taken rows → Holds t taken (bare (Took s n) s silent ∷ rows)
 holds-other t s n taken rows other h = ap (λ xs. taken ++ xs) (pending-other t s n rows other) ∙ (h ∙ sym (ap (λ xs. given_to t rows ++ xs) (given-took t s n) ∙ append-nil (given_to t rows)))
 

@@ -124,7 +124,7 @@ abbrev pub received_by : Item → Channel → Channel
 received_by (Heard p) x = reading p (λ m. with_down m x) x
 received_by _ x = x
 
--- what the item sends and sends
+-- a channel after what the item receives in it and the row sends up
 abbrev pub after_item : Row → Channel → Channel
 after_item row x = elim (x.client == row.client) [
   | true ↦ with_ups (own_of row.item) row.up (received_by row.item x)

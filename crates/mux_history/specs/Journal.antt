@@ -167,8 +167,8 @@ is_accepted k (mark ∷ before) = is_accepted k before
 abbrev pub is_known : ℕ → List Mark → Bool
 is_known stream before = is_server stream || (is_own_stream stream || is_accepted stream before)
 
--- the forwarder is admitted before all else, and only then, as a client, it sends bytes, some at a
--- time, and accepts bytes; it replies to clients that were accepted
+-- the forwarder is admitted before all else; only after that it sends some bytes and accepts bytes,
+-- as a client; it replies to clients that were accepted
 abbrev pub LawfulHouse : List Mark → HouseMark → Type 0
 LawfulHouse before HouseIn = before ≡ []
 LawfulHouse before (HouseSaid bytes) =

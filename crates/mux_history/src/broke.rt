@@ -11,7 +11,7 @@ pub enum Break {
     Message(Bad),
     /// It replied to a global request where none is unanswered.
     NoAsker,
-    /// Its success must contain a port and has data of another length.
+    /// Its success must contain a port, and has data of another length.
     BadReply { length: usize },
     /// It opened or confirmed a channel under a number of its own that is live.
     NumberInUse { number: u32 },

@@ -1,4 +1,4 @@
--- A frame that is spelled as an answer says it.
+-- A frame that is spelled as an answer is that answer.
 use Rattle.std.proofs.Common.{◌≡◌, List, ℕ, ap, ◌∙◌}
 use Rattle.ssh_grammar.specs.declared.framing.Framing.TheVariants as framing
 use Rattle.ssh_grammar.specs.Control.{Answer}

@@ -28,7 +28,7 @@ use Rattle.mux_peers.proofs.Outcomes.{said-unrefused}
 use Rattle.mux_peers.proofs.Served.{or-first}
 use Rattle.mux_peers.proofs.Stood.{own_row}
 
--- ---- a row of one client that lets no client in and refuses no client
+-- ---- a row of one client that admits no client and refuses no client
 
 pub record IsOwn (k : ℕ) (row : Row) : Type 0 where
   pub client_is : row.client ≡ k

@@ -88,7 +88,7 @@ apart-last (d ∷ cs) c a gone = by_head (d.peer.number == c.peer.number) refl g
     by_head true t g ih = absurd (let z : true ≡ false = g in cc)
     by_head false t g ih = (present-last cs c d.peer.number (differs c.peer.number d.peer.number t) ∙ a.0, ih g)
 
--- ---- it is let in
+-- ---- it is admitted
 
 new-fits : (k : ℕ) (rows : List Row) → k ≢ 0 → rows_of k rows ≡ [] → InFits (let-in k ∷ rows) (new_client k)
 new-fits k rows nonzero new = record {

@@ -72,7 +72,7 @@ heard-next policy pid picks given rows p d e = ap (received_row rows p) e
 
 -- ---- a client that isn't lost
 
--- a client that the core knows was let in
+-- a client that the core knows was admitted
 pub known-admitted : (l : Look) (k : ℕ) (cs : List core.MemberState) → AllByRecursion (ClientFits l) cs → is_known cs k ≡ true → l.admitted k ≡ true
 known-admitted l k [] all h = absurd (cc)
 known-admitted l k (c ∷ cs) all h = by_head (c.number == k) refl (λ t. known-admitted l k cs all.1 t)

@@ -61,7 +61,7 @@ goes-on Goes e = refl
 goes-on Refused e = refl
 goes-on (Drop why) e = refl
 
--- it lets no client in
+-- it admits no client
 no-admit : (p : List ℕ) (row : Row) → row.item ≡ Heard p → is_admit row ≡ false
 no-admit p row e = by_fate row.fate
   where

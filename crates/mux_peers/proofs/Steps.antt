@@ -99,7 +99,7 @@ member-last : (k x : ℕ) (xs : List ℕ) → (x == k) ≡ true → among k (xs 
 member-last k x [] e = ap (λ b. b || false) e
 member-last k x (y ∷ xs) e = ap (λ b. (y == k) || b) (member-last k x xs e) ∙ or_true (y == k)
 
--- one that was let in is among those
+-- one that was admitted is among those
 pub entered-among : (k : ℕ) (rows : List Row) → any_of is_admit (rows_of k rows) ≡ true → among k (entered rows) ≡ true
 entered-among k [] h = absurd (cc)
 entered-among k (row ∷ rows) h = by_client (row.client == k) refl (is_admit row) refl (λ t. entered-among k rows t)

@@ -139,7 +139,7 @@ impl Peer {
         }
     }
 
-    // It is dropped for a cause, and sends farewell.
+    // It is dropped for a cause, and its farewell is sent.
     fn drop_for(&mut self, why: Why, core: &mut Core, up: &mut Queue)
         requires room { FAREWELL_ROOM ≤ up.old.spare }
         ensures peer { self.new ≡ record self.old { standing = Lost (Some why) } }

@@ -12,7 +12,7 @@ use Rattle.mux_history.proofs.Finds.{filter-no, filter-yes}
 use Rattle.mux_pieces.specs.Pieces.{is_by_server, is_sent_by, order_of, without_words}
 use Rattle.mux_pieces.proofs.Sayings.{heard-are, none-said, own-nobody, sayings-are, zero-nobody}
 
--- ---- who says an item is seen without its words
+-- ---- who sends an item is seen without its words
 
 said-without : (k : ℕ) (x : Item) → is_sent_by k (without_words x) ≡ is_sent_by k x
 said-without k (Says j outgoing given) = refl
@@ -26,7 +26,7 @@ server-without (Heard p) = refl
 server-without (BadServer fault) = refl
 server-without x = refl
 
--- an item that says nothing
+-- an item that sends nothing
 abbrev is_plain : Item → Bool
 is_plain (Says k outgoing given) = false
 is_plain (Heard p) = false
@@ -45,7 +45,7 @@ plain-same (Heard p) plain = cc
 plain-same (BadServer fault) plain = cc
 plain-same x plain = refl
 
--- ---- two lists of the same order, of which each says the same
+-- ---- two lists of the same order, of which each sends the same
 
 cons-heads : (x y : Item) (xs ys : List Item) → (x ∷ xs) ≡ (y ∷ ys) → x ≡ y
 cons-heads x y xs ys e = cc

@@ -49,7 +49,7 @@ heard-silent k (BadFraming fault) = refl
 abbrev Recorded : (Item → Bool) → (Outgoing → Item) → Mode → ℕ → List Mark → Type 0
 Recorded test f mode t marks = filter test (reverse (items marks)) ≡ map f (says mode (bytes_of t marks))
 
--- a mark that says nothing of it, and gives it no byte
+-- a mark that records nothing of it, and gives it no byte
 recorded-still : (test : Item → Bool) (f : Outgoing → Item) (mode : Mode) (t : ℕ) (before : List Mark) (mark : Mark)
     → filter test (items_in before mark) ≡ [] → bytes_in t mark ≡ [] → Recorded test f mode t before → Recorded test f mode t (mark ∷ before)
 recorded-still test f mode t before mark none quiet recorded =
@@ -200,7 +200,7 @@ heard-are (mark ∷ before) = by_mark mark (heard-are before)
 
 -- ---- no client is client 0, nor one of the master's own streams
 
--- a mark that none says anything in
+-- a mark that none sends anything in
 none-more : (test : Item → Bool) (before : List Mark) (mark : Mark) → filter test (items_in before mark) ≡ [] → filter test (reverse (items before)) ≡ [] → filter test (reverse (items (mark ∷ before))) ≡ []
 none-more test before mark none recorded = passes-next test before mark ∙ (ap (λ l. l ++ filter test (items_in before mark)) recorded ∙ none)
 

@@ -54,7 +54,7 @@ known-row row own r h = record {
   out_is = ap (λ b. (loses row || b) || is_out own) r ∙ (ap (λ b. b || is_out own) (or-false (loses row)) ∙ ap (λ b. loses row || b) h.out_is);
 }
 
--- a row that lets no client in and refuses no client
+-- a row that admits no client and refuses no client
 pub grows-row : (item : Item) (row : Row) (rows : List Row) → row.item ≡ item → NotAdmit item → is_refusal row.fate ≡ false → Grows rows (row ∷ rows) (loss_by row)
 grows-row item row rows i admit fate = record {
   entered_is = ap (λ b. entered rows ++ elim b as (λ _. List ℕ) [ true ↦ row.client ∷ [] | false ↦ [] ]) (not-admit row.fate item row refl i admit) ∙ append-nil (entered rows);

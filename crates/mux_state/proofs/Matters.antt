@@ -132,7 +132,7 @@ is-mine k x = (x.number == k) && not x.lost
 abbrev client-with : ℕ → Bool → List Bool → core.MemberState
 client-with number lost waiting = record { number = number; lost = lost; waiting = waiting }
 
--- a client of these rows that was let in and isn't lost
+-- a client of these rows that was admitted and isn't lost
 abbrev answers-of : ℕ → List Row → Option core.MemberState
 answers-of k own = elim (any_of is_admit own && not (is_lost own)) [ true ↦ Some (client-with k false (left_of (wanted own) (replies own)).requests) | false ↦ None ]
 

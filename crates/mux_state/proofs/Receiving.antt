@@ -105,7 +105,7 @@ unclosed-noted taken dn s closed rows (l ∷ ls) st all =
 
 -- ---- before it
 
--- each client that was let in and isn't lost is here
+-- each client that was admitted and isn't lost is here
 are-here : (taken : ℕ) (dn : List Asked) (s : State) (marks : List Mark) (closed : List ℕ) (rows : List Row) → is_ended rows ≡ false → RowsFit taken dn s closed rows → AreHere rows s.clients
 are-here taken dn s marks closed rows live st k a l = by_present (is_present s.clients k) refl
   where

@@ -11,7 +11,7 @@ use Rattle.mux_state.proofs.Lists.{either, true_false}
 pub refused-out : (k : ℕ) (rows : List Row) → rows_of k rows ≡ refusal k ∷ [] → is_out (rows_of k rows) ≡ true
 refused-out k rows e = ap is_out e
 
--- one that is here was let in
+-- one that is here was admitted
 pub let-in-here : (rows : List Row) (cs : List ClientState) (k : ℕ) → EachFits rows cs → is_present cs k ≡ true → any_of is_admit (rows_of k rows) ≡ true
 let-in-here rows [] k each here = absurd (cc)
 let-in-here rows (c ∷ cs) k each here = by_head (c.peer.number == k) refl here (let-in-here rows cs k each.1)

@@ -64,7 +64,7 @@ own_standing k rows = standing_of (rows_of k rows)
 pub record SendsOn (k : ℕ) (rows rows' : List Row) : Type 0 where
   pub grows : Grows rows rows' (loss_between (own_standing k rows) (own_standing k rows') k)
   pub index : next_index rows' ≡ next_index rows
-  -- one that is lost says nothing more
+  -- one that is lost sends nothing more
   pub over : is_lost (own_standing k rows) ≡ true → own_standing k rows' ≡ own_standing k rows
 
 says-none : (k : ℕ) (rows : List Row) → SendsOn k rows rows

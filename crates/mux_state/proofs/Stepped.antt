@@ -114,7 +114,7 @@ replied-pid s new k id given h = by_served (is_served s.clients k) refl
     by_served true e = ((h.answers e).pid, (h.answers e).policy)
     by_served false e = (ap (λ (t : State). t.pid) (h.stays e), ap (λ (t : State). t.core.policy) (h.stays e))
 
--- ---- a client that says something
+-- ---- a client that sends something
 
 pub gained-goes : (May : HouseReply → Type 0) (before recorded : Option (List Asked)) (s new : State) (k : ℕ) (bytes : List ℕ) → k ≢ 0 → s.ended ≡ None → Gained May before recorded s new k bytes → GoesOn May before recorded s new (Gets k bytes)
 gained-goes May before recorded s new k bytes nz live h = by_received (is_received s.clients k) refl

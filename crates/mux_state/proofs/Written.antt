@@ -111,7 +111,7 @@ answer-written s parts new k id given cs core up ws view is p =
       waiting = p.waits;
     })
 
--- ---- a client that says something
+-- ---- a client that sends something
 
 pub record GainParts (May : HouseReply → Type 0) (before recorded : Option (List Asked)) (parts : State) (k : ℕ) (bytes : List ℕ) (cs : ClientsState) (core : CoreState) (up : QueueState) (heard : RunChange) (ws : List ℕ) (listening : Bool) : Type 0 where
   pub read : is_received parts.clients k ≡ true

@@ -1,4 +1,4 @@
--- An engine represents a journal, the newest mark first, and for the clients that were closed: one
+-- An engine represents a journal, the newest mark first, and the clients that were closed: one
 -- clause a part.
 use Rattle.std.specs.Prelude.{◌≡◌, ◌≢◌, ◌^◌, ◌-◌, min, ℕ, Bool, true, false, not, List, [], ◌∷◌, ◌++◌, length, filter, Option}
 use Rattle.ssh_fields.specs.Fields.{AreBytes}
@@ -123,7 +123,7 @@ pub record Represents (picks : List ℕ) (replies : List HouseReply) (taken : �
   pub bytes : BytesFit s marks closed (log s picks replies marks)
 
 -- these numbers were used and these replies given so far, one to each request, and whatever is
--- picked and replied later, the engine represents the marks and for the clients that were closed
+-- picked and replied later, the engine represents the marks and the clients that were closed
 pub record Stands (picked : List ℕ) (given : List HouseReply) (s : State) (marks : List Mark)
     (closed : List ℕ) : Type 0 where
   pub asks : List Asked

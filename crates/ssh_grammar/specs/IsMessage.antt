@@ -49,7 +49,7 @@ pub record IsForwardedPath (rest path : List ℕ) : Type 0 where
   pub reserved_fits : IsString reserved
   pub spelled : rest ≡ str path ++ str reserved
 
--- a connection's ends that arrived at a forwarding
+-- a connection that arrived at a forwarding
 abbrev pub IsForwarded : List ℕ → Key → Type 0
 IsForwarded rest (Tcp address port) = IsEnds rest (Tcp address port)
 IsForwarded rest (Path path) = IsForwardedPath rest path

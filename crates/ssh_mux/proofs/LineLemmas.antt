@@ -17,7 +17,7 @@ pub joined : {T E : Type 0} (r : Result T E) (out a b first new : List ℕ) → 
 joined (Ok x) out a b first new e h = h ∙ (ap (λ s. s ++ b) e ∙ append_assoc out a b)
 joined (Err x) out a b first new e h = tt
 
--- an ending with the status of out of memory has its line
+-- an ending with the status of running out of memory has its line
 pub memory_line : (ending : Ending) → status_of ending ≡ statuses.Memory → line_of ending ≡ line_of ends.NoMemory
 unfolding line_of text_of
 memory_line ends.NoMemory e = refl
@@ -52,7 +52,7 @@ reports result status ending line before now f f' es el (inl p) = by_result resu
   by_result statuses.Memory e t = some (line_of ends.NoMemory) before now f f' (subst (λ l. TookLine l before now f f') (memory_line ending (sym e)) t)
   by_result s e t = (e, t)
 
--- the line of out of memory was handed over
+-- the out-of-memory line was handed over
 pub reports_memory : (result : Status) (ending : Ending) (line : List ℕ) (before now : Option (List ℕ)) (f f' : ℕ) → line ≡ line_of ends.NoMemory → PutsLine result statuses.Memory line before now f f' → Reports result ending before now f f'
 reports_memory result ending line before now f f' el (inr p) = subst (λ s. Reports s ending before now f f') (sym p.0) (none (line_of ends.NoMemory) before now p.1)
 reports_memory result ending line before now f f' el (inl p) = subst (λ s. Reports s ending before now f f') (sym p.0) (some (line_of ends.NoMemory) before now f f' (subst (λ l. TookLine l before now f f') el p.1))

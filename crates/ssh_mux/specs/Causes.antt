@@ -1,4 +1,4 @@
--- The counts of faults that endings have as their cause and statuses.
+-- The counts of faults that are the cause of endings and statuses.
 use Rattle.std.specs.Prelude.{◌≡◌, ◌⊎◌, ℕ, Result, Ok, Err}
 use Rattle.conf_rules.specs.declared.causes.Cause.TheVariants.{ReadFault, RunFault}
 use Rattle.conf_rules.specs.declared.causes.ResolveError.TheVariants.{At}
@@ -29,7 +29,7 @@ abbrev pub OneRose : ℕ → ℕ → ℕ → ℕ → Type 0
 OneRose files files' runner runner' =
     (Rose files files' × (runner' ≡ runner)) ⊎ ((files' ≡ files) × Rose runner runner')
 
--- one of both counts rises with its status; with out of memory only if memory ran out for the very
+-- one of both counts rises with its status; with `Memory` only if memory ran out for the very
 -- line of a fault; and with no other
 abbrev pub FaultCause : Status → ℕ → ℕ → ℕ → ℕ → Type 0
 FaultCause Outside files files' runner runner' = OneRose files files' runner runner'

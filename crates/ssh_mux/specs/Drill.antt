@@ -66,7 +66,7 @@ abbrev pub AnyCalls : List HouseCall → Type 0
 AnyCalls calls = Unit {0}
 
 -- What was written of the end of a run. Where it ended well: the summary, without a word; a prefix
--- of it where it could not be written; or nothing but the line of out of memory. Else the line of
+-- of it where it could not be written; or nothing but the out-of-memory line. Else the line of
 -- its ending.
 abbrev pub DrillRecords : Result Status MeantEnding → Tally → Status
     → Option (List ℕ) → Option (List ℕ) → Option (List ℕ) → Option (List ℕ) → ℕ → ℕ → Type 0

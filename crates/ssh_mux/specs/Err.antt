@@ -37,7 +37,7 @@ PutsLine result status line before now faults faults' =
     ((result ≡ status) × TookLine line before now faults faults')
     ⊎ ((result ≡ Memory) × (now ≡ before))
 
--- the line of an ending was handed over, or that of out of memory
+-- the line of an ending was handed over, or the out-of-memory line
 abbrev pub Reports : Status → Ending → Option (List ℕ) → Option (List ℕ) → ℕ → ℕ → Type 0
 Reports Memory ending before now faults faults' = TookSome (line_of NoMemory) before now
 Reports result ending before now faults faults' =
@@ -66,7 +66,7 @@ pub record EndsBy (known : Known) (recorded : Option Recorded) (status : Status)
       after.files.failed
 
 -- How a run ended: without a word where it went well or `out` failed, with the line of its ending
--- otherwise; of the line of out of memory some part may be written.
+-- otherwise; of the out-of-memory line some part may be written.
 abbrev pub Ended : Known → Option Recorded → Status → World → World → Type 0
 Ended known recorded Done before after = IsWell known Done × (after.err.recorded ≡ before.err.recorded)
 Ended known recorded Write before after = IsWell known Write × (after.err.recorded ≡ before.err.recorded)

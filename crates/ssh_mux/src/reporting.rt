@@ -9,7 +9,7 @@ use crate::status::Status;
 use mux_outside::{FileError, Sink};
 use std::alloc::Global;
 
-/// The line of out of memory.
+/// The out-of-memory line.
 const NO_MEMORY: &[u8] = b"ssh-mux: out of memory\n";
 
 /// Reports how the run ended, in one line, and returns its status. If memory runs out for the line,

@@ -143,7 +143,7 @@ other-parts Close a = record { rooms = omega arith; packets = refl; asks = omega
 other-parts (Request want) a = record { rooms = omega arith; packets = refl; asks = omega arith; spoken = refl }
 other-parts Reply a = record { rooms = omega arith; packets = refl; asks = refl; spoken = refl }
 
--- what the ledger takes confirms nothing
+-- what the ledger accepts confirms nothing
 no-window : (act : Act) → first_window (act_of act) ≡ 0
 no-window (Data size) = refl
 no-window (Grant add) = refl

@@ -22,14 +22,14 @@ fn is_yes(answer: ListAnswer) -> bool
 }
 
 impl Fold {
-    /// Whether the block of some patterns applies.
+    // Whether the block of some patterns applies.
     pub(crate) fn names_it(&self, patterns: &Texts) -> bool
         ensures { result ≡ is_yes (answer_of patterns.now (block_name self.now)) }
     {
         is_yes(matches_words(patterns, self.block_name()))
     }
 
-    /// Opens a block in the file at a depth.
+    // Opens a block in the file at a depth.
     pub(crate) fn open(&mut self, depth: usize, applies: bool) -> Result<(), OutOfMemory>
         ensures ok { OnOk result
             (self.new ≡ record self.old { applies = take depth self.old.applies ++ applies ∷ [] }) }
@@ -39,7 +39,7 @@ impl Fold {
         self.applies.push(applies)
     }
 
-    /// Goes on in the file at a depth, or begins it.
+    // Goes on in the file at a depth, or begins it.
     pub(crate) fn enter(&mut self, depth: usize, opens: bool) -> Result<(), OutOfMemory>
         requires { depth < 2 ^ 32 }
         ensures ok { OnOk result
@@ -54,14 +54,14 @@ impl Fold {
         }
     }
 
-    /// Whether the block applies that is open in the file at a depth.
+    // Whether the block applies that is open in the file at a depth.
     pub(crate) fn own_mark(&self, depth: usize, opens: bool) -> bool
         ensures { result ≡ own_mark depth opens self.now.applies }
     {
         opens || self.applies.get(depth).copied().unwrap_or(true)
     }
 
-    /// Notes whether a line of a key is active, and returns whether its value counts.
+    // Notes whether a line of a key is active, and returns whether its value counts.
     pub(crate) fn note(&mut self, key: Key, active: bool) -> Result<bool, OutOfMemory>
         ensures ok { OnOk result ((result ≡ Ok (does_count key active self.old))
             × (self.new ≡ noted key active self.old)) }
@@ -86,7 +86,7 @@ impl Fold {
         }
     }
 
-    /// Takes the value of a line.
+    // Takes the value of a line.
     pub(crate) fn give(&mut self, key: Key, value: Value, active: bool) -> Result<(), OutOfMemory>
         requires { fits key value ≡ true }
         ensures keeps { OnOk result ((given : List Given) → Keeps self.old.settings given
@@ -102,7 +102,7 @@ impl Fold {
         Ok(())
     }
 
-    /// Notes whether criteria ask for a second pass.
+    // Notes whether criteria ask for a second pass.
     pub(crate) fn ask(&mut self, criteria: &Criteria)
         ensures { self.new ≡ record self.old {
           asks_again = self.old.asks_again
@@ -112,7 +112,7 @@ impl Fold {
         self.asks_again = self.asks_again || has_final(criteria);
     }
 
-    /// Whether the open blocks apply of all files above a depth.
+    // Whether the open blocks apply of all files above a depth.
     pub(crate) fn all_apply(&self, depth: usize) -> bool
         requires { depth ≤ length self.now.applies }
         ensures { result ≡ list_all (λ mark. mark) (take depth self.now.applies) }
@@ -120,7 +120,7 @@ impl Fold {
         self.applies.as_slice()[..depth].iter().all(|mark| *mark)
     }
 
-    /// Whether a line that opens no block is active in the file at a depth.
+    // Whether a line that opens no block is active in the file at a depth.
     pub(crate) fn is_active(&self, depth: usize, opens: bool) -> bool
         requires { depth ≤ length self.now.applies }
         ensures { result ≡ (list_all (λ mark. mark) (take depth self.now.applies)

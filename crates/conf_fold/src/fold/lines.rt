@@ -56,7 +56,7 @@ fn evaluate<R: Runner>(
 }
 
 impl Fold {
-    /// Whether criteria hold, and which commands were run to find out.
+    // Whether criteria hold, and which commands were run to find out.
     pub(crate) fn holds<R: Runner>(
         &self,
         criteria: &Criteria,
@@ -95,14 +95,14 @@ impl Fold {
         evaluate(self.alloc, criteria, &view, runner)
     }
 
-    /// The jump, or nothing.
+    // The jump, or nothing.
     pub(crate) fn jump(&self) -> &[u8]
         ensures { result.now ≡ or_text [] (but_none (word_in (setting keys.ProxyJump self.now))) }
     {
         self.settings.named_word(Key::ProxyJump).unwrap_or(b"")
     }
 
-    /// Whether the block of criteria applies, which are evaluated only on an active line.
+    // Whether the block of criteria applies, which are evaluated only on an active line.
     pub(crate) fn tests<R: Runner>(
         &self,
         active: bool,
@@ -131,7 +131,7 @@ impl Fold {
         }
     }
 
-    /// Applies the content of a line of a file.
+    // Applies the content of a line of a file.
     pub(crate) fn take<R: Runner>(
         &mut self,
         entry: LineContent,
@@ -224,7 +224,7 @@ impl Fold {
         placed(self.take(entry, line, facts, runner), file, line.number)
     }
 
-    /// The content of a line after those given so far.
+    // The content of a line after those given so far.
     #[tactic(auto, unfolding(crate::specs::Stands::entry_so_far))]
     pub(crate) fn said(&self, line: &ConfLine) -> Result<LineContent, LineError>
         ensures fits { IfOk result (λ entry. entry_fits entry ≡ true) }
@@ -239,7 +239,7 @@ impl Fold {
         )
     }
 
-    /// The refusal of a line.
+    // The refusal of a line.
     pub(crate) fn refused(&self, line: &ConfLine, error: LineError) -> ResolveError
         ensures { Refuses error line.now.file line.now.number result }
     {

@@ -6,7 +6,7 @@ ghost use Rattle.mux_edge.specs.Shares.{holds_own, no_shares, shares_after};
 
 use mux_outside::is_own;
 
-/// How many bytes came from the clients and of the master's own streams since the server's stream
+/// How many bytes came from the clients and from the master's own streams since the server's stream
 /// is waited for.
 ///
 /// While it is, own streams are passed over where they stand in what is ready. None is lost: the

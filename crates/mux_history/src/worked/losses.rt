@@ -9,7 +9,7 @@ ghost use Rattle.mux_history.specs.Journal.{is_blocked};
 ghost use Rattle.mux_history.specs.Worked.{hex, run, sent, recorded, hello};
 ghost use Rattle.mux_history.specs.WorkedLosses.{leaves, late_confirmation, late_success, all_closed, leaves_opens, sixty_five, dialogs_full, held_back, freed_again};
 
-/// What a client leaves after is closed for it, at once and when the server answers later.
+/// What a client leaves open is closed for it, at once and when the server answers later.
 pub fn the_master_sends_farewell_for_a_lost_client()
     ensures at_once { drop 90 (sent (run leaves)) ≡ hex (codes "00000006 00 61 00000007") }
     ensures confirmation { drop 100 (sent (run late_confirmation))

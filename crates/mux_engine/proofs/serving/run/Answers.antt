@@ -13,7 +13,7 @@ use Rattle.mux_engine.proofs.Spending.{cut-from, cut-idle, spent-cuts, stops-sta
 use Rattle.mux_engine.proofs.Wired.{keeps-idle, keeps-then, no-fault-then}
 use Rattle.mux_engine.proofs.serving.run.Goals as goal
 
--- ---- there was no memory to let the forwarder in
+-- ---- there was no memory to admit the forwarder
 
 pub returns-in_err-enter : goal.returns-in_err-enter
 returns-in_err-enter g c = let r = c.from_residual in let i = c.enter.ensures.wire in record {
