@@ -14,7 +14,7 @@ use Rattle.conf_rules.specs.Results.{◌>>=◌}
 use Rattle.conf_rules.specs.Texts.{Bytes}
 use Rattle.conf_rules.specs.Options.{Mode, Listing, Master, Client, Chooses, Reads, Asks, Connects, Permits, Sessions, Controls, Goes, Fails, Act, Step, Free}
 use Rattle.conf_rules.specs.Permissions.{bad_entry, earlier}
-use Rattle.conf_rules.specs.CommandLine.{ReadCommand, refused, Walk, walk_from, steps_from, walked, not_for_others, first_mode, host_in, transport_in, control_in, command_of, command_with, host_command, master_of, client_of, permitted, permits, texts_of, asked_of, line_in, is_forwarding, asks_forwarding, is_about_forwardings, permissions_of}
+use Rattle.conf_rules.specs.CommandLine.{ReadCommand, refused, Walk, walk_from, steps_from, walked, not_for_others, first_mode, host_in, transport_in, control_in, command_of, command_with, host_command, master_of, client_of, permitted, permits, asked_of, line_in, is_forwarding, asks_forwarding, is_about_forwardings, permissions_of}
 use Rattle.conf_rules.specs.Reading.{reading, drill_of, drill_number, seed_limit, no_more}
 use Rattle.ssh_mux.specs.Asks.{NamesForwards}
 
