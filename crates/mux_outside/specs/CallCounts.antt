@@ -9,9 +9,11 @@ use Rattle.mux_outside.specs.declared.turn.Turn.TheVariants.{Accepted, Got, End,
 use Rattle.mux_outside.specs.declared.turn.Wrote.{Wrote}
 use Rattle.mux_outside.specs.declared.turn.Wrote.TheVariants.{Took, Later, Failed as FailedWrite, NoMemory as NoMemoryToWrite}
 
--- how often `open` was called, calls that ran out of memory left out, and `wait`; how many calls of
--- `wait` and `write` found no memory; how many came after one that found none; and how often `wait`
--- gave a client that came, a piece of the server or of a client, and the server's end
+-- - How often `open` was called, calls that ran out of memory left out, and `wait`.
+-- - How many calls of `wait` and `write` found no memory.
+-- - How many came after one that found none.
+-- - How often `wait` gave a client that came, a piece of the server or of a client, and the
+--   server's end.
 pub record CallCounts : Type 0 where
   pub opens : ℕ
   pub waits : ℕ

@@ -26,9 +26,11 @@ pub record OpenAsk : Type 0 where
   pub id : ℕ
   pub opening : Bool
 
--- whether it is there at all; the listeners and streams that were reported to it and that it hasn't
--- ordered to close, and the state of the streams by its orders; its open requests, in order; and
--- the Listen or Connect whose number it waits for
+-- - Whether it is there at all.
+-- - The listeners and streams that were reported to it and that it hasn't ordered to close, and the
+--   state of the streams by its orders.
+-- - Its open requests, in order.
+-- - The Listen or Connect whose number it waits for.
 pub record Known : Type 0 where
   pub present : Bool
   pub listeners : List ℕ
@@ -61,10 +63,15 @@ pub record IsBlank (known : Known) (recorded : Option (List HouseMark)) : Type 0
   pub nothing : known ≡ nothing_known known.present
   pub no_mark : NoMark recorded
 
--- all that is known of a forwarder, whatever it is: its marks, if it records them; what is always
--- known; whether it has nothing to send, to order and to answer; what waits for each stream; the
--- first of the forwardings asked for at the start that was refused, if any was; whether the run
--- ends where one is; and which calls it represents, each with its answer, the oldest first
+-- All that is known of a forwarder, whatever it is.
+--
+-- - Its marks, if it records them.
+-- - What is always known.
+-- - Whether it has nothing to send, to order and to answer.
+-- - What waits for each stream.
+-- - The first of the forwardings asked for at the start that was refused, if any was, and whether
+--   the run ends where one is.
+-- - Which calls it represents, each with its answer, the oldest first.
 pub record HouseState : Type 1 where
   pub recorded : Option (List HouseMark)
   pub known : Known

@@ -15,9 +15,9 @@ use Rattle.mux_outside.specs.declared.turn.Want.{Want}
 use Rattle.mux_outside.specs.declared.turn.Wrote.{Wrote}
 use Rattle.mux_outside.specs.declared.turn.Wrote.TheVariants.{NoMemory as NoMemoryToWrite}
 
--- what is seen of it: its marks, if it records them, its streams and its clients; the arguments of
--- each call of `open` and of `join`, if it records them; how often it was called, and gave what;
--- and what it counted of a drill
+-- What is seen of it: its marks, if it records them, its streams and its clients. The arguments of
+-- each call of `open` and of `join`, if it records them. How often it was called, and gave what.
+-- What it counted of a drill.
 pub record WireState : Type 0 where
   pub seen : Seen
   pub openings : Option (List OpenCall)
