@@ -64,11 +64,13 @@ behind_call (Err e) r = nothing
 
 -- ---- what a call did
 
--- what a call did to the files, from what was to be read of them before to what is now: what they
--- record stays; their faults rose only where a read fault is reported, and no other fault is;
--- whatever test was met by all that was to be looked at, a failed read meets it where it is
--- reported, and so does all that is to be looked at now; and, if files record, the first of the
--- paths that were to be read were read
+-- What a call did to the files, from what was to be read of them before to what is now.
+--
+-- - What they record stays.
+-- - Their faults rose only where a read fault is reported, and no other fault is.
+-- - Whatever test was met by all that was to be looked at, a failed read meets it where it is
+--   reported, and so does all that is to be looked at now.
+-- - If files record, the first of the paths that were to be read were read.
 pub record UsesFiles {A : Type 0} (before now : FilesState) (old new : Coming)
     (result : Result A ResolveError) : Type 0 where
   pub recorded : now.recorded ≡ before.recorded

@@ -202,9 +202,9 @@ impl LineReader {
 
     /// The next line of the files that has content; `None` at the end, and after every `Err`.
     /// Refused are files, line counts, zero bytes, forms of lines, and what an Include line names,
-    /// each at its line; a fault is one of reading, comes only where that of `files` rose, and is
-    /// reported at the Include line that names what is read, or, for a file that no line includes,
-    /// at its line 0.
+    /// each at its line. A fault is one of reading, and comes only where that of `files` rose. It
+    /// is reported at the Include line that names what is read, or, for a file that no line
+    /// includes, at its line 0.
     pub fn next<F: Files>(&mut self, files: &mut F) -> Result<Option<ConfLine>, ResolveError>
         ensures reads { ReadsFor (F.recorded files.old) (known self.old.facts) self.old.original
             self.old.lines self.new.lines result }

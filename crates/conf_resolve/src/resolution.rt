@@ -105,8 +105,8 @@ fn passes<F: Files, R: Runner>(
 /// exactly the files are read that the lines name, in their order, once in each pass. A fault comes
 /// only if the count of faults of `files` or `runner` rose, and no rise goes unreported, nor is
 /// reported as out of memory. A failed read is reported at an Include line that looks at the path
-/// that failed, or at line 0 of this path, a file that no line includes; a command that could not
-/// be run at the line that asks for it.
+/// that failed, or at line 0 of this path, a file that no line includes. A command that could not
+/// be run is reported at the line that asks for it.
 pub fn resolve<F: Files, R: Runner>(
     alloc: Global,
     asked: &Asked,

@@ -40,8 +40,8 @@ fn expand_onto(
 
 /// A text with those tokens, and variables, expanded that the set has; a percent or dollar sign
 /// that represents itself stays. Refused are a token that the set doesn't have and a brace that
-/// isn't closed, with their place in `text`; a percent sign at the end; and a fact or a variable
-/// that isn't known, by its token's byte or its name.
+/// isn't closed, with their place in `text`. Refused are also a percent sign at the end, and a fact
+/// or a variable that isn't known, by its token's byte or its name.
 pub fn expand(
     alloc: Global,
     text: &[u8],

@@ -139,9 +139,9 @@ IsGrant (given.Port port) = Unit {0}
 IsGrant given.Refused = ⊥
 IsGrant given.Later = ⊥
 
--- a request to open that gets Done or a port at once: the very forwarding that it is for is there,
--- has a listener that isn't to be closed or is live, and gives the port where the server was to
--- choose one
+-- A request to open that gets Done or a port at once. The very forwarding that it is for is there.
+-- It has a listener that isn't to be closed or is live, and gives the port where the server was to
+-- choose one.
 pub record IsServed (opening : Bool) (ask : StartAsk) (reply : HouseReply) (all : List Forwarding)
     (forwarder_events : List ForwarderEvent) : Type 0 where
   pub opens : opening ≡ true
@@ -271,9 +271,9 @@ abbrev pub cancelled : Bool → Outcome
 cancelled true = Done
 cancelled false = Refused
 
--- the reply to a cancel is for a forwarding that is live and that a client requested to close, and
--- that request has no answer yet: its outcome is Done now where the cancel was granted, and else it
--- is refused
+-- The reply to a cancel is for a forwarding that is live and that a client requested to close, and
+-- that request has no answer yet. Its outcome is Done now where the cancel was granted, and else it
+-- is refused.
 pub record EndsCancel (serial : ℕ) (success : Bool) (forwarder_events : List ForwarderEvent) (old new : ForwardingState) : Type 0 where
   pub forwarding : Forwarding
   pub stands : Contains old.all forwarding
@@ -289,10 +289,13 @@ EachCancelReply = (serial : ℕ) (success : Bool) (port : Option ℕ) (forwarder
 
 -- ---- what is refused at once
 
--- a request is refused at once: its client has an open request with its id, or as many requests
--- wait as may; or it is refused whatever stands; one to open, where the forwarding that listens
--- there connects elsewhere, or none does and as many are requested or live as may be; one to close,
--- where none listens there, or one that closes already
+-- A request is refused at once.
+--
+-- - Any request: its client has an open request with its id, or as many requests wait as may; or it
+--   is refused whatever stands.
+-- - One to open: the forwarding that listens there connects elsewhere, or none does and as many are
+--   requested or live as may be.
+-- - One to close: none listens there, or one that closes already.
 pub data IsRefused (client id : ℕ) (opening : Bool) (ask : StartAsk) (d : ForwardingState) : Type 0 where
   TurnedAway : turns_away client id d.waiting ≡ true → IsRefused client id opening ask d
   RefusedAlone : is_refused_alone ask ≡ true → IsRefused client id opening ask d

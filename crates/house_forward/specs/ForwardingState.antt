@@ -21,10 +21,11 @@ use Rattle.house_forward.specs.declared.forwardings.ListenerOrder.{ListenerOrder
 use Rattle.house_forward.specs.declared.forwardings.ListenerOrder.TheVariants.{Listen as ListensAt, Unlisten as Unlistens}
 use Rattle.house_forward.specs.declared.forwardings.ForwardingWant.TheVariants as want
 
--- whether a listen host of none means all addresses, and whether the forwarder greeted; the
--- forwardings, in order of asking, how many there were so far, and the first of those asked for at
--- the start that was refused; the requests to the server that were sent and have no reply yet; the
--- requests of clients that have no answer yet, and how many had an outcome
+-- - Whether a listen host of none means all addresses, and whether the forwarder greeted.
+-- - The forwardings, in order of asking, how many there were so far, and the first of those asked
+--   for at the start that was refused.
+-- - The requests to the server that were sent and have no reply yet.
+-- - The requests of clients that have no answer yet, and how many had an outcome.
 pub record ForwardingState : Type 0 where
   pub gateway : Bool
   pub greeted : Bool
@@ -78,9 +79,9 @@ pub record BeginsWith (starts : Starts) (old new : ForwardingState) : Type 0 whe
     refused = new.refused;
   }
 
--- a client requests to open or close a forwarding, and this is the reply: its outcome is known by
--- what stands and by those that wait; it waits where it has no reply yet; and a new forwarding
--- takes the next serial
+-- A client requests to open or close a forwarding, and this is the reply. Its outcome is known by
+-- what stands and by those that wait. It waits where it has no reply yet, and a new forwarding gets
+-- the next serial.
 pub record IsAsked (client id : ℕ) (opening : Bool) (ask : StartAsk) (reply : HouseReply)
     (old new : ForwardingState) : Type 0 where
   pub came_to : Asked

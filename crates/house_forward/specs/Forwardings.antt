@@ -162,9 +162,9 @@ abbrev pub as_first : Forwarding → Option Outcome → Asked
 as_first f None = Later f.serial
 as_first f (Some outcome) = Now outcome
 
--- the outcome of a request to open: another connect end is refused, and so is one that isn't the
--- same request again while as many are requested or live as may be; else there is a new one with
--- this serial
+-- The outcome of a request to open. Another connect end is refused, and so is one that isn't the
+-- same request again while as many are requested or live as may be. Else there is a new one with
+-- this serial.
 abbrev pub opens_of : ℕ → Ends → List Forwarding → Option Forwarding → Asked
 opens_of serial ends fs None =
     if nat_lt (how_many fs) MOST_FORWARDINGS then Later serial else Now Refused

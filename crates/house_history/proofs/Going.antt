@@ -33,9 +33,9 @@ abbrev pub Phase : Bool → Stage → Recorded → List Row → Type 0
 Phase false stage recorded own = Ungranted stage recorded × IsYoung own
 Phase true stage recorded own = GrantedOrProxy stage recorded
 
--- a run goes on, with its forwarder: what waits for that and what it has not read yet is what it
--- was sent and didn't receive; once it receives it, its relays fit its channels; and its unanswered
--- requests are those of the history and those whose reply it didn't receive
+-- A run goes on, with its forwarder. What waits for that and what it has not read yet is what it
+-- was sent and didn't receive. Once it receives it, its relays fit its channels. Its unanswered
+-- requests are those of the history and those whose reply it didn't receive.
 pub record Going (rows : List Row) (trace : Trace) (recorded : Recorded) : Type 0 where
   pub on : is_ended rows ≡ false
   pub inside : is_out (rows_of HOUSE rows) ≡ false

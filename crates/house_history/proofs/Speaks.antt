@@ -305,7 +305,7 @@ held-is (Confirms w m) x a may h = absurd may
 held-is Fails x a may h = absurd may
 held-is (Asks wants) x a may h = absurd may
 
--- it is after what is sent as that sends
+-- after what is sent it is as that has it
 fits-said : (act : Act) (x : Channel) (a : Acct) (fs bs : List Channel) (front behind : List Entry) (n : ℕ) → x.own ≡ Some n → IsAccount x a → MaySend act a → is_held x ≡ true
     → Each (λ (y : Channel). owned-at n y ≡ false) fs → Each (λ (y : Channel). owned-at n y ≡ false) bs
     → Fit (fs ++ x ∷ bs) (front ++ (Some n, IsLive a) ∷ behind) → Fit (fs ++ kept (with_act Up act x) bs) (front ++ (Some n, said-view act a) ∷ behind)

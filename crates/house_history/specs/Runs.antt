@@ -27,10 +27,10 @@ use Rattle.ssh_mux.specs.Starts.{BeganWith, BegunRests}
 
 -- ---- journals
 
--- a journal that a wire can give; what is promised of its waits, of what the forwarder sends and of
--- what it answers; nothing happens to a stream with its number; each number was fresh; and the
--- forwarder began with some forwardings, after which its calls that the journal has lead to this
--- trace
+-- A journal that a wire can give, with what is promised of its waits, of what the forwarder sends
+-- and of what it answers. Nothing happens to a stream with its number, and each number was fresh.
+-- The forwarder began with some forwardings, after which its calls that the journal has lead to
+-- this trace.
 pub record IsHoused (setting : Setting) (journal : List Mark) (trace : Trace) : Type 0 where
   pub lawful : IsLawful journal
   pub asked : Throughout ReadsWhenAsked journal

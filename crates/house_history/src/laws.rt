@@ -6,8 +6,8 @@ use house_forward::Forwarder;
 use mux_outside::{Asks, House, Notes};
 
 /// No row drops the forwarder: what it sends breaks no rule of the channels and requests that the
-/// history has of it, and what it is sent fits the queue of a client; whatever is permitted,
-/// whichever numbers are picked, and whatever clients and the server send.
+/// history has of it, and what it is sent fits the queue of a client. That holds whatever is
+/// permitted, whichever numbers are picked, and whatever clients and the server send.
 pub fn no_row_drops_the_house()
     ensures { HouseStays }
 {}

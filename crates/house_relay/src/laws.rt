@@ -7,11 +7,13 @@ ghost use Rattle.house_relay.specs.Relay.{Stands, Keeps, SilentIn, IsResting, st
 ghost use Rattle.mux_outside.specs.declared.own_streams.OwnStream.{OwnStream as TheStream};
 ghost use Rattle.house_relay.specs.declared.relay.Relay.{Relay as TheRelay};
 
-/// What is sent was read before it, after the dialog, in order; what the socket accepts are the
-/// replies to the dialog and then what was delivered before it, in order; no more room is given
-/// back than data was accepted; EOF goes on after everything alone; and no more is held than one
-/// piece has at most, the dialog's own bytes left aside. What is held and what waits are exactly
-/// the rest.
+/// - What is sent was read before it, after the dialog, in order.
+/// - What the socket accepts are the replies to the dialog and then what was delivered before it,
+///   in order.
+/// - No more room is given back than data was accepted.
+/// - EOF goes on after everything alone.
+/// - No more is held than one piece has at most, the dialog's own bytes left aside.
+/// - What is held and what waits are exactly the rest.
 pub fn relays_relay()
     ensures relays { (dials : Bool) (acts : List Act) (r : TheRelay)
         → Stands dials acts r → Relays dials acts }

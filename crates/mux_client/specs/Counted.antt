@@ -15,9 +15,9 @@ pub record Waited (waits old new : ℕ) : Type 0 where
   pub least : min (old + waits) (2 ^ 64 - 1) ≤ new
   pub fits : old < 2 ^ 64 → new < 2 ^ 64
 
--- so many calls of `wait`, none that ran out of memory, and none after one that did; the wire was
--- not opened, and the counts of what the master sent and of its end didn't fall, except for one
--- that was past the end of its type
+-- There were so many calls of `wait`, none that ran out of memory, and none after one that did. The
+-- wire was not opened. The counts of what the master sent and of its end didn't fall, except for
+-- one that was past the end of its type.
 pub record Well (waits : ℕ) (old new : CallCounts) : Type 0 where
   pub waited : Waited waits old.waits new.waits
   pub wants : new.wants ≡ old.wants
@@ -42,9 +42,9 @@ abbrev pub Counts : {A : Type 0} → ℕ → Result A Talked → CallCounts → 
 Counts waits (Ok x) old new = Well waits old new
 Counts waits (Err answer) old new = Cut waits answer old new
 
--- of a whole talk: with its turns spent it made as many calls of `wait` as it has turns, and no
--- answer of the master, no fault of the sink comes without one; if a call ran out of memory it was
--- the last, and the talk ended out of memory; it opened nothing
+-- Of a whole talk: with its turns spent it made as many calls of `wait` as it has turns, and no
+-- answer of the master, no fault of the sink comes without one. If a call ran out of memory it was
+-- the last, and the talk ended out of memory. It opened nothing.
 pub record Stops (turns : ℕ) (answer : Talked) (old new : CallCounts) : Type 0 where
   pub few : new.waits ≤ old.waits + turns
   pub spent : answer ≡ Spent → old.waits < 2 ^ 64 → new.waits ≡ min (old.waits + turns) (2 ^ 64 - 1)

@@ -71,11 +71,15 @@ TakesUnshared setting journal rows =
     (k : ℕ) → 0 < k → is_own k ≡ false → IsAdmitted k rows
     → IsFront (taken_by k journal) (given_to k (solo setting k rows))
 
--- what is promised of rows: windows, permissions, askers, what is delivered and what goes up,
--- numbers and the unshared connection of each admitted client; byte for byte it is given what that
--- connection gives, and what is sent for it is, payload by payload, what that sends; the numbers
--- that were picked; the master's own words; and at every row the limits, that nothing is left of a
--- client whose matters are closed, and how much waits for a client and for the server
+-- What is promised of rows.
+--
+-- - Windows, permissions, askers, what is delivered and what goes up, numbers and the unshared
+--   connection of each admitted client.
+-- - Byte for byte each is given what that connection gives, and what is sent for it is, payload by
+--   payload, what that sends.
+-- - The numbers that were picked, and the master's own words.
+-- - At every row the limits, that nothing is left of a client whose matters are closed, and how
+--   much waits for a client and for the server.
 pub record KeepsRows (setting : Setting) (rows : List Row) : Type 0 where
   pub kept : Kept setting rows
   pub gives : GivesAlike setting rows

@@ -81,13 +81,13 @@ pub record IsUnused (journal : List Mark) (seen : Seen) (k : ℕ) : Type 0 where
 abbrev pub IsFree : ℕ → ℕ → Type 0
 IsFree last k = (IsTrue (is_own k) × (last < k)) ⊎ (k ≡ HOUSE)
 
--- With the numbers that were picked, and the replies that the forwarder gave at once, one to each
--- request that was reported to it since it recorded `before`, the engine represents what the wire
--- recorded since the start, in which `given` turns were given. All that the forwarder recorded
--- since is there except its last requests. One that was admitted is present; if none is, the
--- journal has nothing of a forwarder but the requests of clients. The journal is one that a wire
--- can give. The streams that are open are the server's, those of the clients that are here and the
--- master's own. Whatever is picked and replied later, all is sound. The calls of the forwarder
+-- The engine represents what the wire recorded since the start, in which `given` turns were given.
+-- It does so with the numbers that were picked, and the replies that the forwarder gave at once,
+-- one to each request that was reported to it since it recorded `before`. All that the forwarder
+-- recorded since is there except its last requests. One that was admitted is present; if none is,
+-- the journal has nothing of a forwarder but the requests of clients. The journal is one that a
+-- wire can give. The streams that are open are the server's, those of the clients that are here and
+-- the master's own. Whatever is picked and replied later, all is sound. The calls of the forwarder
 -- since are those of the journal and of what is not noted yet. The master's own listeners and
 -- streams are those that the journal leaves open.
 pub record Serving (May : HouseReply → Type 0) (Rest : Resting)

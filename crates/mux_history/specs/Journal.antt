@@ -177,10 +177,10 @@ LawfulHouse before (HouseTook size) = IsTrue (is_accepted HOUSE before)
 LawfulHouse before (HouseAnswer client id given) = IsTrue (is_accepted client before)
 LawfulHouse before _ = Unit {0}
 
--- each client has a number above the last one's and up to the last that a client may have, and
--- every other mark names the server's stream, one of the master's own or that of a client that was
--- accepted; what comes are 1 to 65,536 bytes, what is accepted is some, and only streams that hold
--- back are freed or waited for
+-- Each client has a number above the last one's and up to the last that a client may have. Every
+-- other mark names the server's stream, one of the master's own or that of a client that was
+-- accepted. What comes are 1 to 65,536 bytes, what is accepted is some, and only streams that hold
+-- back are freed or waited for.
 abbrev pub LawfulMark : List Mark → Mark → Type 0
 LawfulMark before (Accepts k) = (last_client before < k) × (k ≤ LAST_CLIENT)
 LawfulMark before (Gets stream bytes) =

@@ -84,11 +84,15 @@ not_own streams = filter (λ t. not (is_own t)) streams
 abbrev pub MayWait : List Mark → ℕ → Type 0
 MayWait before t = IsTrue (is_own t) → has_failed t before ≡ false
 
--- a call of `wait`: the run goes on; of the server's stream and those of clients, the waiting ones
--- are exactly the open ones with output; none of the master's own that waits has failed; each that
--- waits is blocked; no more is read exactly while 4,194,304 bytes or more wait for the server;
--- every stream that is not waited for is settled; and the forwarder was handed all that it is sent
--- as a client
+-- A call of `wait`, while the run goes on.
+--
+-- - Of the server's stream and those of clients, the waiting ones are exactly the open ones with
+--   output.
+-- - None of the master's own that waits has failed.
+-- - Each that waits is blocked.
+-- - No more is read exactly while 4,194,304 bytes or more wait for the server.
+-- - Every stream that is not waited for is settled.
+-- - The forwarder was handed all that it is sent as a client.
 pub record WaitsRight (setting : Setting) (before : List Mark) (waiting : List ℕ) (want : Want)
     (streams : List ℕ) : Type 0 where
   pub goes_on : is_ended (log_of_journal setting before) ≡ false

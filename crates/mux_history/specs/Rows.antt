@@ -6,10 +6,14 @@ use Rattle.ssh_grammar.specs.Said.{Outgoing}
 use Rattle.mux_history.specs.declared.why.Why.{Why}
 use Rattle.mux_history.specs.declared.ended.Ended.{Ended}
 
--- what happened at once: a client came in; sent something, with the reply of the forwarder if it is
--- a request to it; the forwarder replied to a request later; or its stream is gone; the server sent
--- a payload, or a frame that is none; its stream ended, ended so many bytes into a frame, or
--- failed; a stream accepted bytes. RunEnd shows a client alone how the run ended.
+-- What happened at once.
+--
+-- - A client came in; sent something, with the reply of the forwarder if it is a request to it; the
+--   forwarder replied to a request of it later; or its stream is gone.
+-- - The server sent a payload, or a frame that is none; its stream ended, ended so many bytes into
+--   a frame, or failed.
+-- - A stream accepted bytes.
+-- - RunEnd shows a client alone how the run ended.
 pub data Item : Type 0 where
   Admit : (client : ℕ) → Item
   Says : (client : ℕ) (outgoing : Outgoing) (reply : Option HouseReply) → Item

@@ -49,10 +49,14 @@ abbrev pub is_connect : HouseMark → Bool
 is_connect (HouseOrder (Connect host port) (Some stream)) = true
 is_connect mark = false
 
--- the law of each wire keeps this: right after it was opened; at each turn that it may give, where
--- only streams that hold back are waited for; at each answer that it may give to a write of some
--- bytes to a stream that is open; where a stream is closed; where a forwarder's mark is noted; and
--- where a stream is made, once that is noted too
+-- The law of each wire keeps this:
+--
+-- - right after it was opened;
+-- - at each turn that it may give, where only streams that hold back are waited for;
+-- - at each answer that it may give to a write of some bytes to a stream that is open;
+-- - where a stream is closed;
+-- - where a forwarder's mark is noted;
+-- - and where a stream is made, once that is noted too.
 pub record WireKeeps (seen : Seen) (marks : List Mark) : Type 0 where
   pub none : OfWire (0 ∷ []) [] seen.last []
   pub turn : (given : Turn) (waiting : List ℕ) (want : Want) (bytes : List ℕ)

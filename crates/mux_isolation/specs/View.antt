@@ -92,10 +92,12 @@ left_of (true ∷ flags) (p ∷ heard) = left_of flags heard
 
 -- ---- the client
 
--- it was admitted, has greeted, has sent PROXY, is lost, or is out: lost or refused; its channels
--- that are not over; how many requests were sent for it and how many have a reply, those sent
--- without one, and with the refusals after them; its forwardings that are asked or live, each with
--- the cancel that means it; and the bytes that wait for it
+-- - Whether it was admitted, has greeted, has sent PROXY, is lost, or is out: lost or refused.
+-- - Its channels that are not over.
+-- - How many requests were sent for it and how many have a reply, those sent without one, and with
+--   the refusals after them.
+-- - Its forwardings that are asked or live, each with the cancel that means it.
+-- - The bytes that wait for it.
 pub record View : Type 0 where
   pub admitted : Bool
   pub has_greeted : Bool

@@ -62,9 +62,9 @@ pub fn askers_are_served()
 {}
 
 /// What the server sends to a channel, and each open for a live forwarding, is recorded for its
-/// client with nothing changed but the recipient; for a client that was lost before nothing is
-/// recorded, and what goes up undoes what the server confirms or replies; and nothing that the
-/// server sends drops a client but a full queue.
+/// client with nothing changed but the recipient. For a client that was lost before nothing is
+/// recorded, and what goes up undoes what the server confirms or replies. Nothing that the server
+/// sends drops a client but a full queue.
 pub fn messages_are_delivered()
     ensures { MessagesAreDelivered }
 {}

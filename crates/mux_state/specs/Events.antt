@@ -71,9 +71,9 @@ LeavesOthers (FromServer bytes) old new = Unit {0}
 LeavesOthers ServerEnd old new = new.clients ≡ old.clients
 LeavesOthers ServerFailed old new = new.clients ≡ old.clients
 
--- how an event may end a run that goes on: only what a client or the server sends may, and the end
--- or the failure of the server; none spends the turns of the run, and none refuses a forwarding
--- that it began with
+-- How an event may end a run that goes on: only what a client or the server sends may, and the end
+-- or the failure of the server. None spends the turns of the run, and none refuses a forwarding
+-- that it began with.
 abbrev pub MayEnd : Event → Option Ended → Type 0
 MayEnd (Accepted k) now = now ≡ None
 MayEnd (ClientEnd k) now = now ≡ None

@@ -156,9 +156,9 @@ IsAllowed s marks (Frees k) = Unit {0}
 IsAllowed s marks (Holds k) = Unit {0}
 IsAllowed s marks (Waits waiting want streams listens) = Unit {0}
 
--- some numbers more were picked and some replies given, each of which the forwarder may give, and
--- the engine represents the journal with the mark; to the forwarder, which recorded `before` and
--- records `now`, exactly these requests were reported, which are those that the new rows have
+-- Some numbers more were picked and some replies given, each of which the forwarder may give, and
+-- the engine represents the journal with the mark. To the forwarder, which recorded `before` and
+-- records `now`, exactly these requests were reported, which are those that the new rows have.
 pub record GoesBy (May : HouseReply → Type 0) (before now : Option (List Asked)) (picked : List ℕ)
     (given : List HouseReply) (old new : State) (mark : Mark) (marks : List Mark)
     (closed : List ℕ) : Type 0 where
@@ -181,9 +181,9 @@ GoesOn May before now old new mark =
     → Stands picked given old marks closed → IsAllowed old marks mark
     → GoesBy May before now picked given old new mark marks closed
 
--- where memory ran out for the mark: some numbers more were picked and some replies given, each of
--- which the forwarder may give; to the forwarder, which recorded `before` and records `now`, these
--- requests were reported, which are the first of those that the rows of the mark have
+-- Memory ran out for the mark. Some numbers more were picked and some replies given, each of which
+-- the forwarder may give. To the forwarder, which recorded `before` and records `now`, these
+-- requests were reported, which are the first of those that the rows of the mark have.
 pub record AsksFirst (May : HouseReply → Type 0) (before now : Option (List Asked))
     (picked : List ℕ) (given : List HouseReply) (s : State) (mark : Mark) (marks : List Mark) :
     Type 0 where

@@ -19,10 +19,12 @@ pub use Rattle.mux_peers.specs.Among.{at_client, first_of, in_client, numbers, w
 pub use Rattle.mux_peers.specs.Losing.{loss_in, loss_between}
 pub use Rattle.mux_peers.specs.Room.{served_in}
 
--- the shared connection; what the server sent that isn't cut yet, and what waits for it; the
--- clients in the order in which they came; those that were refused and not closed; those that are
--- lost or refused and not closed in that order; the streams with something that waits; whether
--- clients are accepted; and how the run ended
+-- - The shared connection.
+-- - What the server sent that isn't cut yet, and what waits for it.
+-- - The clients in the order in which they came, those that were refused and not closed, and those
+--   that are lost or refused and not closed in that order.
+-- - The streams with something that waits.
+-- - Whether clients are accepted, and how the run ended.
 pub record State : Type 0 where
   pub pid : ℕ
   pub core : CoreState

@@ -27,9 +27,9 @@ coming from facts command = of_command (machine_of_sources from facts) command
 abbrev pub coming_of_words : Sources → Facts → List Bytes → Known
 coming_of_words from facts words = of_words (machine_of_sources from facts) words
 
--- What a call for a command leaves of them, which asks for the settings of `asked`: its end is one
--- that is due; the commands of `Match exec` were run; the files of the lines were read; a fault is
--- reported where it came up, and alone raised its count.
+-- What a call for a command leaves of them, which asks for the settings of `asked`. Its end is one
+-- that is due. The commands of `Match exec` were run, and the files of the lines were read. A fault
+-- is reported where it came up, and alone raised its count.
 pub record Looks (facts : Facts) (command : Command) (asked : Asked) (result : Result Status Ending)
     (old new : Sources) : Type 0 where
   pub exact : Comes (coming old facts command) result
