@@ -383,8 +383,9 @@ fn run<W: Wire, H: House>(
 ///   wait and, unless memory runs out, at the end. These streams are among the open ones. A paused
 ///   one gives nothing; a finished one is not written to.
 /// - Unless memory runs out, the forwarder is handed, once and in order, all that happens at its
-///   streams and listeners, each write there that fails, how many bytes each stream accepts, and
+///   streams and listeners, each write there that fails, the bytes that each stream accepts, and
 ///   what waits for it as a client. No call follows one that ran out of memory.
+/// - It listens and connects only where the forwarder orders it.
 /// - A forwarding of the start that the answer names was refused, where none may be.
 /// - Each order to listen or to connect that got no number is counted as an own fault, unless that
 ///   count is at its last value.
