@@ -212,8 +212,8 @@ live-step policy pid before row known each first little = by_loss (loses row) re
         by_item false i =
             let v = w in
             let once = row-once policy pid before row known l i in
-            let relay_traces : was ≡ true = ap not once.0 in
-            let s = shift is_live row before true false relay_traces gone (entered before) in
+            let lives : was ≡ true = ap not once.0 in
+            let s = shift is_live row before true false lives gone (entered before) in
             let c = stays false e in
             let n : count row.client (entered before) ≡ 1 = entered-once policy pid before each row.client ∙ ap one_if (in-once once.1) in
             omega (arith, little, v, s, c, n)

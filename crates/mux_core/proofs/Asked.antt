@@ -93,7 +93,7 @@ asked-fit k key fs gs own own' lost fit room le mine others = record {
   awaited = all-last (λ g. IsAwaited (own' g.client) g) new here gs (all-map (λ g. IsAwaited (own g.client) g) (λ g. IsAwaited (own' g.client) g) (λ g w. one g w (k == g.client) refl) gs fit.awaited);
   two = two-last new gs (all-map (λ g. IsAwaited (own g.client) g) (λ g. AreTwo g new) before gs fit.awaited) fit.two;
   few = λ j. few j (k == j) refl;
-  each = λ j relay_traces. each j relay_traces (k == j) refl;
+  each = λ j lives. each j lives (k == j) refl;
   ranked = all-last (IsRanked (fs ++ f ∷ [])) f (λ r e. absurd (let x : None ≡ Some r = e in cc)) fs (all-map (IsRanked fs) (IsRanked (fs ++ f ∷ [])) (λ e is r h. subst (λ n. r < n) (sym (same-cancels e.client)) (is r h)) fs fit.ranked);
 }
   where
@@ -138,8 +138,8 @@ asked-fit k key fs gs own own' lost fit room le mine others = record {
     same-cancels j = count-last (is_leaving j) (asked k key) fs false (never (k == j))
 
     each : (j : ℕ) → lost j ≡ false → (b : Bool) → (k == j) ≡ b → EachHas (own' j) (filter (λ g. g.client == j) (gs ++ new_forwarding k key (length (own k).asked) ∷ []))
-    each j relay_traces false h = subst (λ x. EachHas x (filter (λ g. g.client == j) (gs ++ new_forwarding k key (length (own k).asked) ∷ []))) (sym (others j h)) (λ place b past at. has-append place b.what j gs (new_forwarding k key (length (own k).asked) ∷ []) (fit.each j relay_traces place b past at))
-    each j relay_traces true h = subst (λ x. EachHas x (filter (λ g. g.client == j) (gs ++ new_forwarding k key (length (own k).asked) ∷ []))) (sym (mine j h)) (λ place b past at. by_place place b past (place-back (own j).asked (record { client = k; what = full.Forward key }) b place at))
+    each j lives false h = subst (λ x. EachHas x (filter (λ g. g.client == j) (gs ++ new_forwarding k key (length (own k).asked) ∷ []))) (sym (others j h)) (λ place b past at. has-append place b.what j gs (new_forwarding k key (length (own k).asked) ∷ []) (fit.each j lives place b past at))
+    each j lives true h = subst (λ x. EachHas x (filter (λ g. g.client == j) (gs ++ new_forwarding k key (length (own k).asked) ∷ []))) (sym (mine j h)) (λ place b past at. by_place place b past (place-back (own j).asked (record { client = k; what = full.Forward key }) b place at))
       where
         last : (place : ℕ) → place ≡ length (own j).asked → HasAt place (full.Forward key) (filter (λ g. g.client == j) (gs ++ new_forwarding k key (length (own k).asked) ∷ []))
         last place at =
@@ -149,5 +149,5 @@ asked-fit k key fs gs own own' lost fit room le mine others = record {
             ∙ or-second (any_of (λ (g : Forwarding). (g.client == j) && is_asked_at place g) gs) _ (ap (λ b. (b && (length (own k).asked == place)) || false) h ∙ ap (λ b. b || false) there))
 
         by_place : (place : ℕ) (b : Ask) → (own j).replied ≤ place → (slice_get (own j).asked place ≡ Some b) ⊎ ((place ≡ length (own j).asked) × (record { client = k; what = full.Forward key } ≡ b)) → HasAt place b.what (filter (λ g. g.client == j) (gs ++ new_forwarding k key (length (own k).asked) ∷ []))
-        by_place place b past (inl old) = has-append place b.what j gs (new_forwarding k key (length (own k).asked) ∷ []) (fit.each j relay_traces place b past old)
+        by_place place b past (inl old) = has-append place b.what j gs (new_forwarding k key (length (own k).asked) ∷ []) (fit.each j lives place b past old)
         by_place place b past (inr new) = subst (λ (u : Ask). HasAt place u.what (filter (λ g. g.client == j) (gs ++ new_forwarding k key (length (own k).asked) ∷ []))) new.1 (last place new.0)

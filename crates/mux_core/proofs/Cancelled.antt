@@ -144,7 +144,7 @@ cancelled-fit k key fs gs own own' lost fit free le mine others = record {
   awaited = all-changed (λ g. IsAwaited (own g.client) g) (λ g. IsAwaited (own' g.client) g) (history.is_free_at k key) (placed_at place) (λ g w. one g w (k == g.client) refl) (λ g h w. meant g (free-is k key g h)) gs fit.awaited;
   two = two-changed k key place gs earlier fit.two;
   few = λ j. subst (λ n. n ≤ MAX_FORWARDINGS) (sym (count-same (is_of j) (is_free_at k key) (ranked_at (cancels k fs)) (λ f. refl) fs)) (fit.few j);
-  each = λ j relay_traces. each j relay_traces (k == j) refl;
+  each = λ j lives. each j lives (k == j) refl;
   ranked = all-kept (IsRanked fs) (IsRanked (change_first (is_free_at k key) (ranked_at (cancels k fs)) fs)) (is_free_at k key) (ranked_at (cancels k fs)) (λ f is q e. let a = is q e in let b = no-fewer k key (cancels k fs) f.client fs in omega arith) (λ f h is q e. newest f h q e) fs fit.ranked;
 }
   where
@@ -189,8 +189,8 @@ cancelled-fit k key fs gs own own' lost fit free le mine others = record {
     goes_on at full.OtherName j h = tt
 
     each : (j : ℕ) → lost j ≡ false → (b : Bool) → (k == j) ≡ b → EachHas (own' j) (filter (λ g. g.client == j) (history.change_first (history.is_free_at k key) (placed_at (length (own k).asked)) gs))
-    each j relay_traces false h = subst (λ x. EachHas x (filter (λ g. g.client == j) (history.change_first (history.is_free_at k key) (placed_at (length (own k).asked)) gs))) (sym (others j h)) (λ at b past got. goes_on at b.what j (fit.each j relay_traces at b past got))
-    each j relay_traces true h = subst (λ x. EachHas x (filter (λ g. g.client == j) (history.change_first (history.is_free_at k key) (placed_at (length (own k).asked)) gs))) (sym (mine j h)) (λ at b past got. by_place at b past (place-back (own j).asked (record { client = k; what = full.Cancel key }) b at got))
+    each j lives false h = subst (λ x. EachHas x (filter (λ g. g.client == j) (history.change_first (history.is_free_at k key) (placed_at (length (own k).asked)) gs))) (sym (others j h)) (λ at b past got. goes_on at b.what j (fit.each j lives at b past got))
+    each j lives true h = subst (λ x. EachHas x (filter (λ g. g.client == j) (history.change_first (history.is_free_at k key) (placed_at (length (own k).asked)) gs))) (sym (mine j h)) (λ at b past got. by_place at b past (place-back (own j).asked (record { client = k; what = full.Cancel key }) b at got))
       where
         last : (at : ℕ) → at ≡ length (own j).asked → HasAt at (full.Cancel key) (filter (λ g. g.client == j) (history.change_first (history.is_free_at k key) (placed_at (length (own k).asked)) gs))
         last at is =
@@ -199,5 +199,5 @@ cancelled-fit k key fs gs own own' lost fit free le mine others = record {
             ∙ any-first (λ (g : Forwarding). (g.client == j) && is_leaving_at at g) (history.is_free_at k key) (placed_at (length (own k).asked)) (λ g t. ap (λ b. b && (length (own k).asked == at)) (is-of g.client j ((free-is k key g t).client ∙ same-number k j h)) ∙ there) gs any
 
         by_place : (at : ℕ) (b : Ask) → (own j).replied ≤ at → (slice_get (own j).asked at ≡ Some b) ⊎ ((at ≡ length (own j).asked) × (record { client = k; what = full.Cancel key } ≡ b)) → HasAt at b.what (filter (λ g. g.client == j) (history.change_first (history.is_free_at k key) (placed_at (length (own k).asked)) gs))
-        by_place at b past (inl old) = goes_on at b.what j (fit.each j relay_traces at b past old)
+        by_place at b past (inl old) = goes_on at b.what j (fit.each j lives at b past old)
         by_place at b past (inr new) = subst (λ (u : Ask). HasAt at u.what (filter (λ g. g.client == j) (history.change_first (history.is_free_at k key) (placed_at (length (own k).asked)) gs))) new.1 (last at new.0)

@@ -131,14 +131,14 @@ ends : (k place : ℕ) (own : ℕ → Places) (gs : List Forwarding) → AllByRe
 ends k place own [] waits = tt
 ends k place own (g ∷ gs) waits = by_test (ends k place own gs waits.1) (leaves_at k place g) refl
   where
-    relay_traces : (o : Option Key) → g.live ≡ o → leaves_at k place g ≡ true → is_none g.live ≡ false
-    relay_traces (Some q) e t = ap is_none e
-    relay_traces None e t = absurd (let x : None ≡ Some place = sym (waits.0.either e) ∙ number-is g.cancel place (and-right (g.client == k) (is_number g.cancel place) t) in cc)
+    lives : (o : Option Key) → g.live ≡ o → leaves_at k place g ≡ true → is_none g.live ≡ false
+    lives (Some q) e t = ap is_none e
+    lives None e t = absurd (let x : None ≡ Some place = sym (waits.0.either e) ∙ number-is g.cancel place (and-right (g.client == k) (is_number g.cancel place) t) in cc)
 
     by_test : Drops Ends (marks k place gs) (map (released k place) gs) → (b : Bool) → leaves_at k place g ≡ b → Drops Ends (stays_on k place g ∷ marks k place gs) (released k place g ∷ map (released k place) gs)
     by_test ih true t =
         subst (λ (b : Bool). Drops Ends (b ∷ marks k place gs) (released k place g ∷ map (released k place) gs)) (sym (ap not t))
-        (subst (λ (x : Forwarding). Ends x × Drops Ends (marks k place gs) (map (released k place) gs)) (sym (released-at k place g true t)) (record { cancel = refl; live = relay_traces g.live refl t }, ih))
+        (subst (λ (x : Forwarding). Ends x × Drops Ends (marks k place gs) (map (released k place) gs)) (sym (released-at k place g true t)) (record { cancel = refl; live = lives g.live refl t }, ih))
     by_test ih false t = subst (λ (b : Bool). Drops Ends (b ∷ marks k place gs) (released k place g ∷ map (released k place) gs)) (sym (ap not t)) ih
 
 ends-wait : (j at : ℕ) (g : Forwarding) → Ends g → WaitsNot j at g
@@ -162,7 +162,7 @@ ended-fit k rest key fs gs own own' lost fit next here asked =
     (kept-fit bs (map (without_cancel_of k m.rank) fs) (map (released k (own k).replied) gs) own' own' lost moved
     (drops-map Ends (λ g. g.cancel ≡ None) (λ g e. e.cancel) bs (map (released k (own k).replied) gs) drops)
     (all-by (λ g. IsAwaited (own' g.client) g) bs (map (released k (own k).replied) gs) moved.awaited)
-    (λ j relay_traces at a late got. has-kept at a.what j bs (map (released k (own k).replied) gs) (drops-map Ends (WaitsNot j at) (ends-wait j at) bs (map (released k (own k).replied) gs) drops) (moved.each j relay_traces at a late got))))
+    (λ j lives at a late got. has-kept at a.what j bs (map (released k (own k).replied) gs) (drops-map Ends (WaitsNot j at) (ends-wait j at) bs (map (released k (own k).replied) gs) drops) (moved.each j lives at a late got))))
 
 -- ---- whatever is answered
 

@@ -184,7 +184,7 @@ granted-fit k rest key fs gs own own' lost fit next here asked =
       awaited = awaited-granted-all k rest key own own' gs next asked fit.awaited;
       two = two-map (granted k place rest) (λ g h two. two-stays g (granted k place rest g) h (granted k place rest h) (stays k place rest g) (stays k place rest h) two) gs fit.two;
       few = λ j. subst (λ n. n ≤ MAX_FORWARDINGS) (sym (few-alike j fs fs' alike)) (fit.few j);
-      each = λ j relay_traces at a late got. has-map at a.what j (granted k place rest) gs (λ g. stays-at k j place at rest g (λ same. replied-sooner k j own own' next same at late)) (each-next k j own own' (filter (λ g. g.client == j) gs) next (fit.each j relay_traces) at a late got);
+      each = λ j lives at a late got. has-map at a.what j (granted k place rest) gs (λ g. stays-at k j place at rest g (λ same. replied-sooner k j own own' next same at late)) (each-next k j own own' (filter (λ g. g.client == j) gs) next (fit.each j lives) at a late got);
       ranked = ranked-alike fs fs' alike fit.ranked;
     })
   where

@@ -166,7 +166,7 @@ meant-key : (k place rank : ℕ) (key : Key) (own : ℕ → Places) (f : Forward
 meant-key k place rank key own f g asked known at =
     ap (λ b. b && (is_some f.cancel && (f.live && is_key f.key key))) (ap (λ i. i == k) known.fits.client ∙ mine)
     ∙ (ap (λ o. is_some o && (f.live && is_key f.key key)) (known.sits.meets at)
-    ∙ (ap (λ b. b && is_key f.key key) (known.fits.live ∙ relay_traces g.live refl)
+    ∙ (ap (λ b. b && is_key f.key key) (known.fits.live ∙ lives g.live refl)
     ∙ is-key f.key key (known.fits.key ∙ sym same)))
   where
     mine : (g.client == k) ≡ true
@@ -175,9 +175,9 @@ meant-key k place rank key own f g asked known at =
     same : key ≡ unwrap_or g.live g.key
     same = let x : full.Cancel key ≡ full.Cancel (unwrap_or g.live g.key) = cancel-is (own k) k place (full.Cancel key) g (own-of k own g mine known.waits) asked (and-right (g.client == k) (is_number g.cancel place) at) in cc
 
-    relay_traces : (o : Option Key) → g.live ≡ o → is_some g.live ≡ true
-    relay_traces (Some q) e = ap is_some e
-    relay_traces None e = absurd (let x : None ≡ Some place = sym (known.waits.either e) ∙ number-is g.cancel place (and-right (g.client == k) (is_number g.cancel place) at) in cc)
+    lives : (o : Option Key) → g.live ≡ o → is_some g.live ≡ true
+    lives (Some q) e = ap is_some e
+    lives None e = absurd (let x : None ≡ Some place = sym (known.waits.either e) ∙ number-is g.cancel place (and-right (g.client == k) (is_number g.cancel place) at) in cc)
 
 lt-no : (a b c d : ℕ) → nat_lt a b ≡ nat_lt c d → d ≤ c → b ≤ a
 lt-no a b c d h le = by_test (nat_lt c d) refl

@@ -164,8 +164,8 @@ refused-fit k key fs gs own own' lost fit next here asked =
     (kept-fit bs fs gs own own' lost fit
     (drops-map (λ g. (asks_at k place g ≡ true) × IsAwaited (own g.client) g) (λ g. g.cancel ≡ None) (λ g h. idle-cancel k place g (own g.client) h.0 h.1) bs gs out)
     (awaited-all k own own' (kept_by bs gs) next (all-by (λ g. IsAwaited (own g.client) g) bs gs fit.awaited) (kept-idle k place key own gs asked fit.two fit.awaited))
-    (λ j relay_traces at a late got. has-kept at a.what j bs gs (drops-map (λ g. (asks_at k place g ≡ true) × IsAwaited (own g.client) g) (WaitsNot j at) (λ g h. waits-not k j place at (own g.client) g (λ same. replied-sooner k j own own' next same at late) h.0 h.1) bs gs out)
-    (each-next k j own own' (filter (λ g. g.client == j) gs) next (fit.each j relay_traces) at a late got))))
+    (λ j lives at a late got. has-kept at a.what j bs gs (drops-map (λ g. (asks_at k place g ≡ true) × IsAwaited (own g.client) g) (WaitsNot j at) (λ g h. waits-not k j place at (own g.client) g (λ same. replied-sooner k j own own' next same at late) h.0 h.1) bs gs out)
+    (each-next k j own own' (filter (λ g. g.client == j) gs) next (fit.each j lives) at a late got))))
   where
     place : ℕ
     place = (own k).replied

@@ -90,6 +90,6 @@ moved-fit k rank key fs gs own own' lost fit next here asked all =
       awaited = awaited-after k key own own' gs next asked fit.awaited;
       two = two-map (released k (own k).replied) (two-after k (own k).replied) gs fit.two;
       few = λ j. subst (λ n. n ≤ MAX_FORWARDINGS) (sym (count-after j k rank fs)) (fit.few j);
-      each = λ j relay_traces at a late got. has-map at a.what j (released k (own k).replied) gs (λ g. stays-after k j (own k).replied at g (λ same. sooner k own own' next j same at late)) (each-next k j own own' (filter (λ g. g.client == j) gs) next (fit.each j relay_traces) at a late got);
+      each = λ j lives at a late got. has-map at a.what j (released k (own k).replied) gs (λ g. stays-after k j (own k).replied at g (λ same. sooner k own own' next j same at late)) (each-next k j own own' (filter (λ g. g.client == j) gs) next (fit.each j lives) at a late got);
       ranked = ranked-after k (own k).replied rank fs (map (without_cancel_of k rank) fs) fs gs all fit.listed (one-fewer k (own k).replied rank fs gs all fit.listed fit.two there) (λ j apart. cancels-other j k (own k).replied rank apart fs gs all fit.listed) (rank-low k (own k).replied rank fs fs gs all fit.listed fit.ranked there) fit.ranked;
     }

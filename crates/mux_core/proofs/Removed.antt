@@ -164,7 +164,7 @@ stopped-fit k key place fs gs own lost fit =
       awaited = all-by (λ g. IsAwaited (own g.client) g) (first_out (history.is_free_at k key) gs) gs fit.awaited;
       two = two-by (first_out (history.is_free_at k key) gs) gs fit.two;
       few = λ j. let a = count-by (is_of j) (first_out (history.is_free_at k key) gs) fs in let b = fit.few j in omega arith;
-      each = λ j relay_traces at a past got. goes_on at a.what j (fit.each j relay_traces at a past got);
+      each = λ j lives at a past got. goes_on at a.what j (fit.each j lives at a past got);
       ranked = all-by (IsRanked (kept_by (first_out (history.is_free_at k key) gs) fs)) (first_out (history.is_free_at k key) gs) fs (all-map (IsRanked fs) (IsRanked (kept_by (first_out (history.is_free_at k key) gs) fs)) (λ f is q e. subst (λ n. q < n) (sym (no-cancel k key f.client fs gs fit.listed)) (is q e)) fs fit.ranked);
     }))
   where

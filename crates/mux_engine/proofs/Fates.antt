@@ -49,15 +49,15 @@ EndsAs P (End cause) = P (Some cause)
 EndsAs P fate = Unit {0}
 
 -- a row doesn't end it
-abbrev pub RelayTraces : Fate → Type 0
-RelayTraces (End cause) = ⊥
-RelayTraces fate = Unit {0}
+abbrev pub Lives : Fate → Type 0
+Lives (End cause) = ⊥
+Lives fate = Unit {0}
 
-pub relay_traces-as : (P : Option Ended → Type 0) (f : Fate) → RelayTraces f → EndsAs P f
-relay_traces-as P (End cause) h = absurd h
-relay_traces-as P (Drop cause) h = tt
-relay_traces-as P Goes h = tt
-relay_traces-as P Refused h = tt
+pub lives-as : (P : Option Ended → Type 0) (f : Fate) → Lives f → EndsAs P f
+lives-as P (End cause) h = absurd h
+lives-as P (Drop cause) h = tt
+lives-as P Goes h = tt
+lives-as P Refused h = tt
 
 with-full : (P : Option Ended → Type 0) (f : Fate) (full : Option Why) → EndsAs P f → EndsAs P (fate_with f full)
 with-full P (End cause) full h = h
@@ -80,7 +80,7 @@ row-as P item k o own h = by_loss (loses q) (with-full P o.ends (overflow (waiti
 -- ---- a payload of a client ends no run
 
 abbrev pub Fine : Outcome → Type 0
-Fine o = RelayTraces o.ends
+Fine o = Lives o.ends
 
 fine-open : (own : List Row) (pick : ℕ) (p : List ℕ) (sender : ℕ) → Fine (sends_open own pick p sender)
 fine-open own pick p sender = by_room (nat_lt (length (held_of own)) MAX_CHANNELS)
@@ -197,7 +197,7 @@ body-for pid k given has_greeted body = by_read (read_control body) has_greeted
 
 outgoing-for : (policy : Policy) (pid k : ℕ) (own : List Row) (pick : ℕ) (x : Outgoing) (given : Option HouseReply) → For k (sent_by_client policy pid k own pick x given)
 outgoing-for policy pid k own pick (Body body) given = body-for pid k given (greeted own) body
-outgoing-for policy pid k own pick (Payload p) given = relay_traces-as (EndsFor k) (sent_payload policy k own pick p).ends (fine-payload policy k own pick p)
+outgoing-for policy pid k own pick (Payload p) given = lives-as (EndsFor k) (sent_payload policy k own pick p).ends (fine-payload policy k own pick p)
 outgoing-for policy pid k own pick (BadFraming fault) given = tt
 
 -- what a client says ends it so, whatever it said before
@@ -348,7 +348,7 @@ fine-master p = by_read (read_summary p)
     by_read (Ok m) = by_message m
 
 payload-heard : (rows : List Row) (p : List ℕ) (d : Dest) → Whole d → EndsAs EndsReceived (received_row rows p d).fate
-payload-heard rows p ToMaster h = relay_traces-as EndsReceived (received_master p).ends (fine-master p)
+payload-heard rows p ToMaster h = lives-as EndsReceived (received_master p).ends (fine-master p)
 payload-heard rows p (ToClient k) h = row-as EndsReceived (Heard p) k (received_for (rows_of k rows) p) (rows_of k rows) (subst (EndsAs EndsReceived) (sym (heard-goes (rows_of k rows) p)) tt)
 payload-heard rows p Disconnects h = tt
 payload-heard rows p (Breaks cause) h = h

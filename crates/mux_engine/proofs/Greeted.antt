@@ -36,7 +36,7 @@ use Rattle.mux_engine.specs.Came.{EndedBy, EndsFor, OverBy}
 use Rattle.mux_engine.specs.Places.{IsOfOthers}
 use Rattle.mux_engine.specs.Run.{IsRun}
 use Rattle.mux_engine.specs.Sides.{AtWaits}
-use Rattle.mux_engine.proofs.Fates.{EndsAs, EndsReceived, Fine, fine-payload, heard-ends, relay_traces-as, one-ends, row-as, said-as, said-for}
+use Rattle.mux_engine.proofs.Fates.{EndsAs, EndsReceived, Fine, fine-payload, heard-ends, lives-as, one-ends, row-as, said-as, said-for}
 use Rattle.mux_engine.proofs.Greeting.{AllSo, Greeting, greets-before, greets-behind, hello, journal-greets, proxy, so-drop, so-said}
 use Rattle.mux_engine.proofs.Lists.{true-false}
 
@@ -141,7 +141,7 @@ module _ (policy : Policy) (pid : ℕ) (picks : List ℕ) (given : List HouseRep
   spare-house : (xs : List Outgoing) → AllCalm xs → AllSpare (map (sent_item HOUSE) xs)
   spare-house [] h = tt
   spare-house (x ∷ xs) h =
-      (said-as ByOther policy pid picks given HOUSE x (λ own pick reply. relay_traces-as ByOther (sent_by_client policy pid HOUSE own pick x reply).ends (calm-says x h.0 own pick reply)), spare-house xs h.1)
+      (said-as ByOther policy pid picks given HOUSE x (λ own pick reply. lives-as ByOther (sent_by_client policy pid HOUSE own pick x reply).ends (calm-says x h.0 own pick reply)), spare-house xs h.1)
 
   -- what the server sends
   spare-heard : (xs : List Outgoing) → AllSpare (map received_item xs)
@@ -154,7 +154,7 @@ module _ (policy : Policy) (pid : ℕ) (picks : List ℕ) (given : List HouseRep
 
   -- an item of a client that ends nothing
   spare-row : (item : Item) (k : ℕ) (o : List Row → Outcome) → ((rows : List Row) → Fine (o rows)) → (rows : List Row) → EndsAs ByOther (row_of item k (o rows) (rows_of k rows)).fate
-  spare-row item k o fine rows = row-as ByOther item k (o rows) (rows_of k rows) (relay_traces-as ByOther (o rows).ends (fine rows))
+  spare-row item k o fine rows = row-as ByOther item k (o rows) (rows_of k rows) (lives-as ByOther (o rows).ends (fine rows))
 
   spare-admit : (k : ℕ) → AllSpare (Admit k ∷ [])
   spare-admit k = (spare-row (Admit k) k admits fine-admits, tt)

@@ -64,7 +64,7 @@ stream-of mark = 0
 
 pub asks-ends : (e : Event) (bytes : List ℕ) (o : Option Ended) → Records e (Gets HOUSE bytes) → EndsSo e o → EndsByAsk o
 asks-ends (FromClient k said) bytes o t h = record {
-  relay_traces = h.may.0;
+  lives = h.may.0;
   by_row = record { unspent = h.may.1; permitted = h.may.2 };
   by_house = subst (λ (n : ℕ). EndsFor n o) (sym (ap stream-of t.1)) h.by;
 }

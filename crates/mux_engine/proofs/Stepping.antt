@@ -159,7 +159,7 @@ ends-offered (Err y) p o o' old mid new f g h live none stays works unopened = r
 
 -- a forwarder that is there sent something
 pub ends-said : {A E : Type 0} (r : Result A E) (p : Bool) (o : Option Ended) (old new : WireState) (f f' : Faults) → p ≡ true → OnOk r (EndsByAsk o) → EndsSo r p o old new f f'
-ends-said (Ok x) p o old new f f' there e = record { failed = λ over. absurd (e.relay_traces over); by_row = e.by_row; by_count = over-house p o old.calls new.calls there e.by_house; unopened = λ out. true-false (sym there ∙ out) }
+ends-said (Ok x) p o old new f f' there e = record { failed = λ over. absurd (e.lives over); by_row = e.by_row; by_count = over-house p o old.calls new.calls there e.by_house; unopened = λ out. true-false (sym there ∙ out) }
 ends-said (Err x) p o old new f f' there e = record { failed = tt; by_row = tt; by_count = tt; unopened = λ out. true-false (sym there ∙ out) }
 
 -- ---- results

@@ -74,7 +74,7 @@ pub record IsByRow (ended : Option Ended) : Type 0 where
 
 -- one that goes on or that ended by what the forwarder sent as a client
 pub record EndsByAsk (ended : Option Ended) : Type 0 where
-  pub relay_traces : ended ≢ Some ServerFailed
+  pub lives : ended ≢ Some ServerFailed
   pub by_row : IsByRow ended
   pub by_house : EndsFor HOUSE ended
 

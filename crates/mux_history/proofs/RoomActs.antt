@@ -186,8 +186,8 @@ pub known-in : (before : List Row) → AreApart (channels_of before) → Each Ac
 known-in before good known = by_all (channels_of before) known (λ s. found-in (λ y. is_number y.remote s) (λ x y a h k e. a.remotes h k s e) (channels_of before) good.apart) (λ n. found-in (λ y. is_number y.number n) (λ x y a h k e. a.numbers h k n e) (channels_of before) good.apart)
   where
     by_all : (xs : List Channel) → Each Accounted xs → ((s : ℕ) → Each (λ z. is_held z ≡ true → is_number z.remote s ≡ true → live_in before s ≡ Some z) xs) → ((n : ℕ) → Each (λ z. is_held z ≡ true → is_number z.number n ≡ true → holder before n ≡ Some z) xs) → Each (KnownIn before) xs
-    by_all [] known relay_traces holds = tt
-    by_all (x ∷ xs) known relay_traces holds = (record { accounted = known.0; live = λ s. (relay_traces s).0; holds = λ n. (holds n).0 }, by_all xs known.1 (λ s. (relay_traces s).1) (λ n. (holds n).1))
+    by_all [] known lives holds = tt
+    by_all (x ∷ xs) known lives holds = (record { accounted = known.0; live = λ s. (lives s).0; holds = λ n. (holds n).0 }, by_all xs known.1 (λ s. (lives s).1) (λ n. (holds n).1))
 
 pub some-same : (x y : Channel) → Some x ≡ Some y → x ≡ y
 some-same x y e = cc
