@@ -8,6 +8,7 @@ crates=()
 list_crates() {
   local line name
   local -A uses=() listed=()
+  crates=()
   while IFS= read -r line; do
     name=${line%%:*}
     [ "$name" = "$line" ] || uses[$name]=${line#*:}
