@@ -29,7 +29,7 @@ ENDING_SIGNALS = (signal.SIGHUP, signal.SIGINT, signal.SIGTERM)
 def say(text: str) -> None:
     # The terminal or the log of the one who started this may be gone.
     with contextlib.suppress(OSError, ValueError):
-        print(f"{os.path.basename(sys.argv[0])}: {text}", file=sys.stderr, flush=True)
+        print(f"plain-front: {text}", file=sys.stderr, flush=True)
 
 
 def fail(text: str) -> NoReturn:
