@@ -1,5 +1,4 @@
-# Completion of @command@ for bash. `install` fills in its name and its options, by their list in
-# share/ of the source.
+# Completion of @command@ for bash. `install` fills in its name, its options and what they take.
 @function@() {
   local options='@options@' words=(@words@)
   local -A kinds=(@kinds@)
