@@ -1,6 +1,7 @@
 # shellcheck shell=bash
 # What a gate that passed leaves for tools/release, in .ci/out/passed, which git doesn't track: a line
-# `KEY VALUE` for each of commit, sources and program (sums), kit, and gate (the last line of rt ci).
+# `KEY VALUE` for each of commit, sources and program (sums), kit, skipped (how many cases and checks
+# were), and gate (the last line of rt ci).
 # Those who read this have set `top`, the clone.
 # shellcheck disable=SC2154
 
@@ -48,5 +49,5 @@ leave_passed() {
     echo "gate: no release can be made of this tree: $fault"
     return
   fi
-  mkdir -p "${passed%/*}" && { facts_of_tree; printf 'gate %s\n' "$1"; } >"$passed"
+  mkdir -p "${passed%/*}" && { facts_of_tree; printf 'skipped %s\ngate %s\n' "$1" "$2"; } >"$passed"
 }

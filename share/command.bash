@@ -2,9 +2,9 @@
 # What the script ssh-mux of a clone, an installed ssh-mux and install have in common: which file is
 # a proved program, what --version tells of it, and how it is run. They read it; it runs nothing.
 #
-# A program may have a note beside it, FILE.proved, with a line `KEY VALUE` for each of: version,
-# kit and logic (by which it was proved), commit and sources (of what), program (its sum), and gate
-# (the gate's last line). The note counts where its sum is that of the file.
+# A program may have a note beside it, FILE.proved, with a line `KEY VALUE` for each of: version, kit
+# and logic (by which it was proved), commit and sources (of what), program (its sum), skipped and gate
+# (how many cases of the gate were, and its last line). It counts where its sum is that of the file.
 
 # A number of as many bytes at a place of a file, or nothing where the file ends before.
 number_at() { od -A n -t "u$3" -j "$2" -N "$3" -- "$1" 2>/dev/null | tr -d ' '; }
