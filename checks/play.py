@@ -350,7 +350,8 @@ def child(
 ) -> Iterator[subprocess.Popen[bytes]]:
     """A process that lives no longer than the block. Its output goes into pipes by default."""
     pipes = {"stdin": subprocess.DEVNULL, "stdout": subprocess.PIPE, "stderr": subprocess.PIPE}
-    with subprocess.Popen(words, **{**pipes, **how}) as process:
+    told: dict[str, Any] = {**pipes, **how}
+    with subprocess.Popen(words, **told) as process:
         try:
             yield process
         finally:
@@ -696,7 +697,8 @@ class Cases:
 
 # The way to OpenSSH's server.
 
-SSHD = shutil.which("sshd", path=os.environ.get("PATH", "") + ":/usr/sbin:/usr/local/sbin")
+SEARCHED = os.environ.get("PATH", "") + ":/usr/sbin:/usr/local/sbin"
+SSHD: str | None = shutil.which("sshd", path=SEARCHED)
 
 SSHD_SETTINGS = """\
 Port {port}
@@ -760,7 +762,8 @@ class Way(Room):
 
     def start_part(self, name: str, words: Sequence[str], **how: Any) -> subprocess.Popen[bytes]:
         with open(self.path(f"{name}.log"), "ab") as log:
-            return self.start(words, **{"stdout": log, "stderr": log, **how})
+            told: dict[str, Any] = {"stdout": log, "stderr": log, **how}
+            return self.start(words, **told)
 
     def log(self, name: str) -> str:
         """What a part said."""

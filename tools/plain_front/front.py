@@ -1,6 +1,9 @@
 """The listener at FRONT, who is in, and the master at CONTROL."""
 
+from __future__ import annotations
+
 import contextlib
+import dataclasses
 import errno
 import os
 import selectors
@@ -9,10 +12,15 @@ import socket
 import struct
 import sys
 import time
-from typing import Callable, NoReturn, Optional
+import weakref
+from collections.abc import Callable
+from typing import Any, NoReturn
 
 from plain_front.caller import Caller
-from plain_front.channel import Session
+from plain_front.channel import Phase, Session
+from plain_front.forwardings import Forwardings
+from plain_front.inside import clients_of
+from plain_front.journal import Journal, Process
 from plain_front.protocol import MUX_VERSION, Mux, reason, uint32
 from plain_front.streams import Loop
 
@@ -26,14 +34,10 @@ PAUSE_SECONDS = 0.1
 ENDING_SIGNALS = (signal.SIGHUP, signal.SIGINT, signal.SIGTERM)
 
 
-def say(text: str) -> None:
-    # The terminal or the log of the one who started this may be gone.
+def fail(text: str) -> NoReturn:
+    # The terminal of the one who started this may be gone.
     with contextlib.suppress(OSError, ValueError):
         print(f"plain-front: {text}", file=sys.stderr, flush=True)
-
-
-def fail(text: str) -> NoReturn:
-    say(text)
     sys.exit(1)
 
 
@@ -43,17 +47,35 @@ def handle(number: int, handler: Callable[[int, object], None]) -> None:
         signal.signal(number, handler)
 
 
+@dataclasses.dataclass(frozen=True)
+class Options:
+    """What a front is told when it is started."""
+
+    control: str
+    path: str
+    log: str | None = None
+
+
 class Front:
     """The listener at FRONT, and who is in."""
 
-    def __init__(self, control: str, path: str):
-        self.control, self.path = control, path
+    def __init__(self, options: Options) -> None:
+        self.options, self.control, self.path = options, options.control, options.path
+        try:
+            self.journal = Journal(options.log)
+        except OSError as error:
+            fail(f"cannot write {options.log}: {reason(error)}")
         self.loop = Loop()
         self.callers: set[Caller] = set()
+        self.forwardings = Forwardings(self)
+        # The connections to the master, some of which may be closed.
+        self.links: weakref.WeakSet[socket.socket] = weakref.WeakSet()
+        self.master_pid = 0
         self.accepted = 0
-        self.status: Optional[int] = None
-        self.listener: Optional[socket.socket] = None
-        self.identity: Optional[tuple[int, int]] = None
+        self.began = time.time()
+        self.status: int | None = None
+        self.listener: socket.socket | None = None
+        self.identity: tuple[int, int] | None = None
         self.signals = socket.socketpair()
 
     def reach_master(self) -> socket.socket:
@@ -63,6 +85,7 @@ class Front:
             # A master that is too busy to accept must not hold up the others' sessions.
             stream.setblocking(False)
             stream.connect(self.control)
+            self.links.add(stream)
             return stream
         except OSError as error:
             stream.close()
@@ -80,14 +103,14 @@ class Front:
             with stream:
                 stream.settimeout(HELLO_SECONDS)
                 hello = stream.recv(12, socket.MSG_WAITALL)
-                pid, _, _ = peer_of(stream)
+                self.master_pid, _, _ = peer_of(stream)
         except OSError as error:
             fail(f"no master at {self.control}: {reason(error)}")
         if hello[4:] != uint32(Mux.HELLO, MUX_VERSION):
             fail(f"no master at {self.control}: it lets nobody in, or says another hello")
         # A master that put itself into the background after it began to listen isn't seen.
         with contextlib.suppress(OSError):
-            process = os.pidfd_open(pid)
+            process = os.pidfd_open(self.master_pid)
             self.loop.watch(process, selectors.EVENT_READ, lambda _: self.on_master_end(process))
 
     def on_master_end(self, process: int) -> None:
@@ -145,25 +168,28 @@ class Front:
             self.status = 0
 
     def on_caller(self, _events: int) -> None:
+        if self.listener is None:
+            return
         try:
             stream, _ = self.listener.accept()
         except BlockingIOError:
             return
         except OSError as error:
-            say(f"cannot accept at {self.path}: {reason(error)}")
+            self.journal.write(f"cannot accept at {self.path}: {reason(error)}")
             # It stays there, and the next one that leaves makes room for it.
             if self.callers:
                 self.loop.forget(self.listener.fileno())
             else:
                 time.sleep(PAUSE_SECONDS)
             return
-        _, user, _ = peer_of(stream)
+        pid, user, _ = peer_of(stream)
+        process = Process.find(pid, user)
         if user not in (0, os.geteuid()):
-            say(f"refused at {self.path}: user {user}")
+            self.journal.refused(process, f"entry at {self.path}", "another user's")
             stream.close()
             return
         self.accepted += 1
-        self.callers.add(Caller(self, stream, self.accepted % (1 << 31)))
+        self.callers.add(Caller(self, stream, self.accepted % (1 << 31), process))
         self.update()
 
     def stop_listening(self) -> None:
@@ -176,7 +202,7 @@ class Front:
             self.listener = None
             self.update()
 
-    def end_all(self, asker: Optional[Caller] = None) -> None:
+    def end_all(self, asker: Caller | None = None) -> None:
         """Ends every session; the one that asked for it still gets its answer."""
         self.stop_listening()
         for caller in list(self.callers):
@@ -184,6 +210,31 @@ class Front:
                 caller.wire.close_when_sent()
             else:
                 caller.wire.close()
+
+    def state(self) -> dict[str, Any]:
+        """What ssh-mux-status shows."""
+        callers = sorted(self.callers, key=lambda caller: caller.number)
+        return {
+            "pid": os.getpid(),
+            "began": self.began,
+            "masters": [self.state_of_master()],
+            "callers": [caller.state() for caller in callers if caller.is_shown()],
+            "forwardings": self.forwardings.state(),
+            "refusals": list(self.journal.refusals),
+        }
+
+    def state_of_master(self) -> dict[str, Any]:
+        inside = clients_of(self.master_pid)
+        own = sum(link.fileno() >= 0 for link in self.links)
+        channels = [caller.channel for caller in self.callers]
+        sessions = sum(isinstance(it, Session) and it.phase is Phase.OPEN for it in channels)
+        return {
+            "control": self.control,
+            "sessions": sessions,
+            "most": None,
+            # Those that aren't the front's.
+            "inside": None if inside is None else max(0, inside - own),
+        }
 
     def serve(self) -> int:
         while self.status is None:
@@ -198,4 +249,6 @@ def identity(path: str) -> tuple[int, int]:
 
 def peer_of(stream: socket.socket) -> tuple[int, int, int]:
     """Process, user and group of the other side."""
-    return struct.unpack("3i", stream.getsockopt(socket.SOL_SOCKET, socket.SO_PEERCRED, 12))
+    data = stream.getsockopt(socket.SOL_SOCKET, socket.SO_PEERCRED, 12)
+    pid, user, group = struct.unpack("3i", data)
+    return pid, user, group

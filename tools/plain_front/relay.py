@@ -1,12 +1,14 @@
 """The descriptors that callers pass, and the ways between them and a channel."""
 
+from __future__ import annotations
+
 import contextlib
 import fcntl
 import os
 import selectors
 import socket
 import stat
-from typing import TYPE_CHECKING, Optional
+from typing import TYPE_CHECKING
 
 from plain_front.streams import Loop
 
@@ -23,10 +25,10 @@ class Descriptor:
     user's terminal after su, O_NONBLOCK is set, and put back at the end, as OpenSSH's master does.
     """
 
-    def __init__(self, fileno: int):
+    def __init__(self, fileno: int) -> None:
         self.fileno = fileno
-        self.flags_before: Optional[int] = None
-        self.stream: Optional[socket.socket] = None
+        self.flags_before: int | None = None
+        self.stream: socket.socket | None = None
         mode = os.fstat(fileno).st_mode
         if stat.S_ISSOCK(mode):
             self.stream = socket.socket(fileno=fileno)
@@ -76,7 +78,7 @@ class Descriptor:
 class Source:
     """A descriptor whose bytes go to a channel, read only as far as the channel has room."""
 
-    def __init__(self, loop: Loop, descriptor: Descriptor, channel: "Channel"):
+    def __init__(self, loop: Loop, descriptor: Descriptor, channel: Channel) -> None:
         self.loop, self.descriptor, self.channel = loop, descriptor, channel
         self.is_open = True
 
@@ -113,7 +115,7 @@ class Source:
 class Sink:
     """A descriptor that gets what a channel heard, as far as it takes it."""
 
-    def __init__(self, loop: Loop, descriptor: Descriptor, channel: "Channel"):
+    def __init__(self, loop: Loop, descriptor: Descriptor, channel: Channel) -> None:
         self.loop, self.descriptor, self.channel = loop, descriptor, channel
         self.waiting = bytearray()
         self.is_open, self.is_finished = True, False
@@ -164,7 +166,7 @@ class Sink:
 class EscapeFilter:
     """What is typed behind a newline and the escape character: `~.` ends the session, as in ssh."""
 
-    def __init__(self, character: int):
+    def __init__(self, character: int) -> None:
         self.character, self.at_line_start, self.is_escaped = character, True, False
 
     def take(self, data: bytes) -> tuple[bytes, bool]:

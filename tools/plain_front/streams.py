@@ -4,7 +4,8 @@ import collections
 import os
 import selectors
 import socket
-from typing import Any, Callable
+from collections.abc import Callable
+from typing import Any
 
 from plain_front.protocol import LONGEST_FRAME, Unreadable, uint32
 
@@ -50,7 +51,7 @@ class Wire:
         stream: socket.socket,
         on_frame: Callable[[bytes], None],
         on_end: Callable[[], None],
-    ):
+    ) -> None:
         self.loop, self.stream, self.on_frame, self.on_end = loop, stream, on_frame, on_end
         self.incoming, self.outgoing = bytearray(), bytearray()
         self.on_room: Callable[[], None] = lambda: None
@@ -151,7 +152,7 @@ class PassingWire(Wire):
 
     MOST_DESCRIPTORS = 3
 
-    def __init__(self, *words: Any):
+    def __init__(self, *words: Any) -> None:
         self.descriptors: collections.deque[int] = collections.deque()
         self.expected = 0
         self.on_descriptors: Callable[[list[int]], None] = lambda _: None

@@ -1,0 +1,109 @@
+"""The forwardings that callers asked for here, and why one is refused."""
+
+from __future__ import annotations
+
+import dataclasses
+import errno
+import ipaddress
+import os
+import socket
+import time
+from typing import TYPE_CHECKING, Any
+
+from channel_log import printable
+from plain_front.errand import Reply, ask
+from plain_front.journal import Process
+from plain_front.protocol import PORT_OF_PATH, Forwarding, Kind, Mux, uint32
+
+if TYPE_CHECKING:
+    from plain_front.caller import Caller
+    from plain_front.front import Front
+
+# The master's own bounds, of which its reply says nothing.
+MOST_FORWARDINGS, LONGEST_HOST, HIGHEST_PORT = 64, 255, 65535
+
+Place = tuple[int, bytes, int]
+
+
+def place_of(forwarding: Forwarding) -> Place:
+    """Kind, host and port to listen on, where what means the same is the same."""
+    host = forwarding.listen_host
+    if forwarding.listen_port != PORT_OF_PATH:
+        if forwarding.kind == Kind.REMOTE:
+            host = {b"": b"localhost", b"*": b""}.get(host, host)
+        else:
+            host = {b"": b"127.0.0.1", b"localhost": b"127.0.0.1", b"*": b"0.0.0.0"}.get(host, host)
+    return forwarding.kind, host, forwarding.listen_port
+
+
+@dataclasses.dataclass
+class Opened:
+    """A forwarding that was granted here."""
+
+    forwarding: Forwarding
+    opener: Process
+    began: float
+    port: int | None
+
+    @property
+    def name(self) -> str:
+        chosen = "" if self.port is None else f" (port {self.port})"
+        return self.forwarding.name + chosen
+
+
+class Forwardings:
+    """What was opened and is not cancelled, by the place where it listens."""
+
+    def __init__(self, front: Front) -> None:
+        self.front = front
+        self.opened: dict[Place, Opened] = {}
+
+    def open(self, caller: Caller, request: int, forwarding: Forwarding) -> None:
+        name = f"forward {forwarding.name}"
+
+        def on_reply(reply: Reply) -> None:
+            if not reply.is_granted:
+                why = self.why_not_opened(forwarding) if reply.is_refused else reply.why
+                caller.refuse(request, name, why)
+                return
+            self.add(caller, forwarding, reply)
+            chosen = "" if reply.port is None else f", port {reply.port}"
+            caller.note(name, f"granted{chosen}")
+            if reply.port is None:
+                caller.reply(Mux.S_OK, request)
+            else:
+                caller.reply(Mux.S_REMOTE_PORT, request, uint32(reply.port))
+
+        ask(self.front, forwarding.body(Mux.OPEN_FWD, request), on_reply)
+
+    def cancel(self, caller: Caller, request: int, forwarding: Forwarding) -> None:
+        name = f"cancel {forwarding.name}"
+
+        def on_reply(reply: Reply) -> None:
+            if not reply.is_granted:
+                why = f"nothing listens there: {forwarding.name}" if reply.is_refused else reply.why
+                caller.refuse(request, name, why)
+                return
+            self.opened.pop(place_of(forwarding), None)
+            caller.note(name, "granted")
+            caller.reply(Mux.S_OK, request)
+
+        ask(self.front, forwarding.body(Mux.CLOSE_FWD, request), on_reply)
+
+    def add(self, caller: Caller, forwarding: Forwarding, reply: Reply) -> None:
+        opened = Opened(forwarding, caller.process, time.time(), reply.port)
+        self.opened.setdefault(place_of(forwarding), opened)
+
+    def state(self) -> list[dict[str, Any]]:
+        """What ssh-mux-status shows of them."""
+        return [
+            {"name": it.name, "opener": it.opener.name, "began": it.began}
+            for it in self.opened.values()
+        ]
+
+    def why_not_opened(self, forwarding: Forwarding) -> str:
+        """Why the master doesn't open it, as far as that can be seen from here."""
+        return "forwardings are not served"
+
+    def on_caller_end(self, caller: Caller) -> None:
+        """It's gone."""
