@@ -297,6 +297,11 @@ class StdioForward(CallerChannel):
     def opening(self) -> tuple[bytes, bytes]:
         return direct_opening(self.wanted.host, self.wanted.port)
 
+    def refuse(self, code: int, text: str) -> None:
+        # Of the refusals only the open's has a code.
+        forbidden = self.front.lists.forbids_open(self.wanted.host, self.wanted.port)
+        super().refuse(code, (forbidden or f"{self.wanted.end}: {text}") if code else text)
+
     def on_sink_closed(self) -> None:
         # An end of the data is the end of all, as in OpenSSH: the caller has the descriptor open,
         # too, so only if that ends, an ssh behind a jump sees that its server is gone.

@@ -3,24 +3,17 @@
 from __future__ import annotations
 
 import dataclasses
-import errno
-import ipaddress
-import os
-import socket
 import time
 from typing import TYPE_CHECKING, Any
 
-from channel_log import printable
 from plain_front.errand import Reply, ask
 from plain_front.journal import Process
 from plain_front.protocol import PORT_OF_PATH, Forwarding, Kind, Mux, uint32
+from plain_front.refusals import LOCAL_HOSTS, fault_of, why_refused
 
 if TYPE_CHECKING:
     from plain_front.caller import Caller
     from plain_front.front import Front
-
-# The master's own bounds, of which its reply says nothing.
-MOST_FORWARDINGS, LONGEST_HOST, HIGHEST_PORT = 64, 255, 65535
 
 Place = tuple[int, bytes, int]
 
@@ -32,7 +25,7 @@ def place_of(forwarding: Forwarding) -> Place:
         if forwarding.kind == Kind.REMOTE:
             host = {b"": b"localhost", b"*": b""}.get(host, host)
         else:
-            host = {b"": b"127.0.0.1", b"localhost": b"127.0.0.1", b"*": b"0.0.0.0"}.get(host, host)
+            host = LOCAL_HOSTS.get(host, host)
     return forwarding.kind, host, forwarding.listen_port
 
 
@@ -59,11 +52,15 @@ class Forwardings:
         self.opened: dict[Place, Opened] = {}
 
     def open(self, caller: Caller, request: int, forwarding: Forwarding) -> None:
-        name = f"forward {forwarding.name}"
+        name, place = f"forward {forwarding.name}", place_of(forwarding)
+        why = fault_of(forwarding) or self.front.lists.forbids_forwarding(forwarding, place[1])
+        if why is not None:
+            caller.refuse(request, name, why)
+            return
 
         def on_reply(reply: Reply) -> None:
             if not reply.is_granted:
-                why = self.why_not_opened(forwarding) if reply.is_refused else reply.why
+                why = self.why_refused(forwarding) if reply.is_refused else reply.why
                 caller.refuse(request, name, why)
                 return
             self.add(caller, forwarding, reply)
@@ -81,7 +78,7 @@ class Forwardings:
 
         def on_reply(reply: Reply) -> None:
             if not reply.is_granted:
-                why = f"nothing listens there: {forwarding.name}" if reply.is_refused else reply.why
+                why = f"{forwarding.name} isn't open" if reply.is_refused else reply.why
                 caller.refuse(request, name, why)
                 return
             self.opened.pop(place_of(forwarding), None)
@@ -101,9 +98,9 @@ class Forwardings:
             for it in self.opened.values()
         ]
 
-    def why_not_opened(self, forwarding: Forwarding) -> str:
-        """Why the master doesn't open it, as far as that can be seen from here."""
-        return "forwardings are not served"
+    def why_refused(self, forwarding: Forwarding) -> str:
+        other = self.opened.get(place_of(forwarding))
+        return why_refused(forwarding, other.forwarding if other else None, len(self.opened))
 
     def on_caller_end(self, caller: Caller) -> None:
         """It's gone."""

@@ -21,6 +21,7 @@ from plain_front.channel import Phase, Session
 from plain_front.forwardings import Forwardings
 from plain_front.inside import clients_of
 from plain_front.journal import Journal, Process
+from plain_front.lists import Lists
 from plain_front.protocol import MUX_VERSION, Mux, reason, uint32
 from plain_front.streams import Loop
 
@@ -54,6 +55,8 @@ class Options:
     control: str
     path: str
     log: str | None = None
+    permit_open: list[str] = dataclasses.field(default_factory=list)
+    permit_listen: list[str] = dataclasses.field(default_factory=list)
 
 
 class Front:
@@ -68,6 +71,7 @@ class Front:
         self.loop = Loop()
         self.callers: set[Caller] = set()
         self.forwardings = Forwardings(self)
+        self.lists = Lists(options.permit_open, options.permit_listen)
         # The connections to the master, some of which may be closed.
         self.links: weakref.WeakSet[socket.socket] = weakref.WeakSet()
         self.master_pid = 0
