@@ -37,6 +37,10 @@ class Opened:
     opener: Process
     began: float
     port: int | None
+    # The callers that are here still and asked for it, and whether one asked for nothing else: a
+    # forwarding of `ssh -O forward` outlives its client.
+    holders: set[Caller] = dataclasses.field(default_factory=set)
+    stays: bool = False
 
     @property
     def name(self) -> str:
@@ -88,8 +92,11 @@ class Forwardings:
         ask(self.front, forwarding.body(Mux.CLOSE_FWD, request), on_reply)
 
     def add(self, caller: Caller, forwarding: Forwarding, reply: Reply) -> None:
-        opened = Opened(forwarding, caller.process, time.time(), reply.port)
-        self.opened.setdefault(place_of(forwarding), opened)
+        found = Opened(forwarding, caller.process, time.time(), reply.port)
+        opened = self.opened.setdefault(place_of(forwarding), found)
+        opened.holders.add(caller)
+        if caller not in self.front.callers:
+            self.on_caller_end(caller)
 
     def state(self) -> list[dict[str, Any]]:
         """What ssh-mux-status shows of them."""
@@ -103,4 +110,21 @@ class Forwardings:
         return why_refused(forwarding, other.forwarding if other else None, len(self.opened))
 
     def on_caller_end(self, caller: Caller) -> None:
-        """It's gone."""
+        """With --tidy, closes what nobody holds any more who came with a session."""
+        for opened in list(self.opened.values()):
+            if caller not in opened.holders:
+                continue
+            opened.holders.discard(caller)
+            opened.stays = opened.stays or caller.channel is None
+            if self.front.options.tidy and not opened.holders and not opened.stays:
+                self.tidy(opened)
+
+    def tidy(self, opened: Opened) -> None:
+        name = f"cancel {opened.forwarding.name}"
+        self.opened.pop(place_of(opened.forwarding), None)
+
+        def on_reply(reply: Reply) -> None:
+            outcome = "its clients have ended" if reply.is_granted else f"failed: {reply.why}"
+            self.front.journal.note(opened.opener, name, outcome)
+
+        ask(self.front, opened.forwarding.body(Mux.CLOSE_FWD, 0), on_reply)

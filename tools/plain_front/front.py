@@ -55,6 +55,7 @@ class Options:
     control: str
     path: str
     log: str | None = None
+    tidy: bool = False
     permit_open: list[str] = dataclasses.field(default_factory=list)
     permit_listen: list[str] = dataclasses.field(default_factory=list)
 
