@@ -10,7 +10,7 @@ from collections.abc import Callable
 from typing import TYPE_CHECKING, Any
 
 from plain_front.channel import CallerChannel, Session, StdioForward
-from plain_front.errand import Reply, ask
+from plain_front.errand import Reply, ask, tell_others
 from plain_front.journal import Process
 from plain_front.protocol import MUX_VERSION, Fields, Forwarding, ForwardRequest, Mux
 from plain_front.protocol import SessionRequest, Unreadable, string, uint32
@@ -88,6 +88,7 @@ class Caller:
                 self.refuse(request, name, reply.why)
                 return
             self.note(name, "granted")
+            tell_others(self.front, uint32(kind, request))
             # The path is gone before the caller is told, so that the next one doesn't find it.
             self.front.stop_listening()
             self.reply(Mux.S_OK, request)

@@ -5,13 +5,15 @@ from __future__ import annotations
 import collections
 import enum
 import os
+import socket
 import time
 from collections.abc import Callable
 from typing import TYPE_CHECKING
 
 from channel_log import printable
+from plain_front.masters import Master
 from plain_front.protocol import NO_ESCAPE, PORT_OF_PATH, Fields, ForwardRequest, Message, Mux
-from plain_front.protocol import SessionRequest, reason, string, uint32
+from plain_front.protocol import SessionRequest, string, uint32
 from plain_front.proxy_client import ProxyClient
 from plain_front.relay import Descriptor, EscapeFilter, Sink, Source
 from plain_front.streams import PIECE
@@ -26,6 +28,10 @@ if TYPE_CHECKING:
 # it is told of them. The window is that of OpenSSH's own sessions.
 WINDOW = 64 * PIECE
 ADJUST_FROM = 4 * PIECE
+
+# Why a server refuses a session that it has no room for: sshd says the first one beyond its
+# MaxSessions.
+NO_ROOM = (2, 4)
 
 
 class Phase(enum.Enum):
@@ -222,20 +228,42 @@ class CallerChannel(Channel):
         super().__init__(front.loop)
         self.front, self.caller, self.request, self.name = front, caller, request, name
         self.began = time.monotonic()
+        self.master = front.masters[0]
+        # The masters that weren't tried yet, and why the others refused.
+        self.left: list[Master] = []
+        self.reasons: list[str] = []
         source, *sinks = [Descriptor(descriptor) for descriptor in descriptors]
         self.take_descriptors(source, *sinks)
 
     def begin(self) -> None:
-        try:
-            stream = self.front.reach_master()
-        except OSError as error:
-            self.refuse(0, f"no master at {self.front.control}: {reason(error)}")
+        self.left = self.front.masters_in_order()
+        self.try_next()
+
+    def try_next(self, why: str = "") -> None:
+        """Tries the next master. Where there is none, the caller is told why each refused."""
+        self.reasons += [why] if why and why not in self.reasons else []
+        if self.link is not None:
+            self.link.leave()
+        if not self.left:
+            self.refuse(0, "; ".join(self.reasons))
+            return
+        self.master = self.left.pop(0)
+        self.master.reach(self.on_reached, self.on_link_lost)
+
+    def on_reached(self, stream: socket.socket) -> None:
+        if self.phase is Phase.OVER:
+            # The caller left while it was waited for.
+            stream.close()
             return
         self.join(ProxyClient(self.loop, stream, self.ask_for_it, self.on_link_lost))
 
     def on_opened(self) -> None:
-        self.caller.note(self.name, "opened")
+        over = "" if self.master is self.front.masters[0] else f" over {self.master.control}"
+        self.caller.note(self.name, f"opened{over}")
         self.caller.reply(Mux.S_SESSION_OPENED, self.request, uint32(self.caller.number))
+
+    def on_ended(self) -> None:
+        """It was open, and is no more."""
 
     def outcome(self) -> str:
         """What the log says of its end."""
@@ -253,6 +281,7 @@ class CallerChannel(Channel):
         if self.phase is Phase.OPEN:
             seconds = time.monotonic() - self.began
             self.caller.note(self.name, f"{self.outcome()}, {seconds:.1f} s")
+            self.on_ended()
 
     def on_lost(self) -> None:
         """The client says so itself, with a text."""
@@ -261,7 +290,7 @@ class CallerChannel(Channel):
         if self.phase is Phase.OPEN:
             self.end()
         elif self.phase is not Phase.OVER:
-            self.refuse(0, text)
+            self.try_next(text)
 
     def on_sink_closed(self) -> None:
         if self.phase is Phase.OVER and not any(sink.is_open for sink in self.sinks):
@@ -355,6 +384,17 @@ class Session(CallerChannel):
     def outcome(self) -> str:
         return self.exit or super().outcome()
 
+    def on_ended(self) -> None:
+        self.master.end_session()
+
+    def on_open_failure(self, fields: Fields) -> None:
+        code, text = fields.uint32(), fields.text()
+        if code in NO_ROOM:
+            self.master.has_no_room()
+            self.try_next(f"the server has no room for one more session: {text}")
+        else:
+            self.refuse(code, text)
+
     def ask(self, name: bytes, *parts: bytes, wants_reply: bool = True) -> None:
         self.say(Message.REQUEST, string(name), bytes([wants_reply]), *parts)
         if wants_reply:
@@ -362,6 +402,7 @@ class Session(CallerChannel):
 
     def on_opened(self) -> None:
         super().on_opened()
+        self.master.begin_session()
         wanted = self.wanted
         if wanted.x11:
             self.sinks[1].put(b"X11 forwarding request failed\r\n")

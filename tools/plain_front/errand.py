@@ -2,7 +2,9 @@
 
 from __future__ import annotations
 
+import contextlib
 import dataclasses
+import socket
 from collections.abc import Callable
 from typing import TYPE_CHECKING
 
@@ -38,10 +40,13 @@ class Reply:
 class Errand:
     """A client of a master that has one request."""
 
-    def __init__(self, front: Front, body: bytes, on_reply: Callable[[Reply], None]) -> None:
-        """Raises OSError where no master is reached."""
+    def __init__(
+        self, front: Front, stream: socket.socket, body: bytes, on_reply: Callable[[Reply], None]
+    ) -> None:
+        self.front = front
+        front.errands.add(self)
         self.on_reply, self.has_greeted, self.is_answered = on_reply, False, False
-        self.wire = Wire(front.loop, front.reach_master(), self.on_frame, self.on_end)
+        self.wire = Wire(front.loop, stream, self.on_frame, self.on_end)
         self.wire.send(uint32(Mux.HELLO, MUX_VERSION))
         self.wire.send(body)
 
@@ -60,11 +65,23 @@ class Errand:
         if not self.is_answered:
             self.is_answered = True
             self.on_reply(Reply(False, why=LOST))
+        self.front.errands.discard(self)
+        self.front.update()
 
 
 def ask(front: Front, body: bytes, on_reply: Callable[[Reply], None]) -> None:
     """Asks the first master. The reply comes once, also where no master is reached."""
     try:
-        Errand(front, body, on_reply)
+        stream = front.masters[0].connect()
     except OSError as error:
         on_reply(Reply(False, why=f"no master at {front.control}: {reason(error)}"))
+        return
+    Errand(front, stream, body, on_reply)
+
+
+def tell_others(front: Front, body: bytes) -> None:
+    """Says a request to the further masters that run and weren't started here."""
+    for master in front.masters[1:]:
+        with contextlib.suppress(OSError):
+            if master.process is None:
+                Errand(front, master.connect(), body, lambda _: None)

@@ -4,24 +4,22 @@ from __future__ import annotations
 
 import contextlib
 import dataclasses
-import errno
 import os
 import selectors
 import signal
 import socket
-import struct
 import sys
 import time
-import weakref
 from collections.abc import Callable
 from typing import Any, NoReturn
 
 from plain_front.caller import Caller
-from plain_front.channel import Phase, Session
+from plain_front.channel import Session
+from plain_front.errand import Errand
 from plain_front.forwardings import Forwardings
-from plain_front.inside import clients_of
 from plain_front.journal import Journal, Process
 from plain_front.lists import Lists
+from plain_front.masters import Master, peer_of
 from plain_front.protocol import MUX_VERSION, Mux, reason, uint32
 from plain_front.streams import Loop
 
@@ -31,6 +29,9 @@ MOST_CLIENTS = 128
 # How long to wait for a master's hello, and before the next try where the machine is out of means.
 HELLO_SECONDS = 10
 PAUSE_SECONDS = 0.1
+
+# How long a master may take for its last answer.
+LAST_SECONDS = 5
 
 ENDING_SIGNALS = (signal.SIGHUP, signal.SIGINT, signal.SIGTERM)
 
@@ -56,6 +57,9 @@ class Options:
     path: str
     log: str | None = None
     tidy: bool = False
+    # Further masters of the host, and how one is started where nobody answers.
+    more: list[str] = dataclasses.field(default_factory=list)
+    command: list[str] | None = None
     permit_open: list[str] = dataclasses.field(default_factory=list)
     permit_listen: list[str] = dataclasses.field(default_factory=list)
 
@@ -70,33 +74,26 @@ class Front:
         except OSError as error:
             fail(f"cannot write {options.log}: {reason(error)}")
         self.loop = Loop()
+        more = [Master(self.loop, control, options.command) for control in options.more]
+        # One that is gone for good won't be missed twice.
+        self.masters = [Master(self.loop, self.control, on_gone=self.stop_listening), *more]
         self.callers: set[Caller] = set()
+        # Requests that a master hasn't answered yet: it would miss them if this ended.
+        self.errands: set[Errand] = set()
         self.forwardings = Forwardings(self)
         self.lists = Lists(options.permit_open, options.permit_listen)
-        # The connections to the master, some of which may be closed.
-        self.links: weakref.WeakSet[socket.socket] = weakref.WeakSet()
-        self.master_pid = 0
         self.accepted = 0
         self.began = time.time()
+        # The status with which it ends, and that at its end.
+        self.final_status = 0
         self.status: int | None = None
         self.listener: socket.socket | None = None
         self.identity: tuple[int, int] | None = None
         self.signals = socket.socketpair()
 
-    def reach_master(self) -> socket.socket:
-        """A connection to the master. One that is gone for good won't be missed twice."""
-        stream = socket.socket(socket.AF_UNIX)
-        try:
-            # A master that is too busy to accept must not hold up the others' sessions.
-            stream.setblocking(False)
-            stream.connect(self.control)
-            self.links.add(stream)
-            return stream
-        except OSError as error:
-            stream.close()
-            if error.errno in (errno.ENOENT, errno.ECONNREFUSED):
-                self.stop_listening()
-            raise
+    def masters_in_order(self) -> list[Master]:
+        """Those that may have room first. Another one is opened before a full one is asked again."""
+        return sorted(self.masters, key=Master.is_full)
 
     def watch_master(self) -> None:
         """Looks whether a master is at CONTROL, and has the loop see its end.
@@ -104,18 +101,17 @@ class Front:
         Its process is looked at, since a client that only waits would take a place of another one.
         """
         try:
-            stream = self.reach_master()
+            stream = self.masters[0].connect()
             with stream:
                 stream.settimeout(HELLO_SECONDS)
                 hello = stream.recv(12, socket.MSG_WAITALL)
-                self.master_pid, _, _ = peer_of(stream)
         except OSError as error:
             fail(f"no master at {self.control}: {reason(error)}")
         if hello[4:] != uint32(Mux.HELLO, MUX_VERSION):
             fail(f"no master at {self.control}: it lets nobody in, or says another hello")
         # A master that put itself into the background after it began to listen isn't seen.
         with contextlib.suppress(OSError):
-            process = os.pidfd_open(self.master_pid)
+            process = os.pidfd_open(self.masters[0].pid)
             self.loop.watch(process, selectors.EVENT_READ, lambda _: self.on_master_end(process))
 
     def on_master_end(self, process: int) -> None:
@@ -137,8 +133,8 @@ class Front:
 
     def on_signal(self, number: int) -> None:
         if number != signal.SIGWINCH:
+            self.final_status = 128 + number
             self.end_all()
-            self.status = 128 + number
             return
         for caller in list(self.callers):
             if isinstance(caller.channel, Session):
@@ -169,8 +165,14 @@ class Front:
         if self.listener is not None:
             reads = selectors.EVENT_READ if len(self.callers) < MOST_CLIENTS else 0
             self.loop.watch(self.listener.fileno(), reads, self.on_caller)
-        elif not self.callers and self.status is None:
-            self.status = 0
+        elif not self.callers and not self.errands:
+            self.status = self.final_status
+        elif not self.callers:
+            self.loop.call_later(LAST_SECONDS, self.end_anyway)
+
+    def end_anyway(self) -> None:
+        """Some master doesn't answer."""
+        self.status = self.final_status
 
     def on_caller(self, _events: int) -> None:
         if self.listener is None:
@@ -222,38 +224,20 @@ class Front:
         return {
             "pid": os.getpid(),
             "began": self.began,
-            "masters": [self.state_of_master()],
+            "masters": [master.state() for master in self.masters if master.is_there()],
             "callers": [caller.state() for caller in callers if caller.is_shown()],
             "forwardings": self.forwardings.state(),
             "refusals": list(self.journal.refusals),
         }
 
-    def state_of_master(self) -> dict[str, Any]:
-        inside = clients_of(self.master_pid)
-        own = sum(link.fileno() >= 0 for link in self.links)
-        channels = [caller.channel for caller in self.callers]
-        sessions = sum(isinstance(it, Session) and it.phase is Phase.OPEN for it in channels)
-        return {
-            "control": self.control,
-            "sessions": sessions,
-            "most": None,
-            # Those that aren't the front's.
-            "inside": None if inside is None else max(0, inside - own),
-        }
-
     def serve(self) -> int:
         while self.status is None:
             self.loop.turn()
+        for master in self.masters:
+            master.finish()
         return self.status
 
 
 def identity(path: str) -> tuple[int, int]:
     found = os.lstat(path)
     return found.st_dev, found.st_ino
-
-
-def peer_of(stream: socket.socket) -> tuple[int, int, int]:
-    """Process, user and group of the other side."""
-    data = stream.getsockopt(socket.SOL_SOCKET, socket.SO_PEERCRED, 12)
-    pid, user, group = struct.unpack("3i", data)
-    return pid, user, group

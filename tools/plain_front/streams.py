@@ -1,9 +1,12 @@
 """The loop, and streams of frames."""
 
 import collections
+import heapq
+import itertools
 import os
 import selectors
 import socket
+import time
 from collections.abc import Callable
 from typing import Any
 
@@ -21,6 +24,18 @@ class Loop:
 
     def __init__(self) -> None:
         self.selector = selectors.PollSelector()
+        # What is to be called, by the moment, and in order where that is the same.
+        self.timers: list[tuple[float, int, Callable[[], None]]] = []
+        self.timer_numbers = itertools.count()
+
+    def call_later(self, seconds: float, callback: Callable[[], None]) -> None:
+        timer = (time.monotonic() + seconds, next(self.timer_numbers), callback)
+        heapq.heappush(self.timers, timer)
+
+    def call_due(self) -> None:
+        now = time.monotonic()
+        while self.timers and self.timers[0][0] <= now:
+            heapq.heappop(self.timers)[2]()
 
     def watch(self, fileno: int, events: int, on_ready: Callable[[int], None]) -> None:
         key = self.selector.get_map().get(fileno)
@@ -35,11 +50,13 @@ class Loop:
         self.watch(fileno, 0, lambda _: None)
 
     def turn(self) -> None:
-        for ready, events in self.selector.select():
+        wait = max(0, self.timers[0][0] - time.monotonic()) if self.timers else None
+        for ready, events in self.selector.select(wait):
             # What was ready may have been closed since by another, and the number be in use again.
             key = self.selector.get_map().get(ready.fd)
             if key is not None and key.data == ready.data:
                 key.data(events)
+        self.call_due()
 
 
 class Wire:
