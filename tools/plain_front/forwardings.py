@@ -4,12 +4,14 @@ from __future__ import annotations
 
 import dataclasses
 import time
+from collections.abc import Callable
 from typing import TYPE_CHECKING, Any
 
 from plain_front.errand import Reply, ask
 from plain_front.journal import Process
+from plain_front.own_forwardings import OwnForwardings
 from plain_front.protocol import PORT_OF_PATH, Forwarding, Kind, Mux, uint32
-from plain_front.refusals import LOCAL_HOSTS, fault_of, why_refused
+from plain_front.refusals import LOCAL_HOSTS, MOST_FORWARDINGS, fault_of, why_refused
 
 if TYPE_CHECKING:
     from plain_front.caller import Caller
@@ -54,6 +56,9 @@ class Forwardings:
     def __init__(self, front: Front) -> None:
         self.front = front
         self.opened: dict[Place, Opened] = {}
+        self.own = OwnForwardings(front)
+        # Places of the front's own that the server was asked for.
+        self.under_way: set[Place] = set()
 
     def open(self, caller: Caller, request: int, forwarding: Forwarding) -> None:
         name, place = f"forward {forwarding.name}", place_of(forwarding)
@@ -75,7 +80,54 @@ class Forwardings:
             else:
                 caller.reply(Mux.S_REMOTE_PORT, request, uint32(reply.port))
 
-        ask(self.front, forwarding.body(Mux.OPEN_FWD, request), on_reply)
+        if forwarding.is_for_the_front:
+            self.open_own(forwarding, place, on_reply)
+        else:
+            ask(self.front, forwarding.body(Mux.OPEN_FWD, request), on_reply)
+
+    def open_own(
+        self, forwarding: Forwarding, place: Place, on_reply: Callable[[Reply], None]
+    ) -> None:
+        """Has the front serve it. The same again gets the same reply."""
+        opened = self.opened.get(place)
+        if place in self.under_way:
+            on_reply(Reply(False, why=f"{forwarding.name} is being opened or cancelled"))
+        elif opened is None and len(self.opened) >= MOST_FORWARDINGS:
+            on_reply(Reply(False, why=f"{MOST_FORWARDINGS} forwardings are open"))
+        elif opened is None:
+            self.under_way.add(place)
+            self.own.open(forwarding, place[1], self.then_done(place, on_reply))
+        elif opened.forwarding.goes_where(forwarding):
+            on_reply(Reply(True, port=opened.port))
+        else:
+            on_reply(Reply(False, is_refused=True))
+
+    def close(
+        self, forwarding: Forwarding, request: int, on_reply: Callable[[Reply], None]
+    ) -> None:
+        """Closes the one at the place of this one, whoever serves it."""
+        place = place_of(forwarding)
+        opened = self.opened.get(place)
+        if opened is not None and opened.forwarding.is_for_the_front:
+            if place in self.under_way:
+                on_reply(Reply(False, why=f"{forwarding.name} is being cancelled"))
+                return
+            self.under_way.add(place)
+            self.own.close(opened.forwarding, self.then_done(place, on_reply))
+        elif opened is None and forwarding.is_for_the_front:
+            on_reply(Reply(False, is_refused=True))
+        else:
+            asked = forwarding if opened is None else opened.forwarding
+            ask(self.front, asked.body(Mux.CLOSE_FWD, request), on_reply)
+
+    def then_done(
+        self, place: Place, on_reply: Callable[[Reply], None]
+    ) -> Callable[[Reply], None]:
+        def on_done(reply: Reply) -> None:
+            self.under_way.discard(place)
+            on_reply(reply)
+
+        return on_done
 
     def cancel(self, caller: Caller, request: int, forwarding: Forwarding) -> None:
         name = f"cancel {forwarding.name}"
@@ -89,7 +141,7 @@ class Forwardings:
             caller.note(name, "granted")
             caller.reply(Mux.S_OK, request)
 
-        ask(self.front, forwarding.body(Mux.CLOSE_FWD, request), on_reply)
+        self.close(forwarding, request, on_reply)
 
     def add(self, caller: Caller, forwarding: Forwarding, reply: Reply) -> None:
         found = Opened(forwarding, caller.process, time.time(), reply.port)
@@ -97,6 +149,13 @@ class Forwardings:
         opened.holders.add(caller)
         if caller not in self.front.callers:
             self.on_caller_end(caller)
+
+    def forget(self, forwardings: list[Forwarding], why: str) -> None:
+        """They came to their end without anybody's asking."""
+        for opened in list(self.opened.values()):
+            if opened.forwarding in forwardings:
+                del self.opened[place_of(opened.forwarding)]
+                self.front.journal.note(opened.opener, f"forward {opened.forwarding.name}", why)
 
     def state(self) -> list[dict[str, Any]]:
         """What ssh-mux-status shows of them."""
@@ -120,11 +179,12 @@ class Forwardings:
                 self.tidy(opened)
 
     def tidy(self, opened: Opened) -> None:
-        name = f"cancel {opened.forwarding.name}"
-        self.opened.pop(place_of(opened.forwarding), None)
+        name, place = f"cancel {opened.forwarding.name}", place_of(opened.forwarding)
 
         def on_reply(reply: Reply) -> None:
+            if self.opened.get(place) is opened:
+                del self.opened[place]
             outcome = "its clients have ended" if reply.is_granted else f"failed: {reply.why}"
             self.front.journal.note(opened.opener, name, outcome)
 
-        ask(self.front, opened.forwarding.body(Mux.CLOSE_FWD, 0), on_reply)
+        self.close(opened.forwarding, 0, on_reply)

@@ -165,6 +165,8 @@ class Front:
         if self.listener is not None:
             reads = selectors.EVENT_READ if len(self.callers) < MOST_CLIENTS else 0
             self.loop.watch(self.listener.fileno(), reads, self.on_caller)
+        elif self.forwardings.own.count_relays():
+            return
         elif not self.callers and not self.errands:
             self.status = self.final_status
         elif not self.callers:
@@ -211,6 +213,7 @@ class Front:
 
     def end_all(self, asker: Caller | None = None) -> None:
         """Ends every session; the one that asked for it still gets its answer."""
+        self.forwardings.own.finish()
         self.stop_listening()
         for caller in list(self.callers):
             if caller is asker:
@@ -226,6 +229,7 @@ class Front:
             "began": self.began,
             "masters": [master.state() for master in self.masters if master.is_there()],
             "callers": [caller.state() for caller in callers if caller.is_shown()],
+            "relays": self.forwardings.own.count_relays(),
             "forwardings": self.forwardings.state(),
             "refusals": list(self.journal.refusals),
         }
@@ -233,6 +237,7 @@ class Front:
     def serve(self) -> int:
         while self.status is None:
             self.loop.turn()
+        self.forwardings.own.finish()
         for master in self.masters:
             master.finish()
         return self.status

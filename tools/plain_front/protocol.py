@@ -1,5 +1,7 @@
 """The messages of PROTOCOL.mux and RFC 4254, and the fields of which they are made."""
 
+from __future__ import annotations
+
 import dataclasses
 import enum
 import struct
@@ -142,7 +144,7 @@ class SessionRequest:
         return f"session {'subsystem' if self.subsystem else 'exec'} {printable(self.command)}"
 
     @classmethod
-    def read(cls, fields: Fields) -> "SessionRequest":
+    def read(cls, fields: Fields) -> SessionRequest:
         _reserved = fields.string()
         terminal, x11, agent, subsystem = (fields.uint32() != 0 for _ in range(4))
         escape, terminal_type, command = fields.uint32(), fields.string(), fields.string()
@@ -164,7 +166,7 @@ class ForwardRequest:
         return end_of(self.host, self.port)
 
     @classmethod
-    def read(cls, fields: Fields) -> "ForwardRequest":
+    def read(cls, fields: Fields) -> ForwardRequest:
         _reserved = fields.string()
         return cls(fields.string(), fields.uint32())
 
@@ -191,7 +193,7 @@ class Forwarding:
     connect_port: int
 
     @classmethod
-    def read(cls, fields: Fields) -> "Forwarding":
+    def read(cls, fields: Fields) -> Forwarding:
         kind = fields.uint32()
         listen = fields.string(), fields.uint32()
         return cls(kind, *listen, fields.string(), fields.uint32())
@@ -206,6 +208,23 @@ class Forwarding:
     def is_dynamic(self) -> bool:
         """Whether a SOCKS dialog says where to connect."""
         return self.kind == Kind.DYNAMIC or (self.kind == Kind.REMOTE and self.connect_port == 0)
+
+    def goes_where(self, other: Forwarding) -> bool:
+        """Whether one at the same place connects to the same end."""
+        if self.is_dynamic or other.is_dynamic:
+            return self.is_dynamic == other.is_dynamic
+        ends = (self.connect_host, self.connect_port)
+        return ends == (other.connect_host, other.connect_port)
+
+    @property
+    def has_path(self) -> bool:
+        connects_to_path = not self.is_dynamic and self.connect_port == PORT_OF_PATH
+        return self.listen_port == PORT_OF_PATH or connects_to_path
+
+    @property
+    def is_for_the_front(self) -> bool:
+        """Whether the front serves it: the master has no paths, and no SOCKS for the server."""
+        return self.has_path or (self.kind == Kind.REMOTE and self.is_dynamic)
 
     @property
     def listening(self) -> str:

@@ -33,6 +33,8 @@ def fault_of(forwarding: Forwarding) -> str | None:
     letter = LETTERS.get(Kind(forwarding.kind)) if forwarding.kind in set(Kind) else None
     if letter is None:
         return f"kind {forwarding.kind} is none of -L, -R and -D"
+    if forwarding.kind == Kind.DYNAMIC and forwarding.listen_port == PORT_OF_PATH:
+        return "-D listens at a port"
     if forwarding.listen_port == 0 and forwarding.kind != Kind.REMOTE:
         return f"{letter} listens at a port that is named, and 0 is none"
     if forwarding.connect_port == 0 and not forwarding.is_dynamic:
@@ -60,12 +62,19 @@ def cannot_listen(host: bytes, port: int) -> str | None:
     return None
 
 
+def why_not_listening(forwarding: Forwarding, error: OSError) -> str:
+    """Why the front can't listen for a forwarding."""
+    if error.errno == errno.EADDRINUSE and forwarding.listen_port == PORT_OF_PATH:
+        return f"{forwarding.listening} exists"
+    return f"nobody can listen at {forwarding.listening}: {reason(error)}"
+
+
 def why_refused(forwarding: Forwarding, other: Forwarding | None, count: int) -> str:
     """Why the master refused a forwarding. `other` is the one that is open at its place, and so
     many were opened here."""
     if (fault := fault_of(forwarding)) is not None:
         return fault
-    if other is not None and not forwarding.is_dynamic:
+    if other is not None and not other.goes_where(forwarding):
         return f"{other.name} is open at this place, to another end"
     if forwarding.kind == Kind.REMOTE:
         return (

@@ -75,6 +75,20 @@ class Descriptor:
             os.close(self.fileno)
 
 
+class SocketSide(Descriptor):
+    """One direction of a socket of the front's own. Its end is told to the other side."""
+
+    def __init__(self, stream: socket.socket, is_for_writing: bool) -> None:
+        super().__init__(os.dup(stream.fileno()))
+        self.is_for_writing = is_for_writing
+
+    def close(self) -> None:
+        if self.is_for_writing and self.stream is not None:
+            with contextlib.suppress(OSError):
+                self.stream.shutdown(socket.SHUT_WR)
+        super().close()
+
+
 class Source:
     """A descriptor whose bytes go to a channel, read only as far as the channel has room."""
 
