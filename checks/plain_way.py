@@ -7,10 +7,8 @@ It is plumbing alone, as play.py is.
 from __future__ import annotations
 
 import os
-import signal
 import socket
 import subprocess
-from collections.abc import Callable, Sequence
 from typing import IO, Any, cast
 
 import play
@@ -65,23 +63,6 @@ class PlainWay(Way):
         self.front = self.start_front()
         settings = {"front": self.front_path, "port": self.port, "folder": self.folder}
         self.file("config", CONFIGURATION.format(**settings).encode())
-
-    def start(
-        self,
-        words: Sequence[str | bytes],
-        grace: float = START_SECONDS,
-        preexec_fn: Callable[[], None] | None = None,
-        **how: Any,
-    ) -> subprocess.Popen[bytes]:
-        """Starts it with signals at their defaults, which nohup or a shell may have had ignored."""
-
-        def before() -> None:
-            for number in (signal.SIGHUP, signal.SIGINT):
-                signal.signal(number, signal.SIG_DFL)
-            if preexec_fn is not None:
-                preexec_fn()
-
-        return super().start(words, grace, preexec_fn=before, **how)
 
     def start_front(self, *words: str, **how: Any) -> subprocess.Popen[bytes]:
         """A front with these words more; its log is apart from what it says on standard error."""

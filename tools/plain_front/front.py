@@ -23,7 +23,7 @@ from plain_front.masters import Master, peer_of
 from plain_front.protocol import MUX_VERSION, Mux, reason, uint32
 from plain_front.streams import Loop
 
-# More clients wait before they are let in: each has up to seven descriptors here, of 1,024 in all.
+# More clients wait before they are let in: each has up to seven descriptors here.
 MOST_CLIENTS = 128
 
 # How long to wait for a master's hello, and before the next try where the machine is out of means.
@@ -115,7 +115,10 @@ class Front:
             self.loop.watch(process, selectors.EVENT_READ, lambda _: self.on_master_end(process))
 
     def on_master_end(self, process: int) -> None:
+        """Its forwardings have ended with it."""
         self.loop.forget(process)
+        self.forwardings.own.finish()
+        self.forwardings.opened.clear()
         self.stop_listening()
 
     def watch_signals(self) -> None:

@@ -66,14 +66,16 @@ class Journal:
         self.refusals: collections.deque[str] = collections.deque(maxlen=LAST_REFUSALS)
 
     def note(self, who: object, what: str, outcome: str) -> None:
-        self.write(f"{stamp(time.time())} {who}: {what}: {outcome}")
+        self.write(f"{who}: {what}: {outcome}")
 
     def refused(self, who: object, what: str, why: str) -> None:
-        line = f"{stamp(time.time())} {who}: {what}: refused: {why}"
-        self.refusals.append(line)
-        self.write(line)
+        self.refusals.append(self.write(f"{who}: {what}: refused: {why}"))
 
-    def write(self, line: str) -> None:
+    def write(self, text: str) -> str:
+        """Writes a line, which it returns. What servers and clients say does nothing to it."""
+        shown = "".join(c if c.isprintable() else repr(c)[1:-1] for c in text)
+        line = f"{stamp(time.time())} {shown}"
         # The terminal or the file of the one who started this may be gone, or the disk be full.
         with contextlib.suppress(OSError, ValueError):
             print(f"plain-front: {line}", file=self.stream, flush=True)
+        return line

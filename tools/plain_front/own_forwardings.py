@@ -23,6 +23,8 @@ if TYPE_CHECKING:
 OnReply = Callable[[Reply], None]
 
 PROHIBITED = 1
+# How long nothing is accepted where the machine is out of means.
+PAUSE_SECONDS = 1
 # Of the global requests that are for a port and for a path.
 PORT, PATH = b"tcpip-forward", b"streamlocal-forward@openssh.com"
 
@@ -111,6 +113,7 @@ class OwnForwardings:
 
     def finish(self) -> None:
         """Ends all of them, and what goes through them."""
+        self.front.forwardings.forget(list(self.listeners), "the front has ended it")
         for listener in self.listeners.values():
             self.front.loop.forget(listener.socket.fileno())
             listener.close()
@@ -130,17 +133,27 @@ class OwnForwardings:
         except OSError as error:
             return Reply(False, why=why_not_listening(forwarding, error))
         self.listeners[forwarding] = listener
-        self.front.loop.watch(
-            listener.socket.fileno(), selectors.EVENT_READ,
-            lambda _: self.on_accept(forwarding, listener.socket),
-        )  # fmt: skip
+        self.watch(forwarding, listener)
         return Reply(True)
 
-    def on_accept(self, forwarding: Forwarding, listener: socket.socket) -> None:
+    def watch(self, forwarding: Forwarding, listener: Listener) -> None:
+        """Accepts at a listener, unless it is closed by now."""
+        if self.listeners.get(forwarding) is listener:
+            number = listener.socket.fileno()
+            self.front.loop.watch(
+                number, selectors.EVENT_READ, lambda _: self.on_accept(forwarding, listener)
+            )
+
+    def on_accept(self, forwarding: Forwarding, listener: Listener) -> None:
         try:
-            stream, _ = listener.accept()
-        except OSError:
-            # It has gone, or stays there until something is given back.
+            stream, _ = listener.socket.accept()
+        except BlockingIOError:
+            return
+        except OSError as error:
+            self.refused(forwarding.name, reason(error))
+            # It stays there: who leaves gives back what is missing.
+            self.front.loop.forget(listener.socket.fileno())
+            self.front.loop.call_later(PAUSE_SECONDS, lambda: self.watch(forwarding, listener))
             return
         if stream.family != socket.AF_UNIX:
             with contextlib.suppress(OSError):
