@@ -38,7 +38,7 @@ def fault_of(forwarding: Forwarding) -> str | None:
     if forwarding.listen_port == 0 and forwarding.kind != Kind.REMOTE:
         return f"{letter} listens at a port that is named, and 0 is none"
     if forwarding.connect_port == 0 and not forwarding.is_dynamic:
-        return "nobody can connect to port 0"
+        return "port 0 is none to connect to"
     return None
 
 
@@ -58,7 +58,7 @@ def cannot_listen(host: bytes, port: int) -> str | None:
     except OSError as error:
         if error.errno == errno.EADDRINUSE:
             return f"port {port} is taken at {printable(name.encode())}"
-        return f"nobody can listen at {end_of(name.encode(), port)}: {reason(error)}"
+        return f"{end_of(name.encode(), port)}: {reason(error)}"
     return None
 
 
@@ -66,7 +66,7 @@ def why_not_listening(forwarding: Forwarding, error: OSError) -> str:
     """Why the front can't listen for a forwarding."""
     if error.errno == errno.EADDRINUSE and forwarding.listen_port == PORT_OF_PATH:
         return f"{forwarding.listening} exists"
-    return f"nobody can listen at {forwarding.listening}: {reason(error)}"
+    return f"{forwarding.listening}: {reason(error)}"
 
 
 def why_refused(forwarding: Forwarding, other: Forwarding | None, count: int) -> str:
