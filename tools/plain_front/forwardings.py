@@ -2,6 +2,7 @@
 
 from __future__ import annotations
 
+import collections
 import dataclasses
 import time
 from collections.abc import Callable
@@ -18,6 +19,7 @@ if TYPE_CHECKING:
     from plain_front.front import Front
 
 Place = tuple[int, bytes, int]
+OnReply = Callable[[Reply], None]
 
 
 def place_of(forwarding: Forwarding) -> Place:
@@ -57,8 +59,8 @@ class Forwardings:
         self.front = front
         self.opened: dict[Place, Opened] = {}
         self.own = OwnForwardings(front)
-        # Places of the front's own that the server was asked for.
-        self.under_way: set[Place] = set()
+        # What is asked for each place and has no reply yet; the first of them has begun.
+        self.turns: dict[Place, collections.deque[Callable[[], None]]] = {}
 
     def open(self, caller: Caller, request: int, forwarding: Forwarding) -> None:
         name, place = f"forward {forwarding.name}", place_of(forwarding)
@@ -80,68 +82,69 @@ class Forwardings:
             else:
                 caller.reply(Mux.S_REMOTE_PORT, request, uint32(reply.port))
 
-        if forwarding.is_for_the_front:
-            self.open_own(forwarding, place, on_reply)
-        else:
-            ask(self.front, forwarding.body(Mux.OPEN_FWD, request), on_reply)
-
-    def open_own(
-        self, forwarding: Forwarding, place: Place, on_reply: Callable[[Reply], None]
-    ) -> None:
-        """Has the front serve it. The same again gets the same reply."""
-        opened = self.opened.get(place)
-        if place in self.under_way:
-            on_reply(Reply(False, why=f"{forwarding.name} is being opened or cancelled"))
-        elif opened is None and len(self.opened) >= MOST_FORWARDINGS:
-            on_reply(Reply(False, why=f"{MOST_FORWARDINGS} forwardings are open"))
-        elif opened is None:
-            self.under_way.add(place)
-            self.own.open(forwarding, place[1], self.then_done(place, on_reply))
-        elif opened.forwarding.goes_where(forwarding):
-            on_reply(Reply(True, port=opened.port))
-        else:
-            on_reply(Reply(False, is_refused=True))
-
-    def close(
-        self, forwarding: Forwarding, request: int, on_reply: Callable[[Reply], None]
-    ) -> None:
-        """Closes the one at the place of this one, whoever serves it."""
-        place = place_of(forwarding)
-        opened = self.opened.get(place)
-        if opened is not None and opened.forwarding.is_for_the_front:
-            if place in self.under_way:
-                on_reply(Reply(False, why=f"{forwarding.name} is being cancelled"))
-                return
-            self.under_way.add(place)
-            self.own.close(opened.forwarding, self.then_done(place, on_reply))
-        elif opened is None and forwarding.is_for_the_front:
-            on_reply(Reply(False, is_refused=True))
-        else:
-            asked = forwarding if opened is None else opened.forwarding
-            ask(self.front, asked.body(Mux.CLOSE_FWD, request), on_reply)
-
-    def then_done(
-        self, place: Place, on_reply: Callable[[Reply], None]
-    ) -> Callable[[Reply], None]:
-        def on_done(reply: Reply) -> None:
-            self.under_way.discard(place)
-            on_reply(reply)
-
-        return on_done
+        self.in_turn(place, lambda then: self.open_now(forwarding, request, then), on_reply)
 
     def cancel(self, caller: Caller, request: int, forwarding: Forwarding) -> None:
-        name = f"cancel {forwarding.name}"
+        name, place = f"cancel {forwarding.name}", place_of(forwarding)
 
         def on_reply(reply: Reply) -> None:
             if not reply.is_granted:
                 why = f"{forwarding.name} isn't open" if reply.is_refused else reply.why
                 caller.refuse(request, name, why)
                 return
-            self.opened.pop(place_of(forwarding), None)
+            self.opened.pop(place, None)
             caller.note(name, "granted")
             caller.reply(Mux.S_OK, request)
 
-        self.close(forwarding, request, on_reply)
+        self.in_turn(place, lambda then: self.close_now(forwarding, request, then), on_reply)
+
+    # Requests for one place are answered one after another, so that none is granted by what the one
+    # before it is about to close.
+
+    def in_turn(self, place: Place, begin: Callable[[OnReply], None], on_reply: OnReply) -> None:
+        """Begins a request once those before it for the same place have their replies."""
+
+        def take_turn() -> None:
+            begin(end_turn)
+
+        def end_turn(reply: Reply) -> None:
+            on_reply(reply)
+            turns = self.turns[place]
+            turns.popleft()
+            if turns:
+                turns[0]()
+            else:
+                del self.turns[place]
+
+        turns = self.turns.setdefault(place, collections.deque())
+        turns.append(take_turn)
+        if len(turns) == 1:
+            take_turn()
+
+    def open_now(self, forwarding: Forwarding, request: int, on_reply: OnReply) -> None:
+        """Asks for it, or has the front serve it, where the same again gets the same reply."""
+        place = place_of(forwarding)
+        opened = self.opened.get(place)
+        if not forwarding.is_for_the_front:
+            ask(self.front, forwarding.body(Mux.OPEN_FWD, request), on_reply)
+        elif opened is not None:
+            is_same = opened.forwarding.goes_where(forwarding)
+            on_reply(Reply(True, port=opened.port) if is_same else Reply(False, is_refused=True))
+        elif len(self.opened) >= MOST_FORWARDINGS:
+            on_reply(Reply(False, why=f"{MOST_FORWARDINGS} forwardings are open"))
+        else:
+            self.own.open(forwarding, place[1], on_reply)
+
+    def close_now(self, forwarding: Forwarding, request: int, on_reply: OnReply) -> None:
+        """Closes the one at the place of this one, whoever serves it."""
+        opened = self.opened.get(place_of(forwarding))
+        meant = forwarding if opened is None else opened.forwarding
+        if not meant.is_for_the_front:
+            ask(self.front, meant.body(Mux.CLOSE_FWD, request), on_reply)
+        elif opened is None:
+            on_reply(Reply(False, is_refused=True))
+        else:
+            self.own.close(meant, on_reply)
 
     def add(self, caller: Caller, forwarding: Forwarding, reply: Reply) -> None:
         found = Opened(forwarding, caller.process, time.time(), reply.port)
@@ -179,12 +182,20 @@ class Forwardings:
                 self.tidy(opened)
 
     def tidy(self, opened: Opened) -> None:
+        """Closes it, unless a client asks for it before that."""
         name, place = f"cancel {opened.forwarding.name}", place_of(opened.forwarding)
 
-        def on_reply(reply: Reply) -> None:
-            if self.opened.get(place) is opened:
-                del self.opened[place]
-            outcome = "its clients have ended" if reply.is_granted else f"failed: {reply.why}"
-            self.front.journal.note(opened.opener, name, outcome)
+        def begin(then: OnReply) -> None:
+            if self.opened.get(place) is opened and not opened.holders and not opened.stays:
+                self.close_now(opened.forwarding, 0, then)
+            else:
+                then(Reply(False))
 
-        self.close(opened.forwarding, 0, on_reply)
+        def on_reply(reply: Reply) -> None:
+            if reply.is_granted:
+                self.opened.pop(place, None)
+                self.front.journal.note(opened.opener, name, "its clients have ended")
+            elif reply.why:
+                self.front.journal.note(opened.opener, name, f"failed: {reply.why}")
+
+        self.in_turn(place, begin, on_reply)

@@ -253,15 +253,14 @@ class OwnForwardings:
 
     def on_link_lost(self, why: str) -> None:
         """The master has ended, or has dropped the client: nobody listens at the server."""
-        asked, self.link = self.link, None
+        lost, self.link = self.link, None
         waiting, self.waiting = self.waiting, []
         self.front.forwardings.forget(list(self.remote.values()), why)
         self.remote.clear()
-        self.asked = 0
         for _, on_failed in waiting:
             on_failed(why)
-        while asked is not None and asked.asked:
-            asked.asked.popleft()(None)
+        while lost is not None and lost.asked:
+            lost.asked.popleft()(None)
         self.front.update()
 
     def on_over(self, _relay: Relay) -> None:
