@@ -33,13 +33,16 @@ PAUSE_SECONDS = 0.1
 # How long a master may take for its last answer.
 LAST_SECONDS = 5
 
+# The command that was called: ssh-mux-front where it is installed.
+NAME = os.path.basename(sys.argv[0]) or "plain-front"
+
 ENDING_SIGNALS = (signal.SIGHUP, signal.SIGINT, signal.SIGTERM)
 
 
 def fail(text: str) -> NoReturn:
     # The terminal of the one who started this may be gone.
     with contextlib.suppress(OSError, ValueError):
-        print(f"plain-front: {text}", file=sys.stderr, flush=True)
+        print(f"{NAME}: {text}", file=sys.stderr, flush=True)
     sys.exit(1)
 
 
