@@ -9,6 +9,7 @@ import selectors
 import socket
 import struct
 import subprocess
+import time
 import weakref
 from collections.abc import Callable
 from typing import Any
@@ -19,6 +20,8 @@ from plain_front.streams import Loop
 
 # How often it is looked whether one that was started answers, and how long its end may take.
 LOOK_SECONDS, END_SECONDS = 0.05, 10
+# After a start that failed no other one is tried for so long: each may be a login.
+RETRY_SECONDS = 10
 
 # Nobody listens at the path.
 IS_GONE = (errno.ENOENT, errno.ECONNREFUSED)
@@ -54,6 +57,8 @@ class Master:
         # The connections to it, some of which may be closed.
         self.links: weakref.WeakSet[socket.socket] = weakref.WeakSet()
         self.process: subprocess.Popen[bytes] | None = None
+        # Why the last start failed, and until when none is tried again.
+        self.failure, self.failed_until = "", 0.0
         self.waiting: list[tuple[Callable[[socket.socket], None], Callable[[str], None]]] = []
 
     def connect(self) -> socket.socket:
@@ -81,6 +86,9 @@ class Master:
         except OSError as error:
             if self.command is None or error.errno not in IS_GONE:
                 on_failed(f"no master at {self.control}: {reason(error)}")
+                return
+            if time.monotonic() < self.failed_until:
+                on_failed(self.failure)
                 return
             self.waiting.append((on_stream, on_failed))
             if self.process is None:
@@ -122,9 +130,11 @@ class Master:
         if self.process is not None:
             status = self.process.wait()
             self.process = None
-            self.fail_waiting(f"no further connection comes up: status {status}")
+            if self.waiting:
+                self.fail_waiting(f"no further connection comes up: status {status}")
 
     def fail_waiting(self, text: str) -> None:
+        self.failure, self.failed_until = text, time.monotonic() + RETRY_SECONDS
         waiting, self.waiting = self.waiting, []
         for _, on_failed in waiting:
             on_failed(text)
