@@ -5,6 +5,7 @@ from __future__ import annotations
 import contextlib
 import dataclasses
 import os
+import resource
 import selectors
 import signal
 import socket
@@ -23,8 +24,9 @@ from plain_front.masters import Master, peer_of
 from plain_front.protocol import MUX_VERSION, Mux, reason, uint32
 from plain_front.streams import Loop
 
-# More clients wait before they are let in: each has up to seven descriptors here.
-MOST_CLIENTS = 128
+# So many clients are let in, or as many as there are descriptors for, and more wait: each has up to
+# seven here. Some are left for what isn't a client's.
+MOST_CLIENTS, EACH_CLIENT, OTHERS = 512, 7, 128
 
 # How long to wait for a master's hello, and before the next try where the machine is out of means.
 HELLO_SECONDS = 10
@@ -50,6 +52,13 @@ def handle(number: int, handler: Callable[[int, object], None]) -> None:
     """Handles a signal, unless whoever started this wants it ignored, as nohup does."""
     if signal.getsignal(number) != signal.SIG_IGN:
         signal.signal(number, handler)
+
+
+def most_clients() -> int:
+    descriptors, _ = resource.getrlimit(resource.RLIMIT_NOFILE)
+    if descriptors == resource.RLIM_INFINITY:
+        return MOST_CLIENTS
+    return max(1, min(MOST_CLIENTS, (descriptors - OTHERS) // EACH_CLIENT))
 
 
 @dataclasses.dataclass(frozen=True)
@@ -85,6 +94,7 @@ class Front:
         self.errands: set[Errand] = set()
         self.forwardings = Forwardings(self)
         self.lists = Lists(options.permit_open, options.permit_listen)
+        self.most_clients = most_clients()
         self.accepted = 0
         self.began = time.time()
         # The status with which it ends, and that at its end.
@@ -169,7 +179,7 @@ class Front:
     def update(self) -> None:
         """Lets clients in while there is room. It ends with the last one if no more can come."""
         if self.listener is not None:
-            reads = selectors.EVENT_READ if len(self.callers) < MOST_CLIENTS else 0
+            reads = selectors.EVENT_READ if len(self.callers) < self.most_clients else 0
             self.loop.watch(self.listener.fileno(), reads, self.on_caller)
         elif self.forwardings.own.count_relays():
             return
