@@ -4,7 +4,6 @@ from __future__ import annotations
 
 import contextlib
 import errno
-import ipaddress
 import os
 import re
 import selectors
@@ -14,6 +13,7 @@ from collections.abc import Callable
 
 from channel_log import printable
 from plain_front.protocol import PORT_OF_PATH, reason
+from plain_front.refusals import version_of
 from plain_front.streams import Loop
 
 # How long a look-up may take.
@@ -23,14 +23,6 @@ NAME = re.compile(rb"[A-Za-z0-9._][A-Za-z0-9._-]{0,254}")
 
 OnConnected = Callable[[socket.socket], None]
 OnFailed = Callable[[str], None]
-
-
-def is_address(host: bytes) -> bool:
-    try:
-        ipaddress.ip_address(host.decode().partition("%")[0])
-    except (ValueError, UnicodeDecodeError):
-        return False
-    return True
 
 
 class Lookup:
@@ -71,7 +63,7 @@ class Connecting:
         self.on_connected, self.on_failed = on_connected, on_failed
         self.addresses: list[bytes] = []
         self.fault = f"{printable(host)} has no address"
-        if port == PORT_OF_PATH or is_address(host):
+        if port == PORT_OF_PATH or version_of(host) is not None:
             self.on_addresses([host])
         elif NAME.fullmatch(host):
             self.look_up()

@@ -5,6 +5,7 @@ from __future__ import annotations
 
 import errno
 import ipaddress
+import re
 import socket
 
 from channel_log import printable
@@ -12,6 +13,9 @@ from plain_front.protocol import LETTERS, PORT_OF_PATH, Forwarding, Kind, end_of
 
 # The master's own bounds.
 LONGEST_HOST, HIGHEST_PORT, MOST_FORWARDINGS = 255, 65535, 64
+
+# An interface behind an address.
+INTERFACE = re.compile(rb"[A-Za-z0-9._-]+")
 
 # What a host to listen on stands for on this machine.
 LOCAL_HOSTS = {b"": b"127.0.0.1", b"localhost": b"127.0.0.1", b"*": b"0.0.0.0"}
@@ -42,23 +46,33 @@ def fault_of(forwarding: Forwarding) -> str | None:
     return None
 
 
+def version_of(host: bytes) -> int | None:
+    """Whether a host is an address of version 4 or 6, maybe with its interface, or neither."""
+    address, percent, interface = host.partition(b"%")
+    if percent and not INTERFACE.fullmatch(interface):
+        return None
+    try:
+        return ipaddress.ip_address(address.decode("ascii")).version
+    except ValueError:
+        return None
+
+
 def cannot_listen(host: bytes, port: int) -> str | None:
     """Why nobody can listen there on this machine, at this moment."""
-    name = LOCAL_HOSTS.get(host, host).decode(errors="replace")
-    try:
-        version = ipaddress.ip_address(name.partition("%")[0]).version
-    except ValueError:
+    address = LOCAL_HOSTS.get(host, host)
+    version = version_of(address)
+    if version is None:
         return f"{printable(host)} is a name: -L and -D listen at addresses, at localhost and at *"
     family = socket.AF_INET6 if version == 6 else socket.AF_INET
     try:
         with socket.socket(family) as tried:
             tried.setsockopt(socket.SOL_SOCKET, socket.SO_REUSEADDR, 1)
-            tried.bind((name, port))
+            tried.bind((address.decode(), port))
             tried.listen(1)
     except OSError as error:
         if error.errno == errno.EADDRINUSE:
-            return f"port {port} is taken at {printable(name.encode())}"
-        return f"{end_of(name.encode(), port)}: {reason(error)}"
+            return f"port {port} is taken at {printable(address)}"
+        return f"{end_of(address, port)}: {reason(error)}"
     return None
 
 
