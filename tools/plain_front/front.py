@@ -105,7 +105,7 @@ class Front:
         self.signals = socket.socketpair()
 
     def masters_in_order(self) -> list[Master]:
-        """Those that may have room first. Another one is opened before a full one is asked again."""
+        """Those that may have room first: another is started before a full one is asked again."""
         return sorted(self.masters, key=Master.is_full)
 
     def watch_master(self) -> None:

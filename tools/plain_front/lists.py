@@ -42,7 +42,7 @@ class Lists:
         return f"not permitted: {flag} doesn't have {end_of(host, port)}"
 
     def forbids_forwarding(self, forwarding: Forwarding, listen_host: bytes) -> str | None:
-        """Why a forwarding may not be, or None. A remote one listens at the server, at this host."""
+        """Why a forwarding may not be, or None. A remote one listens at this host of the server."""
         if forwarding.kind == Kind.LOCAL:
             return self.forbids_open(forwarding.connect_host, forwarding.connect_port)
         if forwarding.kind == Kind.REMOTE:

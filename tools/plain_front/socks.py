@@ -68,7 +68,8 @@ class Dialog:
             raise Refused(self.reply(False))
         if len(self.data) < 8 or len(texts) <= count:
             return None
-        port, host = int.from_bytes(self.data[2:4], "big"), str(ipaddress.IPv4Address(bytes(self.data[4:8])))
+        port = int.from_bytes(self.data[2:4], "big")
+        host = str(ipaddress.IPv4Address(bytes(self.data[4:8])))
         if self.data[1] != CONNECT or (has_name and not texts[1]):
             raise Refused(self.reply(False))
         del self.data[: 8 + sum(len(text) + 1 for text in texts[:count])]
