@@ -46,7 +46,7 @@ class Fields:
         return taken
 
     def number(self) -> int:
-        return struct.unpack(">I", self.take(4))[0]
+        return int.from_bytes(self.take(4), "big")
 
     def string(self) -> bytes:
         return self.take(self.number())
