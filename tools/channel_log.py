@@ -5,7 +5,6 @@ Only a transport sees the channels of all clients; the master itself logs nothin
 """
 
 import dataclasses
-import struct
 import sys
 import time
 from collections.abc import Callable
