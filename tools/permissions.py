@@ -1,47 +1,36 @@
-"""The entries of --permit-open and --permit-listen, as `ssh-mux -M` takes them."""
+"""The entries of --permit-open and --permit-listen, which `ssh-mux -M` itself reads."""
 
-LISTS = ("any", "none")
-LARGEST_PORT = 65535
+import re
+import subprocess
+
+# A word of its own that can't be taken is told by its place, from 1.
+NOT_TAKEN = re.compile(r"word (\d+): (not a permission)")
 # What is a pattern elsewhere is a letter like others here.
 PATTERN = "*?!"
 
 
-def is_port(text: str) -> bool:
-    return text == "*" or (text.isascii() and text.isdigit() and int(text) <= LARGEST_PORT)
-
-
-def is_host(text: str) -> bool:
-    if text.startswith("[") and text.endswith("]"):
-        text = text[1:-1]
-        return text != "" and not set(text) & set("[]")
-    return text != "" and not text.startswith("/") and not set(text) & set("[]:")
-
-
-def is_entry(text: str) -> bool:
-    if text.startswith("/"):
-        return True
-    host, colon, port = text.rpartition(":")
-    return is_port(port) and (not colon or is_host(host))
-
-
-def fault_of(entries: list[str]) -> str | None:
-    """Which entry of a list can't be taken, and why."""
-    for entry in entries:
-        if entry in LISTS:
-            if len(entries) > 1:
-                return f"{entry}: stands beside others"
-        elif not is_entry(entry):
-            return f"{entry}: no HOST:PORT, [ADDRESS]:PORT, PORT, /PATH, any or none"
-    return None
+def fault_in(program: str, permissions: list[str]) -> str | None:
+    """Which word of the lists the program doesn't take; it opens nothing."""
+    nowhere = "/dev/null/none"
+    before = ["-M", "-F", "none", "-S", nowhere, "--transport", nowhere]
+    done = subprocess.run(
+        [program, *before, *permissions, "--", "host"], stdin=subprocess.DEVNULL,
+        capture_output=True, text=True, errors="replace",
+    )  # fmt: skip
+    found = NOT_TAKEN.search(done.stderr)
+    at = int(found[1]) - len(before) - 1 if found else -1
+    if found is None or not 0 < at < len(permissions):
+        return None
+    return f"{permissions[at - 1]} {permissions[at]}: {found[2]}"
 
 
 def without_match(entry: str, is_open: bool) -> str | None:
     """Why an entry that can be taken permits nothing that anybody would ask for."""
-    if entry in LISTS or entry.startswith("/"):
+    if entry.startswith("/") or entry in ("any", "none"):
         return None
     host, _, port = entry.rpartition(":")
-    if host != "*" and set(host) & set(PATTERN):
+    if host.strip("[]") != "*" and set(host) & set(PATTERN):
         return "a host is compared letter by letter"
-    if is_open and port.strip("0") == "" and port:
+    if is_open and port and not port.strip("0"):
         return "nobody connects to port 0"
     return None

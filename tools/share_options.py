@@ -7,7 +7,7 @@ import dataclasses
 import os
 from typing import Any
 
-from permissions import fault_of, without_match
+from permissions import without_match
 from ssh_words import host_of
 
 # What finds that the link is dead, where the configuration says nothing of it.
@@ -112,13 +112,6 @@ def idle_of(parser: argparse.ArgumentParser, given: float | None) -> float | Non
     return idle
 
 
-def check_lists(parser: argparse.ArgumentParser, read: argparse.Namespace) -> None:
-    """Before anybody logs in."""
-    for flag in ("--permit-open", "--permit-listen"):
-        if fault := fault_of(getattr(read, flag[2:].replace("-", "_"))):
-            parser.error(f"{flag} {fault}")
-
-
 def read_options(parser: argparse.ArgumentParser, words: list[str] | None = None) -> Options:
     read = parser.parse_intermixed_args(words)
     if read.host.startswith("-"):
@@ -126,7 +119,6 @@ def read_options(parser: argparse.ArgumentParser, words: list[str] | None = None
     most = 1 if read.own else 2
     if len(read.places) > most:
         parser.error("too many words" + (": with --own there is no OPENSSH" if read.own else ""))
-    check_lists(parser, read)
     # Others read these paths elsewhere.
     places = [os.path.abspath(place) for place in read.places]
     return Options(
