@@ -16,7 +16,8 @@ clients come to their end, where its lock is held, and else one that a killed sh
 The registry is the folder `running` in ~/.ssh/ssh-mux, or in SSHMUX_FOLDER where that is set. Each
 entry is a symbolic link from USER@HOST:PORT to a FOLDER; share-host makes it when its clients can
 come, and takes it away at its end. One that was killed leaves it, so an entry counts only where
-somebody serves FOLDER/control. Of two shares of one name in two folders the first has the entry.
+somebody serves FOLDER/control. Of two shares of one name in two folders the first has the entry,
+and at its end the other one takes it.
 
     for name, folder in running().items():      # those that are served
         for share in shares_in(folder):         # the one that takes clients, and older ones
@@ -181,6 +182,11 @@ def register(name: str, folder: str) -> str:
         return other
     set_link(folder, f"{registry()}/{entry_of(name)}")
     return folder
+
+
+def is_entered(name: str) -> bool:
+    """Whether a FOLDER has this name, served or not."""
+    return os.path.lexists(f"{registry()}/{entry_of(name)}")
 
 
 def unregister(name: str, folder: str) -> None:
