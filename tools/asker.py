@@ -18,6 +18,14 @@ def words_of(pid: int) -> list[str]:
     return []
 
 
+def is_ssh(pid: int, words: list[str]) -> bool:
+    """By its first word, or by its file, which may have another name on the path."""
+    with contextlib.suppress(OSError):
+        if os.path.basename(os.readlink(f"/proc/{pid}/exe")) == "ssh":
+            return True
+    return bool(words) and os.path.basename(words[0]) == "ssh"
+
+
 def parent_of(pid: int) -> int:
     with contextlib.suppress(OSError, IndexError, ValueError):
         with open(f"/proc/{pid}/stat", encoding="utf-8", errors="replace") as file:
@@ -37,7 +45,7 @@ class Asker:
             if str(pid) == os.environ.get("SSHMUX_PID"):
                 self.is_ssh_mux = True
                 return
-            if words and os.path.basename(words[0]) == "ssh":
+            if is_ssh(pid, words):
                 with contextlib.suppress(BadWords):
                     self.command = Command(words[1:])
                 return
