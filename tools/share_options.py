@@ -1,0 +1,143 @@
+"""The words of share-host, which ssh-mux-ensure takes, too."""
+
+from __future__ import annotations
+
+import argparse
+import dataclasses
+import os
+from typing import Any
+
+from permissions import without_match
+from ssh_words import host_of
+
+# What finds that the link is dead, where the configuration says nothing of it.
+ALIVE_SECONDS = 15
+
+
+class Forwarding(argparse.Action):
+    """Keeps -L, -R and -D in one list, in their order."""
+
+    def __call__(self, parser: Any, options: Any, values: Any, flag: str | None = None) -> None:
+        options.forwardings = [*options.forwardings, [flag, values]]
+
+
+@dataclasses.dataclass
+class Options:
+    host: str
+    # None where none is named.
+    folder: str | None
+    openssh: str | None
+    own: bool
+    front: bool
+    background: bool
+    idle: float | None
+    verbose: bool
+    file: str | None
+    lines: list[str]
+    permit_open: list[str]
+    permit_listen: list[str]
+    forwardings: list[list[str]]
+
+    @property
+    def name(self) -> str:
+        """The host without a user, as `Match originalhost` sees it."""
+        return host_of(self.host)
+
+    def ssh_words(self) -> list[str]:
+        """What the configuration is read with."""
+        file = ["-F", self.file] if self.file else []
+        return file + [word for line in self.lines for word in ("-o", line)]
+
+    def permissions(self) -> list[str]:
+        """The words of ssh-mux."""
+        lists = (("--permit-open", self.permit_open), ("--permit-listen", self.permit_listen))
+        return [word for flag, entries in lists for entry in entries for word in (flag, entry)]
+
+    def again(self) -> list[str]:
+        """The words that start such a share once more, but for how it is run."""
+        words = [self.host] + ([self.openssh] if self.openssh else [])
+        words += [self.folder] if self.folder else []
+        words += (["--own"] if self.own else []) + (["-v"] if self.verbose else [])
+        words += ["--idle", f"{self.idle:g}"] if self.idle else []
+        words += [*self.ssh_words(), *self.permissions()]
+        return words + [word for forwarding in self.forwardings for word in forwarding]
+
+
+def make_parser(program: str, about: str) -> argparse.ArgumentParser:
+    parser = argparse.ArgumentParser(
+        prog=program, description=about, formatter_class=argparse.RawDescriptionHelpFormatter,
+        usage=f"{program} [option ..] HOST [[OPENSSH] FOLDER] [option ..]", allow_abbrev=False,
+    )
+    parser.add_argument("host", metavar="HOST", help="as ssh takes it")
+    parser.add_argument("places", metavar="[OPENSSH] FOLDER", nargs="*")
+    parser.add_argument("--own", action="store_true", help="over a connection of its own")
+    parser.add_argument("--front", action="store_true", help="serve plain clients, too")
+    parser.add_argument(
+        "--background", action="store_true",
+        help="ask on the terminal where the login wants it, and go on without it",
+    )
+    parser.add_argument(
+        "--idle", metavar="SECONDS", type=float, default=None,
+        help="end when nobody has been in for so long (IDLE of the environment)",
+    )
+    parser.add_argument(
+        "-v", dest="verbose", action="store_true", help="one line for each channel"
+    )
+    parser.add_argument("-F", dest="file", metavar="FILE", help="ssh's configuration file")
+    parser.add_argument(
+        "-o", dest="lines", metavar="LINE", action="append", default=[],
+        help="a line of ssh's configuration",
+    )
+    for flag in ("--permit-open", "--permit-listen"):
+        parser.add_argument(
+            flag, metavar="PERMISSION", action="append", default=[], help="as ssh-mux -M takes it"
+        )
+    for flag in ("-L", "-R", "-D"):
+        parser.add_argument(
+            flag, dest="forwardings", metavar="FORWARDING", action=Forwarding, default=[],
+            help="a forwarding of the master, as ssh -O forward takes it",
+        )
+    return parser
+
+
+def idle_of(parser: argparse.ArgumentParser, given: float | None) -> float | None:
+    idle = given
+    if idle is None and os.environ.get("IDLE"):
+        try:
+            idle = float(os.environ["IDLE"])
+        except ValueError:
+            parser.error(f"IDLE is no number: {os.environ['IDLE']}")
+    if idle is not None and not 0 < idle < float("inf"):
+        parser.error("the seconds of --idle aren't above 0")
+    return idle
+
+
+def read_options(parser: argparse.ArgumentParser, words: list[str] | None = None) -> Options:
+    read = parser.parse_intermixed_args(words)
+    if read.host.startswith("-"):
+        parser.error("HOST begins with a dash")
+    most = 1 if read.own else 2
+    if len(read.places) > most:
+        parser.error("too many words" + (": with --own there is no OPENSSH" if read.own else ""))
+    # Others read these paths elsewhere.
+    places = [os.path.abspath(place) for place in read.places]
+    return Options(
+        host=read.host, folder=places[-1] if places else None,
+        openssh=places[0] if len(places) == 2 else None, own=read.own, front=read.front,
+        background=read.background, idle=idle_of(parser, read.idle), verbose=read.verbose,
+        file=os.path.abspath(read.file) if read.file and read.file != "none" else read.file,
+        lines=read.lines, permit_open=read.permit_open, permit_listen=read.permit_listen,
+        forwardings=read.forwardings,
+    )  # fmt: skip
+
+
+def useless_entries(options: Options) -> list[str]:
+    """A line for each entry of a list that permits nothing."""
+    return [
+        f"{flag} {entry}: matches nothing: {why}"
+        for flag, entries in (
+            ("--permit-open", options.permit_open), ("--permit-listen", options.permit_listen),
+        )
+        for entry in entries
+        if (why := without_match(entry, is_open=flag == "--permit-open"))
+    ]  # fmt: skip
