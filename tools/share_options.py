@@ -10,6 +10,9 @@ from typing import Any
 from permissions import without_match
 from ssh_words import host_of
 
+# How many connections a share may have.
+MOST_CONNECTIONS = 16
+
 # What finds that the link is dead, where the configuration says nothing of it.
 ALIVE_SECONDS = 15
 
@@ -37,6 +40,10 @@ class Options:
     permit_open: list[str]
     permit_listen: list[str]
     forwardings: list[list[str]]
+    # What the front is told.
+    connections: int = 1
+    tidy: bool = False
+    log: str | None = None
 
     @property
     def name(self) -> str:
@@ -53,13 +60,18 @@ class Options:
         lists = (("--permit-open", self.permit_open), ("--permit-listen", self.permit_listen))
         return [word for flag, entries in lists for entry in entries for word in (flag, entry)]
 
+    def front_words(self) -> list[str]:
+        """The words of plain-front that are its own."""
+        return (["--tidy"] if self.tidy else []) + (["--log", self.log] if self.log else [])
+
     def again(self) -> list[str]:
         """The words that start such a share once more, but for how it is run."""
         words = [self.host] + ([self.openssh] if self.openssh else [])
         words += [self.folder] if self.folder else []
         words += (["--own"] if self.own else []) + (["-v"] if self.verbose else [])
         words += ["--idle", f"{self.idle:g}"] if self.idle else []
-        words += [*self.ssh_words(), *self.permissions()]
+        words += [*self.ssh_words(), *self.permissions(), *self.front_words()]
+        words += ["--connections", str(self.connections)] if self.connections > 1 else []
         return words + [word for forwarding in self.forwardings for word in forwarding]
 
 
@@ -97,7 +109,26 @@ def make_parser(program: str, about: str) -> argparse.ArgumentParser:
             flag, dest="forwardings", metavar="FORWARDING", action=Forwarding, default=[],
             help="a forwarding of the master, as ssh -O forward takes it",
         )
+    add_options_of_front(parser)
     return parser
+
+
+def add_options_of_front(parser: argparse.ArgumentParser) -> None:
+    parser.add_argument(
+        "--connections", metavar="N", type=int, default=1,
+        help="connections that the front may use, where the server has no room for a session",
+    )
+    parser.add_argument(
+        "--tidy", action="store_true",
+        help="close a forwarding that came with a session once its clients have ended",
+    )
+    parser.add_argument("--log", metavar="FILE", help="where the front's log goes")
+
+
+def want_front(parser: argparse.ArgumentParser, options: Options) -> None:
+    """Refuses what is for a front, where there is none. ssh-mux-ensure always has one."""
+    if not options.front and (options.connections > 1 or options.tidy or options.log):
+        parser.error("--connections, --tidy and --log are for the front: add --front")
 
 
 def idle_of(parser: argparse.ArgumentParser, given: float | None) -> float | None:
@@ -127,7 +158,8 @@ def read_options(parser: argparse.ArgumentParser, words: list[str] | None = None
         background=read.background, idle=idle_of(parser, read.idle), verbose=read.verbose,
         file=os.path.abspath(read.file) if read.file and read.file != "none" else read.file,
         lines=read.lines, permit_open=read.permit_open, permit_listen=read.permit_listen,
-        forwardings=read.forwardings,
+        forwardings=read.forwardings, connections=read.connections, tidy=read.tidy,
+        log=os.path.abspath(read.log) if read.log else None,
     )  # fmt: skip
 
 

@@ -14,7 +14,7 @@ import weakref
 from collections.abc import Callable
 from typing import Any
 
-from plain_front.inside import clients_of
+from inside import sockets_of, unix_sockets
 from plain_front.protocol import reason
 from plain_front.streams import Loop
 
@@ -32,6 +32,16 @@ def peer_of(stream: socket.socket) -> tuple[int, int, int]:
     data = stream.getsockopt(socket.SOL_SOCKET, socket.SO_PEERCRED, 12)
     pid, user, group = struct.unpack("3i", data)
     return pid, user, group
+
+
+def clients_of(pid: int) -> int | None:
+    """The connections to the socket at which that process listens, with those that still wait to be
+    accepted: each has the name to which the listener was bound. None where /proc doesn't tell."""
+    own, sockets = sockets_of(pid), unix_sockets()
+    name = next((name for number, name, listens in sockets if listens and number in own), None)
+    if name is None:
+        return None
+    return sum(other == name and not listens for _, other, listens in sockets)
 
 
 class Master:
