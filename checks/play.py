@@ -350,7 +350,8 @@ def child(
 ) -> Iterator[subprocess.Popen[bytes]]:
     """A process that lives no longer than the block. Its output goes into pipes by default."""
     pipes = {"stdin": subprocess.DEVNULL, "stdout": subprocess.PIPE, "stderr": subprocess.PIPE}
-    with subprocess.Popen(words, **{**pipes, **how}) as process:
+    given: dict[str, Any] = {**pipes, **how}
+    with subprocess.Popen(words, **given) as process:
         try:
             yield process
         finally:
@@ -551,9 +552,18 @@ def begin(parser: argparse.ArgumentParser) -> tuple[argparse.Namespace, str]:
         parser.exit(2, f"{parser.prog}: there is no program {program}: rt ci makes it\n")
     # Its own end takes what it started along.
     signal.signal(signal.SIGTERM, lambda number, _frame: sys.exit(128 + number))
+    start_with_default_signals()
     # What ends by a signal here leaves no core.
     resource.setrlimit(resource.RLIMIT_CORE, (0, 0))
     return options, os.path.realpath(program)
+
+
+def start_with_default_signals() -> None:
+    """A hangup or an interrupt that the starter of this check ignores, as nohup and a shell's job
+    in the background do, isn't ignored by what the check starts: a handler ends with an exec."""
+    for number in (signal.SIGHUP, signal.SIGINT):
+        if signal.getsignal(number) == signal.SIG_IGN:
+            signal.signal(number, lambda _number, _frame: None)
 
 
 def say(line: str) -> None:
@@ -696,7 +706,7 @@ class Cases:
 
 # The way to OpenSSH's server.
 
-SSHD = shutil.which("sshd", path=os.environ.get("PATH", "") + ":/usr/sbin:/usr/local/sbin")
+SSHD: str | None = shutil.which("sshd", path=os.environ.get("PATH", "") + ":/usr/sbin:/usr/local/sbin")
 
 SSHD_SETTINGS = """\
 Port {port}
@@ -760,7 +770,8 @@ class Way(Room):
 
     def start_part(self, name: str, words: Sequence[str], **how: Any) -> subprocess.Popen[bytes]:
         with open(self.path(f"{name}.log"), "ab") as log:
-            return self.start(words, **{"stdout": log, "stderr": log, **how})
+            given: dict[str, Any] = {"stdout": log, "stderr": log, **how}
+            return self.start(words, **given)
 
     def log(self, name: str) -> str:
         """What a part said."""

@@ -5,7 +5,6 @@ Only a transport sees the channels of all clients; the master itself logs nothin
 """
 
 import dataclasses
-import struct
 import sys
 import time
 from collections.abc import Callable
@@ -46,7 +45,7 @@ class Fields:
         return taken
 
     def number(self) -> int:
-        return struct.unpack(">I", self.take(4))[0]
+        return int.from_bytes(self.take(4), "big")
 
     def string(self) -> bytes:
         return self.take(self.number())

@@ -7,7 +7,6 @@ there. Lines of @cert-authority are passed over, since no certificate of a host 
 """
 
 import base64
-import binascii
 import dataclasses
 import hashlib
 import hmac
@@ -40,7 +39,7 @@ def read_line(text: str, place: str) -> Line | None:
         return None
     try:
         return Line(place, marker, fields[0], fields[1], base64.b64decode(fields[2], validate=True))
-    except binascii.Error:
+    except ValueError:
         return None
 
 
@@ -65,7 +64,7 @@ def is_hash_of(pattern: str, name: str) -> bool:
         return False
     try:
         salt, digest = (base64.b64decode(part, validate=True) for part in parts[2:])
-    except binascii.Error:
+    except ValueError:
         return False
     return hmac.compare_digest(hmac.digest(salt, name.encode(), hashlib.sha1), digest)
 

@@ -56,6 +56,8 @@ def whole_payloads(data: bytes | bytearray) -> Iterator[tuple[int, int]]:
         end = at + 4 + length
         if end > len(data):
             return
+        if data[at + 4]:
+            raise BadFrame(f"a padding of length {data[at + 4]}")
         yield at + 5, end
         at = end
 

@@ -7,6 +7,8 @@ import re
 import socket
 import subprocess
 
+from ssh_words import direct_environment
+
 
 class NoSettings(Exception):
     """`ssh -G` refuses, or a value can't be read."""
@@ -50,11 +52,12 @@ class Settings:
 
 
 def settings_of(destination: str, words: list[str]) -> Settings:
-    """What ssh would do for this destination, with these options."""
+    """What ssh would do for this destination, with these options, past a share."""
     try:
         done = subprocess.run(
             ["ssh", "-G", *words, "--", destination],
             stdin=subprocess.DEVNULL, capture_output=True, text=True, errors="surrogateescape",
+            env=direct_environment(destination),
         )
     except OSError as error:
         raise NoSettings(f"ssh -G: {error.strerror or error}") from None

@@ -1,67 +1,46 @@
 """Clients at FRONT, and what they ask for."""
 
+from __future__ import annotations
+
+import json
 import os
 import socket
-import struct
-from typing import TYPE_CHECKING, Optional
+import time
+from collections.abc import Callable
+from typing import TYPE_CHECKING, Any
 
-from plain_front.channel import Channel, Session, StdioForward
-from plain_front.protocol import MUX_VERSION, Fields, ForwardRequest, Mux, SessionRequest
-from plain_front.protocol import Unreadable, reason, string, uint32
-from plain_front.streams import PassingWire, Wire
+from plain_front.channel import CallerChannel, Session, StdioForward
+from plain_front.errand import Reply, ask, tell_others
+from plain_front.journal import Process
+from plain_front.protocol import MUX_VERSION, Fields, Forwarding, ForwardRequest, Mux
+from plain_front.protocol import SessionRequest, Unreadable, string, uint32
+from plain_front.streams import PassingWire
 
 if TYPE_CHECKING:
     from plain_front.front import Front
 
-
-class Errand:
-    """A request that CONTROL answers, asked there under the caller's own number."""
-
-    def __init__(self, front: "Front", caller: "Caller", body: bytes):
-        self.front, self.caller, self.has_greeted, self.is_answered = front, caller, False, False
-        self.kind, self.request = struct.unpack(">II", body[:8])
-        self.wire = Wire(front.loop, front.reach_master(), self.on_frame, self.on_end)
-        self.wire.send(uint32(Mux.HELLO, MUX_VERSION))
-        self.wire.send(body)
-
-    def on_frame(self, body: bytes) -> None:
-        if not self.has_greeted:
-            if body[:8] != uint32(Mux.HELLO, MUX_VERSION):
-                raise Unreadable("no hello of this version")
-            self.has_greeted = True
-            return
-        self.is_answered = True
-        is_granted = Fields(body).uint32() == Mux.S_OK
-        # The path is gone before the caller is told, so that the next one doesn't find it.
-        if is_granted and self.kind in (Mux.TERMINATE, Mux.STOP_LISTENING):
-            self.front.stop_listening()
-        self.caller.wire.send(body[:4], uint32(self.request), body[8:])
-        self.wire.close_when_sent()
-        if is_granted and self.kind == Mux.TERMINATE:
-            self.front.end_all(self.caller)
-
-    def on_end(self) -> None:
-        self.caller.errands.discard(self)
-        if not self.is_answered:
-            self.caller.fail(self.request, "the master lets nobody in, or has ended")
+NAMES = {Mux.TERMINATE: "exit", Mux.STOP_LISTENING: "stop"}
 
 
 class Caller:
     """A client at FRONT."""
 
-    def __init__(self, front: "Front", stream: socket.socket, number: int):
-        self.front, self.number = front, number
+    def __init__(self, front: Front, stream: socket.socket, number: int, process: Process) -> None:
+        self.front, self.number, self.process, self.began = front, number, process, time.time()
         self.has_greeted = False
-        self.channel: Optional[Channel] = None
-        self.errands: set[Errand] = set()
-        self.wire = PassingWire(front.loop, stream, self.on_frame, self.on_end)
+        self.channel: CallerChannel | None = None
+        self.wire: PassingWire = PassingWire(front.loop, stream, self.on_frame, self.on_end)
         self.wire.send(uint32(Mux.HELLO, MUX_VERSION))
 
     def reply(self, message: Mux, number: int, *parts: bytes) -> None:
         self.wire.send(uint32(message, number), *parts)
 
-    def fail(self, request: int, text: str) -> None:
-        self.reply(Mux.S_FAILURE, request, string(text.encode()))
+    def note(self, what: str, outcome: str) -> None:
+        self.front.journal.note(self.process, what, outcome)
+
+    def refuse(self, request: int, what: str, why: str) -> None:
+        self.front.journal.refused(self.process, what, why)
+        self.reply(Mux.S_FAILURE, request, string(why.encode()))
 
     def on_frame(self, body: bytes) -> None:
         fields = Fields(body)
@@ -75,38 +54,91 @@ class Caller:
         if kind == Mux.ALIVE_CHECK:
             self.reply(Mux.S_ALIVE, request, uint32(os.getpid()))
         elif kind == Mux.NEW_SESSION:
-            self.expect_descriptors(3, Session, request, SessionRequest.read(fields))
+            session = SessionRequest.read(fields)
+            self.expect_descriptors(
+                3, request, lambda passed: Session(self.front, self, request, passed, session)
+            )
         elif kind == Mux.NEW_STDIO_FWD:
-            self.expect_descriptors(2, StdioForward, request, ForwardRequest.read(fields))
-        elif kind in (Mux.OPEN_FWD, Mux.CLOSE_FWD, Mux.STOP_LISTENING, Mux.TERMINATE):
-            self.hand_on(request, body)
+            end = ForwardRequest.read(fields)
+            self.expect_descriptors(
+                2, request, lambda passed: StdioForward(self.front, self, request, passed, end)
+            )
+        elif kind == Mux.OPEN_FWD:
+            self.front.forwardings.open(self, request, Forwarding.read(fields))
+        elif kind == Mux.CLOSE_FWD:
+            self.front.forwardings.cancel(self, request, Forwarding.read(fields))
+        elif kind in (Mux.STOP_LISTENING, Mux.TERMINATE):
+            self.hand_on(Mux(kind), request)
+        elif kind == Mux.STATUS:
+            state = json.dumps(self.front.state()).encode()
+            self.reply(Mux.S_STATUS, request, string(state))
+        elif kind == Mux.END_CALLER:
+            self.end_other(request, fields.uint32())
         elif kind == Mux.PROXY:
-            self.fail(request, f"proxy mode is served at {self.front.control}")
+            self.refuse(request, "proxy mode", f"proxy mode is served at {self.front.control}")
         else:
-            self.fail(request, "unsupported request")
+            self.refuse(request, f"request {kind:#x}", "unsupported request")
 
-    def hand_on(self, request: int, body: bytes) -> None:
-        try:
-            self.errands.add(Errand(self.front, self, body))
-        except OSError as error:
-            self.fail(request, f"no master at {self.front.control}: {reason(error)}")
+    def hand_on(self, kind: Mux, request: int) -> None:
+        """Asks the master to end, or to let nobody in any more."""
+        name = NAMES[kind]
 
-    def expect_descriptors(self, count: int, kind: type, request: int, wanted: object) -> None:
+        def on_reply(reply: Reply) -> None:
+            if not reply.is_granted:
+                self.refuse(request, name, reply.why)
+                return
+            self.note(name, "granted")
+            tell_others(self.front, uint32(kind, request))
+            # The path is gone before the caller is told, so that the next one doesn't find it.
+            self.front.stop_listening()
+            self.reply(Mux.S_OK, request)
+            if kind == Mux.TERMINATE:
+                self.front.end_all(self)
+
+        ask(self.front, uint32(kind, request), on_reply)
+
+    def end_other(self, request: int, pid: int) -> None:
+        """Ends a client here, for ssh-mux-status."""
+        name = f"end of {pid}"
+        others = [caller for caller in self.front.callers if caller.process.pid == pid]
+        if not others:
+            self.refuse(request, name, f"process {pid} isn't a client here")
+            return
+        self.note(name, "granted")
+        for caller in others:
+            caller.wire.close()
+        self.reply(Mux.S_OK, request)
+
+    def expect_descriptors(
+        self, count: int, request: int, make: Callable[[list[int]], CallerChannel]
+    ) -> None:
         def on_descriptors(passed: list[int]) -> None:
             if self.channel is None:
-                self.channel = kind(self.front, self, request, passed, wanted)
+                self.channel = make(passed)
                 self.channel.begin()
                 return
             for descriptor in passed:
                 os.close(descriptor)
-            self.fail(request, "a client has one session here")
+            self.refuse(request, "session", "a client has one session here")
 
         self.wire.expect(count, on_descriptors)
 
+    def is_shown(self) -> bool:
+        """Whether it is here for more than to ask something."""
+        return self.channel is not None
+
+    def state(self) -> dict[str, Any]:
+        """What ssh-mux-status shows of it."""
+        name = "" if self.channel is None else self.channel.name
+        process = self.process
+        return {
+            "pid": process.pid, "uid": process.uid, "name": process.name, "began": self.began,
+            "what": name,
+        }  # fmt: skip
+
     def on_end(self) -> None:
         self.front.callers.discard(self)
-        for errand in list(self.errands):
-            errand.wire.close()
         if self.channel is not None:
             self.channel.abandon()
+        self.front.forwardings.on_caller_end(self)
         self.front.update()

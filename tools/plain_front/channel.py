@@ -1,15 +1,23 @@
 """Channels to the server: sessions, and the connections of `ssh -W`."""
 
+from __future__ import annotations
+
 import collections
 import enum
 import os
-from typing import TYPE_CHECKING, Optional
+import socket
+import time
+from collections.abc import Callable
+from typing import TYPE_CHECKING
 
-from plain_front.protocol import MUX_VERSION, NO_ESCAPE, PORT_OF_PATH
-from plain_front.protocol import Fields, ForwardRequest, Message, Mux, SessionRequest
-from plain_front.protocol import Unreadable, reason, string, uint32
+from channel_log import printable
+from plain_front.masters import Master
+from plain_front.protocol import NO_ESCAPE, PORT_OF_PATH, Fields, ForwardRequest, Message, Mux
+from plain_front.protocol import SessionRequest, string, uint32
+from plain_front.proxy_client import ProxyClient
 from plain_front.relay import Descriptor, EscapeFilter, Sink, Source
-from plain_front.streams import PIECE, Wire
+from plain_front.streams import PIECE
+from plain_front.streams import Loop
 from plain_front.terminal import terminal_modes, terminal_size
 
 if TYPE_CHECKING:
@@ -21,32 +29,33 @@ if TYPE_CHECKING:
 WINDOW = 64 * PIECE
 ADJUST_FROM = 4 * PIECE
 
+# Why a server refuses a session that it has no room for: sshd says the first one beyond its
+# MaxSessions.
+NO_ROOM = (2, 4)
+
 
 class Phase(enum.Enum):
-    GREETING = enum.auto()
-    ASKING_FOR_PROXY = enum.auto()
+    """A channel isn't asked for yet, is asked for, is confirmed, or is closed."""
+
+    NEW = enum.auto()
     OPENING = enum.auto()
     OPEN = enum.auto()
     OVER = enum.auto()
 
 
 class Channel:
-    """A channel of a caller at FRONT, by way of a client of its own at CONTROL.
+    """A channel to the server, between descriptors of this machine and a client at a master."""
 
-    It has one channel, so its own number is always 0.
-    """
-
-    def __init__(self, front: "Front", caller: "Caller", request: int, descriptors: list[int]):
-        self.front, self.caller, self.request = front, caller, request
-        self.phase = Phase.GREETING
-        self.peer = self.peer_room = self.peer_packet = 0
+    def __init__(self, loop: Loop) -> None:
+        self.loop = loop
+        self.phase = Phase.NEW
+        self.link: ProxyClient | None = None
+        self.number = self.peer = self.peer_room = self.peer_packet = 0
         self.taken = 0
         self.has_heard_eof = self.has_said_close = False
-        source, *sinks = [Descriptor(descriptor) for descriptor in descriptors]
-        self.source = Source(front.loop, source, self)
-        self.sinks = [Sink(front.loop, sink, self) for sink in sinks]
-        self.wire: Optional[Wire] = None
-        self.handlers = {
+        self.source: Source | None = None
+        self.sinks: list[Sink] = []
+        self.handlers: dict[int, Callable[[Fields], None]] = {
             Message.OPEN_CONFIRMATION: self.on_confirmation,
             Message.OPEN_FAILURE: self.on_open_failure,
             Message.WINDOW_ADJUST: self.on_window_adjust,
@@ -59,24 +68,35 @@ class Channel:
             Message.FAILURE: self.on_failure,
         }
 
-    def begin(self) -> None:
-        try:
-            stream = self.front.reach_master()
-        except OSError as error:
-            self.refuse(f"no master at {self.front.control}: {reason(error)}")
-            return
-        self.wire = Wire(self.front.loop, stream, self.on_frame, self.on_wire_end)
-        self.wire.on_room = self.source.update
-        self.wire.send(uint32(Mux.HELLO, MUX_VERSION))
+    def join(self, link: ProxyClient) -> None:
+        """Becomes a channel of that client's."""
+        self.link, self.number = link, link.add(self)
 
-    # What the two kinds of channels differ in.
+    def take_descriptors(self, source: Descriptor, *sinks: Descriptor) -> None:
+        """Takes where its bytes come from, and where they go to."""
+        self.source = Source(self.loop, source, self)
+        self.sinks = [Sink(self.loop, sink, self) for sink in sinks]
 
-    def opening(self) -> bytes:
+    # What the kinds of channels differ in.
+
+    def opening(self) -> tuple[bytes, bytes]:
         """Type and data of the message that opens it."""
         raise NotImplementedError
 
     def on_opened(self) -> None:
-        """It is confirmed, and the caller knows."""
+        """It is confirmed."""
+
+    def refuse(self, code: int, text: str) -> None:
+        """It doesn't come up."""
+        raise NotImplementedError
+
+    def on_lost(self) -> None:
+        """Its client has no connection any more."""
+        raise NotImplementedError
+
+    def leave_link(self) -> None:
+        """It says no more."""
+        raise NotImplementedError
 
     def on_extended_data(self, fields: Fields) -> None:
         fields.uint32()
@@ -96,27 +116,38 @@ class Channel:
     def on_output_lost(self, sink: Sink) -> None:
         """Nobody reads it any more."""
 
+    def on_sink_closed(self) -> None:
+        """One of the sinks wrote all, or failed."""
+
     # What goes up.
+
+    def ask_for_it(self) -> None:
+        """Sends the message that opens it."""
+        self.phase = Phase.OPENING
+        kind, data = self.opening()
+        numbers = uint32(self.number, WINDOW, PIECE)
+        assert self.link is not None
+        self.link.send(bytes([Message.CHANNEL_OPEN]) + string(kind) + numbers + data)
 
     def say(self, message: Message, *parts: bytes) -> None:
         """Says something to the server's end of the channel."""
-        if self.phase is Phase.OPEN and not self.has_said_close:
-            self.send(bytes([message]) + uint32(self.peer), *parts)
-
-    def send(self, *parts: bytes) -> None:
-        padding_length = b"\0"
-        self.wire.send(padding_length, *parts)
+        if self.phase is Phase.OPEN and not self.has_said_close and self.link is not None:
+            self.link.send(bytes([message]) + uint32(self.peer), *parts)
 
     def room(self) -> int:
         """How many bytes may be read for the server."""
-        if self.phase is not Phase.OPEN or not self.wire.has_room():
+        if self.phase is not Phase.OPEN or self.link is None or not self.link.has_room():
             return 0
         return min(self.peer_room, self.peer_packet, PIECE)
+
+    def on_room(self) -> None:
+        if self.source is not None:
+            self.source.update()
 
     def take_input(self, data: bytes) -> None:
         self.peer_room -= len(data)
         self.say(Message.DATA, string(data))
-        self.source.update()
+        self.on_room()
 
     def end_input(self) -> None:
         self.say(Message.EOF)
@@ -130,44 +161,25 @@ class Channel:
 
     # What comes down.
 
-    def on_frame(self, body: bytes) -> None:
-        if self.phase is Phase.GREETING:
-            if body[:8] != uint32(Mux.HELLO, MUX_VERSION):
-                raise Unreadable("no hello of this version")
-            self.phase = Phase.ASKING_FOR_PROXY
-            self.wire.send(uint32(Mux.PROXY, 0))
-        elif self.phase is Phase.ASKING_FOR_PROXY:
-            fields = Fields(body)
-            if fields.uint32() != Mux.S_PROXY:
-                fields.uint32()
-                self.refuse(f"the master refuses proxy mode: {fields.text()}")
-                return
-            self.phase = Phase.OPENING
-            self.send(bytes([Message.CHANNEL_OPEN]), self.opening())
-        else:
-            fields = Fields(body)
-            if fields.byte() != 0:
-                raise Unreadable("a frame with padding")
-            handler = self.handlers.get(fields.byte())
-            # The rest concerns no channel: what isn't answered by the master needs no answer.
-            if handler is not None:
-                fields.uint32()
-                handler(fields)
+    def on_message(self, message: int, fields: Fields) -> None:
+        # The rest concerns no channel: what isn't answered by the master needs no answer.
+        handler = self.handlers.get(message)
+        if handler is not None:
+            handler(fields)
 
     def on_confirmation(self, fields: Fields) -> None:
         self.peer, self.peer_room, self.peer_packet = (fields.uint32() for _ in range(3))
         self.phase = Phase.OPEN
-        self.caller.reply(Mux.S_SESSION_OPENED, self.request, uint32(self.caller.number))
         self.on_opened()
-        self.source.update()
+        self.on_room()
 
     def on_open_failure(self, fields: Fields) -> None:
-        fields.uint32()
-        self.refuse(fields.text())
+        code, text = fields.uint32(), fields.text()
+        self.refuse(code, text)
 
     def on_window_adjust(self, fields: Fields) -> None:
         self.peer_room += fields.uint32()
-        self.source.update()
+        self.on_room()
 
     def on_data(self, fields: Fields) -> None:
         self.sinks[0].put(fields.string())
@@ -187,69 +199,137 @@ class Channel:
         self.say(Message.CLOSE)
         self.has_said_close = True
 
-    def refuse(self, text: str) -> None:
-        """It doesn't come up, which the caller is told."""
-        self.phase = Phase.OVER
-        self.caller.fail(self.request, text)
-        self.release()
-
     def end(self) -> None:
         """Nothing more is said or heard. What was heard is still written."""
         self.phase = Phase.OVER
-        self.source.close()
-        if self.wire is not None:
-            self.wire.close_when_sent()
+        if self.source is not None:
+            self.source.close()
+        self.leave_link()
         for sink in self.sinks:
             sink.finish()
         self.on_sink_closed()
+
+    def release(self) -> None:
+        """Gives everything back, whatever is left to be written."""
+        self.phase = Phase.OVER
+        if self.source is not None:
+            self.source.close()
+        for sink in self.sinks:
+            sink.close()
+        self.leave_link()
+
+
+class CallerChannel(Channel):
+    """A channel of a caller at FRONT, by way of a client of its own at CONTROL."""
+
+    def __init__(
+        self, front: Front, caller: Caller, request: int, descriptors: list[int], name: str
+    ) -> None:
+        super().__init__(front.loop)
+        self.front, self.caller, self.request, self.name = front, caller, request, name
+        self.began = time.monotonic()
+        self.master = front.masters[0]
+        # The masters that weren't tried yet, and why the others refused.
+        self.left: list[Master] = []
+        self.reasons: list[str] = []
+        source, *sinks = [Descriptor(descriptor) for descriptor in descriptors]
+        self.take_descriptors(source, *sinks)
+
+    def begin(self) -> None:
+        self.left = self.front.masters_in_order()
+        self.try_next()
+
+    def try_next(self, why: str = "") -> None:
+        """Tries the next master. Where there is none, the caller is told why each refused."""
+        self.reasons += [why] if why and why not in self.reasons else []
+        if self.link is not None:
+            self.link.leave()
+        if not self.left:
+            self.refuse(0, "; ".join(self.reasons))
+            return
+        self.master = self.left.pop(0)
+        self.master.reach(self.on_reached, self.on_link_lost)
+
+    def on_reached(self, stream: socket.socket) -> None:
+        if self.phase is Phase.OVER:
+            # The caller left while it was waited for.
+            stream.close()
+            return
+        self.join(ProxyClient(self.loop, stream, self.ask_for_it, self.on_link_lost))
+
+    def on_opened(self) -> None:
+        over = "" if self.master is self.front.masters[0] else f" over {self.master.control}"
+        self.caller.note(self.name, f"opened{over}")
+        self.caller.reply(Mux.S_SESSION_OPENED, self.request, uint32(self.caller.number))
+
+    def on_ended(self) -> None:
+        """It was open, and is no more."""
+
+    def outcome(self) -> str:
+        """What the log says of its end."""
+        return "closed"
+
+    def refuse(self, code: int, text: str) -> None:
+        self.caller.refuse(self.request, self.name, text)
+        self.release()
+
+    def end(self) -> None:
+        self.note_end()
+        super().end()
+
+    def note_end(self) -> None:
+        if self.phase is Phase.OPEN:
+            seconds = time.monotonic() - self.began
+            self.caller.note(self.name, f"{self.outcome()}, {seconds:.1f} s")
+            self.on_ended()
+
+    def on_lost(self) -> None:
+        """The client says so itself, with a text."""
+
+    def on_link_lost(self, text: str) -> None:
+        if self.phase is Phase.OPEN:
+            self.end()
+        elif self.phase is not Phase.OVER:
+            self.try_next(text)
 
     def on_sink_closed(self) -> None:
         if self.phase is Phase.OVER and not any(sink.is_open for sink in self.sinks):
             self.caller.wire.close_when_sent()
 
-    def on_wire_end(self) -> None:
-        if self.phase is Phase.OPEN:
-            self.end()
-        elif self.phase is not Phase.OVER:
-            self.refuse("the master lets nobody in, or has ended")
-
     def abandon(self) -> None:
         """Nobody wants it any more."""
         self.close()
-        self.phase = Phase.OVER
+        self.note_end()
         self.release()
         self.caller.wire.close_when_sent()
 
-    def release(self) -> None:
-        self.source.close()
-        for sink in self.sinks:
-            sink.close()
-        if self.wire is not None:
-            self.wire.close_when_sent()
+    def leave_link(self) -> None:
+        # Its client has this channel alone.
+        if self.link is not None:
+            self.link.leave()
 
 
-class StdioForward(Channel):
+class StdioForward(CallerChannel):
     """A connection to a host or a path, as `ssh -W` and ProxyJump ask for it."""
 
     def __init__(
         self,
-        front: "Front",
-        caller: "Caller",
+        front: Front,
+        caller: Caller,
         request: int,
         descriptors: list[int],
         wanted: ForwardRequest,
-    ):
-        super().__init__(front, caller, request, descriptors)
+    ) -> None:
         self.wanted = wanted
+        super().__init__(front, caller, request, descriptors, f"stdio {wanted.end}")
 
-    def opening(self) -> bytes:
-        host, port, numbers = self.wanted.host, self.wanted.port, uint32(0, WINDOW, PIECE)
-        if port == PORT_OF_PATH:
-            reserved = string(b"") + uint32(0)
-            return string(b"direct-streamlocal@openssh.com") + numbers + string(host) + reserved
-        # That of OpenSSH where there is no connection whose other end could be told.
-        originator = string(b"127.0.0.1") + uint32(65535)
-        return string(b"direct-tcpip") + numbers + string(host) + uint32(port) + originator
+    def opening(self) -> tuple[bytes, bytes]:
+        return direct_opening(self.wanted.host, self.wanted.port)
+
+    def refuse(self, code: int, text: str) -> None:
+        # Of the refusals only the open's has a code.
+        forbidden = self.front.lists.forbids_open(self.wanted.host, self.wanted.port)
+        super().refuse(code, (forbidden or f"{self.wanted.end}: {text}") if code else text)
 
     def on_sink_closed(self) -> None:
         # An end of the data is the end of all, as in OpenSSH: the caller has the descriptor open,
@@ -260,37 +340,60 @@ class StdioForward(Channel):
         super().on_sink_closed()
 
 
-class Session(Channel):
+def direct_opening(host: bytes, port: int) -> tuple[bytes, bytes]:
+    """What opens a channel to a host and port, or to a path."""
+    if port == PORT_OF_PATH:
+        return b"direct-streamlocal@openssh.com", string(host) + string(b"") + uint32(0)
+    # The originator is that of OpenSSH where there is no connection whose other end could be told.
+    return b"direct-tcpip", string(host) + uint32(port) + string(b"127.0.0.1") + uint32(65535)
+
+
+class Session(CallerChannel):
     """A shell, a command or a subsystem."""
 
     def __init__(
         self,
-        front: "Front",
-        caller: "Caller",
+        front: Front,
+        caller: Caller,
         request: int,
         descriptors: list[int],
         wanted: SessionRequest,
-    ):
-        super().__init__(front, caller, request, descriptors)
+    ) -> None:
+        super().__init__(front, caller, request, descriptors, wanted.name)
         self.wanted = wanted
-        self.has_exit = False
+        self.exit = ""
         # Requests that are to be answered, in their order.
         self.asked: collections.deque[bytes] = collections.deque()
         self.size = self.modes = b""
-        self.escapes: Optional[EscapeFilter] = None
+        self.escapes: EscapeFilter | None = None
         if wanted.terminal:
             # The caller makes the terminal raw once it has the reply.
             self.modes = terminal_modes(self.terminal())
             if wanted.escape != NO_ESCAPE:
                 self.escapes = EscapeFilter(wanted.escape & 0xFF)
 
-    def terminal(self) -> Optional[int]:
+    def terminal(self) -> int | None:
         """One of the caller's descriptors that is a terminal."""
-        ends = [end.descriptor.fileno for end in (self.source, *self.sinks) if end.is_open]
-        return next((end for end in ends if os.isatty(end)), None)
+        ends = (self.source, *self.sinks)
+        numbers = [end.descriptor.fileno for end in ends if end is not None and end.is_open]
+        return next((number for number in numbers if os.isatty(number)), None)
 
-    def opening(self) -> bytes:
-        return string(b"session") + uint32(0, WINDOW, PIECE)
+    def opening(self) -> tuple[bytes, bytes]:
+        return b"session", b""
+
+    def outcome(self) -> str:
+        return self.exit or super().outcome()
+
+    def on_ended(self) -> None:
+        self.master.end_session()
+
+    def on_open_failure(self, fields: Fields) -> None:
+        code, text = fields.uint32(), fields.text()
+        if code in NO_ROOM:
+            self.master.has_no_room()
+            self.try_next(f"the server has no room for one more session: {text}")
+        else:
+            self.refuse(code, text)
 
     def ask(self, name: bytes, *parts: bytes, wants_reply: bool = True) -> None:
         self.say(Message.REQUEST, string(name), bytes([wants_reply]), *parts)
@@ -298,6 +401,8 @@ class Session(Channel):
             self.asked.append(name)
 
     def on_opened(self) -> None:
+        super().on_opened()
+        self.master.begin_session()
         wanted = self.wanted
         if wanted.x11:
             self.sinks[1].put(b"X11 forwarding request failed\r\n")
@@ -343,16 +448,19 @@ class Session(Channel):
         name, wants_reply = fields.string(), fields.byte()
         is_known = True
         if name == b"exit-status":
-            if not self.has_exit:
-                self.has_exit = True
-                status = uint32(fields.uint32())
-                self.caller.reply(Mux.S_EXIT_MESSAGE, self.caller.number, status)
+            if not self.exit:
+                status = fields.uint32()
+                self.exit = f"exit status {status}"
+                self.caller.reply(Mux.S_EXIT_MESSAGE, self.caller.number, uint32(status))
+        elif name == b"exit-signal":
+            # A caller gets no status: its own is then 255.
+            self.exit = self.exit or f"signal {printable(fields.string())}"
         elif name == b"eow@openssh.com":
             # The command reads no more, so nobody needs to type or to send for it.
-            self.source.close()
+            if self.source is not None:
+                self.source.close()
         else:
-            # Behind an exit-signal a caller gets no status: its own is then 255.
-            is_known = name == b"exit-signal"
+            is_known = False
         if wants_reply:
             self.say(Message.SUCCESS if is_known else Message.FAILURE)
 

@@ -1,39 +1,50 @@
 """The listener at FRONT, who is in, and the master at CONTROL."""
 
+from __future__ import annotations
+
 import contextlib
-import errno
+import dataclasses
 import os
+import resource
 import selectors
 import signal
 import socket
-import struct
 import sys
 import time
-from typing import Callable, NoReturn, Optional
+from collections.abc import Callable
+from typing import Any, NoReturn
 
 from plain_front.caller import Caller
 from plain_front.channel import Session
+from plain_front.errand import Errand
+from plain_front.forwardings import Forwardings
+from plain_front.journal import Journal, Process
+from plain_front.lists import Lists
+from plain_front.masters import Master, peer_of
 from plain_front.protocol import MUX_VERSION, Mux, reason, uint32
 from plain_front.streams import Loop
 
-# More clients wait before they are let in: each has up to seven descriptors here, of 1,024 in all.
-MOST_CLIENTS = 128
+# So many clients are let in, or as many as there are descriptors for, and more wait: each has up to
+# seven here. Some are left for what isn't a client's.
+MOST_CLIENTS, EACH_CLIENT, OTHERS = 512, 7, 128
 
 # How long to wait for a master's hello, and before the next try where the machine is out of means.
 HELLO_SECONDS = 10
 PAUSE_SECONDS = 0.1
 
+# How long a master may take for its last answer.
+LAST_SECONDS = 5
+
+# The command that was called: ssh-mux-front where it is installed.
+NAME = os.path.basename(sys.argv[0]) or "plain-front"
+
 ENDING_SIGNALS = (signal.SIGHUP, signal.SIGINT, signal.SIGTERM)
 
 
-def say(text: str) -> None:
-    # The terminal or the log of the one who started this may be gone.
-    with contextlib.suppress(OSError, ValueError):
-        print(f"plain-front: {text}", file=sys.stderr, flush=True)
-
-
 def fail(text: str) -> NoReturn:
-    say(text)
+    # The terminal of the one who started this may be gone.
+    with contextlib.suppress(OSError, ValueError):
+        print(f"{NAME}: {text}", file=sys.stderr, flush=True)
     sys.exit(1)
 
 
@@ -43,32 +54,59 @@ def handle(number: int, handler: Callable[[int, object], None]) -> None:
         signal.signal(number, handler)
 
 
+def most_clients() -> int:
+    descriptors, _ = resource.getrlimit(resource.RLIMIT_NOFILE)
+    if descriptors == resource.RLIM_INFINITY:
+        return MOST_CLIENTS
+    return max(1, min(MOST_CLIENTS, (descriptors - OTHERS) // EACH_CLIENT))
+
+
+@dataclasses.dataclass(frozen=True)
+class Options:
+    """What a front is told when it is started."""
+
+    control: str
+    path: str
+    log: str | None = None
+    tidy: bool = False
+    # Further masters of the host, and how one is started where nobody answers.
+    more: list[str] = dataclasses.field(default_factory=list)
+    command: list[str] | None = None
+    permit_open: list[str] = dataclasses.field(default_factory=list)
+    permit_listen: list[str] = dataclasses.field(default_factory=list)
+
+
 class Front:
     """The listener at FRONT, and who is in."""
 
-    def __init__(self, control: str, path: str):
-        self.control, self.path = control, path
+    def __init__(self, options: Options) -> None:
+        self.options, self.control, self.path = options, options.control, options.path
+        try:
+            self.journal = Journal(options.log)
+        except OSError as error:
+            fail(f"cannot write {options.log}: {reason(error)}")
         self.loop = Loop()
+        more = [Master(self.loop, control, options.command) for control in options.more]
+        # One that is gone for good won't be missed twice.
+        self.masters = [Master(self.loop, self.control, on_gone=self.stop_listening), *more]
         self.callers: set[Caller] = set()
+        # Requests that a master hasn't answered yet: it would miss them if this ended.
+        self.errands: set[Errand] = set()
+        self.forwardings = Forwardings(self)
+        self.lists = Lists(options.permit_open, options.permit_listen)
+        self.most_clients = most_clients()
         self.accepted = 0
-        self.status: Optional[int] = None
-        self.listener: Optional[socket.socket] = None
-        self.identity: Optional[tuple[int, int]] = None
+        self.began = time.time()
+        # The status with which it ends, and that at its end.
+        self.final_status = 0
+        self.status: int | None = None
+        self.listener: socket.socket | None = None
+        self.identity: tuple[int, int] | None = None
         self.signals = socket.socketpair()
 
-    def reach_master(self) -> socket.socket:
-        """A connection to the master. One that is gone for good won't be missed twice."""
-        stream = socket.socket(socket.AF_UNIX)
-        try:
-            # A master that is too busy to accept must not hold up the others' sessions.
-            stream.setblocking(False)
-            stream.connect(self.control)
-            return stream
-        except OSError as error:
-            stream.close()
-            if error.errno in (errno.ENOENT, errno.ECONNREFUSED):
-                self.stop_listening()
-            raise
+    def masters_in_order(self) -> list[Master]:
+        """Those that may have room first: another is started before a full one is asked again."""
+        return sorted(self.masters, key=Master.is_full)
 
     def watch_master(self) -> None:
         """Looks whether a master is at CONTROL, and has the loop see its end.
@@ -76,22 +114,24 @@ class Front:
         Its process is looked at, since a client that only waits would take a place of another one.
         """
         try:
-            stream = self.reach_master()
+            stream = self.masters[0].connect()
             with stream:
                 stream.settimeout(HELLO_SECONDS)
                 hello = stream.recv(12, socket.MSG_WAITALL)
-                pid, _, _ = peer_of(stream)
         except OSError as error:
             fail(f"no master at {self.control}: {reason(error)}")
         if hello[4:] != uint32(Mux.HELLO, MUX_VERSION):
             fail(f"no master at {self.control}: it lets nobody in, or says another hello")
         # A master that put itself into the background after it began to listen isn't seen.
         with contextlib.suppress(OSError):
-            process = os.pidfd_open(pid)
+            process = os.pidfd_open(self.masters[0].pid)
             self.loop.watch(process, selectors.EVENT_READ, lambda _: self.on_master_end(process))
 
     def on_master_end(self, process: int) -> None:
+        """Its forwardings have ended with it."""
         self.loop.forget(process)
+        self.forwardings.own.finish()
+        self.forwardings.opened.clear()
         self.stop_listening()
 
     def watch_signals(self) -> None:
@@ -109,8 +149,8 @@ class Front:
 
     def on_signal(self, number: int) -> None:
         if number != signal.SIGWINCH:
+            self.final_status = 128 + number
             self.end_all()
-            self.status = 128 + number
             return
         for caller in list(self.callers):
             if isinstance(caller.channel, Session):
@@ -139,31 +179,42 @@ class Front:
     def update(self) -> None:
         """Lets clients in while there is room. It ends with the last one if no more can come."""
         if self.listener is not None:
-            reads = selectors.EVENT_READ if len(self.callers) < MOST_CLIENTS else 0
+            reads = selectors.EVENT_READ if len(self.callers) < self.most_clients else 0
             self.loop.watch(self.listener.fileno(), reads, self.on_caller)
-        elif not self.callers and self.status is None:
-            self.status = 0
+        elif self.forwardings.own.count_relays():
+            return
+        elif not self.callers and not self.errands:
+            self.status = self.final_status
+        elif not self.callers:
+            self.loop.call_later(LAST_SECONDS, self.end_anyway)
+
+    def end_anyway(self) -> None:
+        """Some master doesn't answer."""
+        self.status = self.final_status
 
     def on_caller(self, _events: int) -> None:
+        if self.listener is None:
+            return
         try:
             stream, _ = self.listener.accept()
         except BlockingIOError:
             return
         except OSError as error:
-            say(f"cannot accept at {self.path}: {reason(error)}")
+            self.journal.write(f"cannot accept at {self.path}: {reason(error)}")
             # It stays there, and the next one that leaves makes room for it.
             if self.callers:
                 self.loop.forget(self.listener.fileno())
             else:
                 time.sleep(PAUSE_SECONDS)
             return
-        _, user, _ = peer_of(stream)
+        pid, user, _ = peer_of(stream)
+        process = Process.find(pid, user)
         if user not in (0, os.geteuid()):
-            say(f"refused at {self.path}: user {user}")
+            self.journal.refused(process, f"entry at {self.path}", "another user's")
             stream.close()
             return
         self.accepted += 1
-        self.callers.add(Caller(self, stream, self.accepted % (1 << 31)))
+        self.callers.add(Caller(self, stream, self.accepted % (1 << 31), process))
         self.update()
 
     def stop_listening(self) -> None:
@@ -176,8 +227,9 @@ class Front:
             self.listener = None
             self.update()
 
-    def end_all(self, asker: Optional[Caller] = None) -> None:
+    def end_all(self, asker: Caller | None = None) -> None:
         """Ends every session; the one that asked for it still gets its answer."""
+        self.forwardings.own.finish()
         self.stop_listening()
         for caller in list(self.callers):
             if caller is asker:
@@ -185,17 +237,28 @@ class Front:
             else:
                 caller.wire.close()
 
+    def state(self) -> dict[str, Any]:
+        """What ssh-mux-status shows."""
+        callers = sorted(self.callers, key=lambda caller: caller.number)
+        return {
+            "pid": os.getpid(),
+            "began": self.began,
+            "masters": [master.state() for master in self.masters if master.is_there()],
+            "callers": [caller.state() for caller in callers if caller.is_shown()],
+            "relays": self.forwardings.own.count_relays(),
+            "forwardings": self.forwardings.state(),
+            "refusals": list(self.journal.refusals),
+        }
+
     def serve(self) -> int:
         while self.status is None:
             self.loop.turn()
+        self.forwardings.own.finish()
+        for master in self.masters:
+            master.finish()
         return self.status
 
 
 def identity(path: str) -> tuple[int, int]:
     found = os.lstat(path)
     return found.st_dev, found.st_ino
-
-
-def peer_of(stream: socket.socket) -> tuple[int, int, int]:
-    """Process, user and group of the other side."""
-    return struct.unpack("3i", stream.getsockopt(socket.SOL_SOCKET, socket.SO_PEERCRED, 12))

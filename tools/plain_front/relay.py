@@ -1,12 +1,14 @@
 """The descriptors that callers pass, and the ways between them and a channel."""
 
+from __future__ import annotations
+
 import contextlib
 import fcntl
 import os
 import selectors
 import socket
 import stat
-from typing import TYPE_CHECKING, Optional
+from typing import TYPE_CHECKING
 
 from plain_front.streams import Loop
 
@@ -23,10 +25,10 @@ class Descriptor:
     user's terminal after su, O_NONBLOCK is set, and put back at the end, as OpenSSH's master does.
     """
 
-    def __init__(self, fileno: int):
+    def __init__(self, fileno: int) -> None:
         self.fileno = fileno
-        self.flags_before: Optional[int] = None
-        self.stream: Optional[socket.socket] = None
+        self.flags_before: int | None = None
+        self.stream: socket.socket | None = None
         mode = os.fstat(fileno).st_mode
         if stat.S_ISSOCK(mode):
             self.stream = socket.socket(fileno=fileno)
@@ -73,10 +75,24 @@ class Descriptor:
             os.close(self.fileno)
 
 
+class SocketSide(Descriptor):
+    """One direction of a socket of the front's own. Its end is told to the other side."""
+
+    def __init__(self, stream: socket.socket, is_for_writing: bool) -> None:
+        super().__init__(os.dup(stream.fileno()))
+        self.is_for_writing = is_for_writing
+
+    def close(self) -> None:
+        if self.is_for_writing and self.stream is not None:
+            with contextlib.suppress(OSError):
+                self.stream.shutdown(socket.SHUT_WR)
+        super().close()
+
+
 class Source:
     """A descriptor whose bytes go to a channel, read only as far as the channel has room."""
 
-    def __init__(self, loop: Loop, descriptor: Descriptor, channel: "Channel"):
+    def __init__(self, loop: Loop, descriptor: Descriptor, channel: Channel) -> None:
         self.loop, self.descriptor, self.channel = loop, descriptor, channel
         self.is_open = True
 
@@ -113,7 +129,7 @@ class Source:
 class Sink:
     """A descriptor that gets what a channel heard, as far as it takes it."""
 
-    def __init__(self, loop: Loop, descriptor: Descriptor, channel: "Channel"):
+    def __init__(self, loop: Loop, descriptor: Descriptor, channel: Channel) -> None:
         self.loop, self.descriptor, self.channel = loop, descriptor, channel
         self.waiting = bytearray()
         self.is_open, self.is_finished = True, False
@@ -164,7 +180,7 @@ class Sink:
 class EscapeFilter:
     """What is typed behind a newline and the escape character: `~.` ends the session, as in ssh."""
 
-    def __init__(self, character: int):
+    def __init__(self, character: int) -> None:
         self.character, self.at_line_start, self.is_escaped = character, True, False
 
     def take(self, data: bytes) -> tuple[bytes, bool]:

@@ -1,10 +1,14 @@
 """The loop, and streams of frames."""
 
 import collections
+import heapq
+import itertools
 import os
 import selectors
 import socket
-from typing import Any, Callable
+import time
+from collections.abc import Callable
+from typing import Any
 
 from plain_front.protocol import LONGEST_FRAME, Unreadable, uint32
 
@@ -20,6 +24,18 @@ class Loop:
 
     def __init__(self) -> None:
         self.selector = selectors.PollSelector()
+        # What is to be called, by the moment, and in order where that is the same.
+        self.timers: list[tuple[float, int, Callable[[], None]]] = []
+        self.timer_numbers = itertools.count()
+
+    def call_later(self, seconds: float, callback: Callable[[], None]) -> None:
+        timer = (time.monotonic() + seconds, next(self.timer_numbers), callback)
+        heapq.heappush(self.timers, timer)
+
+    def call_due(self) -> None:
+        now = time.monotonic()
+        while self.timers and self.timers[0][0] <= now:
+            heapq.heappop(self.timers)[2]()
 
     def watch(self, fileno: int, events: int, on_ready: Callable[[int], None]) -> None:
         key = self.selector.get_map().get(fileno)
@@ -34,11 +50,13 @@ class Loop:
         self.watch(fileno, 0, lambda _: None)
 
     def turn(self) -> None:
-        for ready, events in self.selector.select():
+        wait = max(0, self.timers[0][0] - time.monotonic()) if self.timers else None
+        for ready, events in self.selector.select(wait):
             # What was ready may have been closed since by another, and the number be in use again.
             key = self.selector.get_map().get(ready.fd)
             if key is not None and key.data == ready.data:
                 key.data(events)
+        self.call_due()
 
 
 class Wire:
@@ -50,7 +68,7 @@ class Wire:
         stream: socket.socket,
         on_frame: Callable[[bytes], None],
         on_end: Callable[[], None],
-    ):
+    ) -> None:
         self.loop, self.stream, self.on_frame, self.on_end = loop, stream, on_frame, on_end
         self.incoming, self.outgoing = bytearray(), bytearray()
         self.on_room: Callable[[], None] = lambda: None
@@ -151,7 +169,7 @@ class PassingWire(Wire):
 
     MOST_DESCRIPTORS = 3
 
-    def __init__(self, *words: Any):
+    def __init__(self, *words: Any) -> None:
         self.descriptors: collections.deque[int] = collections.deque()
         self.expected = 0
         self.on_descriptors: Callable[[list[int]], None] = lambda _: None

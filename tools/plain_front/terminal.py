@@ -1,11 +1,12 @@
 """What the server is told of a caller's terminal."""
 
+from __future__ import annotations
+
 import array
 import contextlib
 import fcntl
 import os
 import termios
-from typing import Optional
 
 from plain_front.protocol import uint32
 
@@ -42,7 +43,7 @@ SPEEDS = {
 }
 
 
-def terminal_modes(descriptor: Optional[int]) -> bytes:
+def terminal_modes(descriptor: int | None) -> bytes:
     """The encoded modes of a terminal; none where there isn't one."""
     if descriptor is None:
         return bytes([END_OF_MODES])
@@ -70,7 +71,7 @@ def terminal_modes(descriptor: Optional[int]) -> bytes:
     return b"".join(encoded) + bytes([END_OF_MODES])
 
 
-def terminal_size(descriptor: Optional[int]) -> bytes:
+def terminal_size(descriptor: int | None) -> bytes:
     """The encoded size, in characters and in pixels; all is 0 where it isn't known."""
     size = array.array("H", [0, 0, 0, 0])
     if descriptor is not None:

@@ -1,0 +1,50 @@
+"""What the master's lists permit, so that what they forbid is refused before anybody listens.
+
+The lists that bind are the master's. These are told to the front beside them.
+"""
+
+from __future__ import annotations
+
+from plain_front.protocol import PORT_OF_PATH, Forwarding, Kind, end_of
+
+
+def matches(entry: str, host: bytes, port: int) -> bool:
+    """Whether an entry of a list permits a host and port, or a path."""
+    if entry == "any":
+        return True
+    if port == PORT_OF_PATH or entry.startswith("/"):
+        return port == PORT_OF_PATH and entry.encode() == host
+    wanted_host, colon, wanted_port = entry.rpartition(":")
+    if wanted_host.startswith("[") and wanted_host.endswith("]"):
+        wanted_host = wanted_host[1:-1]
+    is_host = not colon or wanted_host == "*" or wanted_host.encode() == host
+    is_port = wanted_port == "*" or (wanted_port.isdigit() and int(wanted_port) == port)
+    return is_host and is_port
+
+
+class Lists:
+    """The entries of --permit-open and --permit-listen. A list without entries permits all."""
+
+    def __init__(self, permit_open: list[str], permit_listen: list[str]) -> None:
+        self.permit_open, self.permit_listen = permit_open, permit_listen
+
+    def forbids_open(self, host: bytes, port: int) -> str | None:
+        """Why nobody may connect there, or None."""
+        return self.forbids("--permit-open", self.permit_open, host, port)
+
+    def forbids_listen(self, host: bytes, port: int) -> str | None:
+        return self.forbids("--permit-listen", self.permit_listen, host, port)
+
+    @staticmethod
+    def forbids(flag: str, entries: list[str], host: bytes, port: int) -> str | None:
+        if not entries or any(matches(entry, host, port) for entry in entries):
+            return None
+        return f"not permitted: {flag} doesn't have {end_of(host, port)}"
+
+    def forbids_forwarding(self, forwarding: Forwarding, listen_host: bytes) -> str | None:
+        """Why a forwarding may not be, or None. A remote one listens at this host of the server."""
+        if forwarding.kind == Kind.LOCAL:
+            return self.forbids_open(forwarding.connect_host, forwarding.connect_port)
+        if forwarding.kind == Kind.REMOTE:
+            return self.forbids_listen(listen_host, forwarding.listen_port)
+        return None
