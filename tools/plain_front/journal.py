@@ -77,5 +77,5 @@ class Journal:
         line = f"{stamp(time.time())} {shown}"
         # The terminal or the file of the one who started this may be gone, or the disk be full.
         with contextlib.suppress(OSError, ValueError):
-            print(f"plain-front: {line}", file=self.stream, flush=True)
+            print(f"{os.path.basename(sys.argv[0])}: {line}", file=self.stream, flush=True)
         return line
