@@ -335,7 +335,7 @@ module _ {T : Type 0} (words : List Bytes) (pid turns : ℕ) (May : HouseReply �
         start = not_true _ _ (shut known status refl);
         must = λ p. not_true _ _ (shut known status refl);
         wire_cause = on_true _ _ counts.cause;
-        own_faults = on_true _ _ counts.own_faults;
+        own_faults = on_true (opens (Certain (Drills seed clients messages)) || drills (Certain (Drills seed clients messages))) _ counts.own_faults;
         asked = not_true _ _ (unasked known status refl);
         asked_cause = not_true _ _ (unasked known status refl);
         asked_waits = not_true _ _ (unasked known status refl);
