@@ -165,6 +165,9 @@ class Skipped(Exception):
 FAULTS = (Failed, OSError, subprocess.SubprocessError)
 
 
+Known = TypeVar("Known")
+
+
 def in_short(value: object, most: int = 2000) -> str:
     said = repr(value)
     return said if len(said) <= most else f"{said[:most]}.. ({len(said)} characters)"
@@ -173,6 +176,13 @@ def in_short(value: object, most: int = 2000) -> str:
 def hold(found: object, wanted: object, what: str) -> None:
     if found != wanted:
         raise Failed(f"{what}: {in_short(found)}, and not {in_short(wanted)}")
+
+
+def known(value: Known | None, what: str) -> Known:
+    """What has to be there by now."""
+    if value is None:
+        raise Failed(f"{what}: it isn't there")
+    return value
 
 
 def wait_until(

@@ -252,9 +252,10 @@ class Loop:
     ) -> tuple[int, str, str]:
         """A program's status and what it wrote to both outputs; the loop goes on meanwhile."""
         with tempfile.TemporaryFile() as out, tempfile.TemporaryFile() as err:
-            how = {"stdin": subprocess.DEVNULL, "stdout": out, "stderr": err}
             told = {**os.environ, **environment}
-            with subprocess.Popen(words, env=told, **how) as process:
+            with subprocess.Popen(
+                words, env=told, stdin=subprocess.DEVNULL, stdout=out, stderr=err
+            ) as process:
                 try:
                     name = os.path.basename(words[0])
                     self.until(lambda: process.poll() is not None, f"{name} ends", seconds)

@@ -6,6 +6,7 @@ in a subfolder of its own, whose name is a number:
     FOLDER/N/control      the master's control socket, for clients in proxy mode
     FOLDER/N/front        the front's, for plain clients, if there is a front
     FOLDER/N/openssh      the one of OpenSSH's master, if the share started it there
+    FOLDER/N/door.NAME    the folder of a door's sockets (share_doors.py)
     FOLDER/N/lock         locked as long as the share-host runs
     FOLDER/N/state        the State of the share, as JSON
 
@@ -37,6 +38,7 @@ from collections.abc import Iterator
 
 from control_socket import is_served
 from folders import make_folder, open_lock, remove_link, set_link, target_of
+from permissions import Lists
 from ssh_settings import Settings, home
 
 # The name of a file has at most 255 bytes.
@@ -62,8 +64,19 @@ class Process:
         return self.start != "" and start_of(self.pid) == self.start
 
 
-@dataclasses.dataclass
-class State:
+@dataclasses.dataclass(kw_only=True)
+class DoorState(Lists):
+    """What a share-host says of a door."""
+
+    name: str
+    control: str  # its control socket, and that of its front
+    front: str
+    group: str | None = None
+    forwardings: list[list[str]] = dataclasses.field(default_factory=list)
+
+
+@dataclasses.dataclass(kw_only=True)
+class State(Lists):
     """What a share-host says of itself."""
 
     name: str  # USER@HOST:PORT
@@ -74,10 +87,8 @@ class State:
     openssh: str = ""  # the control socket of OpenSSH's master
     ends_openssh: bool = False  # the share ends OpenSSH's master at its own end
     idle: float | None = None
-    permit_open: list[str] = dataclasses.field(default_factory=list)
-    permit_listen: list[str] = dataclasses.field(default_factory=list)
-    permit_session: list[str] = dataclasses.field(default_factory=list)
     forwardings: list[list[str]] = dataclasses.field(default_factory=list)  # ["-L", "8080:..."]
+    doors: list[DoorState] = dataclasses.field(default_factory=list)
     processes: list[Process] = dataclasses.field(default_factory=list)
 
     def write(self, path: str) -> None:
@@ -93,7 +104,8 @@ class State:
             with open(path, encoding="utf-8", errors="surrogateescape") as file:
                 fields = json.load(file)
             processes = [Process(**process) for process in fields.pop("processes")]
-            return cls(**fields, processes=processes)
+            doors = [DoorState(**door) for door in fields.pop("doors", [])]
+            return cls(**fields, doors=doors, processes=processes)
         except (OSError, ValueError, TypeError, KeyError, AttributeError):
             return None
 
@@ -111,6 +123,13 @@ class Share:
     @property
     def path(self) -> str:
         return f"{self.folder}/{self.number}"
+
+    def doors(self) -> list[DoorState]:
+        return self.state.doors if self.state else []
+
+    def fronts(self) -> list[str]:
+        """The sockets of its fronts, its own first."""
+        return [f"{self.path}/front", *(door.front for door in self.doors())]
 
 
 def start_of(pid: int) -> str:

@@ -4,7 +4,10 @@ import getopt
 import os
 
 LETTERS = "vhF:o:L:R:D:"
-NAMES = ["own", "front", "background", "help", "idle=", "permit-open=", "permit-listen="]
+NAMES = [
+    "own", "front", "background", "help", "idle=", "connections=", "tidy", "log=", "permit-open=",
+    "permit-listen=", "permit-session=", "permit-here=", "door=", "at=", "group=",
+]  # fmt: skip
 
 
 def host_and_folder(words: list[str]) -> tuple[str, str]:

@@ -9,6 +9,8 @@ import subprocess
 
 from ssh_words import direct_environment
 
+TOKEN, VARIABLE = r"%(?P<token>.?)", r"\$\{(?P<variable>\w+)\}"
+
 
 class NoSettings(Exception):
     """`ssh -G` refuses, or a value can't be read."""
@@ -72,8 +74,9 @@ def home() -> str:
     return pwd.getpwuid(os.getuid()).pw_dir
 
 
-def expand(value: str, settings: Settings) -> str:
-    """A value with its tokens and a leading tilde replaced (ssh_config(5), "TOKENS")."""
+def expand(value: str, settings: Settings, has_variables: bool = True) -> str:
+    """A value with its tokens, its variables and a leading tilde replaced (ssh_config(5), "TOKENS"
+    and "ENVIRONMENT VARIABLES"). What stands in their place isn't looked at again."""
     this_host = socket.gethostname()
     tokens = {
         "%": "%", "d": home(), "h": settings.host, "i": str(os.getuid()),
@@ -85,14 +88,17 @@ def expand(value: str, settings: Settings) -> str:
     tokens["C"] = hashlib.sha1(hashed.encode()).hexdigest()
 
     def of_token(match: re.Match[str]) -> str:
-        if match[1] not in tokens:
+        if match["token"] not in tokens:
             raise NoSettings(f"{value}: {match[0]} is no token here")
-        return tokens[match[1]]
+        return tokens[match["token"]]
 
     def of_variable(match: re.Match[str]) -> str:
-        if match[1] not in os.environ:
-            raise NoSettings(f"{value}: {match[1]} isn't set")
-        return os.environ[match[1]]
+        if match["variable"] not in os.environ:
+            raise NoSettings(f"{value}: {match['variable']} isn't set")
+        return os.environ[match["variable"]]
 
-    expanded = re.sub(r"%(.?)", of_token, re.sub(r"\$\{(\w+)\}", of_variable, value))
+    def replaced(match: re.Match[str]) -> str:
+        return of_variable(match) if match.lastgroup == "variable" else of_token(match)
+
+    expanded = re.sub(f"{TOKEN}|{VARIABLE}" if has_variables else TOKEN, replaced, value)
     return home() + expanded[1:] if expanded == "~" or expanded.startswith("~/") else expanded

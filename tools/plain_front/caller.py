@@ -98,8 +98,11 @@ class Caller:
         ask(self.front, uint32(kind, request), on_reply)
 
     def end_other(self, request: int, pid: int) -> None:
-        """Ends a client here, for ssh-mux-status."""
+        """Ends a client here, for ssh-mux-status of the front's owner."""
         name = f"end of {pid}"
+        if not self.front.is_owner(self.process.uid):
+            self.refuse(request, name, "only the owner of this front ends a client")
+            return
         others = [caller for caller in self.front.callers if caller.process.pid == pid]
         if not others:
             self.refuse(request, name, f"process {pid} isn't a client here")

@@ -232,7 +232,8 @@ class CallerChannel(Channel):
         # The masters that weren't tried yet, and why the others refused.
         self.left: list[Master] = []
         self.reasons: list[str] = []
-        source, *sinks = [Descriptor(descriptor) for descriptor in descriptors]
+        is_ours = front.has_our_rights(caller.process.uid)
+        source, *sinks = [Descriptor(descriptor, is_ours) for descriptor in descriptors]
         self.take_descriptors(source, *sinks)
 
     def begin(self) -> None:

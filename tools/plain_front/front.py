@@ -20,7 +20,7 @@ from plain_front.errand import Errand
 from plain_front.forwardings import Forwardings
 from plain_front.journal import Journal, Process
 from plain_front.lists import Lists
-from plain_front.masters import Master, peer_of
+from plain_front.masters import Master, groups_of, peer_of
 from plain_front.protocol import MUX_VERSION, Mux, reason, uint32
 from plain_front.streams import Loop
 
@@ -74,6 +74,10 @@ class Options:
     command: list[str] | None = None
     permit_open: list[str] = dataclasses.field(default_factory=list)
     permit_listen: list[str] = dataclasses.field(default_factory=list)
+    permit_here: list[str] = dataclasses.field(default_factory=list)
+    # The name of a door, whose clients aren't its owner, and the group that is let in beside him.
+    door: str | None = None
+    group: int | None = None
 
 
 class Front:
@@ -81,8 +85,9 @@ class Front:
 
     def __init__(self, options: Options) -> None:
         self.options, self.control, self.path = options, options.control, options.path
+        self.is_door = options.door is not None
         try:
-            self.journal = Journal(options.log)
+            self.journal = Journal(options.log, options.door)
         except OSError as error:
             fail(f"cannot write {options.log}: {reason(error)}")
         self.loop = Loop()
@@ -93,7 +98,9 @@ class Front:
         # Requests that a master hasn't answered yet: it would miss them if this ended.
         self.errands: set[Errand] = set()
         self.forwardings = Forwardings(self)
-        self.lists = Lists(options.permit_open, options.permit_listen)
+        self.lists = Lists(
+            options.permit_open, options.permit_listen, options.permit_here, self.is_door
+        )
         self.most_clients = most_clients()
         self.accepted = 0
         self.began = time.time()
@@ -157,12 +164,16 @@ class Front:
                 caller.channel.on_resize()
 
     def listen(self) -> None:
-        """Makes FRONT, which only this user can reach. The path appears once it listens."""
+        """Makes FRONT, which only this user can reach, and the group that is let in. The path
+        appears once it listens."""
         self.listener, name = socket.socket(socket.AF_UNIX), f"{self.path}.{os.getpid()}"
-        mask = os.umask(0o177)
+        group = self.options.group
+        mask = os.umask(0o177 if group is None else 0o117)
         try:
             self.listener.bind(name)
             try:
+                if group is not None:
+                    os.chown(name, -1, group, follow_symlinks=False)
                 self.listener.listen(64)
                 self.identity = identity(name)
                 # Unlike a renaming this fails where something stands there already.
@@ -207,15 +218,29 @@ class Front:
             else:
                 time.sleep(PAUSE_SECONDS)
             return
-        pid, user, _ = peer_of(stream)
+        pid, user, group = peer_of(stream)
         process = Process.find(pid, user)
-        if user not in (0, os.geteuid()):
+        if not self.is_owner(user) and not self.admits(stream, group):
             self.journal.refused(process, f"entry at {self.path}", "another user's")
             stream.close()
             return
         self.accepted += 1
         self.callers.add(Caller(self, stream, self.accepted % (1 << 31), process))
         self.update()
+
+    def admits(self, stream: socket.socket, group: int) -> bool:
+        """Whether another user may come in: by a group of the process that connected."""
+        wanted = self.options.group
+        return wanted is not None and (wanted == group or wanted in groups_of(stream))
+
+    @staticmethod
+    def is_owner(user: int) -> bool:
+        """Whether the front is this user's, or he is root."""
+        return user in (0, os.geteuid())
+
+    def has_our_rights(self, user: int) -> bool:
+        """Whether a caller may all that this program may."""
+        return not self.is_door and self.is_owner(user)
 
     def stop_listening(self) -> None:
         if self.listener is not None:

@@ -1,6 +1,7 @@
 """Who is at FRONT, and the log: one line for each request, refusal and end of a session.
 
-A line is `plain-front: DATE TIME PROGRAM PID of PARENT PID, uid N: WHAT: OUTCOME`.
+A line is `plain-front: DATE TIME PROGRAM PID of PARENT PID, uid N: WHAT: OUTCOME`, and that of a door
+has its name behind the first word.
 """
 
 from __future__ import annotations
@@ -57,8 +58,9 @@ def stamp(seconds: float) -> str:
 class Journal:
     """The log, in a file or on standard error, and the last refusals."""
 
-    def __init__(self, path: str | None) -> None:
+    def __init__(self, path: str | None, door: str | None = None) -> None:
         """Raises OSError where the file can't be opened."""
+        self.name = os.path.basename(sys.argv[0]) + (f" {door}" if door else "")
         self.stream = sys.stderr
         if path is not None:
             opened = os.open(path, os.O_WRONLY | os.O_APPEND | os.O_CREAT | os.O_CLOEXEC, 0o600)
@@ -77,5 +79,5 @@ class Journal:
         line = f"{stamp(time.time())} {shown}"
         # The terminal or the file of the one who started this may be gone, or the disk be full.
         with contextlib.suppress(OSError, ValueError):
-            print(f"{os.path.basename(sys.argv[0])}: {line}", file=self.stream, flush=True)
+            print(f"{self.name}: {line}", file=self.stream, flush=True)
         return line

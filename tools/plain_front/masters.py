@@ -23,6 +23,9 @@ LOOK_SECONDS, END_SECONDS = 0.05, 10
 # After a start that failed no other one is tried for so long: each may be a login.
 RETRY_SECONDS = 10
 
+# The option of a socket for the further groups of its other side, and how many are read at most.
+SO_PEERGROUPS, MOST_GROUPS = 59, 256
+
 # Nobody listens at the path.
 IS_GONE = (errno.ENOENT, errno.ECONNREFUSED)
 
@@ -32,6 +35,15 @@ def peer_of(stream: socket.socket) -> tuple[int, int, int]:
     data = stream.getsockopt(socket.SOL_SOCKET, socket.SO_PEERCRED, 12)
     pid, user, group = struct.unpack("3i", data)
     return pid, user, group
+
+
+def groups_of(stream: socket.socket) -> tuple[int, ...]:
+    """The further groups of the other side; none where it has too many to be told."""
+    try:
+        data = stream.getsockopt(socket.SOL_SOCKET, SO_PEERGROUPS, 4 * MOST_GROUPS)
+    except OSError:
+        return ()
+    return struct.unpack(f"{len(data) // 4}I", data)
 
 
 def clients_of(pid: int) -> int | None:

@@ -23,9 +23,12 @@ class Descriptor:
     this program were killed. So a pipe or a terminal is opened anew, a socket is told with each
     call not to wait, and a file never waits. Only where opening it isn't permitted, as with another
     user's terminal after su, O_NONBLOCK is set, and put back at the end, as OpenSSH's master does.
+
+    What is opened anew is opened by this program's rights: a caller with fewer could have it read
+    or write what he himself may not. So one of his isn't.
     """
 
-    def __init__(self, fileno: int) -> None:
+    def __init__(self, fileno: int, has_our_rights: bool = True) -> None:
         self.fileno = fileno
         self.flags_before: int | None = None
         self.stream: socket.socket | None = None
@@ -33,11 +36,13 @@ class Descriptor:
         if stat.S_ISSOCK(mode):
             self.stream = socket.socket(fileno=fileno)
         elif stat.S_ISFIFO(mode) or stat.S_ISCHR(mode):
-            self.open_anew()
+            self.open_anew(has_our_rights)
 
-    def open_anew(self) -> None:
+    def open_anew(self, has_our_rights: bool) -> None:
         flags = fcntl.fcntl(self.fileno, fcntl.F_GETFL)
         try:
+            if not has_our_rights:
+                raise PermissionError
             # Opened by its name this one makes another pair of terminals.
             if os.fstat(self.fileno).st_rdev == os.makedev(5, 2):
                 raise OSError("the master's side of a terminal")

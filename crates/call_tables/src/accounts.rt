@@ -7,11 +7,11 @@ use window_ledger::{Act, Breach, Ledger, Side};
 const FULL: u32 = 4_294_967_295;
 
 /// A message and its direction, the breach that it is, and both rooms after it, up and down.
-type Row = (Side, Act, Option<Breach>, u32, u32);
+type AccountRow = (Side, Act, Option<Breach>, u32, u32);
 
 /// After an open by the client of window 2,097,152 and maximum 32,768 that is confirmed with 5 and
 /// 32,768.
-const EDGES: [Row; 29] = [
+const EDGES: [AccountRow; 29] = [
     (Up, Data(5), None, 0, 2_097_152),
     (Up, Data(0), None, 0, 2_097_152),
     (
@@ -68,7 +68,7 @@ const EDGES: [Row; 29] = [
 ];
 
 /// After an open by the server of window 0 and maximum 0 that is confirmed with 1 and 0.
-const NOTHING: [Row; 6] = [
+const NOTHING: [AccountRow; 6] = [
     (Up, Data(0), None, 0, 1),
     (Up, Data(1), Some(PastPacket { max: 0, want: 1 }), 0, 1),
     (Down, Data(0), None, 0, 1),
@@ -78,7 +78,7 @@ const NOTHING: [Row; 6] = [
 ];
 
 /// After an open by the server of window and maximum 2^32 - 1 that is confirmed with 1 and 2.
-const EVERYTHING: [Row; 5] = [
+const EVERYTHING: [AccountRow; 5] = [
     (Up, Data(FULL), None, 0, 1),
     (Down, Grant(FULL), None, FULL, 1),
     (Down, Data(3), Some(PastPacket { max: 2, want: 3 }), FULL, 1),
@@ -93,7 +93,7 @@ const EVERYTHING: [Row; 5] = [
 ];
 
 /// After an open by the client and a confirmation, all of nothing, and 1024 requests of the client.
-const ASKED: [Row; 5] = [
+const ASKED: [AccountRow; 5] = [
     (Up, Request(true), Some(TooManyAsks { have: 1024 }), 0, 0),
     (Up, Request(false), None, 0, 0),
     (Down, Request(true), None, 0, 0),
@@ -102,7 +102,7 @@ const ASKED: [Row; 5] = [
 ];
 
 // The ledger after all rows, and the place of the first that went otherwise.
-fn follow(start: Ledger, rows: &[Row]) -> (Ledger, Option<usize>) {
+fn follow(start: Ledger, rows: &[AccountRow]) -> (Ledger, Option<usize>) {
     let mut ledger = start;
     for (i, (way, act, breach, up, down)) in rows.iter().enumerate() {
         let before = ledger;

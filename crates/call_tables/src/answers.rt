@@ -1,5 +1,5 @@
 ghost use Rattle.std.specs.Prelude.{IfSome};
-ghost use Rattle.global_replies.specs.Asks.{IsShort, what_of};
+ghost use Rattle.global_replies.specs.Asks.{IsShortRequest, what_of};
 
 use CallStep::{Refused, Replied, Sent};
 use conn_messages::{Key, OwnKey};
@@ -9,11 +9,11 @@ use ssh_fields::OutOfMemory;
 use std::process::Abort;
 
 /// A client, and what it asks: the request, its address or path, and its port.
-type Row = (u64, Kind, &'static [u8], u32);
+type AnswerRow = (u64, AnswerKind, &'static [u8], u32);
 
 /// The requests by their names.
 #[derive(Clone, Copy, PartialEq, Eq)]
-enum Kind {
+enum AnswerKind {
     Alive,
     Port,
     PortEnds,
@@ -22,18 +22,18 @@ enum Kind {
 }
 
 /// Three clients ask by turns; one asks twice for one address and port.
-const ASKED: [Row; 7] = [
-    (7, Kind::Port, b"localhost", 8_080),
-    (9, Kind::Alive, b"", 0),
-    (7, Kind::PortEnds, b"localhost", 8_080),
-    (3, Kind::Path, b"/run/a", 0),
-    (7, Kind::Port, b"localhost", 8_080),
-    (3, Kind::PathEnds, b"/run/a", 0),
-    (9, Kind::Port, b"", 0),
+const ASKED: [AnswerRow; 7] = [
+    (7, AnswerKind::Port, b"localhost", 8_080),
+    (9, AnswerKind::Alive, b"", 0),
+    (7, AnswerKind::PortEnds, b"localhost", 8_080),
+    (3, AnswerKind::Path, b"/run/a", 0),
+    (7, AnswerKind::Port, b"localhost", 8_080),
+    (3, AnswerKind::PathEnds, b"/run/a", 0),
+    (9, AnswerKind::Port, b"", 0),
 ];
 
-fn ask_of(kind: Kind, text: &[u8], port: u32) -> Option<Ask>
-    ensures { IfSome result (λ ask. IsShort (what_of ask)) }
+fn ask_of(kind: AnswerKind, text: &[u8], port: u32) -> Option<Ask>
+    ensures { IfSome result (λ ask. IsShortRequest (what_of ask)) }
 {
     if text.len() > MAX_ADDRESS {
         return None;
@@ -43,31 +43,33 @@ fn ask_of(kind: Kind, text: &[u8], port: u32) -> Option<Ask>
         port,
     };
     Some(match kind {
-        Kind::Alive => Ask::KeepAlive,
-        Kind::Port => Ask::Forward(OwnKey::copy(end)),
-        Kind::PortEnds => Ask::Cancel(OwnKey::copy(end)),
-        Kind::Path => Ask::Forward(OwnKey::copy(Key::Path(text))),
-        Kind::PathEnds => Ask::Cancel(OwnKey::copy(Key::Path(text))),
+        AnswerKind::Alive => Ask::KeepAlive,
+        AnswerKind::Port => Ask::Forward(OwnKey::copy(end)),
+        AnswerKind::PortEnds => Ask::Cancel(OwnKey::copy(end)),
+        AnswerKind::Path => Ask::Forward(OwnKey::copy(Key::Path(text))),
+        AnswerKind::PathEnds => Ask::Cancel(OwnKey::copy(Key::Path(text))),
     })
 }
 
-fn is(ask: &Ask, row: &Row) -> bool {
+fn is(ask: &Ask, row: &AnswerRow) -> bool {
     let (_, kind, text, port) = *row;
     let end = Key::Tcp {
         address: text,
         port,
     };
     match (ask, kind) {
-        (Ask::KeepAlive, Kind::Alive) => true,
-        (Ask::Forward(key), Kind::Port) | (Ask::Cancel(key), Kind::PortEnds) => key.is(end),
-        (Ask::Forward(key), Kind::Path) | (Ask::Cancel(key), Kind::PathEnds) => {
+        (Ask::KeepAlive, AnswerKind::Alive) => true,
+        (Ask::Forward(key), AnswerKind::Port) | (Ask::Cancel(key), AnswerKind::PortEnds) => key.is(
+            end,
+        ),
+        (Ask::Forward(key), AnswerKind::Path) | (Ask::Cancel(key), AnswerKind::PathEnds) => {
             key.is(Key::Path(text))
         }
         _ => false,
     }
 }
 
-fn ask_all(askers: &mut Askers, rows: &[Row]) -> Result<(), OutOfMemory> {
+fn ask_all(askers: &mut Askers, rows: &[AnswerRow]) -> Result<(), OutOfMemory> {
     for (client, kind, text, port) in rows.iter() {
         if let Some(ask) = ask_of(*kind, text, *port) {
             askers.ask(*client, ask)?;
@@ -77,7 +79,7 @@ fn ask_all(askers: &mut Askers, rows: &[Row]) -> Result<(), OutOfMemory> {
 }
 
 // The place of the first row that isn't answered in its turn.
-fn answer_all(askers: &mut Askers, rows: &[Row]) -> Option<usize> {
+fn answer_all(askers: &mut Askers, rows: &[AnswerRow]) -> Option<usize> {
     for (i, row) in rows.iter().enumerate() {
         let Some((client, ask)) = askers.answered() else {
             return Some(i);

@@ -2,9 +2,9 @@ use mux_messages::{BadControl, alive, failure, hello, ok, proxy, read_control, r
 
 /// A body with one byte too many after it; the fault where its last byte is missing, and the fault
 /// with the byte too many. Where what follows the id isn't read, that byte is none.
-type Row = (&'static [u8], Option<BadControl>, Option<BadControl>);
+type ControlRow = (&'static [u8], Option<BadControl>, Option<BadControl>);
 
-const ROWS: [Row; 12] = [
+const ROWS: [ControlRow; 12] = [
     (
         b"\x00\x00\x00\x01\x00\x00\x00\x04\xff",
         Some(BadControl::Short { at: 4 }),
@@ -87,7 +87,7 @@ fn fault(body: &[u8]) -> Option<BadControl> {
 }
 
 // Whether a row's body is read as the row says: short by a byte, whole, and long by one.
-fn is_read_so(row: &Row) -> bool {
+fn is_read_so(row: &ControlRow) -> bool {
     let (long, short_by_one, long_by_one) = *row;
     let body = cut(long);
     fault(cut(body)) == short_by_one

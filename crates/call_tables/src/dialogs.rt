@@ -1,23 +1,23 @@
-use End::{Bad, Connect, More};
-use socks_dialog::{Dialog, Step};
+use DialogEnd::{Bad, Connect, More};
+use socks_dialog::{Dialog, DialogStep};
 use std::test::Fail;
 
 /// How a dialog ends.
 #[derive(Clone, Copy)]
-enum End {
+enum DialogEnd {
     More,
     Connect(&'static [u8], u16),
     Bad(&'static [u8]),
 }
 
 /// All bytes of a client, the reply before the end, the end, and how many bytes are data after it.
-type Row = (&'static [u8], &'static [u8], End, usize);
+type DialogRow = (&'static [u8], &'static [u8], DialogEnd, usize);
 
 /// The reply of SOCKS 4 that refuses.
 const REFUSED_4: &[u8] = b"\x00\x5b\x00\x00\x00\x00\x00\x00";
 
 /// Requests, whole and unfinished.
-const REQUESTS: [Row; 12] = [
+const REQUESTS: [DialogRow; 12] = [
     (b"", b"", More, 0),
     (b"\x04", b"", More, 0),
     (
@@ -69,7 +69,7 @@ const REQUESTS: [Row; 12] = [
 
 /// A request for each cause of a refusal, and what is written then. Its bytes up to the first fault
 /// are the dialog, so what stands after is counted as data.
-const REFUSALS: [Row; 13] = [
+const REFUSALS: [DialogRow; 13] = [
     (b"\x04\x02\x00\x50", b"", Bad(REFUSED_4), 2),
     (
         b"\x04\x01\x15\x38\x00\x00\x00\x01\x00\x00",
@@ -120,13 +120,13 @@ const REFUSALS: [Row; 13] = [
     (b"GET / HTTP/1.1", b"", Bad(b""), 13),
 ];
 
-fn is(step: &Step, end: End) -> bool {
+fn is(step: &DialogStep, end: DialogEnd) -> bool {
     match (step, end) {
-        (Step::More, End::More) => true,
-        (Step::Connect { host, port }, End::Connect(wanted, at)) => {
+        (DialogStep::More, DialogEnd::More) => true,
+        (DialogStep::Connect { host, port }, DialogEnd::Connect(wanted, at)) => {
             host.as_bytes() == wanted && *port == at
         }
-        (Step::Bad(reply), End::Bad(wanted)) => reply.as_bytes() == wanted,
+        (DialogStep::Bad(reply), DialogEnd::Bad(wanted)) => reply.as_bytes() == wanted,
         _ => false,
     }
 }
@@ -153,7 +153,7 @@ impl Talk {
         self.data = self
             .data
             .saturating_add(piece.len() - self.dialog.push(piece));
-        if let Step::Reply(given) = self.dialog.step() {
+        if let DialogStep::Reply(given) = self.dialog.step() {
             if self.replied || given.as_bytes() != reply {
                 return false;
             }
@@ -163,14 +163,14 @@ impl Talk {
     }
 
     // Whether it ends as its row says.
-    fn ends(&mut self, row: &Row) -> bool {
+    fn ends(&mut self, row: &DialogRow) -> bool {
         let (_, reply, end, data) = *row;
         self.replied != reply.is_empty() && self.data == data && is(&self.dialog.step(), end)
     }
 }
 
 // Whether a dialog goes as its row says where its bytes come in pieces of this size.
-fn goes_in_pieces(row: &Row, size: usize) -> bool {
+fn goes_in_pieces(row: &DialogRow, size: usize) -> bool {
     let mut talk = Talk::new();
     for piece in row.0.chunks(size.max(1)) {
         if !talk.receives(piece, row.1) {
@@ -181,7 +181,7 @@ fn goes_in_pieces(row: &Row, size: usize) -> bool {
 }
 
 // Whether it does where its bytes are cut at these two places.
-fn goes_in_three(row: &Row, first: usize, second: usize) -> bool {
+fn goes_in_three(row: &DialogRow, first: usize, second: usize) -> bool {
     let mut talk = Talk::new();
     let (front, back) = row.0.split_at(second.min(row.0.len()));
     let (front, middle) = front.split_at(first.min(front.len()));
@@ -193,7 +193,7 @@ fn goes_in_three(row: &Row, first: usize, second: usize) -> bool {
 
 // Whether it does a byte at a time, all at once, in pieces of each size between, and in three pieces
 // of any size.
-fn goes(row: &Row) -> bool {
+fn goes(row: &DialogRow) -> bool {
     for size in 0..row.0.len() {
         if !goes_in_pieces(row, size + 1) {
             return false;
@@ -229,7 +229,7 @@ fn answers_are(bytes: &[u8], granted: &[u8], first: &[u8], second: &[u8]) -> boo
     let mut dialog = Dialog::new();
     let _ = dialog.push(bytes);
     for _ in 0..2 {
-        if let Step::Connect { .. } = dialog.step() {
+        if let DialogStep::Connect { .. } = dialog.step() {
             return dialog.granted().as_bytes() == granted
                 && dialog.refused(1).as_bytes() == first
                 && dialog.refused(2).as_bytes() == second;
@@ -261,7 +261,7 @@ fn an_end_that_is_asked_for_is_answered_by_its_version(rt: HostRuntime) -> Resul
 
 // How a request of SOCKS 4 ends whose address is this and whose texts are this user and, where one
 // is wanted, this host.
-fn request_of_4(address: &[u8], user: &[u8], host: &[u8]) -> Step {
+fn request_of_4(address: &[u8], user: &[u8], host: &[u8]) -> DialogStep {
     let mut dialog = Dialog::new();
     for piece in [b"\x04\x01\x00\x50", address, user, b"\x00", host, b"\x00"] {
         let _ = dialog.push(piece);
@@ -290,7 +290,7 @@ fn users_and_hosts_have_at_most_255_bytes(rt: HostRuntime) -> Result<(), Fail> {
     assert!(rt; is(&request_of_4(named, &text, &longer), Bad(REFUSED_4)));
     let step = request_of_4(named, &text, &text);
     let whole =
-        matches!(&step, Step::Connect { host, port: 80 } if host.as_bytes() == text.as_slice());
+        matches!(&step, DialogStep::Connect { host, port: 80 } if host.as_bytes() == text.as_slice());
     assert!(rt; whole);
     Ok(())
 }

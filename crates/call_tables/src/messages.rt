@@ -4,9 +4,9 @@ use conn_messages::{
 
 /// A payload with one byte too many after it; the fault where its last byte is missing, and the
 /// fault with the byte too many. Where its last field is data, neither is a fault.
-type Row = (&'static [u8], Option<Bad>, Option<Bad>);
+type MessageRow = (&'static [u8], Option<Bad>, Option<Bad>);
 
-const ROWS: [Row; 27] = [
+const ROWS: [MessageRow; 27] = [
     (b"\x01\x00\x00\x00\x0b\xff", None, None),
     (b"\x02\xff", Some(Bad::Empty), None),
     (b"\x03\x00\x00\x00\x05\xff", None, None),
@@ -130,7 +130,7 @@ fn fault(payload: &[u8]) -> Option<Bad> {
 }
 
 // Whether a row's payload is read as the row says: short by a byte, whole, and long by one.
-fn is_read_so(row: &Row) -> bool {
+fn is_read_so(row: &MessageRow) -> bool {
     let (long, short_by_one, long_by_one) = *row;
     let payload = cut(long);
     fault(cut(payload)) == short_by_one && fault(payload).is_none() && fault(long) == long_by_one

@@ -1,4 +1,4 @@
-use Event::{
+use RelayEvent::{
     Closed, Confirmed, Data, End, Eof, Failed, Got, Made, Refused, Request, Room, Took, Writable,
 };
 use house_relay::{Outgoing, Relay};
@@ -10,7 +10,7 @@ use std::test::Fail;
 
 /// What happens to a relay: to its socket, and in its channel.
 #[derive(Clone, Copy)]
-enum Event {
+enum RelayEvent {
     Got(&'static [u8]),
     End,
     Writable,
@@ -31,12 +31,12 @@ enum Event {
 
 /// What happens, and what is sent, ordered and accepted by that: a `|` before what each event leads
 /// to.
-type Row = (&'static [Event], &'static [u8]);
+type RelayRow = (&'static [RelayEvent], &'static [u8]);
 
 const STREAM: u64 = 0x8000_0000_0000_0001;
 
 /// A socket that was accepted for a channel to `db`, port 5432.
-const JOINED: [Row; 8] = [
+const JOINED: [RelayRow; 8] = [
     // The server accepts three bytes, and then two.
     (
         &[Confirmed(3), Got(b"hello"), Room(2), Data(b"ok"), Took(2)],
@@ -100,7 +100,7 @@ const JOINED: [Row; 8] = [
 ];
 
 /// An OPEN of the server.
-const OFFERED: [Row; 3] = [
+const OFFERED: [RelayRow; 3] = [
     (
         &[Made(true), Writable, Got(b"hi"), Data(b"ok"), Took(2)],
         b"||confirmation;|data hi;||took ok;adjust 2;",
@@ -110,7 +110,7 @@ const OFFERED: [Row; 3] = [
 ];
 
 /// A socket that was accepted for a dynamic forwarding: it begins with a dialog.
-const DIALED: [Row; 10] = [
+const DIALED: [RelayRow; 10] = [
     // SOCKS 5 in pieces, with bytes after the request in its piece.
     (
         &[
@@ -183,23 +183,23 @@ const DIALED: [Row; 10] = [
 ];
 
 /// A dialog that asks for a channel where none is free.
-const DIALOGS_FULL: [Row; 1] = [(
+const DIALOGS_FULL: [RelayRow; 1] = [(
     &[Got(b"\x04\x01\x00\x50\x0a\x00\x00\x05\x00GET")],
     b"|shut;",
 )];
 
 /// A relay, its stream, and what it sent, ordered and accepted.
 #[derive(Drop)]
-struct Bench {
+struct RelayBench {
     alloc: Global,
     relay: Relay,
     stream: OwnStream,
     seen: Text,
 }
 
-impl Bench {
-    fn new(alloc: Global, relay: Relay) -> Bench {
-        Bench {
+impl RelayBench {
+    fn new(alloc: Global, relay: Relay) -> RelayBench {
+        RelayBench {
             alloc,
             relay,
             stream: OwnStream::new(STREAM),
@@ -316,7 +316,7 @@ impl Bench {
         Ok(())
     }
 
-    fn happens(&mut self, event: Event, free: bool) -> Result<(), OutOfMemory> {
+    fn happens(&mut self, event: RelayEvent, free: bool) -> Result<(), OutOfMemory> {
         match event {
             Got(bytes) => self.relay.got(self.alloc, bytes, free)?,
             End => self.relay.ends(),
@@ -337,7 +337,7 @@ impl Bench {
         Ok(())
     }
 
-    fn plays(&mut self, events: &[Event], free: bool) -> Result<(), OutOfMemory> {
+    fn plays(&mut self, events: &[RelayEvent], free: bool) -> Result<(), OutOfMemory> {
         self.settle()?;
         for event in events {
             self.seen.add(b"|")?;
@@ -354,9 +354,9 @@ fn play(
     alloc: Global,
     relay: Relay,
     free: bool,
-    row: &Row,
+    row: &RelayRow,
 ) -> Result<(), OutOfMemory> {
-    let mut bench = Bench::new(alloc, relay);
+    let mut bench = RelayBench::new(alloc, relay);
     let played = bench.plays(row.0, free);
     if played.is_ok() {
         assert_eq!(rt; bench.seen.as_bytes(), row.1);

@@ -1,4 +1,4 @@
-//! Transcripts: what is said to a core, and what comes of it, byte for byte.
+//! Transcripts: what is sent to a core, and the outcome, byte for byte.
 //!
 //! A step of a script has a call, and behind an arrow the answer:
 //!
@@ -36,7 +36,7 @@ struct Bench {
     core: Core,
 }
 
-/// Plays a script to a core that permits everything.
+// Plays a script to a core that permits everything.
 fn plays(alloc: Global, script: &str) -> Result<(), Fail> {
     let mut bench = fresh(alloc)?;
     let played = bench.follow(script);
@@ -44,7 +44,7 @@ fn plays(alloc: Global, script: &str) -> Result<(), Fail> {
     played
 }
 
-/// Plays each step of a script to a core of its own, behind the same beginning.
+// Plays each step of a script to a core of its own, behind the same beginning.
 fn plays_each(alloc: Global, beginning: &str, script: &str) -> Result<(), Fail> {
     for step in script.split(';') {
         plays_behind(alloc, beginning, step)?;
@@ -52,7 +52,7 @@ fn plays_each(alloc: Global, beginning: &str, script: &str) -> Result<(), Fail> 
     Ok(())
 }
 
-/// Plays a step to a core of its own, behind a beginning.
+// Plays a step to a core of its own, behind a beginning.
 fn plays_behind(alloc: Global, beginning: &str, step: &str) -> Result<(), Fail> {
     let steps = format!(in alloc; "{beginning};{step}")?;
     let played = plays(alloc, steps.as_str());
@@ -73,7 +73,7 @@ fn put_hex(text: &mut String, bytes: &[u8]) -> Result<(), Fail> {
     Ok(())
 }
 
-/// Adds the words without the spaces between, and with the count for each `#`.
+// Adds the words without the spaces between, and with the count for each `#`.
 fn put_words(text: &mut String, words: &str, count: &str) -> Result<(), Fail> {
     for c in words.chars() {
         match c {
@@ -85,7 +85,7 @@ fn put_words(text: &mut String, words: &str, count: &str) -> Result<(), Fail> {
     Ok(())
 }
 
-/// A call or an answer without spaces, where bytes are hexadecimal.
+// A call or an answer without spaces, where bytes are hexadecimal.
 fn plain(alloc: Global, text: &str, count: &str) -> Result<String, Fail> {
     let mut plain = String::new(alloc);
     for (i, part) in text.split('"').enumerate() {
@@ -153,7 +153,7 @@ impl Bench {
         Err(Fail::new(format_args!("{call}: {got}")))
     }
 
-    /// Makes a call, and shows what comes of it.
+    // Makes a call, and shows what comes of it.
     fn play(&mut self, call: &str) -> Result<String, Fail> {
         let mut up = Queue::new(self.alloc);
         let mut shown = self.call(call, &mut up)?;

@@ -6,7 +6,7 @@ use Rattle.std.proofs.lemmas.Bool.{eq-eqb, ne_eqb}
 use Rattle.channel_table.specs.declared.slots.Slot.{Slot}
 use Rattle.channel_table.specs.declared.slots.Slot.TheVariants.{Free, Held}
 use Rattle.channel_table.specs.declared.slots.Opened.{Opened}
-use Rattle.channel_table.specs.Entries.{Entry, at_number, is_at}
+use Rattle.channel_table.specs.Entries.{TableEntry, at_number, is_at}
 use Rattle.channel_table.specs.Slots.{Ranked, ranked, placed, ranked_from, AreOpenedBefore}
 
 -- all of them were opened before so many channels
@@ -29,7 +29,7 @@ abbrev pub Above : ℕ → List Ranked → Type 0
 Above n [] = Unit {0}
 Above n (y ∷ ys) = (n ≤ y.entry.number) × Above n ys
 
-abbrev pub entry : Ranked → Entry
+abbrev pub entry : Ranked → TableEntry
 entry x = x.entry
 
 -- ---- `placed`
@@ -96,11 +96,11 @@ placed-append x z (y ∷ ys) l =
     ]
 
 -- another entry under this number
-abbrev pub replaced : ℕ → Entry → Ranked → Ranked
+abbrev pub replaced : ℕ → TableEntry → Ranked → Ranked
 replaced m z y = record y { entry = at_number m (λ _. z) y.entry }
 
 -- which keeps the order
-pub map-placed : (m : ℕ) (z : Entry) (x : Ranked) (ys : List Ranked) → map (replaced m z) (placed x ys) ≡ placed (replaced m z x) (map (replaced m z) ys)
+pub map-placed : (m : ℕ) (z : TableEntry) (x : Ranked) (ys : List Ranked) → map (replaced m z) (placed x ys) ≡ placed (replaced m z x) (map (replaced m z) ys)
 map-placed m z x [] = refl
 map-placed m z x (y ∷ ys) =
     elim (nat_lt x.rank y.rank) as (λ t. map (replaced m z) (cond t (x ∷ y ∷ ys) (y ∷ placed x ys)) ≡ cond t (replaced m z x ∷ replaced m z y ∷ map (replaced m z) ys) (replaced m z y ∷ placed (replaced m z x) (map (replaced m z) ys))) [
@@ -195,7 +195,7 @@ slots-free (Held g ∷ slots) n (suc i) m h next e held =
     let in' : other_than m (ranked n g) ≡ true = ap not (ne_eqb n m (λ d. omega arith)) in
     ap (placed (ranked n g)) (slots-free slots (n + 1) i m h next (omega arith) held) ∙ sym (filter-placed_in (other_than m) (ranked n g) (ranked_from (n + 1) slots) (InOrder-slots (n + 1) slots) in')
 
-pub map-above : (m n : ℕ) (x : Entry) (ys : List Ranked) → m < n → Above n ys → map (replaced m x) ys ≡ ys
+pub map-above : (m n : ℕ) (x : TableEntry) (ys : List Ranked) → m < n → Above n ys → map (replaced m x) ys ≡ ys
 map-above m n x [] l a = refl
 map-above m n x (y ∷ ys) l a =
     let ne : is_at m y.entry ≡ false = ne_eqb y.entry.number m (λ e. omega (arith, a.0)) in

@@ -5,7 +5,7 @@ use Rattle.std.proofs.lemmas.Bool.{eq-eqb, ne_eqb}
 use Rattle.std.proofs.lemmas.Option.{slice_get_read, slice_get_past}
 use Rattle.channel_table.specs.declared.slots.Slot.{Slot}
 use Rattle.channel_table.specs.declared.slots.Slot.TheVariants.{Free, Held}
-use Rattle.channel_table.specs.Entries.{Entry, entry_at, is_at}
+use Rattle.channel_table.specs.Entries.{TableEntry, entry_at, is_at}
 use Rattle.channel_table.specs.Slots.{Ranked, ranked, placed, ranked_from, entries_of}
 use Rattle.channel_table.proofs.Ranks.{Above, Above-slots, entry}
 
@@ -34,7 +34,7 @@ at-placed_same m n x (y ∷ ys) is l a =
     ]
 
 -- the entry of a slot, if it holds one
-abbrev pub entry_in : ℕ → Option Slot → Option Entry
+abbrev pub entry_in : ℕ → Option Slot → Option TableEntry
 entry_in m None = None
 entry_in m (Some (Free next)) = None
 entry_in m (Some (Held h)) = Some (ranked m h).entry
@@ -55,9 +55,9 @@ pub at_entries : (slots : List Slot) (m : ℕ) → entry_at (entries_of slots) m
 at_entries slots m = at-slot slots 0 m m (omega arith)
 
 -- the same of what contracts see
-pub at_state : (xs : List Entry) (slots : List Slot) (m : ℕ) (x y : Slot) → entries_of slots ≡ xs → m < length slots → x ≡ get_or slots m x → x ≡ y → entry_in m (Some y) ≡ entry_at xs m
+pub at_state : (xs : List TableEntry) (slots : List Slot) (m : ℕ) (x y : Slot) → entries_of slots ≡ xs → m < length slots → x ≡ get_or slots m x → x ≡ y → entry_in m (Some y) ≡ entry_at xs m
 at_state xs slots m x y e l read is =
     sym (ap (λ es. entry_at es m) (sym e) ∙ (at_entries slots m ∙ ap (entry_in m) (slice_get_read slots (length slots) m x refl l read ∙ ap Some is)))
 
-pub past_state : (xs : List Entry) (slots : List Slot) (m : ℕ) → entries_of slots ≡ xs → length slots ≤ m → entry_at xs m ≡ None
+pub past_state : (xs : List TableEntry) (slots : List Slot) (m : ℕ) → entries_of slots ≡ xs → length slots ≤ m → entry_at xs m ≡ None
 past_state xs slots m e l = ap (λ es. entry_at es m) (sym e) ∙ (at_entries slots m ∙ ap (entry_in m) (slice_get_past slots m l))

@@ -6,7 +6,7 @@ use Rattle.std.proofs.lemmas.Option.{none-some, same_Some, slice_get_read, slice
 use Rattle.channel_table.specs.declared.slots.Slot.{Slot}
 use Rattle.channel_table.specs.declared.slots.Slot.TheVariants.{Free, Held}
 use Rattle.channel_table.specs.declared.slots.Opened.{Opened}
-use Rattle.channel_table.specs.Entries.{Entry, is_at, entry_at, freed, changed_at, IsFree}
+use Rattle.channel_table.specs.Entries.{TableEntry, is_at, entry_at, freed, changed_at, IsNumberFree}
 use Rattle.mux_history.specs.declared.limits.TheConstants.{NUMBERS_END}
 use Rattle.channel_table.specs.Slots.{Ranked, ranked, ranked_from, entries_of, free_count, placed, IsLinked, AreOpenedBefore, AreSlots}
 use Rattle.channel_table.proofs.Lists.{slice_get-set_same, slice_get-push, filter-map}
@@ -33,7 +33,7 @@ front-linked (suc a) slots front n e at l =
 pub front-slots : (slots : List Slot) (front : Option ℕ) (opened n : ℕ) → AreSlots slots front opened → front ≡ Some n → IsFront slots n
 front-slots slots front opened n s at = front-linked (free_count slots) slots front n refl at s.linked
 
-pub front-fresh : (slots : List Slot) (front : Option ℕ) (opened n : ℕ) → AreSlots slots front opened → front ≡ Some n → IsFree (entries_of slots) n
+pub front-fresh : (slots : List Slot) (front : Option ℕ) (opened n : ℕ) → AreSlots slots front opened → front ≡ Some n → IsNumberFree (entries_of slots) n
 front-fresh slots front opened n s at =
     let f = front-slots slots front opened n s at in
     record { below = omega (arith, s.few, slice_get_within slots n (Free f.next) f.free); unused = at_entries slots n ∙ ap (entry_in n) f.free }
@@ -107,9 +107,9 @@ set-slots slots front opened n g h s held rank =
     rank-before (Held f ∷ slots) zero g held b = let same : f.rank ≡ g.rank = rank_held f g held in omega (arith, b.0)
     rank-before (Held f ∷ slots) (suc n) g held b = rank-before slots n g held b.1
 
-map-replaced : (n : ℕ) (x : Entry) (ys : List Ranked) → map entry (map (replaced n x) ys) ≡ changed_at n (λ _. x) (map entry ys)
+map-replaced : (n : ℕ) (x : TableEntry) (ys : List Ranked) → map entry (map (replaced n x) ys) ≡ changed_at n (λ _. x) (map entry ys)
 map-replaced n x [] = refl
-map-replaced n x (y ∷ ys) = ap (λ zs. elim (is_at n y.entry) as (λ _. Entry) [ true ↦ x | false ↦ y.entry ] ∷ zs) (map-replaced n x ys)
+map-replaced n x (y ∷ ys) = ap (λ zs. elim (is_at n y.entry) as (λ _. TableEntry) [ true ↦ x | false ↦ y.entry ] ∷ zs) (map-replaced n x ys)
 
 pub set-entries : (slots : List Slot) (n : ℕ) (g h : Opened) → slice_get slots n ≡ Some (Held g) → h.rank ≡ g.rank → entries_of (set slots n (Held h)) ≡ changed_at n (λ _. (ranked n h).entry) (entries_of slots)
 set-entries slots n g h held rank =
@@ -117,7 +117,7 @@ set-entries slots n g h held rank =
 
 -- ---- a number under which a channel stands
 
-not-some : (o : Option Entry) → o ≡ None → IsSome o → ⊥
+not-some : (o : Option TableEntry) → o ≡ None → IsSome o → ⊥
 not-some o e i = cc
 
 -- the slot of a number under which a channel stands
@@ -140,13 +140,13 @@ pub record IsHeld (slots : List Slot) (n : ℕ) : Type 0 where
   pub held : slice_get slots n ≡ Some (Held opened)
   pub within : n < length slots
 
-pub held-state : (xs : List Entry) (slots : List Slot) (n : ℕ) → entries_of slots ≡ xs → IsSome (entry_at xs n) → IsHeld slots n
+pub held-state : (xs : List TableEntry) (slots : List Slot) (n : ℕ) → entries_of slots ≡ xs → IsSome (entry_at xs n) → IsHeld slots n
 held-state xs slots n e some =
     let h = held-slot slots n (subst (λ ys. IsSome (entry_at ys n)) (sym e) some) in
     record { opened = h.0; held = h.1; within = slice_get_within slots n (Held h.0) h.1 }
 
 -- so its number is below how many slots there are
-pub held-below : (xs : List Entry) (slots : List Slot) (n size : ℕ) → entries_of slots ≡ xs → IsSome (entry_at xs n) → size ≡ length slots → n < size
+pub held-below : (xs : List TableEntry) (slots : List Slot) (n size : ℕ) → entries_of slots ≡ xs → IsSome (entry_at xs n) → size ≡ length slots → n < size
 held-below xs slots n size e some all = omega (arith, (held-state xs slots n e some).within, all)
 
 pub held-read : (slots : List Slot) (n : ℕ) (x : Slot) (h : IsHeld slots n) → x ≡ get_or slots n x → x ≡ Held h.opened
@@ -161,7 +161,7 @@ open-state slots front opened n h x next s at rank read is =
     same_next : (a b : Option ℕ) → Some (Free a) ≡ Some (Free b) → a ≡ b
     same_next a b e = cc
 
-pub open-list : (xs : List Entry) (slots : List Slot) (front : Option ℕ) (opened n : ℕ) (h : Opened) → entries_of slots ≡ xs → AreSlots slots front opened → front ≡ Some n → h.rank ≡ opened → entries_of (set slots n (Held h)) ≡ xs ++ (ranked n h).entry ∷ []
+pub open-list : (xs : List TableEntry) (slots : List Slot) (front : Option ℕ) (opened n : ℕ) (h : Opened) → entries_of slots ≡ xs → AreSlots slots front opened → front ≡ Some n → h.rank ≡ opened → entries_of (set slots n (Held h)) ≡ xs ++ (ranked n h).entry ∷ []
 open-list xs slots front opened n h e s at rank =
     let f = front-slots slots front opened n s at in
     open-entries slots opened n f.next h s.before rank f.free ∙ ap (λ ys. ys ++ (ranked n h).entry ∷ []) e
@@ -169,7 +169,7 @@ open-list xs slots front opened n h e s at rank =
 pub set-state : (slots : List Slot) (front : Option ℕ) (opened n : ℕ) (g h : Opened) (x : Slot) → AreSlots slots front opened → n < length slots → h.rank ≡ g.rank → x ≡ get_or slots n x → x ≡ Held g → AreSlots (set slots n (Held h)) front opened
 set-state slots front opened n g h x s l rank read is = set-slots slots front opened n g h s (read-slot slots n x (Held g) l read is) rank
 
-pub set-list : (xs : List Entry) (slots : List Slot) (n : ℕ) (g h : Opened) (x : Slot) → entries_of slots ≡ xs → n < length slots → h.rank ≡ g.rank → x ≡ get_or slots n x → x ≡ Held g → entries_of (set slots n (Held h)) ≡ changed_at n (λ _. (ranked n h).entry) xs
+pub set-list : (xs : List TableEntry) (slots : List Slot) (n : ℕ) (g h : Opened) (x : Slot) → entries_of slots ≡ xs → n < length slots → h.rank ≡ g.rank → x ≡ get_or slots n x → x ≡ Held g → entries_of (set slots n (Held h)) ≡ changed_at n (λ _. (ranked n h).entry) xs
 set-list xs slots n g h x e l rank read is =
     set-entries slots n g h (read-slot slots n x (Held g) l read is) rank ∙ ap (changed_at n (λ _. (ranked n h).entry)) e
 

@@ -5,19 +5,19 @@ use Rattle.channel_table.specs.declared.slots.Slot.{Slot}
 use Rattle.channel_table.specs.declared.slots.Slot.TheVariants.{Free, Held}
 use Rattle.channel_table.specs.declared.slots.Opened.{Opened}
 use Rattle.mux_history.specs.declared.limits.TheConstants.{NUMBERS_END}
-use Rattle.channel_table.specs.Entries.{Entry}
+use Rattle.channel_table.specs.Entries.{TableEntry}
 
 -- what contracts see of the slots: the channels in order of opening, the front one of the free
 -- slots, and how many channels were opened so far
 pub record SlotsState : Type 0 where
-  pub entries : List Entry
+  pub entries : List TableEntry
   pub front : Option ℕ
   pub opened : ℕ
 
 -- a channel, and how many were opened before it
 pub record Ranked : Type 0 where
   pub rank : ℕ
-  pub entry : Entry
+  pub entry : TableEntry
 
 -- the channel that a slot holds, under the slot's number
 abbrev pub ranked : ℕ → Opened → Ranked
@@ -38,7 +38,7 @@ ranked_from n [] = []
 ranked_from n (Free next ∷ slots) = ranked_from (n + 1) slots
 ranked_from n (Held h ∷ slots) = placed (ranked n h) (ranked_from (n + 1) slots)
 
-abbrev pub entries_of : List Slot → List Entry
+abbrev pub entries_of : List Slot → List TableEntry
 entries_of slots = map (λ (x : Ranked). x.entry) (ranked_from 0 slots)
 
 -- how many slots are free
@@ -67,5 +67,5 @@ pub record AreSlots (slots : List Slot) (front : Option ℕ) (opened : ℕ) : Ty
   pub before : AreOpenedBefore opened slots
 
 -- a slot is free, and there is a rank for one more channel
-abbrev pub IsReady : SlotsState → Type 0
-IsReady s = (n : ℕ) × ((s.front ≡ Some n) × (s.opened + 1 < 2 ^ 64))
+abbrev pub HasReadySlot : SlotsState → Type 0
+HasReadySlot s = (n : ℕ) × ((s.front ≡ Some n) × (s.opened + 1 < 2 ^ 64))

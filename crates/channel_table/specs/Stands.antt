@@ -2,25 +2,25 @@
 use Rattle.std.specs.Prelude.{◌≡◌, ℕ, List, [], ◌∷◌, Option, Some, None, true, false}
 use Rattle.mux_history.specs.Channels as history
 use Rattle.window_ledger.specs.Stands as ledger
-use Rattle.channel_table.specs.Entries.{Entry, is_shown}
+use Rattle.channel_table.specs.Entries.{TableEntry, is_shown}
 
 -- the number, where it represents the channel towards the server
-abbrev pub shown_number : Entry → Option ℕ
+abbrev pub shown_number : TableEntry → Option ℕ
 shown_number e = elim (is_shown e.channel) [ true ↦ Some e.number | false ↦ None ]
 
 -- an entry represents a channel that is held
-pub record Fits (e : Entry) (x : history.Channel) : Type 0 where
+pub record EntryFits (e : TableEntry) (x : history.Channel) : Type 0 where
   pub client : e.channel.client ≡ x.client
   pub by : e.channel.by ≡ x.by
   pub own : e.channel.own ≡ x.own
   pub number : shown_number e ≡ x.number
   pub remote : e.channel.remote ≡ x.remote
   pub ledger : ledger.Stands e.ledger x
-  pub held : history.is_held x ≡ true
+  pub held : history.is_channel_held x ≡ true
 
 -- one by one
-abbrev pub ChannelsFit : List Entry → List history.Channel → Type 0
+abbrev pub ChannelsFit : List TableEntry → List history.Channel → Type 0
 ChannelsFit [] [] = Unit {0}
 ChannelsFit [] (x ∷ xs) = ⊥
 ChannelsFit (e ∷ es) [] = ⊥
-ChannelsFit (e ∷ es) (x ∷ xs) = Fits e x × ChannelsFit es xs
+ChannelsFit (e ∷ es) (x ∷ xs) = EntryFits e x × ChannelsFit es xs

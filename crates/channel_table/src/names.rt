@@ -1,8 +1,8 @@
 ghost use Rattle.std.specs.Prelude.{◌≡◌, ◌<◌, ℕ, [], ◌∷◌, ◌++◌, length, IsSome, Some, None, OnOk, IfOk, OnErr, nat_eq, not, filter, ◌==◌, if◌then◌else◌};
 ghost use Rattle.indexmap.specs.IndexMap.{get};
-ghost use Rattle.channel_table.specs.Entries.{IsFree};
-ghost use Rattle.channel_table.specs.Slots.{IsReady};
-ghost use Rattle.channel_table.specs.Indices.{pair_eq, paired, is_key, listed};
+ghost use Rattle.channel_table.specs.Entries.{IsNumberFree};
+ghost use Rattle.channel_table.specs.Slots.{HasReadySlot};
+ghost use Rattle.channel_table.specs.Indices.{pair_eq, paired, is_index_key, listed};
 
 use crate::numbers::Numbers;
 use crate::slots::Slots;
@@ -57,8 +57,8 @@ pub fn make_room(
     client: u64,
 ) -> Result<u32, OutOfMemory>
     ensures front { IfOk result (λ number. slots.new.front ≡ Some number) }
-    ensures ready { OnOk result (IsReady slots.new) }
-    ensures fresh { IfOk result (λ number. IsFree slots.old.entries number) }
+    ensures ready { OnOk result (HasReadySlot slots.new) }
+    ensures fresh { IfOk result (λ number. IsNumberFree slots.old.entries number) }
     ensures entries { slots.new.entries ≡ slots.old.entries }
     ensures there { OnOk result (IsSome (get nat_eq clients.new client)) }
     ensures same { (k : ℕ) → listed (get nat_eq clients.new k) ≡ listed (get nat_eq clients.old k) }
@@ -101,7 +101,7 @@ pub fn insert_remote(
 /// Forgets a client's own number, if there is one.
 pub fn remove_own(index: &mut IndexMap<(u64, u32), u32>, client: u64, own: Option<u32>)
     ensures { (k c : ℕ) → get pair_eq index.new (k, c)
-        ≡ (if is_key pair_eq (paired client own) (k, c) then None
+        ≡ (if is_index_key pair_eq (paired client own) (k, c) then None
         else get pair_eq index.old (k, c)) }
 {
     if let Some(own) = own {
@@ -112,7 +112,7 @@ pub fn remove_own(index: &mut IndexMap<(u64, u32), u32>, client: u64, own: Optio
 /// Forgets a number of the server's, if there is one.
 pub fn remove_remote(index: &mut IndexMap<u32, u32>, remote: Option<u32>)
     ensures { (s : ℕ) → get nat_eq index.new s
-        ≡ (if is_key nat_eq remote s then None else get nat_eq index.old s) }
+        ≡ (if is_index_key nat_eq remote s then None else get nat_eq index.old s) }
 {
     if let Some(remote) = remote {
         index.swap_remove(&remote);

@@ -49,8 +49,8 @@ impl Model for Slots {
 }
 
 impl Slots {
-    ghost use Rattle.channel_table.specs.Entries.{IsFree, changed_at, entry_at, freed};
-    ghost use Rattle.channel_table.specs.Slots.{IsReady, ranked};
+    ghost use Rattle.channel_table.specs.Entries.{IsNumberFree, changed_at, entry_at, freed};
+    ghost use Rattle.channel_table.specs.Slots.{HasReadySlot, ranked};
 
     /// No slots, which take no memory.
     pub fn new(alloc: Global) -> Slots
@@ -66,7 +66,7 @@ impl Slots {
     /// Makes sure that a slot is free. What the slots hold stays. Where 16,384 slots are held there
     /// is no room.
     pub fn make_room(&mut self) -> Result<(), OutOfMemory>
-        ensures ready { OnOk result (IsReady self.new) }
+        ensures ready { OnOk result (HasReadySlot self.new) }
         ensures entries { self.new.entries ≡ self.old.entries }
     {
         // Where no rank is left, which no run lives to see, there is no room either.
@@ -88,7 +88,7 @@ impl Slots {
     pub fn front(&self) -> u32
         requires { IsSome self.now.front }
         ensures front { self.now.front ≡ Some result }
-        ensures fresh { IsFree self.now.entries result }
+        ensures fresh { IsNumberFree self.now.entries result }
     {
         self.front.unwrap_or(0)
     }
@@ -96,7 +96,7 @@ impl Slots {
     /// Opens a channel in the front one of the free slots.
     pub fn open(&mut self, number: u32, channel: Channel, ledger: Ledger)
         requires front { self.old.front ≡ Some number }
-        requires ready { IsReady self.old }
+        requires ready { HasReadySlot self.old }
         ensures { self.new.entries ≡ self.old.entries
             ++ (record { number = number; channel = channel; ledger = ledger }) ∷ [] }
     {

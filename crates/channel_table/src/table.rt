@@ -30,10 +30,10 @@ pub struct Table {
 
 impl Model for Table {
     ghost use Rattle.std.specs.Prelude.{List};
-    ghost use Rattle.channel_table.specs.Entries.{Entry};
+    ghost use Rattle.channel_table.specs.Entries.{TableEntry};
     ghost use Rattle.channel_table.specs.Indices.{Agrees};
 
-    ghost Value = { List Entry };
+    ghost Value = { List TableEntry };
 
     ghost view = { λ a. a.slots.entries };
 
@@ -41,7 +41,7 @@ impl Model for Table {
 }
 
 impl Table {
-    ghost use Rattle.channel_table.specs.Entries.{AreSound, IsFree, RefusesAs, SetsOwn, SetsRemote, admitted_at, changed_at, channel_at, count_of, freed, full_refusal, holder_of, ledger_at, nth_number, number_of_own, number_of_remote, own_entry, own_refusal, remote_entry, remote_refusal, with_ledger, with_own, with_remote};
+    ghost use Rattle.channel_table.specs.Entries.{AreSound, IsNumberFree, RefusesAs, SetsOwn, SetsRemote, admitted_at, changed_at, channel_at, channel_count_of, freed, full_refusal, holder_of, ledger_at, nth_number, number_of_own, number_of_remote, own_entry, own_refusal, remote_entry, remote_refusal, with_ledger, entry_with_own, with_remote};
     ghost use Rattle.channel_table.specs.Indices.{IsOwnIndex, IsRemoteIndex};
 
     /// A table without a channel.
@@ -60,7 +60,7 @@ impl Table {
     /// that are free, the one that was freed last is used.
     pub fn admit_own(&mut self, client: u64, own: u32, ledger: Ledger) -> Result<u32, Refused>
         ensures exact { RefusesAs result (own_refusal self.old client own) }
-        ensures fresh { IfOk result (λ number. IsFree self.old number) }
+        ensures fresh { IfOk result (λ number. IsNumberFree self.old number) }
         ensures ok { IfOk result (λ number.
             self.new ≡ self.old ++ own_entry number client own ledger ∷ []) }
         ensures unchanged { OnErr result (self.new ≡ self.old) }
@@ -85,7 +85,7 @@ impl Table {
     /// The server has opened a channel to a client: the number that will represent it.
     pub fn admit_remote(&mut self, client: u64, remote: u32, ledger: Ledger) -> Result<u32, Refused>
         ensures exact { RefusesAs result (remote_refusal self.old client remote) }
-        ensures fresh { IfOk result (λ number. IsFree self.old number) }
+        ensures fresh { IfOk result (λ number. IsNumberFree self.old number) }
         ensures ok { IfOk result (λ number.
             self.new ≡ self.old ++ remote_entry number client remote ledger ∷ []) }
         ensures unchanged { OnErr result (self.new ≡ self.old) }
@@ -111,7 +111,7 @@ impl Table {
     /// A number under which no channel was admitted changes nothing.
     pub fn set_own(&mut self, number: u32, own: u32) -> Result<(), Refused>
         ensures exact { SetsOwn self.old number own result }
-        ensures ok { OnOk result (self.new ≡ changed_at number (with_own own) self.old) }
+        ensures ok { OnOk result (self.new ≡ changed_at number (entry_with_own own) self.old) }
         ensures unchanged { OnErr result (self.new ≡ self.old) }
     {
         let Some(opened) = self.slots.get(number) else {
@@ -239,7 +239,7 @@ impl Table {
 
     /// How many channels a client has.
     pub fn count(&self, client: u64) -> u32
-        ensures count { result ≡ count_of self.now client }
+        ensures count { result ≡ channel_count_of self.now client }
         ensures sound { AreSound self.now }
     {
         match self.clients.get(&client) {

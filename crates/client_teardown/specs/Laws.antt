@@ -2,18 +2,18 @@
 use Rattle.std.specs.Prelude.{◌≡◌, ◌==◌, ℕ, true, false, List, [], ◌∷◌, ◌++◌, filter, flat_map, map}
 use Rattle.ssh_grammar.specs.declared.side.Side.TheVariants.{Up}
 use Rattle.ssh_grammar.specs.Messages as grammar
-use Rattle.mux_history.specs.Channels.{Channel, any_by, is_closes, is_confirmed, is_held, is_up}
+use Rattle.mux_history.specs.Channels.{Channel, any_by, is_closes, is_confirmed, is_channel_held, is_up}
 use Rattle.mux_history.specs.Farewell as history
 use Rattle.mux_history.specs.Forwardings.{Forwarding}
 use Rattle.mux_history.specs.Summary.{Closes, Confirmation, Fails}
 use Rattle.mux_history.specs.Keys.{bound}
 use Rattle.mux_history.specs.Laws.{with_act}
 use Rattle.mux_history.specs.Rows.{Row}
-use Rattle.channel_table.specs.Entries.{Entry}
+use Rattle.channel_table.specs.Entries.{TableEntry}
 use Rattle.channel_table.specs.Stands.{ChannelsFit}
 use Rattle.conn_messages.specs.Keys.{key_of}
 use Rattle.forward_rules.specs.State.{Forward}
-use Rattle.forward_rules.specs.Stands.{AreListed}
+use Rattle.forward_rules.specs.Stands.{AreForwardsListed}
 use Rattle.conn_messages.specs.declared.key.Key.{Key}
 use Rattle.client_teardown.specs.Leaving.{channel_farewells, forward_farewells, late_payload, left_entries}
 use Rattle.client_teardown.specs.declared.message.Late.TheVariants as late
@@ -21,21 +21,21 @@ use Rattle.client_teardown.specs.declared.message.Late.TheVariants as late
 -- ---- at once
 
 -- a client's channels, and its forwardings
-abbrev pub channels_of : ℕ → List Channel → List Channel
-channels_of k xs = filter (λ x. x.client == k) xs
+abbrev pub client_channels_of : ℕ → List Channel → List Channel
+client_channels_of k xs = filter (λ x. x.client == k) xs
 
-abbrev pub forwardings_of : ℕ → List Forwarding → List Forwarding
-forwardings_of k gs = filter (λ g. g.client == k) gs
+abbrev pub client_forwardings_of : ℕ → List Forwarding → List Forwarding
+client_forwardings_of k gs = filter (λ g. g.client == k) gs
 
 -- wherever the tables represent the channels and the forwardings of a history, a client's farewell
 -- is what the history sends for each of its channels, and then for each of its forwardings
 abbrev pub FarewellsAreTheHistorys : Type 0
 FarewellsAreTheHistorys =
-    (k : ℕ) (es : List Entry) (xs : List Channel) (fs : List Forward) (gs : List Forwarding)
-    → ChannelsFit es xs → AreListed fs gs
+    (k : ℕ) (es : List TableEntry) (xs : List Channel) (fs : List Forward) (gs : List Forwarding)
+    → ChannelsFit es xs → AreForwardsListed fs gs
     → channel_farewells k es ++ forward_farewells k fs
-    ≡ flat_map history.leave_channel (channels_of k xs)
-    ++ flat_map history.leave_forwarding (forwardings_of k gs)
+    ≡ flat_map history.leave_channel (client_channels_of k xs)
+    ++ flat_map history.leave_forwarding (client_forwardings_of k gs)
 
 -- what a farewell makes of a channel: CLOSE is sent in one that is confirmed, and a server's open
 -- that waits has failed
@@ -51,11 +51,11 @@ left_by k x = elim (x.client == k) [ true ↦ left x | false ↦ x ]
 
 -- those that are held then
 abbrev pub left_channels : ℕ → List Channel → List Channel
-left_channels k xs = filter is_held (map (left_by k) xs)
+left_channels k xs = filter is_channel_held (map (left_by k) xs)
 
 -- the table represents them afterwards
 abbrev pub TableIsLeft : Type 0
-TableIsLeft = (k : ℕ) (es : List Entry) (xs : List Channel) → ChannelsFit es xs
+TableIsLeft = (k : ℕ) (es : List TableEntry) (xs : List Channel) → ChannelsFit es xs
     → ChannelsFit (left_entries k es) (left_channels k xs)
 
 -- ---- later

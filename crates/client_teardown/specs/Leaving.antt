@@ -11,7 +11,7 @@ use Rattle.window_ledger.specs.declared.ledger.Ledger.{Ledger}
 use Rattle.window_ledger.specs.Leaving as account
 use Rattle.window_ledger.specs.Stands.{confirmed}
 use Rattle.channel_table.specs.declared.channel.Channel.{Channel}
-use Rattle.channel_table.specs.Entries.{Entry, changed_at, is_of}
+use Rattle.channel_table.specs.Entries.{TableEntry, changed_at, is_of}
 use Rattle.conn_messages.specs.Keys.{IsShort, key_of}
 use Rattle.forward_rules.specs.State.{Forward}
 use Rattle.forward_rules.specs.Step as forwards
@@ -25,8 +25,8 @@ abbrev pub with_payloads : List (List ℕ) → QueueState → QueueState
 with_payloads payloads q = record q { waiting = q.waiting ++ joined (map frame_payload payloads) }
 
 -- the proxy frames of these payloads wait after what waited
-abbrev pub Sends : List (List ℕ) → QueueState → QueueState → Type 0
-Sends payloads up up' = up'.waiting ≡ up.waiting ++ joined (map frame_payload payloads)
+abbrev pub SendsFarewell : List (List ℕ) → QueueState → QueueState → Type 0
+SendsFarewell payloads up up' = up'.waiting ≡ up.waiting ++ joined (map frame_payload payloads)
 
 -- in one channel: CLOSE where it is confirmed and the client has not sent it, OPEN_FAILURE on a
 -- server's open without an answer
@@ -37,45 +37,45 @@ farewell_for c ledger = elim (confirmed ledger) [
       [ true ↦ [] | false ↦ to_number c.remote (λ s. open_failure s CONNECT_FAILED client_is_gone) ]
 ]
 
-abbrev pub farewell_of : Entry → List (List ℕ)
+abbrev pub farewell_of : TableEntry → List (List ℕ)
 farewell_of e = farewell_for e.channel e.ledger
 
 -- of a client's channels, in the order in which they began
-abbrev pub channel_farewells : ℕ → List Entry → List (List ℕ)
+abbrev pub channel_farewells : ℕ → List TableEntry → List (List ℕ)
 channel_farewells k es = flat_map farewell_of (filter (is_of k) es)
 
 -- a cancel without reply of a live forwarding that no unanswered cancel means
-abbrev pub cancel_of : Forward → List (List ℕ)
-cancel_of f = elim (f.live && is_none f.cancel) [ true ↦ cancel_forward f.key ∷ [] | false ↦ [] ]
+abbrev pub farewell_cancel_of : Forward → List (List ℕ)
+farewell_cancel_of f = elim (f.live && is_none f.cancel) [ true ↦ cancel_forward f.key ∷ [] | false ↦ [] ]
 
 -- of a client's forwardings, in order of asking
 abbrev pub forward_farewells : ℕ → List Forward → List (List ℕ)
-forward_farewells k fs = flat_map cancel_of (filter (forwards.is_of k) fs)
+forward_farewells k fs = flat_map farewell_cancel_of (filter (forwards.is_of k) fs)
 
 -- ---- what stays in the table
 
 -- CLOSE is sent, where the channel is confirmed
-abbrev pub closing : Entry → Entry
+abbrev pub closing : TableEntry → TableEntry
 closing e = record e { ledger = account.left e.ledger }
 
 -- in a channel of this client
-abbrev pub left_entry : ℕ → Entry → Entry
+abbrev pub left_entry : ℕ → TableEntry → TableEntry
 left_entry k e = elim (e.channel.client == k) [ true ↦ closing e | false ↦ e ]
 
 -- it is still held: the server has not closed it yet, or has not answered the client's open
 abbrev pub is_open_in : Channel → Ledger → Bool
 is_open_in c ledger =
-    elim (confirmed ledger) [ true ↦ not (account.is_over ledger) | false ↦ is_up c.by ]
+    elim (confirmed ledger) [ true ↦ not (account.is_account_over ledger) | false ↦ is_up c.by ]
 
-abbrev pub is_open : Entry → Bool
+abbrev pub is_open : TableEntry → Bool
 is_open e = is_open_in e.channel e.ledger
 
 -- it is of another client, or still held
-abbrev pub stays : ℕ → Entry → Bool
+abbrev pub stays : ℕ → TableEntry → Bool
 stays k e = not (e.channel.client == k) || is_open e
 
 -- all channels, when this client is lost
-abbrev pub left_entries : ℕ → List Entry → List Entry
+abbrev pub left_entries : ℕ → List TableEntry → List TableEntry
 left_entries k es = filter (stays k) (map (left_entry k) es)
 
 -- ---- later
@@ -94,7 +94,7 @@ late_payload (Forwarded key) = cancel_forward (key_of key)
 late_payload (CancelFailed key) = cancel_forward (key_of key)
 
 -- the CLOSE is noted in the account
-abbrev pub late_entries : Late → List Entry → List Entry
+abbrev pub late_entries : Late → List TableEntry → List TableEntry
 late_entries (Confirmed number remote) es = changed_at number closing es
 late_entries (Forwarded key) es = es
 late_entries (CancelFailed key) es = es

@@ -1,6 +1,6 @@
 -- What is sent for one channel of a client that is lost, and what it leaves in the table.
 use Rattle.std.specs.Prelude.{ℕ, Bool, true, false, List, [], ◌∷◌, Option, Some, None}
-use Rattle.channel_table.specs.Entries.{Entry, changed_at, entry_at, freed}
+use Rattle.channel_table.specs.Entries.{TableEntry, changed_at, entry_at, freed}
 use Rattle.client_teardown.specs.Leaving.{closing, farewell_of, is_open}
 
 -- a payload, where there is one
@@ -9,21 +9,21 @@ listed None = []
 listed (Some p) = p ∷ []
 
 -- what is sent for the channel under a number, where there is one
-abbrev pub farewell_in : Option Entry → List (List ℕ)
+abbrev pub farewell_in : Option TableEntry → List (List ℕ)
 farewell_in None = []
 farewell_in (Some e) = farewell_of e
 
-abbrev pub farewell_at : List Entry → ℕ → List (List ℕ)
+abbrev pub farewell_at : List TableEntry → ℕ → List (List ℕ)
 farewell_at es n = farewell_in (entry_at es n)
 
 -- whether it is still held then
-abbrev pub stays_in : Option Entry → Bool
+abbrev pub stays_in : Option TableEntry → Bool
 stays_in None = true
 stays_in (Some e) = is_open (closing e)
 
-abbrev pub stays_at : List Entry → ℕ → Bool
+abbrev pub stays_at : List TableEntry → ℕ → Bool
 stays_at es n = stays_in (entry_at es n)
 
 -- the table after it
-abbrev pub left_at : ℕ → List Entry → List Entry
+abbrev pub left_at : ℕ → List TableEntry → List TableEntry
 left_at n es = elim (stays_at es n) [ true ↦ changed_at n closing es | false ↦ freed n es ]

@@ -1,7 +1,7 @@
 ghost use Rattle.std.specs.Prelude.{◌≡◌, ◌≤◌, ◌+◌, ◌++◌, IfSome, length};
 ghost use Rattle.channel_table.specs.Entries.{AreSound};
-ghost use Rattle.forward_rules.specs.Step.{without_client};
-ghost use Rattle.client_teardown.specs.Leaving.{Sends, channel_farewells, farewell_for, forward_farewells, is_open_in, left_entries};
+ghost use Rattle.forward_rules.specs.Step.{forwards_without_client};
+ghost use Rattle.client_teardown.specs.Leaving.{SendsFarewell, channel_farewells, farewell_for, forward_farewells, is_open_in, left_entries};
 ghost use Rattle.client_teardown.specs.Steps.{farewell_at, left_at, listed, stays_at};
 
 use crate::cancelling::cancel;
@@ -57,7 +57,7 @@ fn is_open(channel: &Channel, left: &Ledger) -> bool
 // Says farewell in one channel and notes it. Whether the channel is still held.
 fn leave_channel(table: &mut Table, number: u32, up: &mut Queue) -> bool
     requires { CHANNEL_ROOM ≤ up.old.spare }
-    ensures sent { Sends (farewell_at table.old number) up.old up.new }
+    ensures sent { SendsFarewell (farewell_at table.old number) up.old up.new }
     ensures entries { table.new ≡ left_at number table.old }
     ensures held { result ≡ stays_at table.old number }
     ensures spare { up.old.spare ≤ up.new.spare + CHANNEL_ROOM }
@@ -85,7 +85,7 @@ fn leave_channel(table: &mut Table, number: u32, up: &mut Queue) -> bool
 // Says farewell in all channels of a client, in the order in which they began.
 fn leave_channels(table: &mut Table, client: u64, up: &mut Queue)
     requires { CHANNELS_ROOM ≤ up.old.spare }
-    ensures sent { Sends (channel_farewells client table.old) up.old up.new }
+    ensures sent { SendsFarewell (channel_farewells client table.old) up.old up.new }
     ensures entries { table.new ≡ left_entries client table.old }
     ensures spare { up.old.spare ≤ up.new.spare + CHANNELS_ROOM }
     ensures sound { AreSound table.old }
@@ -106,8 +106,8 @@ fn leave_channels(table: &mut Table, client: u64, up: &mut Queue)
 // and takes all out.
 fn leave_forwards(forwards: &mut Forwards, client: u64, up: &mut Queue)
     requires { FORWARDS_ROOM ≤ up.old.spare }
-    ensures sent { Sends (forward_farewells client forwards.old) up.old up.new }
-    ensures forwardings { forwards.new ≡ without_client client forwards.old }
+    ensures sent { SendsFarewell (forward_farewells client forwards.old) up.old up.new }
+    ensures forwardings { forwards.new ≡ forwards_without_client client forwards.old }
     ensures spare { up.old.spare ≤ up.new.spare + FORWARDS_ROOM }
 {
     for _ in 0..forwards.count(client) {
@@ -127,10 +127,10 @@ fn leave_forwards(forwards: &mut Forwards, client: u64, up: &mut Queue)
 /// forwardings of the client are out.
 pub fn tear_down(table: &mut Table, forwards: &mut Forwards, client: u64, up: &mut Queue)
     requires { FAREWELL_ROOM ≤ up.old.spare }
-    ensures sent { Sends (channel_farewells client table.old
+    ensures sent { SendsFarewell (channel_farewells client table.old
         ++ forward_farewells client forwards.old) up.old up.new }
     ensures channels { table.new ≡ left_entries client table.old }
-    ensures forwardings { forwards.new ≡ without_client client forwards.old }
+    ensures forwardings { forwards.new ≡ forwards_without_client client forwards.old }
     ensures spare { up.old.spare ≤ up.new.spare + FAREWELL_ROOM }
     ensures sound { AreSound table.old }
 {

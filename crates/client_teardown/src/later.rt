@@ -1,6 +1,6 @@
 ghost use Rattle.std.specs.Prelude.{◌≡◌, ◌≤◌, ◌+◌, [], ◌∷◌};
 ghost use Rattle.channel_table.specs.Entries.{changed_at};
-ghost use Rattle.client_teardown.specs.Leaving.{IsShortLate, Sends, closing, late_entries, late_payload};
+ghost use Rattle.client_teardown.specs.Leaving.{IsShortLate, SendsFarewell, closing, late_entries, late_payload};
 
 use crate::cancelling::cancel;
 use crate::message::Late;
@@ -18,7 +18,7 @@ pub const LATE_ROOM: usize = 308;
 pub fn late(table: &mut Table, message: Late<'_>, up: &mut Queue)
     requires room { LATE_ROOM ≤ up.old.spare }
     requires short { IsShortLate message }
-    ensures sent { Sends (late_payload message.entry ∷ []) up.old up.new }
+    ensures sent { SendsFarewell (late_payload message.entry ∷ []) up.old up.new }
     ensures channels { table.new ≡ late_entries message.entry table.old }
     ensures spare { up.old.spare ≤ up.new.spare + LATE_ROOM }
 {

@@ -5,7 +5,7 @@ use Rattle.std.proofs.lemmas.Bool.{lt-leb}
 use Rattle.std.specs.List.{list_any}
 use Rattle.conf_rules.specs.Texts.{Bytes, onto_first}
 use Rattle.conf_rules.specs.Options.{parts_from, is_bad_part, ends_of, is_count, forward_words}
-use Rattle.conf_command.specs.Parts.{one_end, two_ends, ends_among, onto_part}
+use Rattle.conf_command.specs.Parts.{one_end, two_ends, ends_among, onto_first_part}
 use Rattle.conf_rules.proofs.SplitLemmas.{at}
 
 -- the parts, by whether the first byte parts them
@@ -21,51 +21,51 @@ cons-parts inside b bs = on ((eqb b 58) && not inside) (parts_from inside bs) (p
     on true next same = refl
     on false next same = refl
 
-first-onto : (b : ℕ) (ps : List Bytes) → onto_part [] (onto_first b ps) ≡ onto_first b ps
+first-onto : (b : ℕ) (ps : List Bytes) → onto_first_part [] (onto_first b ps) ≡ onto_first b ps
 first-onto b [] = refl
 first-onto b (p ∷ ps) = refl
 
-by-onto : (t : Bool) (b : ℕ) (next same : List Bytes) → onto_part [] (parts_by t b next same) ≡ parts_by t b next same
+by-onto : (t : Bool) (b : ℕ) (next same : List Bytes) → onto_first_part [] (parts_by t b next same) ≡ parts_by t b next same
 unfolding parts_by
 by-onto true b next same = refl
 by-onto false b next same = first-onto b same
 
 -- there is a first part
-pub parts-some : (inside : Bool) (bs : Bytes) → onto_part [] (parts_from inside bs) ≡ parts_from inside bs
+pub parts-some : (inside : Bool) (bs : Bytes) → onto_first_part [] (parts_from inside bs) ≡ parts_from inside bs
 parts-some inside [] = refl
-parts-some inside (b ∷ bs) = ap (onto_part []) (cons-parts inside b bs) ∙ (by-onto _ b _ _ ∙ sym (cons-parts inside b bs))
+parts-some inside (b ∷ bs) = ap (onto_first_part []) (cons-parts inside b bs) ∙ (by-onto _ b _ _ ∙ sym (cons-parts inside b bs))
 
-onto-more : (part : Bytes) (b : ℕ) (ps : List Bytes) → onto_part part (onto_first b ps) ≡ onto_part (part ++ b ∷ []) ps
+onto-more : (part : Bytes) (b : ℕ) (ps : List Bytes) → onto_first_part part (onto_first b ps) ≡ onto_first_part (part ++ b ∷ []) ps
 onto-more part b [] = refl
 onto-more part b (p ∷ ps) = rw append_assoc refl
 
 -- a byte that parts
 pub parted : (value : Bytes) (i b : ℕ) (inside : Bool) (parts now : List Bytes) (part : Bytes) (total : List Bytes) → i < length value → b ≡ get_or value i 0
-    → ((eqb b 58) && not inside) ≡ true → now ≡ parts ++ part ∷ [] → parts ++ onto_part part (parts_from inside (drop i value)) ≡ total
-    → now ++ onto_part [] (parts_from inside (drop (i + 1) value)) ≡ total
+    → ((eqb b 58) && not inside) ≡ true → now ≡ parts ++ part ∷ [] → parts ++ onto_first_part part (parts_from inside (drop i value)) ≡ total
+    → now ++ onto_first_part [] (parts_from inside (drop (i + 1) value)) ≡ total
 unfolding parts_by
 parted value i b inside parts now part total h e here more so_far =
     let step : parts_from inside (drop i value) ≡ [] ∷ parts_from inside (drop (i + 1) value) =
     ap (parts_from inside) (at value i h ∙ ap (λ y. y ∷ drop (i + 1) value) (sym e)) ∙ (cons-parts inside b (drop (i + 1) value)
     ∙ ap (λ t. parts_by t b (parts_from inside (drop (i + 1) value)) (parts_from ((eqb b 91) || (inside && not (eqb b 93))) (drop (i + 1) value))) here) in
-    let whole : onto_part part ([] ∷ parts_from inside (drop (i + 1) value)) ≡ part ∷ parts_from inside (drop (i + 1) value) = rw append-nil refl in
-    ap (λ l. l ++ onto_part [] (parts_from inside (drop (i + 1) value))) more
+    let whole : onto_first_part part ([] ∷ parts_from inside (drop (i + 1) value)) ≡ part ∷ parts_from inside (drop (i + 1) value) = rw append-nil refl in
+    ap (λ l. l ++ onto_first_part [] (parts_from inside (drop (i + 1) value))) more
     ∙ (ap (λ l. (parts ++ part ∷ []) ++ l) (parts-some inside (drop (i + 1) value))
     ∙ (append_assoc parts (part ∷ []) (parts_from inside (drop (i + 1) value))
-    ∙ (ap (λ l. parts ++ l) (sym (ap (onto_part part) step ∙ whole)) ∙ so_far)))
+    ∙ (ap (λ l. parts ++ l) (sym (ap (onto_first_part part) step ∙ whole)) ∙ so_far)))
 
 -- a byte of a part
 pub in_part : (value : Bytes) (i b : ℕ) (inside after : Bool) (parts : List Bytes) (part now : Bytes) (total : List Bytes) → i < length value → b ≡ get_or value i 0
-    → ((eqb b 58) && not inside) ≡ false → now ≡ part ++ b ∷ [] → after ≡ ((eqb b 91) || (inside && not (eqb b 93))) → parts ++ onto_part part (parts_from inside (drop i value)) ≡ total
-    → parts ++ onto_part now (parts_from after (drop (i + 1) value)) ≡ total
+    → ((eqb b 58) && not inside) ≡ false → now ≡ part ++ b ∷ [] → after ≡ ((eqb b 91) || (inside && not (eqb b 93))) → parts ++ onto_first_part part (parts_from inside (drop i value)) ≡ total
+    → parts ++ onto_first_part now (parts_from after (drop (i + 1) value)) ≡ total
 unfolding parts_by
 in_part value i b inside after parts part now total h e here more state so_far =
     let step : parts_from inside (drop i value) ≡ onto_first b (parts_from after (drop (i + 1) value)) =
     ap (parts_from inside) (at value i h ∙ ap (λ y. y ∷ drop (i + 1) value) (sym e)) ∙ (cons-parts inside b (drop (i + 1) value)
     ∙ (ap (λ t. parts_by t b (parts_from inside (drop (i + 1) value)) (parts_from ((eqb b 91) || (inside && not (eqb b 93))) (drop (i + 1) value))) here
     ∙ ap (λ s. onto_first b (parts_from s (drop (i + 1) value))) (sym state))) in
-    ap (λ p. parts ++ onto_part p (parts_from after (drop (i + 1) value))) more
-    ∙ (ap (λ l. parts ++ l) (sym (ap (onto_part part) step ∙ onto-more part b (parts_from after (drop (i + 1) value)))) ∙ so_far)
+    ap (λ p. parts ++ onto_first_part p (parts_from after (drop (i + 1) value))) more
+    ∙ (ap (λ l. parts ++ l) (sym (ap (onto_first_part part) step ∙ onto-more part b (parts_from after (drop (i + 1) value)))) ∙ so_far)
 
 -- ---- the ends
 
@@ -138,7 +138,7 @@ ends-same false true p (q ∷ r ∷ s ∷ []) = refl
 ends-same false false p (q ∷ r ∷ s ∷ []) = refl
 ends-same one two p (q ∷ r ∷ s ∷ t ∷ ts) = rw (past-four one two (length (p ∷ q ∷ r ∷ s ∷ t ∷ ts)) (omega arith)) refl
 
-some-ends : (one two : Bool) (parts : List Bytes) → onto_part [] parts ≡ parts → ends_among one two parts ≡ cond (is_count one two (length parts)) (Some (ends_of (reverse parts))) None
+some-ends : (one two : Bool) (parts : List Bytes) → onto_first_part [] parts ≡ parts → ends_among one two parts ≡ cond (is_count one two (length parts)) (Some (ends_of (reverse parts))) None
 some-ends one two [] e = absurd cc
 some-ends one two (p ∷ ps) e = ends-same one two p ps
 

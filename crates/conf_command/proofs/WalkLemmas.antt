@@ -43,7 +43,7 @@ walk-first mode going w (Reads from) ss = ap (λ n. onto_walk (step w (Reads fro
 walk-first mode going w (Asks line) ss = ap (λ n. onto_walk (step w (Asks line)) (walk_from n going ss)) (same-mode mode (Asks line) refl)
 walk-first mode going w (Connects transport) ss = ap (λ n. onto_walk (step w (Connects transport)) (walk_from n going ss)) (same-mode mode (Connects transport) refl)
 walk-first mode going w (Sessions may) ss = ap (λ n. onto_walk (step w (Sessions may)) (walk_from n going ss)) (same-mode mode (Sessions may) refl)
-walk-first mode going w (Permits listening word entry) ss = ap (λ n. onto_walk (step w (Permits listening word entry)) (walk_from n going ss)) (same-mode mode (Permits listening word entry) refl)
+walk-first mode going w (Permits list word entry) ss = ap (λ n. onto_walk (step w (Permits list word entry)) (walk_from n going ss)) (same-mode mode (Permits list word entry) refl)
 walk-first mode going w (Controls control) ss = ap (λ n. onto_walk (step w (Controls control)) (walk_from n going ss)) (same-mode mode (Controls control) refl)
 walk-first mode going w (Goes to) ss =
     by-going going (is_none (destination to)) (step w (Goes to)) (walk_from mode true ss) TwoDestinations BadDestination

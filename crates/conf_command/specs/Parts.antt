@@ -19,6 +19,6 @@ ends_among one two (b ∷ p ∷ h ∷ t ∷ []) = two_ends two (b ++ 58 ∷ p) (
 ends_among one two parts = None
 
 -- bytes before the first part, which is there
-abbrev pub onto_part : Bytes → List Bytes → List Bytes
-onto_part bytes [] = bytes ∷ []
-onto_part bytes (p ∷ ps) = (bytes ++ p) ∷ ps
+abbrev pub onto_first_part : Bytes → List Bytes → List Bytes
+onto_first_part bytes [] = bytes ∷ []
+onto_first_part bytes (p ∷ ps) = (bytes ++ p) ∷ ps

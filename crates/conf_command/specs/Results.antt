@@ -11,6 +11,6 @@ Fails (Refused e) reading = reading ≡ Err e
 Fails OutOfMemory reading = Unit {0}
 
 -- what was returned is the reading, unless memory ran out
-abbrev pub Gives : Result Command WordsError → ReadCommand → Type 0
-Gives (Ok command) reading = reading ≡ Ok command
-Gives (Err e) reading = Fails e reading
+abbrev pub GivesCommand : Result Command WordsError → ReadCommand → Type 0
+GivesCommand (Ok command) reading = reading ≡ Ok command
+GivesCommand (Err e) reading = Fails e reading

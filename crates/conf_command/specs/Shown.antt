@@ -1,4 +1,4 @@
--- What the code's values say, without where their bytes lie.
+-- What the code's values represent, without where their bytes lie.
 use Rattle.std.specs.Option.{option_copied}
 use Rattle.conf_rules.specs.Destinations.{Destination}
 use Rattle.conf_rules.specs.Options as options
@@ -15,25 +15,25 @@ use Rattle.conf_command.specs.declared.options.Next.{Next as TheNext}
 use Rattle.conf_command.specs.declared.options.Next.TheVariants as nexts
 use Rattle.conf_command.specs.declared.destinations.Destination.{Destination as TheDestination}
 
--- what is to be done
-abbrev pub mode_of : TheMode → Mode
-mode_of modes.Listing = options.Listing
-mode_of modes.Master = options.Master
-mode_of modes.Client = options.Client
+-- the mode of the program
+abbrev pub shown_mode_of : TheMode → Mode
+shown_mode_of modes.Listing = options.Listing
+shown_mode_of modes.Master = options.Master
+shown_mode_of modes.Client = options.Client
 
--- what a word does
+-- the effect of a word
 abbrev pub act_of : Act → options.Act
-act_of (acts.Chooses mode) = options.Chooses (mode_of mode)
+act_of (acts.Chooses mode) = options.Chooses (shown_mode_of mode)
 act_of (acts.Reads from) = options.Reads from
 act_of (acts.Asks line) = options.Asks line
 act_of (acts.Connects transport) = options.Connects transport
-act_of (acts.Permits listening word entry) = options.Permits listening word entry
+act_of (acts.Permits list word entry) = options.Permits list word entry
 act_of (acts.Sessions may) = options.Sessions may
 act_of (acts.Controls control) = options.Controls control
 act_of (acts.Goes to) = options.Goes to
 act_of (acts.Fails cause) = options.Fails cause
 
--- what takes a value
+-- an option that has a value
 abbrev pub takes_of : TheTakes → Takes
 takes_of (takes.Key keyword) = options.OfKey keyword.now
 takes_of (takes.Forward keyword one two) = options.OfForward keyword.now one two
@@ -41,17 +41,17 @@ takes_of takes.Line = options.OfLine
 takes_of takes.File = options.OfFile
 takes_of takes.Transport = options.OfTransport
 takes_of takes.Control = options.OfControl
-takes_of (takes.Permit listening) = options.OfPermit listening
+takes_of (takes.Permit list) = options.OfPermit list
 takes_of takes.Sessions = options.OfSessions
 
--- what a letter is
+-- the meaning of a letter
 abbrev pub letter_of : TheLetter → Letter
-letter_of (letters.Names mode) = options.Names (mode_of mode)
+letter_of (letters.Names mode) = options.Names (shown_mode_of mode)
 letter_of (letters.Sets keyword value) = options.Sets keyword.now value.now
 letter_of (letters.With takes) = options.With (takes_of takes)
 letter_of letters.NoLetter = options.NoLetter
 
--- what the next word is
+-- how the next word is read
 abbrev pub next_of : TheNext → Next
 next_of nexts.Free = options.Free
 next_of nexts.Ended = options.Ended

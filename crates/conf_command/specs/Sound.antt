@@ -17,6 +17,6 @@ transport_at other (Connects transport) = Some transport
 transport_at other act = other
 
 -- the host to which a step goes
-abbrev pub host_at : Act → Option Bytes
-host_at (Goes to) = host_or None (destination to)
-host_at act = None
+abbrev pub step_host_at : Act → Option Bytes
+step_host_at (Goes to) = host_or None (destination to)
+step_host_at act = None

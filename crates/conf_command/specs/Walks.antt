@@ -7,7 +7,7 @@ use Rattle.conf_rules.specs.Destinations.{destination}
 use Rattle.conf_rules.specs.CommandLine.{other_mode, Walk}
 use Rattle.conf_command.specs.declared.walk.Walk.{Walk as TheWalk}
 
--- why a step is bad behind this first mode, and behind a destination or none
+-- why a step is bad after this first mode, and after a destination or none
 abbrev pub fault_of : Option Mode → Bool → Act → Option Usage
 fault_of mode going (Fails cause) = Some cause
 fault_of mode going (Chooses m) = if other_mode mode m then Some TwoModes else None
@@ -20,12 +20,12 @@ abbrev pub mode_in : Act → Option Mode
 mode_in (Chooses m) = Some m
 mode_in act = None
 
--- the first mode behind a step
+-- the first mode after a step
 abbrev pub mode_behind : Option Mode → Act → Option Mode
 mode_behind (Some first) act = Some first
 mode_behind None act = mode_in act
 
--- whether there is a destination behind a step
+-- whether there is a destination after a step
 abbrev pub going_behind : Bool → Act → Bool
 going_behind going (Goes to) = true
 going_behind going act = going
@@ -33,7 +33,7 @@ going_behind going act = going
 -- whether a step is an option of the master
 abbrev pub is_of_master : Act → Bool
 is_of_master (Connects transport) = true
-is_of_master (Permits listening word entry) = true
+is_of_master (Permits list word entry) = true
 is_of_master (Sessions may) = true
 is_of_master act = false
 
@@ -41,6 +41,6 @@ is_of_master act = false
 abbrev pub walk_of : TheWalk → Walk
 walk_of walk = record { sound = walk.sound.now; fault = walk.fault }
 
--- sound steps in front
+-- sound steps before others
 abbrev pub behind_sound : List Step → Walk → Walk
 behind_sound steps walk = record { sound = steps ++ walk.sound; fault = walk.fault }

@@ -1,4 +1,4 @@
--- What one word does.
+-- The effect of one word.
 use Rattle.std.specs.Prelude.{ℕ, List, [], ◌∷◌}
 use Rattle.conf_rules.specs.declared.usage.Usage.TheVariants.{NoValue}
 use Rattle.conf_rules.specs.Texts.{Bytes}

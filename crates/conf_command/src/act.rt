@@ -1,7 +1,7 @@
-use conf_rules::{AskedLine, ConfigFrom, MasterCommand, Usage};
+use conf_rules::{AskedLine, ConfigFrom, MasterCommand, PermitList, Usage};
 use ssh_fields::Text;
 
-/// What is to be done.
+/// The mode of the program.
 #[derive(Clone, Copy, Drop)]
 pub enum Mode {
     Listing,
@@ -10,22 +10,22 @@ pub enum Mode {
     Client,
 }
 
-/// What a word does.
+/// The effect of a word.
 #[derive(Drop)]
 pub enum Act {
     Chooses(Mode),
     Reads(ConfigFrom),
     Asks(AskedLine),
     Connects(Text),
-    /// An entry, and the word in which it stands.
+    /// An entry of a list, and the word in which it stands.
     Permits {
-        listening: bool,
+        list: PermitList,
         word: u64,
         entry: Text,
     },
     /// Whether sessions are permitted.
     Sessions(bool),
-    /// What a running master is asked.
+    /// The request to a running master.
     Controls(MasterCommand),
     Goes(Text),
     Fails(Usage),

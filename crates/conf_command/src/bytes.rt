@@ -3,7 +3,7 @@ ghost use Rattle.std.specs.Prelude.{◌≡◌, ◌+◌, ◌-◌, ◌∷◌, ◌+
 use ssh_fields::{OutOfMemory, Text, Texts};
 use std::alloc::Global;
 
-/// Whether two texts are one.
+/// Whether two texts are equal.
 pub fn is_same(a: &[u8], b: &[u8]) -> bool
     ensures { result ≡ bytes_eq a.now b.now }
 {

@@ -3,8 +3,9 @@ ghost use Rattle.conf_rules.specs.Options.{letters, letter_among, Sets, With, Of
 ghost use Rattle.conf_command.specs.Shown.{letter_of};
 
 use crate::act::Mode;
+use conf_rules::PermitList;
 
-/// What takes a value.
+/// An option that has a value.
 #[derive(Clone, Copy, Drop)]
 pub enum Takes {
     /// An option of a key.
@@ -19,21 +20,19 @@ pub enum Takes {
     Line,
     File,
     Transport,
-    /// What a running master is asked.
+    /// The request to a running master.
     Control,
-    /// A permission to listen, or to open.
-    Permit {
-        listening: bool,
-    },
+    /// A permission of a list.
+    Permit(PermitList),
     /// Whether sessions are permitted.
     Sessions,
 }
 
-/// What a letter is.
+/// What a letter means.
 #[derive(Clone, Copy, Drop)]
 pub enum Letter {
     Names(Mode),
-    /// It sets a key to a value of its own.
+    /// It sets a key to a fixed value.
     Sets {
         keyword: &'static [u8],
         value: &'static [u8],
@@ -42,21 +41,21 @@ pub enum Letter {
     NoLetter,
 }
 
-/// A key that a letter sets.
+// A key that a letter sets.
 fn sets(keyword: &'static [u8], value: &'static [u8]) -> Letter
     ensures { letter_of result ≡ Sets keyword.now value.now }
 {
     Letter::Sets { keyword, value }
 }
 
-/// A key whose value a letter takes.
+// A key whose value follows a letter.
 fn key(keyword: &'static [u8]) -> Letter
     ensures { letter_of result ≡ With (OfKey keyword.now) }
 {
     Letter::With(Takes::Key(keyword))
 }
 
-/// A forwarding whose ends a letter takes.
+// A forwarding whose ends follow a letter.
 fn forward(keyword: &'static [u8], one: bool, two: bool) -> Letter
     ensures { letter_of result ≡ With (OfForward keyword.now one two) }
 {

@@ -11,22 +11,22 @@ use crate::forwardings::forward_words;
 use crate::letters::{Letter, Takes, meaning_of};
 use crate::step::{Step, Steps};
 use conf_lexer::first;
-use conf_rules::{AskedLine, ConfigFrom, MasterCommand, Usage};
+use conf_rules::{AskedLine, ConfigFrom, MasterCommand, PermitList, Usage};
 use ssh_fields::{OutOfMemory, Text, Texts};
 use std::alloc::Global;
 
-/// What the next word is.
+/// How the next word is read.
 #[derive(Clone, Copy, Drop)]
 pub enum Next {
-    /// Any word.
+    /// As any word.
     Free,
-    /// No option any more.
+    /// Never as an option.
     Ended,
-    /// The value of an option at a word.
+    /// As the value of an option at a word.
     ValueOf { here: u64, takes: Takes },
 }
 
-/// The value of an option at a word comes next.
+// The value of an option at a word comes next.
 fn value_of(here: u64, takes: Takes) -> Next
     ensures { next_of result ≡ ValueOf here (takes_of takes) }
 {
@@ -51,7 +51,7 @@ pub fn key_line(
     })
 }
 
-/// A forwarding at a word.
+// A forwarding at a word.
 fn forward_step(
     alloc: Global,
     at: u64,
@@ -76,7 +76,7 @@ fn forward_step(
     }
 }
 
-/// The file that a value names; `none` reads nothing.
+// The file that a value names; `none` reads nothing.
 fn file_named(alloc: Global, value: &[u8]) -> Result<ConfigFrom, OutOfMemory>
     ensures { IfOk result (λ from. from ≡ file_named value.now) }
 {
@@ -86,7 +86,7 @@ fn file_named(alloc: Global, value: &[u8]) -> Result<ConfigFrom, OutOfMemory>
     Ok(ConfigFrom::File(Text::copy(alloc, value)?))
 }
 
-/// What a running master is asked by a value, if it names that.
+// The request to a running master that a value names, if it names one.
 fn control_named(value: &[u8]) -> Option<MasterCommand>
     ensures { result ≡ control_among controls value.now }
 {
@@ -108,7 +108,7 @@ fn control_named(value: &[u8]) -> Option<MasterCommand>
     None
 }
 
-/// A value that names what a running master is asked, or is bad where it stands.
+// A value that names a request to a running master, or is bad at its word.
 fn control_step(at: u64, value: &[u8]) -> Step
     ensures { result ≡ control_step at (control_among controls value.now) }
 {
@@ -118,7 +118,7 @@ fn control_step(at: u64, value: &[u8]) -> Step
     }
 }
 
-/// Whether sessions are permitted.
+// Whether sessions are permitted.
 fn sessions_named(word: &[u8]) -> Option<bool>
     ensures { result ≡ sessions_named word.now }
 {
@@ -131,7 +131,7 @@ fn sessions_named(word: &[u8]) -> Option<bool>
     None
 }
 
-/// Whether sessions are permitted; a value that doesn't say it is bad where it stands.
+// Whether sessions are permitted; a value that is neither `any` nor `none` is bad at its word.
 fn take_sessions(here: u64, at: u64, value: &[u8], steps: &mut Steps) -> Result<(), OutOfMemory>
     ensures { OnOk result (steps.new ≡ steps.old
         ++ sessions_steps here at (sessions_named value.now)) }
@@ -145,7 +145,7 @@ fn take_sessions(here: u64, at: u64, value: &[u8], steps: &mut Steps) -> Result<
     }
 }
 
-/// What an option at a word does with its value at another.
+// What an option at a word does with its value at another.
 fn take(
     alloc: Global,
     takes: Takes,
@@ -177,12 +177,12 @@ fn take(
             let transport = Text::copy(alloc, value)?;
             steps.push(Step::new(here, Act::Connects(transport)))
         }
-        Takes::Permit { listening } => {
+        Takes::Permit(list) => {
             let entry = Text::copy(alloc, value)?;
             steps.push(Step::new(
                 here,
                 Act::Permits {
-                    listening,
+                    list,
                     word: at,
                     entry,
                 },
@@ -196,7 +196,7 @@ fn take(
     }
 }
 
-/// A letter that takes a value: the rest of its word, or the next word.
+// A letter with a value: the rest of its word, or the next word.
 fn with_value(
     alloc: Global,
     takes: Takes,
@@ -215,7 +215,7 @@ fn with_value(
     Ok(Next::Free)
 }
 
-/// What the letters of a word do, up to one that takes the rest.
+// The effect of the letters of a word, up to one whose value is the rest.
 fn by_letters(alloc: Global, at: u64, word: &[u8], steps: &mut Steps) -> Result<Next, OutOfMemory>
     ensures steps { OnOk result (steps.new ≡ steps.old ++ (by_letters at word.now).steps) }
     ensures next { IfOk result (λ n. next_of n ≡ (by_letters at word.now).next) }
@@ -239,7 +239,7 @@ fn by_letters(alloc: Global, at: u64, word: &[u8], steps: &mut Steps) -> Result<
     Ok(Next::Free)
 }
 
-/// What stands behind two dashes: nothing ends the options.
+// What follows two dashes: nothing ends the options.
 fn long_option(at: u64, word: &[u8], steps: &mut Steps) -> Result<Next, OutOfMemory>
     ensures steps { OnOk result (steps.new ≡ steps.old ++ (long_option at word.now).steps) }
     ensures next { IfOk result (λ n. next_of n ≡ (long_option at word.now).next) }
@@ -251,19 +251,22 @@ fn long_option(at: u64, word: &[u8], steps: &mut Steps) -> Result<Next, OutOfMem
         return Ok(value_of(at, Takes::Transport));
     }
     if is_same(word, b"permit-open") {
-        return Ok(value_of(at, Takes::Permit { listening: false }));
+        return Ok(value_of(at, Takes::Permit(PermitList::Open)));
     }
     if is_same(word, b"permit-listen") {
-        return Ok(value_of(at, Takes::Permit { listening: true }));
+        return Ok(value_of(at, Takes::Permit(PermitList::Listen)));
     }
     if is_same(word, b"permit-session") {
         return Ok(value_of(at, Takes::Sessions));
+    }
+    if is_same(word, b"permit-here") {
+        return Ok(value_of(at, Takes::Permit(PermitList::Here)));
     }
     steps.push(Step::new(at, Act::Fails(Usage::UnknownOption)))?;
     Ok(Next::Free)
 }
 
-/// What stands behind one dash: a lone dash is no option.
+// What follows one dash: a lone dash is no option.
 fn dashed(alloc: Global, at: u64, word: &[u8], steps: &mut Steps) -> Result<Next, OutOfMemory>
     ensures steps { OnOk result (steps.new ≡ steps.old ++ (dashed at word.now).steps) }
     ensures next { IfOk result (λ n. next_of n ≡ (dashed at word.now).next) }
@@ -282,7 +285,7 @@ fn dashed(alloc: Global, at: u64, word: &[u8], steps: &mut Steps) -> Result<Next
     }
 }
 
-/// A destination.
+// A destination.
 fn goes(alloc: Global, at: u64, word: &[u8], steps: &mut Steps) -> Result<(), OutOfMemory>
     ensures { OnOk result (steps.new ≡ steps.old ++ step at (Goes word.now) ∷ []) }
 {
@@ -290,7 +293,7 @@ fn goes(alloc: Global, at: u64, word: &[u8], steps: &mut Steps) -> Result<(), Ou
     steps.push(Step::new(at, Act::Goes(to)))
 }
 
-/// A destination, or what stands behind a dash.
+// A destination, or what follows a dash.
 fn free_word(alloc: Global, at: u64, word: &[u8], steps: &mut Steps) -> Result<Next, OutOfMemory>
     ensures steps { OnOk result (steps.new ≡ steps.old ++ (free_word at word.now).steps) }
     ensures next { IfOk result (λ n. next_of n ≡ (free_word at word.now).next) }
@@ -304,7 +307,7 @@ fn free_word(alloc: Global, at: u64, word: &[u8], steps: &mut Steps) -> Result<N
     }
 }
 
-/// What a word does, and what the next word is.
+// What a word does, and what the next word is.
 fn word_steps(
     alloc: Global,
     next: Next,
@@ -329,7 +332,7 @@ fn word_steps(
     }
 }
 
-/// Adds what the end of the words does, where a value is missing.
+// Adds what the end of the words does, where a value is missing.
 fn end_words(next: Next, steps: &mut Steps) -> Result<(), OutOfMemory>
     ensures { OnOk result (steps.new ≡ steps.old ++ end_steps (next_of next)) }
 {

@@ -1,10 +1,11 @@
 ghost use Rattle.std.specs.Prelude.{◌≡◌, ◌++◌, IfOk, OnOk};
-ghost use Rattle.conf_rules.specs.CommandLine.{permits_in, permits, texts_of};
+ghost use Rattle.conf_rules.specs.CommandLine.{is_of, permits_in, permits, texts_of, bad_permission};
 ghost use Rattle.conf_rules.specs.Permissions.{PermitWord, first_not_entry, bad_entry, earlier};
 
 use crate::act::Act;
 use crate::entries::{is_alone, is_entry};
 use crate::step::Step;
+use conf_rules::PermitList;
 use ssh_fields::{ListOf, OutOfMemory, Text, Texts};
 use std::alloc::Global;
 use std::marker::Model;
@@ -48,22 +49,30 @@ impl Permit {
 /// Permissions in order.
 pub type Permits = ListOf<Permit>;
 
+// Whether a permission is of a list.
+fn is_of(wanted: PermitList, list: PermitList) -> bool
+    ensures { result ≡ is_of wanted list }
+{
+    match (wanted, list) {
+        (PermitList::Open, PermitList::Open) => true,
+        (PermitList::Listen, PermitList::Listen) => true,
+        (PermitList::Here, PermitList::Here) => true,
+        _ => false,
+    }
+}
+
 // Adds the permission of a step, if it is of this list.
 fn add_permit(
     all: &mut Permits,
     alloc: Global,
-    listening: bool,
+    wanted: PermitList,
     step: &Step,
 ) -> Result<(), OutOfMemory>
-    ensures { OnOk result (all.new ≡ all.old ++ permits_in listening step.now) }
+    ensures { OnOk result (all.new ≡ all.old ++ permits_in wanted step.now) }
 {
     match step.act() {
-        Act::Permits {
-            listening: of,
-            word,
-            entry,
-        } => {
-            if *of == listening {
+        Act::Permits { list, word, entry } => {
+            if is_of(wanted, *list) {
                 let text = Text::copy(alloc, entry.as_bytes())?;
                 all.push(Permit::new(*word, text))?;
             }
@@ -73,19 +82,19 @@ fn add_permit(
     }
 }
 
-/// All permissions to listen, or all to open.
-pub fn permits_of(alloc: Global, listening: bool, steps: &[Step]) -> Result<Permits, OutOfMemory>
-    ensures { IfOk result (λ all. all ≡ permits listening steps.now) }
+// All permissions of a list.
+fn permits_of(alloc: Global, list: PermitList, steps: &[Step]) -> Result<Permits, OutOfMemory>
+    ensures { IfOk result (λ all. all ≡ permits list steps.now) }
 {
     let mut all = Permits::new(alloc);
     for step in steps {
-        add_permit(&mut all, alloc, listening, step)?;
+        add_permit(&mut all, alloc, list, step)?;
     }
     Ok(all)
 }
 
-/// The texts of permissions.
-pub fn texts_of(alloc: Global, permits: &Permits) -> Result<Texts, OutOfMemory>
+// The texts of permissions.
+fn texts_of(alloc: Global, permits: &Permits) -> Result<Texts, OutOfMemory>
     ensures { IfOk result (λ texts. texts ≡ texts_of permits.now) }
 {
     let mut texts = Texts::new(alloc);
@@ -93,6 +102,16 @@ pub fn texts_of(alloc: Global, permits: &Permits) -> Result<Texts, OutOfMemory>
         texts.push(Text::copy(alloc, permit.text())?)?;
     }
     Ok(texts)
+}
+
+/// The texts of a list.
+pub fn texts_in(alloc: Global, list: PermitList, steps: &[Step]) -> Result<Texts, OutOfMemory>
+    ensures { IfOk result (λ texts. texts ≡ texts_of (permits list steps.now)) }
+{
+    let permits = permits_of(alloc, list, steps)?;
+    let texts = texts_of(alloc, &permits);
+    drop(permits);
+    texts
 }
 
 // The word of the first text that is no entry.
@@ -107,8 +126,8 @@ fn first_not_entry(permits: &[Permit]) -> Option<u64>
     None
 }
 
-/// The word of the first bad text of a list: `any` and `none` stand alone.
-pub fn bad_entry(permits: &Permits) -> Option<u64>
+// The word of the first bad text of a list: `any` and `none` stand alone.
+fn bad_entry(permits: &Permits) -> Option<u64>
     ensures { result ≡ bad_entry permits.now }
 {
     match permits.as_slice() {
@@ -128,8 +147,18 @@ pub fn bad_entry(permits: &Permits) -> Option<u64>
     }
 }
 
-/// The earlier of two words.
-pub fn earlier(a: Option<u64>, b: Option<u64>) -> Option<u64>
+// The word of the first bad text of a list.
+fn bad_in(alloc: Global, list: PermitList, steps: &[Step]) -> Result<Option<u64>, OutOfMemory>
+    ensures { IfOk result (λ word. word ≡ bad_entry (permits list steps.now)) }
+{
+    let permits = permits_of(alloc, list, steps)?;
+    let word = bad_entry(&permits);
+    drop(permits);
+    Ok(word)
+}
+
+// The earlier of two words.
+fn earlier(a: Option<u64>, b: Option<u64>) -> Option<u64>
     ensures { result ≡ earlier a b }
 {
     match (a, b) {
@@ -137,4 +166,14 @@ pub fn earlier(a: Option<u64>, b: Option<u64>) -> Option<u64>
         (Some(a), None) => Some(a),
         (Some(a), Some(b)) => { if a < b { Some(a) } else { Some(b) } }
     }
+}
+
+/// The earliest word of a bad permission, over all lists.
+pub fn bad_permission(alloc: Global, steps: &[Step]) -> Result<Option<u64>, OutOfMemory>
+    ensures { IfOk result (λ word. word ≡ bad_permission steps.now) }
+{
+    let open = bad_in(alloc, PermitList::Open, steps)?;
+    let listen = bad_in(alloc, PermitList::Listen, steps)?;
+    let here = bad_in(alloc, PermitList::Here, steps)?;
+    Ok(earlier(open, earlier(listen, here)))
 }

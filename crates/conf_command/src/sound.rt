@@ -5,7 +5,7 @@ ghost use Rattle.conf_rules.specs.declared.control.MasterCommand.TheVariants.{Ch
 ghost use Rattle.conf_rules.specs.declared.asked.ConfigFrom.TheVariants.{Standard};
 ghost use Rattle.conf_rules.specs.CommandLine.{line_in, destination_line, from_in, transport_in, sessions_in, control_in, is_forwarding, asks_forwarding, is_about_forwardings, host_in, asked_of};
 ghost use Rattle.conf_rules.specs.Destinations.{destination};
-ghost use Rattle.conf_command.specs.Sound.{from_at, transport_at, host_at};
+ghost use Rattle.conf_command.specs.Sound.{from_at, transport_at, step_host_at};
 
 use crate::act::Act;
 use crate::bytes::{copied, is_same};
@@ -16,8 +16,8 @@ use conf_rules::{Asked, AskedLine, AskedLines, ConfigFrom, MasterCommand};
 use ssh_fields::{OutOfMemory, Text};
 use std::alloc::Global;
 
-/// A copy of a line: steps are borrowed, since the sound ones are a part of all, which are read more
-/// than once.
+// A copy of a line: steps are borrowed, since the sound ones are a part of all, which are read
+// more than once.
 fn copy_line(alloc: Global, line: &AskedLine) -> Result<AskedLine, OutOfMemory>
     ensures { IfOk result (λ copy. copy ≡ line.now) }
 {
@@ -38,7 +38,7 @@ fn copy_line(alloc: Global, line: &AskedLine) -> Result<AskedLine, OutOfMemory>
     }
 }
 
-/// Adds the line of a destination's user.
+// Adds the line of a destination's user.
 fn add_user(alloc: Global, word: u64, to: &[u8], lines: &mut AskedLines) -> Result<(), OutOfMemory>
     ensures { OnOk result (lines.new ≡ lines.old ++ destination_line word (destination to.now)) }
 {
@@ -54,7 +54,7 @@ fn add_user(alloc: Global, word: u64, to: &[u8], lines: &mut AskedLines) -> Resu
     }
 }
 
-/// Adds the lines that a step asks for.
+// Adds the lines that a step gives.
 fn add_line(alloc: Global, step: &Step, lines: &mut AskedLines) -> Result<(), OutOfMemory>
     ensures { OnOk result (lines.new ≡ lines.old ++ line_in step.now) }
 {
@@ -68,7 +68,7 @@ fn add_line(alloc: Global, step: &Step, lines: &mut AskedLines) -> Result<(), Ou
     }
 }
 
-/// The lines that steps ask for.
+// The lines that steps give.
 fn lines_of(alloc: Global, steps: &[Step]) -> Result<AskedLines, OutOfMemory>
     ensures { IfOk result (λ lines. lines ≡ flat_map line_in steps.now) }
 {
@@ -79,7 +79,7 @@ fn lines_of(alloc: Global, steps: &[Step]) -> Result<AskedLines, OutOfMemory>
     Ok(lines)
 }
 
-/// The files that are read behind a step.
+// The files that are read after a step.
 fn from_behind(alloc: Global, from: ConfigFrom, step: &Step) -> Result<ConfigFrom, OutOfMemory>
     ensures { IfOk result (λ f. f ≡ from_at from step.now.act) }
 {
@@ -94,7 +94,7 @@ fn from_behind(alloc: Global, from: ConfigFrom, step: &Step) -> Result<ConfigFro
     }
 }
 
-/// The files that are read: the last one named counts.
+// The files that are read: the last one named counts.
 fn from_in(alloc: Global, steps: &[Step]) -> Result<ConfigFrom, OutOfMemory>
     ensures { IfOk result (λ from. from ≡ from_in Standard steps.now) }
 {
@@ -105,7 +105,7 @@ fn from_in(alloc: Global, steps: &[Step]) -> Result<ConfigFrom, OutOfMemory>
     Ok(from)
 }
 
-/// The transport behind a step.
+// The transport after a step.
 fn transport_behind(
     alloc: Global,
     transport: Option<Text>,
@@ -146,7 +146,7 @@ pub fn sessions_in(steps: &[Step]) -> bool
     sessions
 }
 
-/// What a running master is asked: the last one named counts.
+/// The request to a running master: the last one named counts.
 pub fn control_in(steps: &[Step]) -> MasterCommand
     ensures { result ≡ control_in Check steps.now }
 {
@@ -159,7 +159,7 @@ pub fn control_in(steps: &[Step]) -> MasterCommand
     control
 }
 
-/// Whether a line is a forwarding that a letter names.
+// Whether a line is a forwarding that a letter names.
 fn is_forwarding(line: &AskedLine) -> bool
     ensures { result ≡ is_forwarding line.now }
 {
@@ -174,7 +174,7 @@ fn is_forwarding(line: &AskedLine) -> bool
     }
 }
 
-/// Whether a step names a forwarding.
+// Whether a step names a forwarding.
 fn asks_forwarding(step: &Step) -> bool
     ensures { result ≡ asks_forwarding step.now }
 {
@@ -201,9 +201,9 @@ pub fn is_about_forwardings(control: MasterCommand) -> bool
     }
 }
 
-/// The host to which a step goes.
-fn host_at(step: &Step) -> Option<&[u8]>
-    ensures { option_copied result ≡ host_at step.now.act }
+// The host to which a step goes.
+fn step_host_at(step: &Step) -> Option<&[u8]>
+    ensures { option_copied result ≡ step_host_at step.now.act }
 {
     match step.act() {
         Act::Goes(to) => match destination_in(to.as_bytes()) {
@@ -219,14 +219,14 @@ pub fn host_in(steps: &[Step]) -> Option<&[u8]>
     ensures { option_copied result ≡ host_in steps.now }
 {
     for step in steps {
-        if let Some(host) = host_at(step) {
+        if let Some(host) = step_host_at(step) {
             return Some(host);
         }
     }
     None
 }
 
-/// What sound steps ask for a host.
+/// What sound steps request for a host.
 pub fn asked_of(alloc: Global, host: &[u8], steps: &[Step]) -> Result<Asked, OutOfMemory>
     ensures { IfOk result (λ asked. asked ≡ asked_of host.now steps.now) }
 {

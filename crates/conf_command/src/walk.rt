@@ -1,7 +1,7 @@
 ghost use Rattle.std.specs.Prelude.{◌≡◌, ℕ, false, Some, None, Option};
 ghost use Rattle.std.specs.Option.{option_map};
 ghost use Rattle.conf_rules.specs.CommandLine.{other_mode, or_mode, walk_from, first_mode, first_of_master, not_for_others};
-ghost use Rattle.conf_command.specs.Shown.{mode_of};
+ghost use Rattle.conf_command.specs.Shown.{shown_mode_of};
 ghost use Rattle.conf_command.specs.Walks.{fault_of, mode_behind, going_behind, mode_in, is_of_master, walk_of};
 
 use crate::act::{Act, Mode};
@@ -16,9 +16,9 @@ pub struct Walk<'a> {
     pub fault: Option<UsageError>,
 }
 
-/// Whether the first mode named is another one.
+// Whether the first mode named is another one.
 fn is_other(first: Option<Mode>, mode: Mode) -> bool
-    ensures { result ≡ other_mode (option_map mode_of first) (mode_of mode) }
+    ensures { result ≡ other_mode (option_map shown_mode_of first) (shown_mode_of mode) }
 {
     match (first, mode) {
         (Some(Mode::Listing), Mode::Listing) => false,
@@ -29,9 +29,9 @@ fn is_other(first: Option<Mode>, mode: Mode) -> bool
     }
 }
 
-/// Why a step is bad behind this first mode, and behind a destination or none.
+// Why a step is bad after this first mode, and after a destination or none.
 fn fault_of(mode: Option<Mode>, going: bool, step: &Step) -> Option<Usage>
-    ensures { result ≡ fault_of (option_map mode_of mode) going step.now.act }
+    ensures { result ≡ fault_of (option_map shown_mode_of mode) going step.now.act }
 {
     match step.act() {
         Act::Fails(cause) => Some(*cause),
@@ -54,9 +54,9 @@ fn fault_of(mode: Option<Mode>, going: bool, step: &Step) -> Option<Usage>
     }
 }
 
-/// The mode that a step names.
+// The mode that a step names.
 fn mode_in(step: &Step) -> Option<Mode>
-    ensures { option_map mode_of result ≡ mode_in step.now.act }
+    ensures { option_map shown_mode_of result ≡ mode_in step.now.act }
 {
     match step.act() {
         Act::Chooses(mode) => Some(*mode),
@@ -64,9 +64,9 @@ fn mode_in(step: &Step) -> Option<Mode>
     }
 }
 
-/// The first mode behind a step.
+// The first mode after a step.
 fn mode_behind(mode: Option<Mode>, step: &Step) -> Option<Mode>
-    ensures { option_map mode_of result ≡ mode_behind (option_map mode_of mode) step.now.act }
+    ensures { option_map shown_mode_of result ≡ mode_behind (option_map shown_mode_of mode) step.now.act }
 {
     match mode {
         Some(first) => Some(first),
@@ -74,7 +74,7 @@ fn mode_behind(mode: Option<Mode>, step: &Step) -> Option<Mode>
     }
 }
 
-/// Whether there is a destination behind a step.
+// Whether there is a destination after a step.
 fn going_behind(going: bool, step: &Step) -> bool
     ensures { result ≡ going_behind going step.now.act }
 {
@@ -109,7 +109,7 @@ pub fn walk_over(steps: &[Step]) -> Walk<'_>
 
 /// The mode named first.
 pub fn first_mode(steps: &[Step]) -> Option<Mode>
-    ensures { option_map mode_of result ≡ first_mode steps.now }
+    ensures { option_map shown_mode_of result ≡ first_mode steps.now }
 {
     for step in steps {
         if let Some(mode) = mode_in(step) {
@@ -119,7 +119,7 @@ pub fn first_mode(steps: &[Step]) -> Option<Mode>
     None
 }
 
-/// Whether a step is an option of the master.
+// Whether a step is an option of the master.
 fn is_of_master(step: &Step) -> bool
     ensures { result ≡ is_of_master step.now.act }
 {
@@ -129,7 +129,7 @@ fn is_of_master(step: &Step) -> bool
     }
 }
 
-/// The word of the first option of the master.
+// The word of the first option of the master.
 fn first_of_master(steps: &[Step]) -> Option<u64>
     ensures { result ≡ first_of_master steps.now }
 {

@@ -6,7 +6,7 @@ use Rattle.conf_rules.specs.declared.value.Value.{Value}
 use Rattle.conf_rules.specs.Keys.{same_key}
 use Rattle.conf_rules.specs.Kinds.{Keeping, TheFirst, Every, Patterns, Shared, keeping}
 use Rattle.conf_rules.specs.Rows.{values_among, first_of, is_shared, shared_value, kept, is_collected}
-use Rattle.conf_options.specs.Kept.{Given, Keeps}
+use Rattle.conf_options.specs.Kept.{Given, KeepsSettings}
 use Rattle.conf_rules.proofs.SameKeys.{same-key}
 use Rattle.conf_options.proofs.OfferLemmas.{among-append, kept-other}
 
@@ -54,7 +54,7 @@ kept-again k key v all true e c h = let same : k ≡ key = same-key k key e in r
 kept-again k key v all false e c h = kept-other (keeping k) k key v all e
 
 -- settings keep what was given after a value that is given again
-pub keeps-again : (settings all : List Given) (key : Key) (v : Value) → is_collected key ≡ false → has_key key all ≡ true → Keeps settings all → Keeps settings (all ++ (key, v) ∷ [])
+pub keeps-again : (settings all : List Given) (key : Key) (v : Value) → is_collected key ≡ false → has_key key all ≡ true → KeepsSettings settings all → KeepsSettings settings (all ++ (key, v) ∷ [])
 keeps-again settings all key v c h s = record { each = λ k. s.each k ∙ sym (kept-again k key v all (same_key k key) refl c h) }
 
 -- ---- a key whose first value counts

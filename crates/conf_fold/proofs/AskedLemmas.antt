@@ -22,18 +22,18 @@ use Rattle.conf_rules.specs.Heads.{Heading, Comment, Says, head_of}
 use Rattle.conf_rules.specs.Recorded.{Recorded}
 use Rattle.conf_rules.specs.Includes.{CommandLine}
 use Rattle.conf_rules.specs.Sources.{Line, Content, Spelled, Parts, Refused, asked_line}
-use Rattle.conf_rules.specs.Rows.{Row, Pass, First, Second, Place, given, entry_gives, value, word_in}
+use Rattle.conf_rules.specs.Rows.{LineRow, Pass, First, Second, LinePlace, given, entry_gives, value, word_in}
 use Rattle.conf_rules.specs.Keywords.{meaning_of}
 use Rattle.conf_rules.specs.Entries.{ReadEntry, SplitWords, split, entry_of, content_entry, headed_entry, keyword_entry}
 use Rattle.conf_rules.specs.Resolution.{is_active, active_before, Effect, effect_of, no_block, counted, row_of, row_with, rows_from, first_place, is_refused, refusal_at, refusal_in, wants_second, asks_again, is_asked}
-use Rattle.conf_options.specs.Kept.{Given, Keeps}
+use Rattle.conf_options.specs.Kept.{Given, KeepsSettings}
 use Rattle.conf_fold.specs.declared.fold.Fold.{Fold}
 use Rattle.conf_reader.specs.declared.errors.LineError.{LineError}
 use Rattle.conf_reader.specs.declared.errors.LineError.TheVariants as line_errors
-use Rattle.conf_reader.specs.Results.{Refuses}
+use Rattle.conf_reader.specs.Results.{RefusesLine}
 use Rattle.conf_fold.specs.Results.{FailsLine}
-use Rattle.conf_fold.specs.Stands.{Stands, next_row, setting, collected}
-use Rattle.conf_fold.specs.Begins.{asked_rows, IsEmpty, IsBegun, asked_row, TakesAsked}
+use Rattle.conf_fold.specs.FoldRepresents.{FoldRepresents, next_row, setting, collected}
+use Rattle.conf_fold.specs.Begins.{asked_rows, IsEmpty, IsFoldBegun, asked_row, TakesAsked}
 use Rattle.conf_fold.proofs.SeenLemmas.{setting-value}
 use Rattle.conf_fold.proofs.EntryLemmas.{opens, bind-ok}
 use Rattle.conf_fold.proofs.RowLemmas.{given-more, collected-more, wants-more, or-false}
@@ -84,27 +84,27 @@ content-plain ignored (Parts keyword words) e h = keyword-plain ignored keyword 
 content-plain ignored (Refused cause) e h = absurd cc
 
 -- its content after rows
-pub asked-says : (rows : List Row) (l : AskedLine) → entry_of rows (asked_line l) ≡ content_entry (word_in (value keys.IgnoreUnknown rows)) CommandLine (asked_line l).content
+pub asked-says : (rows : List LineRow) (l : AskedLine) → entry_of rows (asked_line l) ≡ content_entry (word_in (value keys.IgnoreUnknown rows)) CommandLine (asked_line l).content
 unfolding entry_of
 asked-says rows l = ap (λ s. content_entry (word_in (value keys.IgnoreUnknown rows)) s (asked_line l).content) (asked-source l)
 
 -- ---- its row
 
 -- the row of a line of the command line, which is active
-unfoldable pub asked_with : Line → Bool → Effect → Row
+unfoldable pub asked_with : Line → Bool → Effect → LineRow
 asked_with line again effect = row_with line true again effect
 
 no-limit : (recorded : Recorded) (line : Line) (place : ℕ) → line.source ≡ CommandLine → Rattle.conf_rules.specs.Resolution.is_past_limit recorded line place ≡ false
 no-limit recorded line place h = rw h refl
 
-no-blocks : (rows : List Row) (pass : Pass) (line : Line) → line.blocks ≡ [] → is_active rows pass line ≡ true
+no-blocks : (rows : List LineRow) (pass : Pass) (line : Line) → line.blocks ≡ [] → is_active rows pass line ≡ true
 no-blocks rows pass line h = rw h refl
 
-pub asked-row-is : (recorded : Recorded) (pass : Pass) (rows : List Row) (place : ℕ) (l : AskedLine) → next_row recorded pass rows place (asked_line l) ≡ asked_with (asked_line l) (active_before pass place) (effect_of recorded pass rows true (entry_of rows (asked_line l)))
+pub asked-row-is : (recorded : Recorded) (pass : Pass) (rows : List LineRow) (place : ℕ) (l : AskedLine) → next_row recorded pass rows place (asked_line l) ≡ asked_with (asked_line l) (active_before pass place) (effect_of recorded pass rows true (entry_of rows (asked_line l)))
 unfolding next_row row_of asked_with
 asked-row-is recorded pass rows place l = rw (no-blocks rows pass (asked_line l) (asked-blocks l), no-limit recorded (asked_line l) place (asked-source l)) refl
 
-plain-effect : (recorded : Recorded) (pass : Pass) (rows : List Row) (e : LineContent) → opens e ≡ false → effect_of recorded pass rows true (Ok e) ≡ no_block (Ok e)
+plain-effect : (recorded : Recorded) (pass : Pass) (rows : List LineRow) (e : LineContent) → opens e ≡ false → effect_of recorded pass rows true (Ok e) ≡ no_block (Ok e)
 unfolding opens
 plain-effect recorded pass rows Nothing h = refl
 plain-effect recorded pass rows (Gives key v) h = refl
@@ -112,7 +112,7 @@ plain-effect recorded pass rows (Host ps) h = absurd cc
 plain-effect recorded pass rows (Match cs) h = absurd cc
 
 -- the row of one that says this
-pub asked-row-says : (recorded : Recorded) (pass : Pass) (rows : List Row) (place : ℕ) (l : AskedLine) (e : LineContent) → entry_of rows (asked_line l) ≡ Ok e
+pub asked-row-says : (recorded : Recorded) (pass : Pass) (rows : List LineRow) (place : ℕ) (l : AskedLine) (e : LineContent) → entry_of rows (asked_line l) ≡ Ok e
     → next_row recorded pass rows place (asked_line l) ≡ row_with (asked_line l) true (active_before pass place) (no_block (Ok e))
 unfolding asked_with
 asked-row-says recorded pass rows place l e h =
@@ -120,7 +120,7 @@ asked-row-says recorded pass rows place l e h =
     asked-row-is recorded pass rows place l ∙ ap (λ r. row_with (asked_line l) true (active_before pass place) (effect_of recorded pass rows true r)) h ∙ ap (row_with (asked_line l) true (active_before pass place)) (plain-effect recorded pass rows e plain)
 
 -- one of the command line collects nothing for a second pass
-pub asked-collected : (row : Row) (l : AskedLine) → row.line ≡ asked_line l → collected row ≡ []
+pub asked-collected : (row : LineRow) (l : AskedLine) → row.line ≡ asked_line l → collected row ≡ []
 asked-collected row l h =
     let is : is_asked row.line.source ≡ true = ap (λ (x : Line). is_asked x.source) h ∙ ap is_asked (asked-source l) in
     rw is refl
@@ -134,8 +134,8 @@ plain-wants (Match cs) h = absurd cc
 
 -- ---- one line
 
-pub asked-taken : (recorded : Recorded) (fold new : Fold) (rows : List Row) (l : AskedLine) (e : LineContent) → Stands recorded First fold rows [] → content_entry (word_in (setting keys.IgnoreUnknown fold)) CommandLine (asked_line l).content ≡ Ok e
-    → ((gs : List Given) → Keeps fold.settings gs → Keeps new.settings (gs ++ entry_gives false (Ok e))) → new ≡ record fold { settings = new.settings }
+pub asked-taken : (recorded : Recorded) (fold new : Fold) (rows : List LineRow) (l : AskedLine) (e : LineContent) → FoldRepresents recorded First fold rows [] → content_entry (word_in (setting keys.IgnoreUnknown fold)) CommandLine (asked_line l).content ≡ Ok e
+    → ((gs : List Given) → KeepsSettings fold.settings gs → KeepsSettings new.settings (gs ++ entry_gives false (Ok e))) → new ≡ record fold { settings = new.settings }
     → TakesAsked recorded rows (asked_line l) (Ok tt) new
 asked-taken recorded fold new rows l e s says keeps others =
     let here : entry_of rows (asked_line l) ≡ Ok e = asked-says rows l ∙ ap (λ v. content_entry (word_in v) CommandLine (asked_line l).content) (sym (setting-value recorded First fold rows [] keys.IgnoreUnknown s)) ∙ says in
@@ -143,7 +143,7 @@ asked-taken recorded fold new rows l e s says keeps others =
     let row = asked_row recorded rows (asked_line l) in
     let is : row ≡ row_with (asked_line l) true false (no_block (Ok e)) = asked-row-says recorded First rows (length rows) l e here in
     let gives : given row ≡ entry_gives false (Ok e) = ap given is in (
-      ap (λ (r : Row). is_refused r.entry) is,
+      ap (λ (r : LineRow). is_refused r.entry) is,
       record {
         original = ap (λ (f : Fold). f.original) others ∙ s.original;
         keeps = rw (given-more rows row, gives) (keeps (flat_map given rows) s.keeps);
@@ -157,12 +157,12 @@ asked-taken recorded fold new rows l e s says keeps others =
       },
     )
 
-asked-refused-row : (recorded : Recorded) (rows : List Row) (l : AskedLine) (c : Cause) → entry_of rows (asked_line l) ≡ Err c → (asked_row recorded rows (asked_line l)).entry ≡ Err c
+asked-refused-row : (recorded : Recorded) (rows : List LineRow) (l : AskedLine) (c : Cause) → entry_of rows (asked_line l) ≡ Err c → (asked_row recorded rows (asked_line l)).entry ≡ Err c
 unfolding asked_with
-asked-refused-row recorded rows l c h = ap (λ (r : Row). r.entry) (asked-row-is recorded First rows (length rows) l) ∙ ap (λ r. (effect_of recorded First rows true r).entry) h
+asked-refused-row recorded rows l c h = ap (λ (r : LineRow). r.entry) (asked-row-is recorded First rows (length rows) l) ∙ ap (λ r. (effect_of recorded First rows true r).entry) h
 
-pub asked-refused : (recorded : Recorded) (fold new : Fold) (rows : List Row) (l : AskedLine) (e : LineError) (number : ℕ) (d : ResolveError) → Stands recorded First fold rows [] → FailsLine e (content_entry (word_in (setting keys.IgnoreUnknown fold)) CommandLine (asked_line l).content)
-    → number ≡ (asked_line l).number → Refuses e (codes "command line") number d → TakesAsked recorded rows (asked_line l) (Err d) new
+pub asked-refused : (recorded : Recorded) (fold new : Fold) (rows : List LineRow) (l : AskedLine) (e : LineError) (number : ℕ) (d : ResolveError) → FoldRepresents recorded First fold rows [] → FailsLine e (content_entry (word_in (setting keys.IgnoreUnknown fold)) CommandLine (asked_line l).content)
+    → number ≡ (asked_line l).number → RefusesLine e (codes "command line") number d → TakesAsked recorded rows (asked_line l) (Err d) new
 asked-refused recorded fold new rows l e number resolve_errors.OutOfMemory s f at r = tt
 asked-refused recorded fold new rows l line_errors.OutOfMemory number (resolve_errors.At file n cause) s f at r = absurd cc
 asked-refused recorded fold new rows l (line_errors.Refused c) number (resolve_errors.At file n cause) s f at r =
@@ -174,8 +174,8 @@ asked-refused recorded fold new rows l (line_errors.Refused c) number (resolve_e
 
 -- what a fold represents before some of them
 pub record SoFar (recorded : Recorded) (fold : Fold) (lines : List AskedLine) : Type 0 where
-  pub rows : List Row
-  pub stands : Stands recorded First fold rows []
+  pub rows : List LineRow
+  pub stands : FoldRepresents recorded First fold rows []
   pub none : refusal_in rows ≡ None
   pub is : from recorded First rows (length rows) (map asked_line lines) ≡ asked_rows recorded
 
@@ -211,7 +211,7 @@ goes-on recorded fold new l ls s t =
       is = ap (λ n. from recorded First (s.rows ++ row ∷ []) n (map asked_line ls)) k ∙ sym (rows-on recorded First s.rows (length s.rows) (asked_line l) (map asked_line ls) t.0) ∙ s.is;
     }
 
-pub stops : (recorded : Recorded) (fold new : Fold) (l : AskedLine) (ls : List AskedLine) (e : ResolveError) → (s : SoFar recorded fold (l ∷ ls)) → TakesAsked recorded s.rows (asked_line l) (Err e) new → IsBegun recorded (Err e)
+pub stops : (recorded : Recorded) (fold new : Fold) (l : AskedLine) (ls : List AskedLine) (e : ResolveError) → (s : SoFar recorded fold (l ∷ ls)) → TakesAsked recorded s.rows (asked_line l) (Err e) new → IsFoldBegun recorded (Err e)
 stops recorded fold new l ls resolve_errors.OutOfMemory s t = tt
 stops recorded fold new l ls (resolve_errors.At file number cause) s t =
     let row = asked_row recorded s.rows (asked_line l) in
@@ -219,9 +219,9 @@ stops recorded fold new l ls (resolve_errors.At file number cause) s t =
     ap refusal_in (sym s.is ∙ rows-end recorded First s.rows (length s.rows) (asked_line l) (map asked_line ls) refused) ∙ refusal-behind s.rows row s.none
     ∙ ap (λ x. refusal_at x row.entry) (row-line recorded First s.rows (length s.rows) (asked_line l)) ∙ t
 
-pub ends : (recorded : Recorded) (fold : Fold) → SoFar recorded fold [] → IsBegun recorded (Ok fold)
+pub ends : (recorded : Recorded) (fold : Fold) → SoFar recorded fold [] → IsFoldBegun recorded (Ok fold)
 unfolding rows_from
-ends recorded fold s = (subst (λ rows. Stands recorded First fold rows []) s.is s.stands, ap refusal_in (sym s.is) ∙ s.none)
+ends recorded fold s = (subst (λ rows. FoldRepresents recorded First fold rows []) s.is s.stands, ap refusal_in (sym s.is) ∙ s.none)
 
 -- the next of some lines, and those after it
 pub next-asked : (lines items : List AskedLine) (i : ℕ) (x : AskedLine) → items ≡ lines → i < length items → x ≡ get_or items i x → drop i lines ≡ x ∷ drop (i + 1) lines

@@ -19,7 +19,7 @@ use Rattle.conf_rules.specs.Evaluation.{verdict}
 use Rattle.conf_rules.specs.Includes.{Source, CommandLine, UserFile, SystemFile}
 use Rattle.conf_rules.specs.Sources.{Line}
 use Rattle.conf_rules.specs.Kinds.{keeping}
-use Rattle.conf_rules.specs.Rows.{Row, Pass, is_collected, value, given, word_in}
+use Rattle.conf_rules.specs.Rows.{LineRow, Pass, is_collected, value, given, word_in}
 use Rattle.conf_rules.specs.declared.key_kind.KeyKind.{KeyKind}
 use Rattle.conf_rules.specs.declared.key_kind.KeyKind.TheVariants as kinds
 use Rattle.conf_rules.specs.Keywords.{meaning_of}
@@ -27,8 +27,8 @@ use Rattle.conf_rules.specs.Entries.{ReadEntry, SplitWords, split, entry_of, key
 use Rattle.conf_rules.specs.Resolution.{seen_at, is_asked, is_past_limit, counted, is_active, effect_of, tested, row_of}
 use Rattle.conf_fold.specs.declared.fold.Fold.{Fold}
 use Rattle.conf_reader.specs.declared.line.ConfLine.{ConfLine}
-use Rattle.conf_reader.specs.Blocks.{Blocks, opens_block, IsLine}
-use Rattle.conf_fold.specs.Stands.{collects, Stands, setting, entry_so_far}
+use Rattle.conf_reader.specs.Blocks.{Blocks, keyword_opens_block, IsLine}
+use Rattle.conf_fold.specs.FoldRepresents.{collects, FoldRepresents, setting, entry_so_far}
 use Rattle.conf_fold.proofs.SeenLemmas.{setting-value}
 
 -- ---- entries
@@ -47,7 +47,7 @@ entry-any-file ignored source keyword rest words kinds.Unchecked h = refl
 entry-any-file ignored source keyword rest words kinds.Unknown h = refl
 
 -- the content of a given line after rows
-pub line-says : (rows : List Row) (line : Line) (given : ConfLine) (blocks : Blocks) → IsLine given blocks line
+pub line-says : (rows : List LineRow) (line : Line) (given : ConfLine) (blocks : Blocks) → IsLine given blocks line
     → entry_of rows line ≡ headed_entry (word_in (value keys.IgnoreUnknown rows)) UserFile (Says given.keyword given.rest)
 unfolding entry_of
 line-says rows line given blocks is =
@@ -56,8 +56,8 @@ line-says rows line given blocks is =
     ∙ ap (λ h. as_error causes.Lex h >>= headed_entry ignored line.source) is.says
     ∙ entry-any-file ignored line.source given.keyword given.rest (split given.rest) (meaning_of given.keyword) is.asked
 
-pub entry-same : (recorded : Recorded) (pass : Pass) (fold : Fold) (rows : List Row) (blocks : Blocks) (line : Line) (given : ConfLine)
-    → Stands recorded pass fold rows blocks → IsLine given blocks line → entry_of rows line ≡ entry_so_far fold given
+pub entry-same : (recorded : Recorded) (pass : Pass) (fold : Fold) (rows : List LineRow) (blocks : Blocks) (line : Line) (given : ConfLine)
+    → FoldRepresents recorded pass fold rows blocks → IsLine given blocks line → entry_of rows line ≡ entry_so_far fold given
 unfolding entry_so_far
 entry-same recorded pass fold rows blocks line given s is =
     line-says rows line given blocks is
@@ -115,7 +115,7 @@ opens-by keyword true m h k = sym (ap is_block (host-meaning keyword h))
 opens-by keyword false true h k = sym (ap is_block (match-meaning keyword k))
 opens-by keyword false false h k = sym (no-block keyword h k)
 
-pub opens-meaning : (keyword : Bytes) → opens_block keyword ≡ is_block (meaning_of keyword)
+pub opens-meaning : (keyword : Bytes) → keyword_opens_block keyword ≡ is_block (meaning_of keyword)
 opens-meaning keyword = opens-by keyword (same_word keyword (codes "host")) (same_word keyword (codes "match")) refl refl
 
 pub said-opens : (ignored : Option Bytes) (keyword rest : Bytes) (words : SplitWords) (m : KeyKind) (e : LineContent) → keyword_entry ignored UserFile keyword rest words m ≡ Ok e → is_block m ≡ opens e
@@ -138,7 +138,7 @@ said-opens ignored keyword rest words kinds.Unknown e h = ignored-opens (Rattle.
     ignored-opens false h = absurd cc
 
 -- a line's keyword opens a block exactly where its content does
-pub entry-opens : (fold : Fold) (l : ConfLine) (e : LineContent) → entry_so_far fold l ≡ Ok e → opens_block l.keyword ≡ opens e
+pub entry-opens : (fold : Fold) (l : ConfLine) (e : LineContent) → entry_so_far fold l ≡ Ok e → keyword_opens_block l.keyword ≡ opens e
 unfolding entry_so_far
 entry-opens fold l e h = opens-meaning l.keyword ∙ said-opens (word_in (setting keys.IgnoreUnknown fold)) l.keyword l.rest (split l.rest) (meaning_of l.keyword) e h
 
@@ -154,7 +154,7 @@ keyword-collects i j keyword rest words kinds.Unknown = unknown-collects (Rattle
 keyword-collects i j keyword rest words m = refl
 
 -- a given line collects after any rows alike
-pub line-collects : (rows others : List Row) (line : Line) (l : ConfLine) (blocks : Blocks) → IsLine l blocks line → collects (entry_of rows line) ≡ collects (entry_of others line)
+pub line-collects : (rows others : List LineRow) (line : Line) (l : ConfLine) (blocks : Blocks) → IsLine l blocks line → collects (entry_of rows line) ≡ collects (entry_of others line)
 line-collects rows others line l blocks is =
     ap collects (line-says rows line l blocks is)
     ∙ keyword-collects _ _ l.keyword l.rest (split l.rest) (meaning_of l.keyword)
@@ -164,7 +164,7 @@ pub tested-collects : (h : Result Bool TokenError) (ran : List Bytes) (cs : List
 tested-collects (Ok b) ran cs = refl
 tested-collects (Err e) ran cs = refl
 
-pub effect-collects : (recorded : Recorded) (pass : Pass) (rows : List Row) (active : Bool) (r : Result LineContent Cause) → collects (effect_of recorded pass rows active r).entry ≡ collects r
+pub effect-collects : (recorded : Recorded) (pass : Pass) (rows : List LineRow) (active : Bool) (r : Result LineContent Cause) → collects (effect_of recorded pass rows active r).entry ≡ collects r
 effect-collects recorded pass rows active (Err c) = elim active as (λ a. collects (effect_of recorded pass rows a (Err c)).entry ≡ false) [ true ↦ refl | false ↦ refl ]
 effect-collects recorded pass rows active (Ok Nothing) = elim active as (λ a. collects (effect_of recorded pass rows a (Ok Nothing)).entry ≡ false) [ true ↦ refl | false ↦ refl ]
 effect-collects recorded pass rows active (Ok (Gives k v)) = elim active as (λ a. collects (effect_of recorded pass rows a (Ok (Gives k v))).entry ≡ is_collected k) [ true ↦ refl | false ↦ refl ]
@@ -173,7 +173,7 @@ effect-collects recorded pass rows true (Ok (Match cs)) = tested-collects (verdi
 effect-collects recorded pass rows false (Ok (Match cs)) = refl
 
 -- the row of a given line collects where the line does
-pub row-collects : (recorded : Recorded) (pass : Pass) (rows : List Row) (place : ℕ) (line : Line) → is_past_limit recorded line place ≡ false
+pub row-collects : (recorded : Recorded) (pass : Pass) (rows : List LineRow) (place : ℕ) (line : Line) → is_past_limit recorded line place ≡ false
     → collects (row_of recorded entry_of rows (record { pass = pass; line = place }) line).entry ≡ collects (entry_of rows line)
 unfolding row_of
 row-collects recorded pass rows place line within =

@@ -14,7 +14,7 @@ use Rattle.conf_rules.specs.Recorded.{Recorded}
 use Rattle.conf_rules.specs.Patterns.{answer_of, is_yes}
 use Rattle.conf_rules.specs.Evaluation.{verdict}
 use Rattle.conf_rules.specs.Sources.{Line}
-use Rattle.conf_rules.specs.Rows.{Row, Pass, given, entry_gives}
+use Rattle.conf_rules.specs.Rows.{LineRow, Pass, given, entry_gives}
 use Rattle.conf_rules.specs.Entries.{entry_of}
 use Rattle.conf_rules.specs.Resolution.{seen_at, name_in_pass, asks_again, is_final, is_active, Effect, effect_of, no_block, is_refused}
 use Rattle.conf_fold.specs.declared.fold.Fold.{Fold}
@@ -24,22 +24,22 @@ use Rattle.conf_reader.specs.declared.errors.LineError.TheVariants as line_error
 use Rattle.conf_rules.specs.Diagnostics.{is_fault}
 use Rattle.conf_fold.specs.Results.{Evaluated}
 use Rattle.conf_reader.specs.Blocks.{Blocks, open_behind, IsLine}
-use Rattle.conf_fold.specs.Stands.{collects, Stands, IsNext, next_row, FoldsEntry, block_name, view_of, entry_so_far, entered, own_mark}
+use Rattle.conf_fold.specs.FoldRepresents.{collects, FoldRepresents, IsNextLine, next_row, FoldsEntry, block_name, fold_view_of, entry_so_far, entered, own_mark}
 use Rattle.conf_fold.proofs.SeenLemmas.{name-same, view-same}
 use Rattle.conf_fold.proofs.EntryLemmas.{entry-same, opens, entry-opens}
 use Rattle.conf_fold.proofs.RowLemmas.{line-active, said, row-said, or-false, More, stands-more, marks-same, marks-opened, in-pass-same, pass-idle}
 
 -- ---- a line that says nothing
 
-pub folds-nothing : (recorded : Recorded) (pass : Pass) (fold new : Fold) (rows : List Row) (blocks : Blocks) (l : ConfLine) (place : ℕ) (line : Line)
-    → Stands recorded pass fold rows blocks → IsNext recorded pass rows blocks l place line → entry_so_far fold l ≡ Ok Nothing
+pub folds-nothing : (recorded : Recorded) (pass : Pass) (fold new : Fold) (rows : List LineRow) (blocks : Blocks) (l : ConfLine) (place : ℕ) (line : Line)
+    → FoldRepresents recorded pass fold rows blocks → IsNextLine recorded pass rows blocks l place line → entry_so_far fold l ≡ Ok Nothing
     → (l.opens ≡ false → l.depth < length fold.applies) → new ≡ record fold { applies = entered l.depth l.opens fold.applies }
-    → (is_refused (next_row recorded pass rows place line).entry ≡ false) × Stands recorded pass new (rows ++ next_row recorded pass rows place line ∷ []) (open_behind l place blocks)
+    → (is_refused (next_row recorded pass rows place line).entry ≡ false) × FoldRepresents recorded pass new (rows ++ next_row recorded pass rows place line ∷ []) (open_behind l place blocks)
 unfolding opens said
 folds-nothing recorded pass fold new rows blocks l place line s n e known new-is =
     let says : entry_of rows line ≡ Ok Nothing = entry-same recorded pass fold rows blocks line l s n.is_line ∙ e in
     let active = is_active rows pass line in
-    let row : Row = said recorded pass rows place line active Nothing in
+    let row : LineRow = said recorded pass rows place line active Nothing in
     let here : next_row recorded pass rows place line ≡ row = row-said recorded pass rows blocks l place line Nothing n says in
     let effect : effect_of recorded pass rows active (Ok Nothing) ≡ no_block (Ok Nothing) = nothing-effect recorded pass rows active in
     let entry : row.entry ≡ Ok Nothing = ap (λ (f : Effect). f.entry) effect in
@@ -52,7 +52,7 @@ folds-nothing recorded pass fold new rows blocks l place line s n e known new-is
     } in
     (rw here (ap is_refused entry), rw here (stands-more recorded pass fold new rows blocks l place row s n.at more))
   where
-    nothing-effect : (recorded : Recorded) (pass : Pass) (rows : List Row) (active : Bool) → effect_of recorded pass rows active (Ok Nothing) ≡ no_block (Ok Nothing)
+    nothing-effect : (recorded : Recorded) (pass : Pass) (rows : List LineRow) (active : Bool) → effect_of recorded pass rows active (Ok Nothing) ≡ no_block (Ok Nothing)
     nothing-effect recorded pass rows true = refl
     nothing-effect recorded pass rows false = refl
 
@@ -67,15 +67,15 @@ gives-nothing false again r h = refl
 
 -- ---- a Host line
 
-pub folds-block : (recorded : Recorded) (pass : Pass) (fold new : Fold) (rows : List Row) (blocks : Blocks) (l : ConfLine) (place : ℕ) (line : Line) (ps : List Bytes)
-    → Stands recorded pass fold rows blocks → IsNext recorded pass rows blocks l place line → entry_so_far fold l ≡ Ok (Host ps)
+pub folds-block : (recorded : Recorded) (pass : Pass) (fold new : Fold) (rows : List LineRow) (blocks : Blocks) (l : ConfLine) (place : ℕ) (line : Line) (ps : List Bytes)
+    → FoldRepresents recorded pass fold rows blocks → IsNextLine recorded pass rows blocks l place line → entry_so_far fold l ≡ Ok (Host ps)
     → new ≡ record fold { applies = take l.depth fold.applies ++ is_yes (answer_of ps (block_name fold)) ∷ [] }
-    → (is_refused (next_row recorded pass rows place line).entry ≡ false) × Stands recorded pass new (rows ++ next_row recorded pass rows place line ∷ []) (open_behind l place blocks)
+    → (is_refused (next_row recorded pass rows place line).entry ≡ false) × FoldRepresents recorded pass new (rows ++ next_row recorded pass rows place line ∷ []) (open_behind l place blocks)
 unfolding opens said
 folds-block recorded pass fold new rows blocks l place line ps s n e new-is =
     let says : entry_of rows line ≡ Ok (Host ps) = entry-same recorded pass fold rows blocks line l s n.is_line ∙ e in
     let active = is_active rows pass line in
-    let row : Row = said recorded pass rows place line active (Host ps) in
+    let row : LineRow = said recorded pass rows place line active (Host ps) in
     let here : next_row recorded pass rows place line ≡ row = row-said recorded pass rows blocks l place line (Host ps) n says in
     let name : is_yes (answer_of ps (block_name fold)) ≡ is_yes (answer_of ps (name_in_pass recorded pass)) = ap (λ o. is_yes (answer_of ps o)) (name-same recorded pass fold rows blocks s) in
     let effect : effect_of recorded pass rows active (Ok (Host ps)) ≡ record { entry = Ok (Host ps); applies = is_yes (answer_of ps (name_in_pass recorded pass)); ran = [] } = block-effect recorded pass rows active ps in
@@ -89,14 +89,14 @@ folds-block recorded pass fold new rows blocks l place line ps s n e new-is =
     } in
     (rw here (ap is_refused entry), rw here (stands-more recorded pass fold new rows blocks l place row s n.at more))
   where
-    block-effect : (recorded : Recorded) (pass : Pass) (rows : List Row) (active : Bool) (ps : List Bytes) → effect_of recorded pass rows active (Ok (Host ps)) ≡ record { entry = Ok (Host ps); applies = is_yes (answer_of ps (name_in_pass recorded pass)); ran = [] }
+    block-effect : (recorded : Recorded) (pass : Pass) (rows : List LineRow) (active : Bool) (ps : List Bytes) → effect_of recorded pass rows active (Ok (Host ps)) ≡ record { entry = Ok (Host ps); applies = is_yes (answer_of ps (name_in_pass recorded pass)); ran = [] }
     block-effect recorded pass rows true ps = refl
     block-effect recorded pass rows false ps = refl
 
 -- ---- a Match line
 
 -- what an effect is where criteria were evaluated, or not
-pub tests-effect : (recorded : Recorded) (pass : Pass) (rows : List Row) (active : Bool) (cs : List Criterion) (b : Bool)
+pub tests-effect : (recorded : Recorded) (pass : Pass) (rows : List LineRow) (active : Bool) (cs : List Criterion) (b : Bool)
     → (active ≡ true → (verdict recorded.status (seen_at recorded pass rows) cs).holds ≡ Ok b) → (active ≡ false → b ≡ false)
     → ((effect_of recorded pass rows active (Ok (Match cs))).entry ≡ Ok (Match cs)) × ((effect_of recorded pass rows active (Ok (Match cs))).applies ≡ b)
 tests-effect recorded pass rows true cs b held none = let h = held refl in (rw h refl, rw h refl)
@@ -107,25 +107,25 @@ and-one true = refl
 and-one false = refl
 
 -- where a Match line stands, all its marks are below its own file
-pub tests-active : (recorded : Recorded) (pass : Pass) (fold : Fold) (rows : List Row) (blocks : Blocks) (line : Line) (l : ConfLine) (cs : List Criterion)
-    → Stands recorded pass fold rows blocks → IsLine l blocks line → entry_so_far fold l ≡ Ok (Match cs) → is_active rows pass line ≡ list_all (λ m. m) (take l.depth fold.applies)
+pub tests-active : (recorded : Recorded) (pass : Pass) (fold : Fold) (rows : List LineRow) (blocks : Blocks) (line : Line) (l : ConfLine) (cs : List Criterion)
+    → FoldRepresents recorded pass fold rows blocks → IsLine l blocks line → entry_so_far fold l ≡ Ok (Match cs) → is_active rows pass line ≡ list_all (λ m. m) (take l.depth fold.applies)
 unfolding opens
 tests-active recorded pass fold rows blocks line l cs s is e =
     line-active recorded pass fold rows blocks line l s is
     ∙ ap (λ o. list_all (λ m. m) (take l.depth fold.applies) && cond o true (own_mark l.depth l.opens fold.applies)) (entry-opens fold l (Match cs) e)
     ∙ and-one (list_all (λ m. m) (take l.depth fold.applies))
 
-pub folds-tests : (recorded : Recorded) (pass : Pass) (fold new : Fold) (rows : List Row) (blocks : Blocks) (l : ConfLine) (place : ℕ) (line : Line) (cs : List Criterion) (b : Bool)
-    → Stands recorded pass fold rows blocks → IsNext recorded pass rows blocks l place line → entry_so_far fold l ≡ Ok (Match cs)
-    → (list_all (λ m. m) (take l.depth fold.applies) ≡ true → (verdict recorded.status (view_of fold recorded.facts) cs).holds ≡ Ok b) → (list_all (λ m. m) (take l.depth fold.applies) ≡ false → b ≡ false)
+pub folds-tests : (recorded : Recorded) (pass : Pass) (fold new : Fold) (rows : List LineRow) (blocks : Blocks) (l : ConfLine) (place : ℕ) (line : Line) (cs : List Criterion) (b : Bool)
+    → FoldRepresents recorded pass fold rows blocks → IsNextLine recorded pass rows blocks l place line → entry_so_far fold l ≡ Ok (Match cs)
+    → (list_all (λ m. m) (take l.depth fold.applies) ≡ true → (verdict recorded.status (fold_view_of fold recorded.facts) cs).holds ≡ Ok b) → (list_all (λ m. m) (take l.depth fold.applies) ≡ false → b ≡ false)
     → new ≡ record fold { applies = take l.depth fold.applies ++ b ∷ []; asks_again = fold.asks_again || list_any is_final cs }
-    → (is_refused (next_row recorded pass rows place line).entry ≡ false) × Stands recorded pass new (rows ++ next_row recorded pass rows place line ∷ []) (open_behind l place blocks)
+    → (is_refused (next_row recorded pass rows place line).entry ≡ false) × FoldRepresents recorded pass new (rows ++ next_row recorded pass rows place line ∷ []) (open_behind l place blocks)
 unfolding opens said
 folds-tests recorded pass fold new rows blocks l place line cs b s n e held none new-is =
     let says : entry_of rows line ≡ Ok (Match cs) = entry-same recorded pass fold rows blocks line l s n.is_line ∙ e in
     let active = is_active rows pass line in
     let active-is : active ≡ list_all (λ m. m) (take l.depth fold.applies) = tests-active recorded pass fold rows blocks line l cs s n.is_line e in
-    let row : Row = said recorded pass rows place line active (Match cs) in
+    let row : LineRow = said recorded pass rows place line active (Match cs) in
     let here : next_row recorded pass rows place line ≡ row = row-said recorded pass rows blocks l place line (Match cs) n says in
     let effect = tests-effect recorded pass rows active cs b
     (λ a. ap (λ v. (verdict recorded.status v cs).holds) (sym (view-same recorded pass fold rows blocks s)) ∙ held (sym active-is ∙ a))
@@ -142,28 +142,28 @@ folds-tests recorded pass fold new rows blocks l place line cs b s n e held none
 
 -- ---- refusals of criteria
 
-pub refused-effect : (recorded : Recorded) (pass : Pass) (rows : List Row) (active : Bool) (cs : List Criterion) (t : TokenError) → active ≡ true → (verdict recorded.status (seen_at recorded pass rows) cs).holds ≡ Err t
+pub refused-effect : (recorded : Recorded) (pass : Pass) (rows : List LineRow) (active : Bool) (cs : List Criterion) (t : TokenError) → active ≡ true → (verdict recorded.status (seen_at recorded pass rows) cs).holds ≡ Err t
     → (effect_of recorded pass rows active (Ok (Match cs))).entry ≡ Err (causes.Token t)
 refused-effect recorded pass rows true cs t a h = rw h refl
 refused-effect recorded pass rows false cs t a h = absurd cc
 
-pub token-refused : (recorded : Recorded) (pass : Pass) (fold : Fold) (rows : List Row) (blocks : Blocks) (l : ConfLine) (place : ℕ) (line : Line) (cs : List Criterion) (t : TokenError)
-    → Stands recorded pass fold rows blocks → IsNext recorded pass rows blocks l place line → entry_so_far fold l ≡ Ok (Match cs)
-    → list_all (λ m. m) (take l.depth fold.applies) ≡ true → (verdict recorded.status (view_of fold recorded.facts) cs).holds ≡ Err t
+pub token-refused : (recorded : Recorded) (pass : Pass) (fold : Fold) (rows : List LineRow) (blocks : Blocks) (l : ConfLine) (place : ℕ) (line : Line) (cs : List Criterion) (t : TokenError)
+    → FoldRepresents recorded pass fold rows blocks → IsNextLine recorded pass rows blocks l place line → entry_so_far fold l ≡ Ok (Match cs)
+    → list_all (λ m. m) (take l.depth fold.applies) ≡ true → (verdict recorded.status (fold_view_of fold recorded.facts) cs).holds ≡ Err t
     → (next_row recorded pass rows place line).entry ≡ Err (causes.Token t)
 unfolding said
 token-refused recorded pass fold rows blocks l place line cs t s n e a h =
     let says : entry_of rows line ≡ Ok (Match cs) = entry-same recorded pass fold rows blocks line l s n.is_line ∙ e in
-    ap (λ (r : Row). r.entry) (row-said recorded pass rows blocks l place line (Match cs) n says)
+    ap (λ (r : LineRow). r.entry) (row-said recorded pass rows blocks l place line (Match cs) n says)
     ∙ refused-effect recorded pass rows (is_active rows pass line) cs t (tests-active recorded pass fold rows blocks line l cs s n.is_line e ∙ a)
     (ap (λ v. (verdict recorded.status v cs).holds) (sym (view-same recorded pass fold rows blocks s)) ∙ h)
 
 pub no-fault : (b : Bool) → b ≡ true → b ≡ false → ⊥
 no-fault b e f = let k : true ≡ false = sym e ∙ f in cc
 
-pub tests-refused : (recorded : Recorded) (pass : Pass) (fold new : Fold) (rows : List Row) (blocks : Blocks) (l : ConfLine) (place : ℕ) (line : Line) (cs : List Criterion) (e : LineError)
-    → Stands recorded pass fold rows blocks → IsNext recorded pass rows blocks l place line → entry_so_far fold l ≡ Ok (Match cs)
-    → list_all (λ m. m) (take l.depth fold.applies) ≡ true → Evaluated (Err e) (verdict recorded.status (view_of fold recorded.facts) cs).holds
+pub tests-refused : (recorded : Recorded) (pass : Pass) (fold new : Fold) (rows : List LineRow) (blocks : Blocks) (l : ConfLine) (place : ℕ) (line : Line) (cs : List Criterion) (e : LineError)
+    → FoldRepresents recorded pass fold rows blocks → IsNextLine recorded pass rows blocks l place line → entry_so_far fold l ≡ Ok (Match cs)
+    → list_all (λ m. m) (take l.depth fold.applies) ≡ true → Evaluated (Err e) (verdict recorded.status (fold_view_of fold recorded.facts) cs).holds
     → FoldsEntry recorded pass rows blocks l place line (Err e) new
 tests-refused recorded pass fold new rows blocks l place line cs line_errors.OutOfMemory s n e a v = tt
 tests-refused recorded pass fold new rows blocks l place line cs (line_errors.Refused (causes.Token t)) s n e a v = λ f. token-refused recorded pass fold rows blocks l place line cs t s n e a v

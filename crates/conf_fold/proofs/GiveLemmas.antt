@@ -9,29 +9,29 @@ use Rattle.conf_rules.specs.declared.entry.LineContent.TheVariants.{Gives}
 use Rattle.conf_rules.specs.Texts.{Bytes}
 use Rattle.conf_rules.specs.Recorded.{Recorded}
 use Rattle.conf_rules.specs.Sources.{Line}
-use Rattle.conf_rules.specs.Rows.{Row, Pass, First, Second, is_collected, given}
+use Rattle.conf_rules.specs.Rows.{LineRow, Pass, First, Second, is_collected, given}
 use Rattle.conf_rules.specs.Entries.{entry_of}
 use Rattle.conf_rules.specs.Resolution.{active_before, is_active_row, is_asked, is_active, effect_of, no_block, row_with, is_refused}
 use Rattle.conf_fold.specs.declared.fold.Fold.{Fold}
 use Rattle.conf_reader.specs.declared.line.ConfLine.{ConfLine}
-use Rattle.conf_options.specs.Kept.{Given, Keeps}
+use Rattle.conf_options.specs.Kept.{Given, KeepsSettings}
 use Rattle.conf_reader.specs.Blocks.{Blocks, open_behind}
-use Rattle.conf_fold.specs.Stands.{collects_here, collects, collected, InFirst, InSecond, InPass, Stands, IsNext, next_row, entry_so_far, entered, own_mark, does_count, noted, if_counts}
+use Rattle.conf_fold.specs.FoldRepresents.{collects_here, collects, collected, InFirst, InSecond, InPass, FoldRepresents, IsNextLine, next_row, entry_so_far, entered, own_mark, does_count, noted, if_counts}
 use Rattle.conf_fold.proofs.EntryLemmas.{entry-same, opens, entry-opens, line-collects, row-collects}
 use Rattle.conf_fold.proofs.RowLemmas.{here-collects, one-collected, again-line, line-active, said, row-said, or-false, collected-more, More, stands-more, marks-same, again-row, take-next, mark-at, in-pass-same, pass-idle}
 
 -- ---- a line of a key
 
-pub gives-effect : (recorded : Recorded) (pass : Pass) (rows : List Row) (active : Bool) (key : Key) (v : Value) → effect_of recorded pass rows active (Ok (Gives key v)) ≡ no_block (Ok (Gives key v))
+pub gives-effect : (recorded : Recorded) (pass : Pass) (rows : List LineRow) (active : Bool) (key : Key) (v : Value) → effect_of recorded pass rows active (Ok (Gives key v)) ≡ no_block (Ok (Gives key v))
 gives-effect recorded pass rows true key v = refl
 gives-effect recorded pass rows false key v = refl
 
 -- the row of a line that gives a value
-abbrev pub giving : Pass → ℕ → Line → Bool → Key → Value → Row
+abbrev pub giving : Pass → ℕ → Line → Bool → Key → Value → LineRow
 giving pass place line active key v = record { line = line; entry = Ok (Gives key v); applies = false; active = active; again = active_before pass place; ran = [] }
 
 -- what counts is what the row gives, and what is kept of the pass goes on
-pub record Counts (recorded : Recorded) (pass : Pass) (fold : Fold) (rows : List Row) (key : Key) (active : Bool) (v : Value) (row : Row) : Type 0 where
+pub record Counts (recorded : Recorded) (pass : Pass) (fold : Fold) (rows : List LineRow) (key : Key) (active : Bool) (v : Value) (row : LineRow) : Type 0 where
   pub counts : if_counts (does_count key active fold) key v ≡ given row
   pub in_pass : InPass recorded pass (noted key active fold) (rows ++ row ∷ [])
 
@@ -46,8 +46,8 @@ counts-again true false key v = refl
 counts-again false again key v = refl
 
 -- where the key doesn't collect
-pub counts-plain : (recorded : Recorded) (pass : Pass) (fold : Fold) (rows : List Row) (blocks : Blocks) (l : ConfLine) (place : ℕ) (line : Line) (key : Key) (v : Value) (active : Bool) → is_collected key ≡ false
-    → InPass recorded pass fold rows → IsNext recorded pass rows blocks l place line → entry_of rows line ≡ Ok (Gives key v)
+pub counts-plain : (recorded : Recorded) (pass : Pass) (fold : Fold) (rows : List LineRow) (blocks : Blocks) (l : ConfLine) (place : ℕ) (line : Line) (key : Key) (v : Value) (active : Bool) → is_collected key ≡ false
+    → InPass recorded pass fold rows → IsNextLine recorded pass rows blocks l place line → entry_of rows line ≡ Ok (Gives key v)
     → Counts recorded pass fold rows key active v (giving pass place line active key v)
 counts-plain recorded pass fold rows blocks l place line key v active h p n e = record {
   counts = rw h (counts-none active (active_before pass place) key v true);
@@ -66,7 +66,7 @@ noted-some (Some n) None active f m b e h = absurd cc
 noted-some (Some n) (Some was) active f m b e h = refl
 
 -- where it does, in the first pass
-pub counts-first : (recorded : Recorded) (fold : Fold) (rows : List Row) (place : ℕ) (line : Line) (key : Key) (v : Value) (active : Bool) → is_asked line.source ≡ false → is_collected key ≡ true
+pub counts-first : (recorded : Recorded) (fold : Fold) (rows : List LineRow) (place : ℕ) (line : Line) (key : Key) (v : Value) (active : Bool) → is_asked line.source ≡ false → is_collected key ≡ true
     → InFirst fold rows → Counts recorded First fold rows key active v (giving First place line active key v)
 counts-first recorded fold rows place line key v active asked h p =
     let noted-is : noted key active fold ≡ record fold { were_active = fold.were_active ++ active ∷ [] } = rw h (noted-none fold.name (slice_get fold.were_active fold.seen) active fold p.name) in
@@ -78,12 +78,12 @@ counts-first recorded fold rows place line key v active asked h p =
     }
 
 -- and in the second
-pub counts-second : (recorded : Recorded) (fold : Fold) (rows before : List Row) (blocks : Blocks) (l : ConfLine) (place : ℕ) (line : Line) (key : Key) (v : Value) (active : Bool) → is_collected key ≡ true
-    → InSecond recorded fold rows before → IsNext recorded (Second before) rows blocks l place line → entry_of rows line ≡ Ok (Gives key v)
+pub counts-second : (recorded : Recorded) (fold : Fold) (rows before : List LineRow) (blocks : Blocks) (l : ConfLine) (place : ℕ) (line : Line) (key : Key) (v : Value) (active : Bool) → is_collected key ≡ true
+    → InSecond recorded fold rows before → IsNextLine recorded (Second before) rows blocks l place line → entry_of rows line ≡ Ok (Gives key v)
     → Counts recorded (Second before) fold rows key active v (giving (Second before) place line active key v)
 unfolding again-row
 counts-second recorded fold rows before blocks l place line key v active h p n e =
-    let b : Row = again-row recorded before rows blocks l place line n in
+    let b : LineRow = again-row recorded before rows blocks l place line n in
     let row = giving (Second before) place line active key v in
     let b-collects : collects b.entry ≡ true = row-collects recorded First (take place before) place line n.within ∙ line-collects (take place before) rows line l blocks n.is_line ∙ ap collects e ∙ h in
     let b-here : collects_here b ≡ true = here-collects b (ap (λ (x : Line). is_asked x.source) (again-line recorded before rows blocks l place line n) ∙ n.is_line.asked) ∙ b-collects in
@@ -106,8 +106,8 @@ counts-second recorded fold rows before blocks l place line key v active h p n e
       });
     }
 
-pub counts-in : (recorded : Recorded) (pass : Pass) (fold : Fold) (rows : List Row) (blocks : Blocks) (l : ConfLine) (place : ℕ) (line : Line) (key : Key) (v : Value) (active t : Bool) → is_collected key ≡ t
-    → InPass recorded pass fold rows → IsNext recorded pass rows blocks l place line → entry_of rows line ≡ Ok (Gives key v)
+pub counts-in : (recorded : Recorded) (pass : Pass) (fold : Fold) (rows : List LineRow) (blocks : Blocks) (l : ConfLine) (place : ℕ) (line : Line) (key : Key) (v : Value) (active t : Bool) → is_collected key ≡ t
+    → InPass recorded pass fold rows → IsNextLine recorded pass rows blocks l place line → entry_of rows line ≡ Ok (Gives key v)
     → Counts recorded pass fold rows key active v (giving pass place line active key v)
 counts-in recorded pass fold rows blocks l place line key v active false h p n e = counts-plain recorded pass fold rows blocks l place line key v active h p n e
 counts-in recorded First fold rows blocks l place line key v active true h p n e = counts-first recorded fold rows place line key v active n.is_line.asked h p
@@ -125,17 +125,17 @@ alone-by true None w active f = record { original = refl; applies = refl; again 
 alone-by true (Some m) None active f = record { original = refl; applies = refl; again = refl }
 alone-by true (Some m) (Some was) active f = record { original = refl; applies = refl; again = refl }
 
-pub folds-gives : (recorded : Recorded) (pass : Pass) (fold mid new : Fold) (rows : List Row) (blocks : Blocks) (l : ConfLine) (place : ℕ) (line : Line) (key : Key) (v : Value) (active : Bool)
-    → Stands recorded pass fold rows blocks → IsNext recorded pass rows blocks l place line → entry_so_far fold l ≡ Ok (Gives key v) → (l.opens ≡ false → l.depth < length fold.applies)
+pub folds-gives : (recorded : Recorded) (pass : Pass) (fold mid new : Fold) (rows : List LineRow) (blocks : Blocks) (l : ConfLine) (place : ℕ) (line : Line) (key : Key) (v : Value) (active : Bool)
+    → FoldRepresents recorded pass fold rows blocks → IsNextLine recorded pass rows blocks l place line → entry_so_far fold l ≡ Ok (Gives key v) → (l.opens ≡ false → l.depth < length fold.applies)
     → active ≡ (list_all (λ m. m) (take l.depth fold.applies) && own_mark l.depth l.opens fold.applies)
     → mid ≡ record fold { applies = entered l.depth l.opens fold.applies }
-    → ((gs : List Given) → Keeps mid.settings gs → Keeps new.settings (gs ++ if_counts (does_count key active mid) key v))
+    → ((gs : List Given) → KeepsSettings mid.settings gs → KeepsSettings new.settings (gs ++ if_counts (does_count key active mid) key v))
     → new ≡ record (noted key active mid) { settings = new.settings }
-    → (is_refused (next_row recorded pass rows place line).entry ≡ false) × Stands recorded pass new (rows ++ next_row recorded pass rows place line ∷ []) (open_behind l place blocks)
+    → (is_refused (next_row recorded pass rows place line).entry ≡ false) × FoldRepresents recorded pass new (rows ++ next_row recorded pass rows place line ∷ []) (open_behind l place blocks)
 unfolding opens said
 folds-gives recorded pass fold mid new rows blocks l place line key v active s n e known active-is mid-is keeps others =
     let says : entry_of rows line ≡ Ok (Gives key v) = entry-same recorded pass fold rows blocks line l s n.is_line ∙ e in
-    let row : Row = giving pass place line active key v in
+    let row : LineRow = giving pass place line active key v in
     let is-active : is_active rows pass line ≡ active =
     line-active recorded pass fold rows blocks line l s n.is_line
     ∙ ap (λ o. list_all (λ m. m) (take l.depth fold.applies) && cond o true (own_mark l.depth l.opens fold.applies)) (entry-opens fold l (Gives key v) e) ∙ sym active-is in
@@ -146,7 +146,7 @@ folds-gives recorded pass fold mid new rows blocks l place line key v active s n
     let in-mid : InPass recorded pass mid rows = in-pass-same recorded pass fold mid rows s.in_pass (ap (λ (f : Fold). f.name) mid-is) (ap (λ (f : Fold). f.were_active) mid-is) (ap (λ (f : Fold). f.seen) mid-is) in
     let counts : Counts recorded pass mid rows key active v row = counts-in recorded pass mid rows blocks l place line key v active (is_collected key) refl in-mid n says in
     let alone : Alone mid (noted key active mid) = alone-by (is_collected key) mid.name (slice_get mid.were_active mid.seen) active mid in
-    let kept : Keeps mid.settings (flat_map given rows) = rw (ap (λ (f : Fold). f.settings) mid-is) s.keeps in
+    let kept : KeepsSettings mid.settings (flat_map given rows) = rw (ap (λ (f : Fold). f.settings) mid-is) s.keeps in
     let more : More recorded pass fold new rows blocks l place row = record {
       original = ap (λ (f : Fold). f.original) others ∙ alone.original ∙ ap (λ (f : Fold). f.original) mid-is;
       keeps = rw counts.counts at (keeps (flat_map given rows) kept);

@@ -10,9 +10,9 @@ use Rattle.conf_rules.specs.declared.entry.LineContent.TheVariants.{Match}
 use Rattle.conf_rules.specs.Recorded.{Recorded}
 use Rattle.conf_rules.specs.Evaluation.{verdict}
 use Rattle.conf_rules.specs.Sources.{Line}
-use Rattle.conf_rules.specs.Rows.{Row, Pass, is_collected}
+use Rattle.conf_rules.specs.Rows.{LineRow, Pass, is_collected}
 use Rattle.conf_rules.specs.Entries.{entry_of}
-use Rattle.conf_rules.specs.Resolution.{applies_at, start_of, host_from, host_at, view_at, seen_at, name_in_pass, active_before, is_active_row, wants_second, asks_again, is_final, is_asked, is_past_limit, counted, is_active, Effect, effect_of, no_block, tested, row_with, row_of, is_refused}
+use Rattle.conf_rules.specs.Resolution.{applies_at, pass_start_of, host_from, host_at, view_at, seen_at, name_in_pass, active_before, is_active_row, wants_second, asks_again, is_final, is_asked, is_past_limit, counted, is_active, Effect, effect_of, no_block, tested, row_with, row_of, is_refused}
 use Rattle.conf_fold.specs.declared.fold.Fold.{Fold}
 use Rattle.conf_reader.specs.declared.line.ConfLine.{ConfLine}
 use Rattle.conf_reader.specs.declared.errors.LineError.{LineError}
@@ -23,7 +23,7 @@ use Rattle.conf_reader.specs.Results.{refused_at}
 use Rattle.conf_reader.proofs.RefusalLemmas.{refuses-at}
 use Rattle.conf_rules.specs.Results.{as_error}
 use Rattle.conf_reader.specs.Blocks.{Blocks, IsLine}
-use Rattle.conf_fold.specs.Stands.{open_applies, collects_here, IsBefore, EachBefore, collects, collected, InFirst, InSecond, InPass, Stands, IsAgain, IsNext, next_row, FoldsEntry, setting, host_so_far, block_name, view_of, entry_so_far, entered, own_mark, does_count, noted, if_counts}
+use Rattle.conf_fold.specs.FoldRepresents.{open_applies, collects_here, IsBlockBefore, EachBefore, collects, collected, InFirst, InSecond, InPass, FoldRepresents, IsAgain, IsNextLine, next_row, FoldsEntry, setting, host_so_far, block_name, fold_view_of, entry_so_far, entered, own_mark, does_count, noted, if_counts}
 use Rattle.conf_fold.proofs.EntryLemmas.{entry-same}
 use Rattle.conf_fold.proofs.FoldLemmas.{tests-refused}
 use Rattle.conf_fold.proofs.GiveLemmas.{Alone, alone-by}
@@ -32,22 +32,22 @@ abbrev pub failing : LineError → Result Bool LineError
 failing e = Err e
 
 -- where an evaluation failed, the line was active
-pub tests-failed : (recorded : Recorded) (pass : Pass) (fold new : Fold) (rows : List Row) (blocks : Blocks) (l : ConfLine) (place : ℕ) (line : Line) (cs : List Criterion) (e : LineError) (t : Bool)
-    → Stands recorded pass fold rows blocks → IsNext recorded pass rows blocks l place line → entry_so_far fold l ≡ Ok (Match cs)
-    → t ≡ list_all (λ m. m) (take l.depth fold.applies) → (t ≡ true → Evaluated (Err e) (verdict recorded.status (view_of fold recorded.facts) cs).holds) → (t ≡ false → failing e ≡ Ok false)
+pub tests-failed : (recorded : Recorded) (pass : Pass) (fold new : Fold) (rows : List LineRow) (blocks : Blocks) (l : ConfLine) (place : ℕ) (line : Line) (cs : List Criterion) (e : LineError) (t : Bool)
+    → FoldRepresents recorded pass fold rows blocks → IsNextLine recorded pass rows blocks l place line → entry_so_far fold l ≡ Ok (Match cs)
+    → t ≡ list_all (λ m. m) (take l.depth fold.applies) → (t ≡ true → Evaluated (Err e) (verdict recorded.status (fold_view_of fold recorded.facts) cs).holds) → (t ≡ false → failing e ≡ Ok false)
     → FoldsEntry recorded pass rows blocks l place line (Err e) new
 tests-failed recorded pass fold new rows blocks l place line cs e true s n h t v idle = tests-refused recorded pass fold new rows blocks l place line cs e s n h (sym t) (v refl)
 tests-failed recorded pass fold new rows blocks l place line cs e false s n h t v idle = absurd (let k = idle refl in cc)
 
 -- ---- refusals
 
-pub refused-row : (recorded : Recorded) (pass : Pass) (rows : List Row) (active : Bool) (c : Cause) → (effect_of recorded pass rows active (Err c)).entry ≡ Err c
+pub refused-row : (recorded : Recorded) (pass : Pass) (rows : List LineRow) (active : Bool) (c : Cause) → (effect_of recorded pass rows active (Err c)).entry ≡ Err c
 refused-row recorded pass rows true c = refl
 refused-row recorded pass rows false c = refl
 
 -- what a line can't say is refused in its row
-pub entry-refused : (recorded : Recorded) (pass : Pass) (fold new : Fold) (rows : List Row) (blocks : Blocks) (l : ConfLine) (place : ℕ) (line : Line) (e : LineError)
-    → Stands recorded pass fold rows blocks → IsNext recorded pass rows blocks l place line → Rattle.conf_fold.specs.Results.FailsLine e (entry_so_far fold l) → FoldsEntry recorded pass rows blocks l place line (Err e) new
+pub entry-refused : (recorded : Recorded) (pass : Pass) (fold new : Fold) (rows : List LineRow) (blocks : Blocks) (l : ConfLine) (place : ℕ) (line : Line) (e : LineError)
+    → FoldRepresents recorded pass fold rows blocks → IsNextLine recorded pass rows blocks l place line → Rattle.conf_fold.specs.Results.FailsLine e (entry_so_far fold l) → FoldsEntry recorded pass rows blocks l place line (Err e) new
 unfolding next_row row_of
 entry-refused recorded pass fold new rows blocks l place line line_errors.OutOfMemory s n f = tt
 entry-refused recorded pass fold new rows blocks l place line (line_errors.Refused c) s n f = λ fault.
@@ -55,8 +55,8 @@ entry-refused recorded pass fold new rows blocks l place line (line_errors.Refus
     rw (n.within, says) (refused-row recorded pass rows (is_active rows pass line) c)
 
 -- a refusal with its file and number
-pub placed-refusal : (recorded : Recorded) (pass : Pass) (rows : List Row) (blocks : Blocks) (l : ConfLine) (place : ℕ) (line : Line) (e : LineError) (d : Rattle.conf_rules.specs.declared.causes.ResolveError.ResolveError) (new : Fold)
-    → IsLine l blocks line → Rattle.conf_reader.specs.Results.Refuses e l.file l.number d → FoldsEntry recorded pass rows blocks l place line (Err e) new → Rattle.conf_fold.specs.Stands.Folds recorded pass rows blocks l place line (Err d) new
+pub placed-refusal : (recorded : Recorded) (pass : Pass) (rows : List LineRow) (blocks : Blocks) (l : ConfLine) (place : ℕ) (line : Line) (e : LineError) (d : Rattle.conf_rules.specs.declared.causes.ResolveError.ResolveError) (new : Fold)
+    → IsLine l blocks line → Rattle.conf_reader.specs.Results.RefusesLine e l.file l.number d → FoldsEntry recorded pass rows blocks l place line (Err e) new → Rattle.conf_fold.specs.FoldRepresents.Folds recorded pass rows blocks l place line (Err d) new
 placed-refusal recorded pass rows blocks l place line e resolve_errors.OutOfMemory new is r f = tt
 placed-refusal recorded pass rows blocks l place line line_errors.OutOfMemory (resolve_errors.At file number cause) new is r f = absurd cc
 placed-refusal recorded pass rows blocks l place line (line_errors.Refused c) (resolve_errors.At file number cause) new is r f = λ fault.
@@ -65,8 +65,8 @@ placed-refusal recorded pass rows blocks l place line (line_errors.Refused c) (r
     ap (Rattle.conf_rules.specs.Resolution.refusal_at line) (f (sym (ap is_fault same) ∙ fault)) ∙ ap (λ x. Some x) at
 
 -- the same of the outcome of a line
-pub placed-folds : (recorded : Recorded) (pass : Pass) (rows : List Row) (blocks : Blocks) (l : ConfLine) (place : ℕ) (line : Line) (taken : Result (Unit {0}) LineError) (new : Fold)
-    → IsLine l blocks line → FoldsEntry recorded pass rows blocks l place line taken new → Rattle.conf_fold.specs.Stands.Folds recorded pass rows blocks l place line (as_error (λ e. refused_at e l.file l.number) taken) new
+pub placed-folds : (recorded : Recorded) (pass : Pass) (rows : List LineRow) (blocks : Blocks) (l : ConfLine) (place : ℕ) (line : Line) (taken : Result (Unit {0}) LineError) (new : Fold)
+    → IsLine l blocks line → FoldsEntry recorded pass rows blocks l place line taken new → Rattle.conf_fold.specs.FoldRepresents.Folds recorded pass rows blocks l place line (as_error (λ e. refused_at e l.file l.number) taken) new
 placed-folds recorded pass rows blocks l place line (Ok x) new is f = f
 placed-folds recorded pass rows blocks l place line (Err e) new is f = placed-refusal recorded pass rows blocks l place line e (refused_at e l.file l.number) new is (refuses-at e l.file l.number (refused_at e l.file l.number) refl) f
 

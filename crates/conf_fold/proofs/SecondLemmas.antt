@@ -23,15 +23,15 @@ use Rattle.conf_rules.specs.Includes.{CommandLine}
 use Rattle.conf_rules.specs.Sources.{Content, Spelled, Parts, Refused, asked_line}
 use Rattle.conf_rules.specs.Kinds.{TheFirst}
 use Rattle.conf_rules.specs.Keys.{same_key}
-use Rattle.conf_rules.specs.Rows.{Row, First, Second, is_collected, given, entry_gives, kept, values, value, word_in}
+use Rattle.conf_rules.specs.Rows.{LineRow, First, Second, is_collected, given, entry_gives, kept, values, value, word_in}
 use Rattle.conf_rules.specs.Keywords.{meaning_of}
 use Rattle.conf_rules.specs.Entries.{SplitWords, split, entry_of, content_entry, headed_entry, keyword_entry}
 use Rattle.conf_rules.specs.Resolution.{host_at, active_before, is_active_row, no_block, row_with, rows_from, first_place, is_refused, refusal_at, refusal_in, wants_second}
-use Rattle.conf_options.specs.Kept.{Given, Keeps}
+use Rattle.conf_options.specs.Kept.{Given, KeepsSettings}
 use Rattle.conf_reader.specs.Blocks.{Blocks}
 use Rattle.conf_rules.proofs.SameKeys.{same-key-refl}
 use Rattle.conf_fold.specs.declared.fold.Fold.{Fold}
-use Rattle.conf_fold.specs.Stands.{Stands, next_row, host_so_far, collected}
+use Rattle.conf_fold.specs.FoldRepresents.{FoldRepresents, next_row, host_so_far, collected}
 use Rattle.conf_fold.specs.Begins.{Behind, asked_again, SecondBegins}
 use Rattle.conf_fold.proofs.AgainLemmas.{has_key, keeps-again, value-front}
 use Rattle.conf_fold.proofs.BlockLemmas.{slice_get-next}
@@ -49,7 +49,7 @@ word-is None p e = absurd cc
 word-is (Some v) p e = absurd cc
 
 -- patterns that were ignored stay ignored after more rows
-ignored-front : (rows more : List Row) (p : Bytes) → word_in (value keys.IgnoreUnknown rows) ≡ Some p → word_in (value keys.IgnoreUnknown (rows ++ more)) ≡ Some p
+ignored-front : (rows more : List LineRow) (p : Bytes) → word_in (value keys.IgnoreUnknown rows) ≡ Some p → word_in (value keys.IgnoreUnknown (rows ++ more)) ≡ Some p
 unfolding values
 ignored-front rows more p e =
     let here : value keys.IgnoreUnknown rows ≡ Some (Word p) = word-is (value keys.IgnoreUnknown rows) p e in
@@ -78,7 +78,7 @@ content-free j (Parts keyword words) e h = keyword-free j keyword [] (Ok words) 
 content-free j (Refused cause) e h = absurd cc
 
 -- a line of the command line that wasn't refused says the same after more rows
-says-again : (rows more : List Row) (l : AskedLine) (e : LineContent) → entry_of rows (asked_line l) ≡ Ok e → entry_of (rows ++ more) (asked_line l) ≡ Ok e
+says-again : (rows more : List LineRow) (l : AskedLine) (e : LineContent) → entry_of rows (asked_line l) ≡ Ok e → entry_of (rows ++ more) (asked_line l) ≡ Ok e
 says-again rows more l e h = asked-says (rows ++ more) l ∙ on (word_in (value keys.IgnoreUnknown rows)) refl (sym (asked-says rows l) ∙ h)
   where
     on : (i : Option Bytes) → word_in (value keys.IgnoreUnknown rows) ≡ i → content_entry (word_in (value keys.IgnoreUnknown rows)) CommandLine (asked_line l).content ≡ Ok e → content_entry (word_in (value keys.IgnoreUnknown (rows ++ more))) CommandLine (asked_line l).content ≡ Ok e
@@ -88,13 +88,13 @@ says-again rows more l e h = asked-says (rows ++ more) l ∙ on (word_in (value 
 -- ---- what it gives again
 
 -- what an entry gives again changes nothing, where it gave it before
-gives-again : (settings all : List Given) (e : LineContent) → ((key : Key) (v : Value) → e ≡ Gives key v → has_key key all ≡ true) → Keeps settings all → Keeps settings (all ++ entry_gives true (Ok e))
+gives-again : (settings all : List Given) (e : LineContent) → ((key : Key) (v : Value) → e ≡ Gives key v → has_key key all ≡ true) → KeepsSettings settings all → KeepsSettings settings (all ++ entry_gives true (Ok e))
 gives-again settings all Nothing has s = rw (append-nil all) s
 gives-again settings all (Host ps) has s = rw (append-nil all) s
 gives-again settings all (Match cs) has s = rw (append-nil all) s
 gives-again settings all (Gives key v) has s = on (is_collected key) refl
   where
-    on : (t : Bool) → is_collected key ≡ t → Keeps settings (all ++ cond t [] ((key, v) ∷ []))
+    on : (t : Bool) → is_collected key ≡ t → KeepsSettings settings (all ++ cond t [] ((key, v) ∷ []))
     on true h = rw (append-nil all) s
     on false h = keeps-again settings all key v h (has key v refl) s
 
@@ -109,34 +109,34 @@ has-behind key (x ∷ xs) ys v = rw (has-behind key xs ys v) (or-true (same_key 
 -- ---- one line again
 
 -- where a second pass stands among the lines of the command line
-pub record Again (recorded : Recorded) (rows : List Row) (new : Fold) (done later extra : List Row) : Type 0 where
+pub record Again (recorded : Recorded) (rows : List LineRow) (new : Fold) (done later extra : List LineRow) : Type 0 where
   pub parts : rows ≡ done ++ later
   pub idle : flat_map collected done ≡ []
   pub size : length extra ≡ length done
-  pub stands : Stands recorded (Second rows) new (rows ++ extra) []
+  pub stands : FoldRepresents recorded (Second rows) new (rows ++ extra) []
   pub none : refusal_in (rows ++ extra) ≡ None
 
-abbrev first_row : Recorded → List Row → AskedLine → Row
+abbrev first_row : Recorded → List LineRow → AskedLine → LineRow
 first_row recorded done l = next_row recorded First done (length done) (asked_line l)
 
-abbrev second_row : Recorded → List Row → List Row → AskedLine → Row
+abbrev second_row : Recorded → List LineRow → List LineRow → AskedLine → LineRow
 second_row recorded rows extra l = next_row recorded (Second rows) (rows ++ extra) (length extra) (asked_line l)
 
 took : (r : Result LineContent Cause) → is_refused r ≡ false → (e : LineContent) × (r ≡ Ok e)
 took (Ok e) h = (e, refl)
 took (Err c) h = absurd cc
 
-first-entry : (recorded : Recorded) (done : List Row) (l : AskedLine) → is_refused (first_row recorded done l).entry ≡ false → is_refused (entry_of done (asked_line l)) ≡ false
+first-entry : (recorded : Recorded) (done : List LineRow) (l : AskedLine) → is_refused (first_row recorded done l).entry ≡ false → is_refused (entry_of done (asked_line l)) ≡ false
 unfolding asked_with
 first-entry recorded done l h = on (entry_of done (asked_line l)) refl
   where
     on : (r : Result LineContent Cause) → entry_of done (asked_line l) ≡ r → is_refused r ≡ false
     on (Ok e) is = refl
     on (Err c) is =
-        let k : (first_row recorded done l).entry ≡ Err c = ap (λ (x : Row). x.entry) (asked-row-is recorded First done (length done) l) ∙ ap (λ r. (Rattle.conf_rules.specs.Resolution.effect_of recorded First done true r).entry) is in
+        let k : (first_row recorded done l).entry ≡ Err c = ap (λ (x : LineRow). x.entry) (asked-row-is recorded First done (length done) l) ∙ ap (λ r. (Rattle.conf_rules.specs.Resolution.effect_of recorded First done true r).entry) is in
         let b : false ≡ true = sym h ∙ ap is_refused k in absurd cc
 
-one-again : (recorded : Recorded) (rows : List Row) (new : Fold) (done later extra : List Row) (l : AskedLine) → is_refused (first_row recorded done l).entry ≡ false → Again recorded rows new done (first_row recorded done l ∷ later) extra
+one-again : (recorded : Recorded) (rows : List LineRow) (new : Fold) (done later extra : List LineRow) (l : AskedLine) → is_refused (first_row recorded done l).entry ≡ false → Again recorded rows new done (first_row recorded done l ∷ later) extra
     → (is_refused (second_row recorded rows extra l).entry ≡ false) × Again recorded rows new (done ++ first_row recorded done l ∷ []) later (extra ++ second_row recorded rows extra l ∷ [])
 unfolding asked_with
 one-again recorded rows new done later extra l ok a =
@@ -147,14 +147,14 @@ one-again recorded rows new done later extra l ok a =
     let says : entry_of (rows ++ extra) (asked_line l) ≡ Ok e.0 = ap (λ rs. entry_of rs (asked_line l)) whole ∙ says-again done (row ∷ later ++ extra) l e.0 e.1 in
     let other = second_row recorded rows extra l in
     let at : slice_get rows (length extra) ≡ Some row = ap (slice_get rows) a.size ∙ ap (λ rs. slice_get rs (length done)) a.parts ∙ slice_get-next done row later in
-    let again : active_before (Second rows) (length extra) ≡ true = ap is_active_row at ∙ ap (λ (r : Row). r.active) is in
+    let again : active_before (Second rows) (length extra) ≡ true = ap is_active_row at ∙ ap (λ (r : LineRow). r.active) is in
     let other-is : other ≡ row_with (asked_line l) true true (no_block (Ok e.0)) = asked-row-says recorded (Second rows) (rows ++ extra) (length extra) l e.0 says ∙ ap (λ t. row_with (asked_line l) true t (no_block (Ok e.0))) again in
     let gives : given other ≡ entry_gives true (Ok e.0) = ap given other-is in
     let had : flat_map given (rows ++ extra) ≡ flat_map given done ++ (given row ++ flat_map given (later ++ extra)) = ap (flat_map given) whole ∙ flat_map-append given done (row ∷ later ++ extra) in
     let has : (key : Key) (v : Value) → e.0 ≡ Gives key v → has_key key (flat_map given (rows ++ extra)) ≡ true =
     λ key v g. ap (has_key key) (had ∙ ap (λ xs. flat_map given done ++ (xs ++ flat_map given (later ++ extra))) (ap given is ∙ ap (λ x. entry_gives false (Ok x)) g)) ∙ has-behind key (flat_map given done) (flat_map given (later ++ extra)) v in
     let plain : opens e.0 ≡ false = content-plain (word_in (value keys.IgnoreUnknown done)) (asked_line l).content e.0 (sym (asked-says done l) ∙ e.1) in
-    let okay : is_refused other.entry ≡ false = ap (λ (r : Row). is_refused r.entry) other-is in
+    let okay : is_refused other.entry ≡ false = ap (λ (r : LineRow). is_refused r.entry) other-is in
     let s = a.stands in
     let behind : (rows ++ extra) ++ other ∷ [] ≡ rows ++ (extra ++ other ∷ []) = append_assoc rows extra (other ∷ []) in (
       okay,
@@ -162,7 +162,7 @@ one-again recorded rows new done later extra l ok a =
         parts = a.parts ∙ sym (append_assoc done (row ∷ []) later);
         idle = Rattle.conf_fold.proofs.RowLemmas.collected-more done row ∙ ap (λ xs. xs ++ collected row) a.idle ∙ asked-collected row l (row-line recorded First done (length done) (asked_line l));
         size = length-append extra (other ∷ []) ∙ ap (λ n. n + 1) a.size ∙ sym (length-append done (row ∷ []));
-        stands = subst (λ rs. Stands recorded (Second rows) new rs []) behind (record {
+        stands = subst (λ rs. FoldRepresents recorded (Second rows) new rs []) behind (record {
           original = s.original;
           keeps = rw (given-more (rows ++ extra) other, gives) (gives-again new.settings (flat_map given (rows ++ extra)) e.0 has s.keeps);
           applies = s.applies;
@@ -187,17 +187,17 @@ one-again recorded rows new done later extra l ok a =
       },
     )
   where
-    take-front : (xs ys : List Row) → take (length xs) (xs ++ ys) ≡ xs
+    take-front : (xs ys : List LineRow) → take (length xs) (xs ++ ys) ≡ xs
     take-front [] ys = refl
     take-front (x ∷ xs) ys = ap (λ zs. x ∷ zs) (take-front xs ys)
 
-    take-one : (xs : List Row) (y : Row) (ys : List Row) → take (suc (length xs)) (xs ++ y ∷ ys) ≡ xs ++ y ∷ []
+    take-one : (xs : List LineRow) (y : LineRow) (ys : List LineRow) → take (suc (length xs)) (xs ++ y ∷ ys) ≡ xs ++ y ∷ []
     take-one [] y ys = refl
     take-one (x ∷ xs) y ys = ap (λ zs. x ∷ zs) (take-one xs y ys)
 
 -- ---- all of them
 
-refused-front : (recorded : Recorded) (rows done later extra : List Row) (new : Fold) (l : AskedLine) (ls : List AskedLine) → refusal_in rows ≡ None → rows ≡ from recorded First done (length done) (map asked_line (l ∷ ls)) ++ later
+refused-front : (recorded : Recorded) (rows done later extra : List LineRow) (new : Fold) (l : AskedLine) (ls : List AskedLine) → refusal_in rows ≡ None → rows ≡ from recorded First done (length done) (map asked_line (l ∷ ls)) ++ later
     → is_refused (first_row recorded done l).entry ≡ false
 refused-front recorded rows done later extra new l ls none parts = on (is_refused (first_row recorded done l).entry) refl
   where
@@ -212,15 +212,15 @@ refused-front recorded rows done later extra new l ls none parts = on (is_refuse
         absurd (not-none row.line row.entry h here)
 
 -- the parts of rows after one more line
-next-later : (recorded : Recorded) (rows done later : List Row) (l : AskedLine) (ls : List AskedLine) → rows ≡ from recorded First done (length done) (map asked_line (l ∷ ls)) ++ later → is_refused (first_row recorded done l).entry ≡ false
+next-later : (recorded : Recorded) (rows done later : List LineRow) (l : AskedLine) (ls : List AskedLine) → rows ≡ from recorded First done (length done) (map asked_line (l ∷ ls)) ++ later → is_refused (first_row recorded done l).entry ≡ false
     → rows ≡ from recorded First (done ++ first_row recorded done l ∷ []) (length (done ++ first_row recorded done l ∷ [])) (map asked_line ls) ++ later
 next-later recorded rows done later l ls parts ok =
     let row = first_row recorded done l in
     let n : length (done ++ row ∷ []) ≡ length done + 1 = length-append done (row ∷ []) in
     parts ∙ ap (λ rs. rs ++ later) (rows-on recorded First done (length done) (asked_line l) (map asked_line ls) ok ∙ ap (λ m. from recorded First (done ++ row ∷ []) m (map asked_line ls)) (sym n))
 
-pub all-again : (recorded : Recorded) (rows : List Row) (new : Fold) (ls : List AskedLine) (done extra rest later : List Row) → refusal_in rows ≡ None → rows ≡ from recorded First done (length done) (map asked_line ls) ++ later → Again recorded rows new done rest extra
-    → Stands recorded (Second rows) new (from recorded (Second rows) (rows ++ extra) (length extra) (map asked_line ls)) [] × (refusal_in (from recorded (Second rows) (rows ++ extra) (length extra) (map asked_line ls)) ≡ None)
+pub all-again : (recorded : Recorded) (rows : List LineRow) (new : Fold) (ls : List AskedLine) (done extra rest later : List LineRow) → refusal_in rows ≡ None → rows ≡ from recorded First done (length done) (map asked_line ls) ++ later → Again recorded rows new done rest extra
+    → FoldRepresents recorded (Second rows) new (from recorded (Second rows) (rows ++ extra) (length extra) (map asked_line ls)) [] × (refusal_in (from recorded (Second rows) (rows ++ extra) (length extra) (map asked_line ls)) ≡ None)
 unfolding rows_from
 all-again recorded rows new [] done extra rest later none parts a = (a.stands, a.none)
 all-again recorded rows new (l ∷ ls) done extra rest later none parts a =
@@ -238,20 +238,20 @@ all-again recorded rows new (l ∷ ls) done extra rest later none parts a =
     ∙ ap (λ rs. from recorded (Second rows) rs (length extra + 1) (map asked_line ls)) (append_assoc rows extra (other ∷ []))
     ∙ ap (λ m. from recorded (Second rows) (rows ++ (extra ++ other ∷ [])) m (map asked_line ls)) (sym n) in
     let r = all-again recorded rows new ls (done ++ row ∷ []) (extra ++ other ∷ []) (front.0 ++ later) later none parts' one.1 in
-    (subst (λ rs. Stands recorded (Second rows) new rs []) (sym step) r.0, ap refusal_in step ∙ r.1)
+    (subst (λ rs. FoldRepresents recorded (Second rows) new rs []) (sym step) r.0, ap refusal_in step ∙ r.1)
 
 -- what a fold is where the second pass begins
 abbrev pub again_of : Fold → Fold
 again_of fold = record fold { name = Some (host_so_far fold); applies = []; seen = 0 }
 
-pub second-begins : (recorded : Recorded) (old new : Fold) (rows : List Row) (blocks : Blocks) → Stands recorded First old rows blocks → Behind recorded rows → old.asks_again ≡ true → new ≡ again_of old → SecondBegins recorded rows new true
+pub second-begins : (recorded : Recorded) (old new : Fold) (rows : List LineRow) (blocks : Blocks) → FoldRepresents recorded First old rows blocks → Behind recorded rows → old.asks_again ≡ true → new ≡ again_of old → SecondBegins recorded rows new true
 second-begins recorded old new rows blocks s b asks is =
     let z : rows ++ [] ≡ rows = append-nil rows in
     let start : Again recorded rows new [] rows [] = record {
       parts = refl;
       idle = refl;
       size = refl;
-      stands = subst (λ rs. Stands recorded (Second rows) new rs []) (sym z) (record {
+      stands = subst (λ rs. FoldRepresents recorded (Second rows) new rs []) (sym z) (record {
         original = ap (λ (f : Fold). f.original) is ∙ s.original;
         keeps = rw (ap (λ (f : Fold). f.settings) is) s.keeps;
         applies = ap (λ (f : Fold). f.applies) is;
@@ -267,4 +267,4 @@ second-begins recorded old new rows blocks s b asks is =
     } in
     let r = all-again recorded rows new recorded.asked.lines [] [] rows b.later b.none b.parts start in
     let same : from recorded (Second rows) (rows ++ []) 0 (map asked_line recorded.asked.lines) ≡ asked_again recorded rows = ap (λ rs. from recorded (Second rows) rs 0 (map asked_line recorded.asked.lines)) z in
-    (sym s.again ∙ asks, (subst (λ rs. Stands recorded (Second rows) new rs []) same r.0, ap refusal_in (sym same) ∙ r.1))
+    (sym s.again ∙ asks, (subst (λ rs. FoldRepresents recorded (Second rows) new rs []) same r.0, ap refusal_in (sym same) ∙ r.1))

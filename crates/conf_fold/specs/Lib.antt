@@ -1,4 +1,4 @@
 pub mod Begins
 pub mod Entries
 pub mod Results
-pub mod Stands
+pub mod FoldRepresents

@@ -19,9 +19,9 @@ FailsLine line_errors.OutOfMemory reading = Unit {0}
 FailsLine (line_errors.Refused cause) reading = reading ≡ Err cause
 
 -- what was returned of a line is its reading, unless memory ran out
-abbrev pub GivesLine : {Y : Type 0} → Result Y LineError → Result Y Cause → Type 0
-GivesLine (Ok x) reading = reading ≡ Ok x
-GivesLine (Err e) reading = FailsLine e reading
+abbrev pub GivesLineReading : {Y : Type 0} → Result Y LineError → Result Y Cause → Type 0
+GivesLineReading (Ok x) reading = reading ≡ Ok x
+GivesLineReading (Err e) reading = FailsLine e reading
 
 -- an evaluation gave what it should, unless memory or the runner failed
 abbrev pub Evaluated : Result Bool LineError → Result Bool TokenError → Type 0
@@ -56,11 +56,11 @@ FailsInLine (Err (line_errors.Refused causes.RunFault)) old new commands = Fails
 FailsInLine result old new commands = Unit {0}
 
 -- the same of a refusal with its place, which is this one
-abbrev pub FailsAt : {A : Type 0} → Bytes → ℕ → Result A ResolveError → Option (List Bytes)
+abbrev pub FailsAtLine : {A : Type 0} → Bytes → ℕ → Result A ResolveError → Option (List Bytes)
     → Option (List Bytes) → List Bytes → Type 0
-FailsAt file number (Err (At f n causes.RunFault)) old new commands = (f ≡ file)
+FailsAtLine file number (Err (At f n causes.RunFault)) old new commands = (f ≡ file)
     × ((n ≡ number) × FailsOne old new commands)
-FailsAt file number result old new commands = Unit {0}
+FailsAtLine file number result old new commands = Unit {0}
 
 -- ---- faults
 

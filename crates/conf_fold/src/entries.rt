@@ -9,7 +9,7 @@ ghost use Rattle.conf_rules.specs.Keywords.{meaning_of};
 ghost use Rattle.conf_rules.specs.Sources.{asked_line};
 ghost use Rattle.conf_rules.specs.Entries.{split, host_entry, match_entry, words_entry, key_entry, takes_keyword, unknown_entry, headed_entry, content_entry, keyword_entry};
 ghost use Rattle.conf_reader.specs.Results.{is_line_fault};
-ghost use Rattle.conf_fold.specs.Results.{GivesLine};
+ghost use Rattle.conf_fold.specs.Results.{GivesLineReading};
 ghost use Rattle.conf_fold.specs.Entries.{entry_fits, value_entry, spelled_entry};
 
 use conf_lexer::{Head, split_head, split_words};
@@ -58,7 +58,7 @@ fn takes_keyword(alloc: Global, ignored: Option<&[u8]>, keyword: &[u8]) -> Resul
 
 // The words of a rest.
 fn split(alloc: Global, rest: &[u8]) -> Result<Texts, LineError>
-    ensures read { GivesLine result (split rest.now) }
+    ensures read { GivesLineReading result (split rest.now) }
     ensures plain { IfErr result (λ e. is_line_fault e ≡ false) }
 {
     Ok(split_words(alloc, rest)?)
@@ -66,7 +66,7 @@ fn split(alloc: Global, rest: &[u8]) -> Result<Texts, LineError>
 
 // The content of a Host line.
 fn host_entry(alloc: Global, rest: &[u8]) -> Result<LineContent, LineError>
-    ensures read { GivesLine result (host_entry (split rest.now)) }
+    ensures read { GivesLineReading result (host_entry (split rest.now)) }
     ensures fits { IfOk result (λ entry. entry_fits entry ≡ true) }
     ensures plain { IfErr result (λ e. is_line_fault e ≡ false) }
 {
@@ -75,7 +75,7 @@ fn host_entry(alloc: Global, rest: &[u8]) -> Result<LineContent, LineError>
 
 // The content of a Match line.
 fn match_entry(alloc: Global, rest: &[u8]) -> Result<LineContent, LineError>
-    ensures read { GivesLine result (match_entry (split rest.now)) }
+    ensures read { GivesLineReading result (match_entry (split rest.now)) }
     ensures fits { IfOk result (λ entry. entry_fits entry ≡ true) }
     ensures plain { IfErr result (λ e. is_line_fault e ≡ false) }
 {
@@ -85,7 +85,7 @@ fn match_entry(alloc: Global, rest: &[u8]) -> Result<LineContent, LineError>
 
 // What a line says whose words alone are read.
 fn words_entry(alloc: Global, rest: &[u8]) -> Result<LineContent, LineError>
-    ensures read { GivesLine result (words_entry (split rest.now)) }
+    ensures read { GivesLineReading result (words_entry (split rest.now)) }
     ensures fits { IfOk result (λ entry. entry_fits entry ≡ true) }
     ensures plain { IfErr result (λ e. is_line_fault e ≡ false) }
 {
@@ -100,7 +100,7 @@ fn value_entry(
     rest: &[u8],
     words: &Texts,
 ) -> Result<LineContent, LineError>
-    ensures read { GivesLine result (value_entry key rest.now words.now) }
+    ensures read { GivesLineReading result (value_entry key rest.now words.now) }
     ensures fits { IfOk result (λ entry. entry_fits entry ≡ true) }
     ensures plain { IfErr result (λ e. is_line_fault e ≡ false) }
 {
@@ -109,7 +109,7 @@ fn value_entry(
 
 // What a line gives to a key.
 fn key_entry(alloc: Global, key: Key, rest: &[u8]) -> Result<LineContent, LineError>
-    ensures read { GivesLine result (key_entry key rest.now (split rest.now)) }
+    ensures read { GivesLineReading result (key_entry key rest.now (split rest.now)) }
     ensures fits { IfOk result (λ entry. entry_fits entry ≡ true) }
     ensures plain { IfErr result (λ e. is_line_fault e ≡ false) }
 {
@@ -122,7 +122,7 @@ fn key_entry(alloc: Global, key: Key, rest: &[u8]) -> Result<LineContent, LineEr
 
 // What given words give to a key.
 fn parts_key_entry(alloc: Global, key: Key, words: &Texts) -> Result<LineContent, LineError>
-    ensures read { GivesLine result (key_entry key [] (Ok words.now)) }
+    ensures read { GivesLineReading result (key_entry key [] (Ok words.now)) }
     ensures fits { IfOk result (λ entry. entry_fits entry ≡ true) }
     ensures plain { IfErr result (λ e. is_line_fault e ≡ false) }
 {
@@ -139,7 +139,7 @@ fn unknown_entry(
     keyword: &[u8],
     rest: &[u8],
 ) -> Result<LineContent, LineError>
-    ensures read { GivesLine result
+    ensures read { GivesLineReading result
         (unknown_entry (takes_keyword (option_copied ignored.entry) keyword.now) keyword.now
         (split rest.now)) }
     ensures fits { IfOk result (λ entry. entry_fits entry ≡ true) }
@@ -160,7 +160,7 @@ fn parts_unknown_entry(
     keyword: &[u8],
     words: &Texts,
 ) -> Result<LineContent, LineError>
-    ensures read { GivesLine result
+    ensures read { GivesLineReading result
         (unknown_entry (takes_keyword (option_copied ignored.entry) keyword.now) keyword.now
         (Ok words.now)) }
     ensures fits { IfOk result (λ entry. entry_fits entry ≡ true) }
@@ -180,7 +180,7 @@ pub fn file_entry(
     keyword: &[u8],
     rest: &[u8],
 ) -> Result<LineContent, LineError>
-    ensures read { GivesLine result
+    ensures read { GivesLineReading result
         (headed_entry (option_copied ignored.entry) UserFile (Says keyword.now rest.now)) }
     ensures fits { IfOk result (λ entry. entry_fits entry ≡ true) }
     ensures plain { IfErr result (λ e. is_line_fault e ≡ false) }
@@ -202,7 +202,7 @@ fn asked_heading(
     keyword: &[u8],
     rest: &[u8],
 ) -> Result<LineContent, LineError>
-    ensures read { GivesLine result
+    ensures read { GivesLineReading result
         (headed_entry (option_copied ignored.entry) CommandLine (Says keyword.now rest.now)) }
     ensures fits { IfOk result (λ entry. entry_fits entry ≡ true) }
     ensures plain { IfErr result (λ e. is_line_fault e ≡ false) }
@@ -219,7 +219,7 @@ fn asked_heading(
 
 // What a line of the command line says that is read as one of a file.
 fn asked_text(alloc: Global, ignored: Option<&[u8]>, line: &[u8]) -> Result<LineContent, LineError>
-    ensures read { GivesLine result
+    ensures read { GivesLineReading result
         (spelled_entry (option_copied ignored.entry) CommandLine line.now) }
     ensures fits { IfOk result (λ entry. entry_fits entry ≡ true) }
     ensures plain { IfErr result (λ e. is_line_fault e ≡ false) }
@@ -237,7 +237,7 @@ fn asked_parts(
     keyword: &[u8],
     words: &Texts,
 ) -> Result<LineContent, LineError>
-    ensures read { GivesLine result
+    ensures read { GivesLineReading result
         (keyword_entry (option_copied ignored.entry) CommandLine keyword.now [] (Ok words.now)
         (meaning_of keyword.now)) }
     ensures fits { IfOk result (λ entry. entry_fits entry ≡ true) }
@@ -259,7 +259,7 @@ pub fn asked_entry(
     ignored: Option<&[u8]>,
     line: &AskedLine,
 ) -> Result<LineContent, LineError>
-    ensures read { GivesLine result
+    ensures read { GivesLineReading result
         (content_entry (option_copied ignored.entry) CommandLine (asked_line line.now).content) }
     ensures fits { IfOk result (λ entry. entry_fits entry ≡ true) }
     ensures plain { IfErr result (λ e. is_line_fault e ≡ false) }

@@ -3,13 +3,13 @@ ghost use Rattle.std.specs.Option.{option_copied};
 ghost use Rattle.conf_rules.specs.Recorded.{Recorded};
 ghost use Rattle.conf_rules.specs.Sources.{asked_line};
 ghost use Rattle.conf_rules.specs.Fits.{fits};
-ghost use Rattle.conf_rules.specs.Rows.{Row, word_in, entry_gives, First};
-ghost use Rattle.conf_options.specs.Kept.{Given, Keeps};
+ghost use Rattle.conf_rules.specs.Rows.{LineRow, word_in, entry_gives, First};
+ghost use Rattle.conf_options.specs.Kept.{Given, KeepsSettings};
 ghost use Rattle.conf_reader.specs.Blocks.{Blocks};
 ghost use Rattle.conf_reader.specs.Results.{is_fault_at};
-ghost use Rattle.conf_fold.specs.Begins.{IsEmpty, IsBegun, TakesAsked, Behind, SecondBegins};
+ghost use Rattle.conf_fold.specs.Begins.{IsEmpty, IsFoldBegun, TakesAsked, Behind, SecondBegins};
 ghost use Rattle.conf_fold.specs.Entries.{entry_fits};
-ghost use Rattle.conf_fold.specs.Stands.{Stands, setting, host_so_far, block_name};
+ghost use Rattle.conf_fold.specs.FoldRepresents.{FoldRepresents, setting, host_so_far, block_name};
 
 mod blocks;
 mod lines;
@@ -73,7 +73,7 @@ impl Fold {
 
     /// Takes the lines of the command line, in order. The first one that is refused decides.
     pub fn new(alloc: Global, asked: &Asked) -> Result<Fold, ResolveError>
-        ensures begins { (recorded : Recorded) → recorded.asked ≡ asked.now → IsBegun recorded result }
+        ensures begins { (recorded : Recorded) → recorded.asked ≡ asked.now → IsFoldBegun recorded result }
         ensures plain { IfErr result (λ e. is_fault_at e ≡ false) }
     {
         let mut fold = Fold::of_nothing(alloc, asked.original.as_bytes())?;
@@ -85,7 +85,7 @@ impl Fold {
 
     // Takes a line of the command line.
     fn asked_line(&mut self, line: &AskedLine) -> Result<(), ResolveError>
-        ensures takes { (recorded : Recorded) (rows : List Row) → Stands recorded First self.old rows []
+        ensures takes { (recorded : Recorded) (rows : List LineRow) → FoldRepresents recorded First self.old rows []
             → TakesAsked recorded rows (asked_line line.now) result self.new }
         ensures plain { IfErr result (λ e. is_fault_at e ≡ false) }
     {
@@ -100,8 +100,8 @@ impl Fold {
     // Applies the content of a line of the command line, which is active.
     fn take_asked(&mut self, entry: LineContent) -> Result<(), OutOfMemory>
         requires fits { entry_fits entry ≡ true }
-        ensures keeps { OnOk result ((given : List Given) → Keeps self.old.settings given
-            → Keeps self.new.settings (given ++ entry_gives false (Ok entry))) }
+        ensures keeps { OnOk result ((given : List Given) → KeepsSettings self.old.settings given
+            → KeepsSettings self.new.settings (given ++ entry_gives false (Ok entry))) }
         ensures others { OnOk result (self.new ≡ record self.old { settings = self.new.settings }) }
     {
         if let LineContent::Gives(key, value) = entry {
@@ -114,8 +114,8 @@ impl Fold {
     /// line, which gave all that they give in the first pass, aren't given again; those of the
     /// files are.
     pub fn second(&mut self) -> Result<bool, OutOfMemory>
-        ensures second { IfOk result (λ again. (recorded : Recorded) (rows : List Row) (blocks : Blocks)
-            → Stands recorded First self.old rows blocks → Behind recorded rows
+        ensures second { IfOk result (λ again. (recorded : Recorded) (rows : List LineRow) (blocks : Blocks)
+            → FoldRepresents recorded First self.old rows blocks → Behind recorded rows
             → SecondBegins recorded rows self.new again) }
         ensures same { result ≡ Ok false → self.new ≡ self.old }
         ensures err { OnErr result (self.new ≡ self.old) }

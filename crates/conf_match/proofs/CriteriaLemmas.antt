@@ -8,7 +8,7 @@ use Rattle.conf_rules.specs.declared.criterion.Named.TheVariants.{Valued, Plain,
 use Rattle.conf_rules.specs.declared.causes.MatchError.TheVariants.{Unknown, AllNotAlone, Unsupported}
 use Rattle.conf_rules.specs.Texts.{Bytes}
 use Rattle.conf_rules.specs.Criteria.{Spelled, spelled, ReadCriteria, criteria_from, with_criterion, plain_criterion, all_alone, unvalued, opens_all}
-use Rattle.conf_match.specs.Place.{onto, valued, every, Goes}
+use Rattle.conf_match.specs.CriterionPlace.{onto, valued, every, Goes}
 
 pub is_true : (b : Bool) → not b ≡ false → b ≡ true
 is_true true e = refl

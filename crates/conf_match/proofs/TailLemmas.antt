@@ -5,7 +5,7 @@ use Rattle.conf_rules.specs.Texts.{Bytes, has, split_at_first, with_front}
 use Rattle.conf_rules.specs.Globs.{class_of}
 use Rattle.conf_match.specs.declared.pieces.Syntax.{Syntax}
 use Rattle.conf_match.specs.declared.pieces.Syntax.TheVariants.{Pattern, Glob}
-use Rattle.conf_match.specs.Pieces.{NoneInLast, Fits}
+use Rattle.conf_match.specs.Pieces.{NoneInLast, PatternFits}
 
 or_left : (a b : Bool) → (a || b) ≡ false → a ≡ false
 or_left true b e = e
@@ -40,11 +40,11 @@ none_next : (tail b : ℕ) (pattern bs : Bytes) → pattern ≡ b ∷ bs → Non
 none_next tail b pattern bs e none = subst (λ xs. NoneInLast tail (drop 1 xs)) e (none_left 1 tail pattern none)
 
 -- what is left of a pattern is as its syntax says
-pub fits_next : (syntax : Syntax) (b : ℕ) (pattern bs : Bytes) → pattern ≡ b ∷ bs → Fits syntax pattern → Fits syntax bs
+pub fits_next : (syntax : Syntax) (b : ℕ) (pattern bs : Bytes) → pattern ≡ b ∷ bs → PatternFits syntax pattern → PatternFits syntax bs
 fits_next Pattern b pattern bs e fits = tt
 fits_next (Glob tail) b pattern bs e fits = none_next tail b pattern bs e fits
 
-pub fits_further : (syntax : Syntax) (more : ℕ) (pattern : Bytes) → Fits syntax pattern → Fits syntax (drop more pattern)
+pub fits_further : (syntax : Syntax) (more : ℕ) (pattern : Bytes) → PatternFits syntax pattern → PatternFits syntax (drop more pattern)
 fits_further Pattern more pattern fits = tt
 fits_further (Glob tail) more pattern fits = none_left more tail pattern fits
 

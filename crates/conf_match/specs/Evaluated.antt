@@ -4,7 +4,7 @@ use Rattle.std.specs.Option.{option_map}
 use Rattle.mux_outside.specs.declared.statuses.CommandStatus.{CommandStatus}
 use Rattle.mux_outside.specs.declared.file_error.FileError.{FileError}
 use Rattle.mux_outside.specs.declared.file_error.FileError.TheVariants as file_errors
-use Rattle.mux_outside.specs.Runner.{status_of}
+use Rattle.mux_outside.specs.Runner.{runner_status_of}
 use Rattle.mux_outside.specs.Counts.{Rose}
 use Rattle.conf_rules.specs.declared.causes.TokenError.{TokenError}
 use Rattle.conf_rules.specs.declared.causes.TokenError.TheVariants as token_errors
@@ -16,14 +16,14 @@ use Rattle.conf_match.specs.declared.evaluation.EvalError.{EvalError}
 use Rattle.conf_match.specs.declared.evaluation.EvalError.TheVariants.{RunFault, Token, OutOfMemory}
 
 -- a token's error as one of an evaluation
-abbrev pub of_token : TokenError → EvalError
-of_token token_errors.OutOfMemory = OutOfMemory
-of_token e = Token e
+abbrev pub evaluation_of_token : TokenError → EvalError
+evaluation_of_token token_errors.OutOfMemory = OutOfMemory
+evaluation_of_token e = Token e
 
 -- a runner's error as one of an evaluation
-abbrev pub of_file : FileError → EvalError
-of_file file_errors.Failed = RunFault
-of_file file_errors.OutOfMemory = OutOfMemory
+abbrev pub evaluation_of_file : FileError → EvalError
+evaluation_of_file file_errors.Failed = RunFault
+evaluation_of_file file_errors.OutOfMemory = OutOfMemory
 
 -- whether a list of patterns takes the user, or else the local user
 abbrev pub takes_user : View → Bytes → Result Bool TokenError
@@ -38,7 +38,7 @@ takes_local_user view patterns = fact_of 117 view.facts.local_user >>= λ user.
 -- a runner records that commands end with these statuses
 abbrev pub RecordsStatus : Option (List CommandStatus) → (Bytes → ℕ) → Type 0
 RecordsStatus None status = ⊥
-RecordsStatus (Some statuses) status = status ≡ status_of statuses
+RecordsStatus (Some statuses) status = status ≡ runner_status_of statuses
 
 -- an evaluation gave what it should, unless memory or the runner failed
 abbrev pub Evaluated : Result Bool EvalError → Result Bool TokenError → Type 0
@@ -79,6 +79,6 @@ Ran (Err (Token e)) old new commands = RanAll old new commands
 Ran (Err e) old new commands = RanSome old new commands
 
 -- the count of faults rose where the runner failed, and stays with any other answer
-abbrev pub HasRunCause : Result Bool EvalError → ℕ → ℕ → Type 0
-HasRunCause (Err RunFault) before now = Rose before now
-HasRunCause result before now = now ≡ before
+abbrev pub HasRunnerCause : Result Bool EvalError → ℕ → ℕ → Type 0
+HasRunnerCause (Err RunFault) before now = Rose before now
+HasRunnerCause result before now = now ≡ before

@@ -1,6 +1,6 @@
 pub mod Answers
 pub mod Evaluated
 pub mod Pieces
-pub mod Place
+pub mod CriterionPlace
 pub mod Segments
 pub mod Spelled

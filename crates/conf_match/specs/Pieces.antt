@@ -53,6 +53,6 @@ abbrev pub NoneInLast : ℕ → Bytes → Type 0
 NoneInLast tail pattern = (k : ℕ) → length pattern ≤ tail + k → has 93 (drop k pattern) ≡ false
 
 -- a pattern is as its syntax says
-abbrev pub Fits : Syntax → Bytes → Type 0
-Fits Pattern pattern = Unit {0}
-Fits (Glob tail) pattern = NoneInLast tail pattern
+abbrev pub PatternFits : Syntax → Bytes → Type 0
+PatternFits Pattern pattern = Unit {0}
+PatternFits (Glob tail) pattern = NoneInLast tail pattern

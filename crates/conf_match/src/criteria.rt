@@ -2,7 +2,7 @@ ghost use Rattle.std.specs.Prelude.{◌≡◌, ◌+◌, ◌<◌, ◌≤◌, leng
 ghost use Rattle.conf_rules.specs.Criteria.{criteria_from, read_criteria, plain_criterion, with_criterion, opens_all};
 ghost use Rattle.conf_rules.specs.Results.{Gives};
 ghost use Rattle.conf_rules.specs.Wants.{match_wants_memory};
-ghost use Rattle.conf_match.specs.Place.{Adds, Takes, valued, every};
+ghost use Rattle.conf_match.specs.CriterionPlace.{AddsCriterion, TakesCriterion, valued, every};
 
 use crate::named::{opens_all, read_word};
 use conf_rules::{Criteria, Criterion, Kind, MatchError, Named};
@@ -11,7 +11,7 @@ use std::alloc::Global;
 
 /// Where the reading stands: the next word, and whether `all` may stand there.
 #[derive(Clone, Copy)]
-pub struct Place {
+pub struct CriterionPlace {
     pub word: usize,
     pub may: bool,
 }
@@ -24,7 +24,7 @@ fn add(
     kind: Kind,
     value: &[u8],
 ) -> Result<(), MatchError>
-    ensures { Adds result criteria.old criteria.new negated kind value.now }
+    ensures { AddsCriterion result criteria.old criteria.new negated kind value.now }
 {
     criteria.push(Criterion {
         negated,
@@ -39,11 +39,11 @@ fn take_all(
     alloc: Global,
     criteria: &mut Criteria,
     words: &[Text],
-    place: Place,
+    place: CriterionPlace,
     negated: bool,
-) -> Result<Place, MatchError>
+) -> Result<CriterionPlace, MatchError>
     requires place { place.word < length words.now }
-    ensures { Takes result criteria.old criteria.new words.now place.word
+    ensures { TakesCriterion result criteria.old criteria.new words.now place.word
         (every place.word place.may negated (drop (place.word + 1) words.now)) }
 {
     if negated {
@@ -56,7 +56,7 @@ fn take_all(
         return Err(MatchError::AllNotAlone);
     }
     add(alloc, criteria, negated, Kind::All, b"")?;
-    Ok(Place {
+    Ok(CriterionPlace {
         word: place.word + 1,
         may: false,
     })
@@ -67,12 +67,12 @@ fn take_plain(
     alloc: Global,
     criteria: &mut Criteria,
     words: &[Text],
-    place: Place,
+    place: CriterionPlace,
     negated: bool,
     kind: Kind,
-) -> Result<Place, MatchError>
+) -> Result<CriterionPlace, MatchError>
     requires place { place.word < length words.now }
-    ensures { Takes result criteria.old criteria.new words.now place.word
+    ensures { TakesCriterion result criteria.old criteria.new words.now place.word
         (plain_criterion place.word place.may negated kind (drop (place.word + 1) words.now)
         (criteria_from (place.word + 1) (opens_all kind) (drop (place.word + 1) words.now))) }
 {
@@ -80,7 +80,7 @@ fn take_plain(
         return take_all(alloc, criteria, words, place, negated);
     }
     add(alloc, criteria, negated, kind, b"")?;
-    Ok(Place {
+    Ok(CriterionPlace {
         word: place.word + 1,
         may: opens_all(kind),
     })
@@ -96,14 +96,14 @@ fn take_value(
     kind: Kind,
     value: &[u8],
     next: usize,
-) -> Result<Place, MatchError>
+) -> Result<CriterionPlace, MatchError>
     requires further { at < next }
     requires within { next ≤ length words.now }
-    ensures { Takes result criteria.old criteria.new words.now at
+    ensures { TakesCriterion result criteria.old criteria.new words.now at
         (with_criterion negated kind value.now (criteria_from next false (drop next words.now))) }
 {
     add(alloc, criteria, negated, kind, value)?;
-    Ok(Place {
+    Ok(CriterionPlace {
         word: next,
         may: false,
     })
@@ -117,9 +117,9 @@ fn take_next(
     at: usize,
     negated: bool,
     kind: Kind,
-) -> Result<Place, MatchError>
+) -> Result<CriterionPlace, MatchError>
     requires place { at < length words.now }
-    ensures { Takes result criteria.old criteria.new words.now at
+    ensures { TakesCriterion result criteria.old criteria.new words.now at
         (valued at negated kind None (drop (at + 1) words.now)) }
 {
     if at + 1 < words.len() {
@@ -134,10 +134,10 @@ fn take(
     alloc: Global,
     criteria: &mut Criteria,
     words: &[Text],
-    place: Place,
-) -> Result<Place, MatchError>
+    place: CriterionPlace,
+) -> Result<CriterionPlace, MatchError>
     requires place { place.word < length words.now }
-    ensures { Takes result criteria.old criteria.new words.now place.word
+    ensures { TakesCriterion result criteria.old criteria.new words.now place.word
         (criteria_from place.word place.may (drop place.word words.now)) }
 {
     let at = place.word;
@@ -165,7 +165,7 @@ pub fn read_criteria(alloc: Global, words: &Texts) -> Result<Criteria, MatchErro
 {
     let all = words.as_slice();
     let mut criteria = Criteria::new(alloc);
-    let mut place = Place { word: 0, may: true };
+    let mut place = CriterionPlace { word: 0, may: true };
     while place.word < all.len() {
         place = take(alloc, &mut criteria, all, place)?;
     }

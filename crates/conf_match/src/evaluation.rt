@@ -5,7 +5,7 @@ ghost use Rattle.conf_rules.specs.Texts.{Bytes};
 ghost use Rattle.conf_rules.specs.Patterns.{list_takes};
 ghost use Rattle.conf_rules.specs.Evaluation.{plain_verdict, criterion_verdict, verdict};
 ghost use Rattle.conf_tokens.specs.Seen.{seen};
-ghost use Rattle.conf_match.specs.Evaluated.{takes_user, takes_local_user, Evaluated, Ran, FailsIn, HasRunCause, RecordsStatus, of_token, of_file};
+ghost use Rattle.conf_match.specs.Evaluated.{takes_user, takes_local_user, Evaluated, Ran, FailsIn, HasRunnerCause, RecordsStatus, evaluation_of_token, evaluation_of_file};
 
 use crate::lists::matches_list;
 use conf_rules::{Criteria, Criterion, Kind, ListAnswer, TokenError, TokenSet};
@@ -24,7 +24,7 @@ pub enum EvalError {
 }
 
 impl From<TokenError> for EvalError {
-    ghost from_gives = { λ e d. d ≡ of_token e };
+    ghost from_gives = { λ e d. d ≡ evaluation_of_token e };
 
     fn from(e: TokenError) -> EvalError {
         match e {
@@ -35,7 +35,7 @@ impl From<TokenError> for EvalError {
 }
 
 impl From<FileError> for EvalError {
-    ghost from_gives = { λ e d. d ≡ of_file e };
+    ghost from_gives = { λ e d. d ≡ evaluation_of_file e };
 
     fn from(e: FileError) -> EvalError {
         match e {
@@ -86,7 +86,7 @@ fn exec<R: Runner>(
     ensures failed { (status : Bytes → ℕ)
         → FailsIn result (R.ran runner.old) (R.ran runner.new)
         (plain_verdict status (seen view.now) Exec value.now).ran }
-    ensures cause { HasRunCause result (R.faults runner.old) (R.faults runner.new) }
+    ensures cause { HasRunnerCause result (R.faults runner.old) (R.faults runner.new) }
     ensures recorded { R.recorded runner.new ≡ R.recorded runner.old }
 {
     let command = expand(alloc, value, TokenSet::Full, view)?;
@@ -110,7 +110,7 @@ fn plain<R: Runner>(
     ensures failed { (status : Bytes → ℕ)
         → FailsIn result (R.ran runner.old) (R.ran runner.new)
         (plain_verdict status (seen view.now) kind value.now).ran }
-    ensures cause { HasRunCause result (R.faults runner.old) (R.faults runner.new) }
+    ensures cause { HasRunnerCause result (R.faults runner.old) (R.faults runner.new) }
     ensures recorded { R.recorded runner.new ≡ R.recorded runner.old }
 {
     match kind {
@@ -141,7 +141,7 @@ fn one<R: Runner>(
     ensures failed { (status : Bytes → ℕ)
         → FailsIn result (R.ran runner.old) (R.ran runner.new)
         (criterion_verdict status (seen view.now) criterion.now).ran }
-    ensures cause { HasRunCause result (R.faults runner.old) (R.faults runner.new) }
+    ensures cause { HasRunnerCause result (R.faults runner.old) (R.faults runner.new) }
     ensures recorded { R.recorded runner.new ≡ R.recorded runner.old }
 {
     let holds = plain(
@@ -170,7 +170,7 @@ pub fn eval<R: Runner>(
     ensures failed { (status : Bytes → ℕ) → RecordsStatus (R.recorded runner.old) status
         → FailsIn result (R.ran runner.old) (R.ran runner.new)
         (verdict status (seen view.now) criteria.now).ran }
-    ensures cause { HasRunCause result (R.faults runner.old) (R.faults runner.new) }
+    ensures cause { HasRunnerCause result (R.faults runner.old) (R.faults runner.new) }
     ensures recorded { R.recorded runner.new ≡ R.recorded runner.old }
 {
     for criterion in criteria.as_slice() {

@@ -1,7 +1,7 @@
 ghost use Rattle.std.specs.Prelude.{◌&&◌, nat_le, ◌≡◌, ◌≤◌, ◌<◌, ◌∷◌, [], length, IfSome, MatchOption};
 ghost use Rattle.std.specs.Option.{option_map};
 ghost use Rattle.conf_rules.specs.Globs.{in_class, class_of, bracketed, piece_takes};
-ghost use Rattle.conf_match.specs.Pieces.{range_end, piece_meaning, with_count, is_any, piece_by, pieces_by, NoneInLast, Fits};
+ghost use Rattle.conf_match.specs.Pieces.{range_end, piece_meaning, with_count, is_any, piece_by, pieces_by, NoneInLast, PatternFits};
 
 use conf_lexer::{first, split_at_first};
 
@@ -112,7 +112,7 @@ fn bracketed(bytes: &[u8], tail: usize) -> (Piece<'_>, usize)
 
 // The piece that a byte begins, and how many more bytes it consumes.
 fn piece_at(syntax: Syntax, byte: u8, behind: &[u8]) -> (Piece<'_>, usize)
-    requires { Fits syntax behind.now }
+    requires { PatternFits syntax behind.now }
     ensures piece { with_count result ≡ piece_by syntax byte behind.now }
     ensures within { result.1 ≤ length behind.now }
 {
@@ -130,11 +130,11 @@ fn piece_at(syntax: Syntax, byte: u8, behind: &[u8]) -> (Piece<'_>, usize)
 
 /// The first piece, and what follows it.
 pub fn next_piece(syntax: Syntax, pattern: &[u8]) -> Option<(Piece<'_>, &[u8])>
-    requires { Fits syntax pattern.now }
+    requires { PatternFits syntax pattern.now }
     ensures piece { MatchOption result (pattern.now ≡ []) (λ x. pieces_by syntax pattern.now
         ≡ piece_meaning x.0 ∷ pieces_by syntax x.1.now) }
     ensures shorter { IfSome result (λ x. length x.1.now < length pattern.now) }
-    ensures fits { IfSome result (λ x. Fits syntax x.1.now) }
+    ensures fits { IfSome result (λ x. PatternFits syntax x.1.now) }
 {
     let (byte, behind) = first(pattern)?;
     let (piece, more) = piece_at(syntax, byte, behind);

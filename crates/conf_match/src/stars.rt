@@ -1,7 +1,7 @@
 ghost use Rattle.std.specs.Prelude.{◌≡◌};
 ghost use Rattle.conf_rules.specs.Patterns.{some_suffix};
-ghost use Rattle.conf_match.specs.Pieces.{Fits, takes_name};
-ghost use Rattle.conf_match.specs.Segments.{Begins};
+ghost use Rattle.conf_match.specs.Pieces.{PatternFits, takes_name};
+ghost use Rattle.conf_match.specs.Segments.{SegmentBegins};
 
 use crate::pieces::{Syntax, is_any, next_piece, takes};
 use conf_lexer::first;
@@ -18,8 +18,8 @@ pub enum Segment<'p, 't> {
 
 // Goes to the pattern's first star.
 fn to_star<'p, 't>(syntax: Syntax, pattern: &'p [u8], name: &'t [u8]) -> Segment<'p, 't>
-    requires { Fits syntax pattern.now }
-    ensures { Begins syntax pattern.now name.now result }
+    requires { PatternFits syntax pattern.now }
+    ensures { SegmentBegins syntax pattern.now name.now result }
 {
     let mut p = pattern;
     let mut t = name;
@@ -45,7 +45,7 @@ fn to_star<'p, 't>(syntax: Syntax, pattern: &'p [u8], name: &'t [u8]) -> Segment
 
 // Whether the pattern takes a suffix.
 fn some_suffix(syntax: Syntax, pattern: &[u8], name: &[u8]) -> bool
-    requires { Fits syntax pattern.now }
+    requires { PatternFits syntax pattern.now }
     ensures { result ≡ some_suffix (takes_name syntax pattern.now) name.now }
 {
     let mut p = pattern;
@@ -70,7 +70,7 @@ fn some_suffix(syntax: Syntax, pattern: &[u8], name: &[u8]) -> bool
 /// lengths in steps: no star is tried again once a later one is reached, and no class is looked for
 /// that isn't closed.
 pub fn takes_name(syntax: Syntax, pattern: &[u8], name: &[u8]) -> bool
-    requires { Fits syntax pattern.now }
+    requires { PatternFits syntax pattern.now }
     ensures { result ≡ takes_name syntax pattern.now name.now }
 {
     match to_star(syntax, pattern, name) {

@@ -12,7 +12,7 @@ use Rattle.conf_rules.specs.Keys.{same_key}
 use Rattle.conf_rules.specs.Kinds.{Keeping, TheFirst, Every, Patterns, Shared, keeping, keeps_every}
 use Rattle.conf_rules.specs.Rows.{values_among, kept}
 use Rattle.conf_rules.specs.Fits.{fits, fitting}
-use Rattle.conf_options.specs.Kept.{Given, Keeps, behind_all, is_unset, fits_single, fits_every, replaced, with_more, offered}
+use Rattle.conf_options.specs.Kept.{Given, KeepsSettings, behind_all, is_unset, fits_single, fits_every, replaced, with_more, offered}
 use Rattle.conf_rules.proofs.SameKeys.{same-key}
 use Rattle.conf_options.proofs.OfferLemmas.{among-append, kept-other, own, own-every, stays}
 
@@ -53,7 +53,7 @@ pub among-collected : (k : Key) (singles collected : List Given) → keeps_every
 among-collected k singles collected every all = sym (among-append k singles collected ∙ ap (λ l. l ++ values_among k collected) (not-single k singles every all))
 
 keeps-single : (key : Key) (v : Value) (singles collected given : List Given) → keeps_every key ≡ false → list_all fits_every collected ≡ true
-    → Keeps (singles ++ collected) given → Keeps (offered (keeping key) singles key v ++ collected) (given ++ (key, v) ∷ [])
+    → KeepsSettings (singles ++ collected) given → KeepsSettings (offered (keeping key) singles key v ++ collected) (given ++ (key, v) ∷ [])
 keeps-single key v singles collected given single all keeps = record { each = λ k. on k (same_key k key) refl }
   where
     new : List Given
@@ -79,7 +79,7 @@ own-collected Every key v old given s h = own-every key v old given h
 own-collected how key v old given s h = absurd cc
 
 keeps-every : (key : Key) (v : Value) (singles collected given : List Given) → keeps_every key ≡ true
-    → Keeps (singles ++ collected) given → Keeps (singles ++ behind_all collected key v) (given ++ (key, v) ∷ [])
+    → KeepsSettings (singles ++ collected) given → KeepsSettings (singles ++ behind_all collected key v) (given ++ (key, v) ∷ [])
 keeps-every key v singles collected given every keeps = record { each = λ k. ap (values_among k) (sym (append_assoc singles collected ((key, v) ∷ []))) ∙ on k (same_key k key) refl }
   where
     old : List Given
@@ -135,17 +135,17 @@ single-fits (Ok x) old new key v ok err single a f = ap (list_all fits_single) o
 single-fits (Err e) old new key v ok err single a f = ap (list_all fits_single) err ∙ a
 
 pub single-kept : {A E : Type 0} (r : Result A E) (singles new collected old : List Given) (key : Key) (v : Value) → singles ++ collected ≡ old → keeps_every key ≡ false → list_all fits_every collected ≡ true
-    → OnOk r (new ≡ offered (keeping key) singles key v) → OnOk r ((given : List Given) → Keeps old given → Keeps (new ++ collected) (given ++ (key, v) ∷ []))
+    → OnOk r (new ≡ offered (keeping key) singles key v) → OnOk r ((given : List Given) → KeepsSettings old given → KeepsSettings (new ++ collected) (given ++ (key, v) ∷ []))
 single-kept (Ok x) singles new collected old key v same single all ok = λ given keeps.
-    let inside = subst (λ (l : List Given). Keeps l given) (sym same) keeps in
-    subst (λ (l : List Given). Keeps (l ++ collected) (given ++ (key, v) ∷ [])) (sym ok) (keeps-single key v singles collected given single all inside)
+    let inside = subst (λ (l : List Given). KeepsSettings l given) (sym same) keeps in
+    subst (λ (l : List Given). KeepsSettings (l ++ collected) (given ++ (key, v) ∷ [])) (sym ok) (keeps-single key v singles collected given single all inside)
 single-kept (Err e) singles new collected old key v same single all ok = tt
 
 pub every-kept-on : {A E : Type 0} (r : Result A E) (singles collected new old : List Given) (key : Key) (v : Value) → singles ++ collected ≡ old → keeps_every key ≡ true
-    → OnOk r (new ≡ behind_all collected key v) → OnOk r ((given : List Given) → Keeps old given → Keeps (singles ++ new) (given ++ (key, v) ∷ []))
+    → OnOk r (new ≡ behind_all collected key v) → OnOk r ((given : List Given) → KeepsSettings old given → KeepsSettings (singles ++ new) (given ++ (key, v) ∷ []))
 every-kept-on (Ok x) singles collected new old key v same every ok = λ given keeps.
-    let inside = subst (λ (l : List Given). Keeps l given) (sym same) keeps in
-    subst (λ (l : List Given). Keeps (singles ++ l) (given ++ (key, v) ∷ [])) (sym ok) (keeps-every key v singles collected given every inside)
+    let inside = subst (λ (l : List Given). KeepsSettings l given) (sym same) keeps in
+    subst (λ (l : List Given). KeepsSettings (singles ++ l) (given ++ (key, v) ∷ [])) (sym ok) (keeps-every key v singles collected given every inside)
 every-kept-on (Err e) singles collected new old key v same every ok = tt
 
 -- what is kept changed exactly where its part did

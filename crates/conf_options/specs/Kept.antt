@@ -20,7 +20,7 @@ abbrev pub first_value : Key → List Given → Option Value
 first_value key settings = slice_get (values_among key settings) 0
 
 -- settings keep of each key what counts of all that was given
-pub record Keeps (settings given : List Given) : Type 0 where
+pub record KeepsSettings (settings given : List Given) : Type 0 where
   pub each : (key : Key) → values_among key settings ≡ kept (keeping key) key given
 
 -- whether a value is one of its key, of which one value counts

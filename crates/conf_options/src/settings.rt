@@ -7,7 +7,7 @@ ghost use Rattle.conf_rules.specs.Kinds.{TheFirst, Every, Patterns, Shared, keep
 ghost use Rattle.conf_rules.specs.Rows.{values_among, word_in, but_none, patterns_in, number_in, with_patterns};
 ghost use Rattle.conf_rules.specs.Listing.{is_set};
 ghost use Rattle.conf_rules.specs.Fits.{fits, fitting};
-ghost use Rattle.conf_options.specs.Kept.{Given, Keeps, StandsAt, first_value, behind_all, is_unset, fits_single, offered};
+ghost use Rattle.conf_options.specs.Kept.{Given, KeepsSettings, StandsAt, first_value, behind_all, is_unset, fits_single, offered};
 
 use crate::patterns::{take_patterns, with_patterns};
 use conf_rules::{Key, Value};
@@ -257,8 +257,8 @@ impl Settings {
     /// `true` exactly where what is kept changed. An `Err` changes nothing.
     pub fn offer(&mut self, key: Key, value: Value) -> Result<bool, OutOfMemory>
         requires { fits key value ≡ true }
-        ensures keeps { OnOk result ((given : List Given) → Keeps self.old given
-            → Keeps self.new (given ++ (key, value) ∷ [])) }
+        ensures keeps { OnOk result ((given : List Given) → KeepsSettings self.old given
+            → KeepsSettings self.new (given ++ (key, value) ∷ [])) }
         ensures changed { IfOk result (λ changed. IsTrue changed ↔ (self.new ≢ self.old)) }
         ensures err { OnErr result (self.new ≡ self.old) }
     {

@@ -1,3 +1,3 @@
-pub mod Puts
+pub mod PutsListing
 pub mod Shown
-pub mod Settled
+pub mod SettledListing

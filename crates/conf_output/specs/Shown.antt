@@ -25,12 +25,12 @@ use Rattle.conf_output.specs.declared.keys.Manner.{Manner}
 use Rattle.conf_output.specs.declared.keys.Manner.TheVariants as manners
 
 -- the host name
-abbrev pub host_of : List Given → Bytes → Bytes
-host_of settings original = host_from original (word_in (first_value keys.Hostname settings))
+abbrev pub listed_host_of : List Given → Bytes → Bytes
+listed_host_of settings original = host_from original (word_in (first_value keys.Hostname settings))
 
 -- what tokens see
-abbrev pub view_of : List Given → Bytes → Bytes → Facts → View
-view_of settings original host facts = record {
+abbrev pub listing_view_of : List Given → Bytes → Bytes → Facts → View
+listing_view_of settings original host facts = record {
   original = original;
   host = host;
   jump = or_text [] (but_none (word_in (first_value keys.ProxyJump settings)));
@@ -48,8 +48,8 @@ abbrev pub lines : Key → List Bytes → Bytes
 lines key texts = flat_map (listed (keyword key)) texts
 
 -- the same of a reading
-abbrev pub lines_of : Key → Result (List Bytes) TokenError → Result Bytes TokenError
-lines_of key reading = reading >>= λ texts. Ok (lines key texts)
+abbrev pub texts_listed_of : Key → Result (List Bytes) TokenError → Result Bytes TokenError
+texts_listed_of key reading = reading >>= λ texts. Ok (lines key texts)
 
 -- all values of a key
 abbrev pub value_texts : List Given → Key → List Bytes
@@ -99,26 +99,26 @@ shown_by settings view key Proxy = Ok (proxy_texts settings key)
 shown_by settings view key Plainly = Ok (plain_texts settings key)
 
 -- the texts of a key
-abbrev pub shown_of : List Given → View → Key → Result (List Bytes) TokenError
-shown_of settings view key = shown_by settings view key (showing key)
+abbrev pub texts_shown_of : List Given → View → Key → Result (List Bytes) TokenError
+texts_shown_of settings view key = shown_by settings view key (showing key)
 
 -- the lines of some keys, or the first refusal
 unfoldable pub lines_over : List Given → View → List Key → Result Bytes ListError
 lines_over settings view [] = Ok []
 lines_over settings view (key ∷ more) =
-    at_key key (shown_of settings view key) >>= λ texts. lines_over settings view more >>= λ rest.
+    at_key key (texts_shown_of settings view key) >>= λ texts. lines_over settings view more >>= λ rest.
     Ok (lines key texts ++ rest)
 
 -- the listing
 unfoldable pub list_of : List Given → Bytes → Facts → Result Bytes ListError
 list_of settings original facts =
-    lines_over settings (view_of settings original (host_of settings original) facts) LISTING_ORDER
+    lines_over settings (listing_view_of settings original (listed_host_of settings original) facts) LISTING_ORDER
     >>= λ rest. Ok (listed (codes "host") original ++ rest)
 
 -- the control path
 unfoldable pub path_of : List Given → Bytes → Facts → Result (Option Bytes) ListError
 path_of settings original facts =
-    control_path_of (view_of settings original (host_of settings original) facts)
+    control_path_of (listing_view_of settings original (listed_host_of settings original) facts)
     (but_none (word_in (first_value keys.ControlPath settings)))
 
 -- ---- what the code has
@@ -138,6 +138,6 @@ showing_of manners.Proxy = Proxy
 showing_of manners.Plain = Plainly
 
 -- a token's refusal with its key, or out of memory
-abbrev pub refusal_of : Key → TokenError → ListError
-refusal_of key token_errors.OutOfMemory = list_errors.OutOfMemory
-refusal_of key error = list_errors.Token key error
+abbrev pub list_refusal_of : Key → TokenError → ListError
+list_refusal_of key token_errors.OutOfMemory = list_errors.OutOfMemory
+list_refusal_of key error = list_errors.Token key error

@@ -1,8 +1,8 @@
 ghost use Rattle.std.specs.Prelude.{◌≡◌, [], ◌∷◌, ◌++◌, OnOk};
 ghost use Rattle.conf_rules.specs.Kinds.{showing};
 ghost use Rattle.conf_tokens.specs.Seen.{seen};
-ghost use Rattle.conf_output.specs.Shown.{lines, value_texts, default_texts, plain_texts, forward_texts, proxy_texts, user_texts, path_texts, command_texts, shown_of, showing_of, refusal_of};
-ghost use Rattle.conf_output.specs.Puts.{PutsKeys, PutsTexts};
+ghost use Rattle.conf_output.specs.Shown.{lines, value_texts, default_texts, plain_texts, forward_texts, proxy_texts, user_texts, path_texts, command_texts, texts_shown_of, showing_of, list_refusal_of};
+ghost use Rattle.conf_output.specs.PutsListing.{PutsKeys, PutsTexts};
 
 use crate::defaults::default_text;
 use crate::spelling::{put_line, put_value};
@@ -184,7 +184,7 @@ fn put_key(
     view: &View<'_>,
     key: Key,
 ) -> Result<(), TokenError>
-    ensures { PutsTexts result out.old out.new key (shown_of settings.now (seen view.now) key) }
+    ensures { PutsTexts result out.old out.new key (texts_shown_of settings.now (seen view.now) key) }
 {
     match manner_of(key) {
         Manner::User => put_user(out, settings, view, key),
@@ -199,7 +199,7 @@ fn put_key(
 
 /// A token's refusal with its key.
 pub fn refusal(key: Key, error: TokenError) -> ListError
-    ensures { result ≡ refusal_of key error }
+    ensures { result ≡ list_refusal_of key error }
 {
     match error {
         TokenError::OutOfMemory => ListError::OutOfMemory,

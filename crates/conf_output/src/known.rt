@@ -1,7 +1,7 @@
 ghost use Rattle.std.specs.Prelude.{◌≡◌, IfOk};
 ghost use Rattle.conf_tokens.specs.Known.{known};
 ghost use Rattle.conf_tokens.specs.Seen.{seen};
-ghost use Rattle.conf_output.specs.Shown.{host_of, view_of};
+ghost use Rattle.conf_output.specs.Shown.{listed_host_of, listing_view_of};
 
 use conf_options::{Key, Settings};
 use conf_tokens::{View, expand_name};
@@ -11,7 +11,7 @@ use std::alloc::Global;
 
 /// Hostname with its tokens expanded, or else the host of the command line.
 pub fn host_name(alloc: Global, settings: &Settings, original: &[u8]) -> Result<Text, OutOfMemory>
-    ensures { IfOk result (λ name. name ≡ host_of settings.now original.now) }
+    ensures { IfOk result (λ name. name ≡ listed_host_of settings.now original.now) }
 {
     match settings.word(Key::Hostname) {
         Some(text) => expand_name(alloc, original, text),
@@ -26,7 +26,7 @@ pub fn view<'a>(
     host: &'a [u8],
     facts: &'a Facts,
 ) -> View<'a>
-    ensures { seen result ≡ view_of settings.now original.now host.now (known facts.now) }
+    ensures { seen result ≡ listing_view_of settings.now original.now host.now (known facts.now) }
 {
     View {
         original,

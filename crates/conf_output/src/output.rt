@@ -1,4 +1,4 @@
-ghost use Rattle.conf_output.specs.Settled.{Lists, HasControlPath};
+ghost use Rattle.conf_output.specs.SettledListing.{ListsSettings, HasControlPath};
 
 use crate::keys::{put_keys, refusal};
 use crate::known::{host_name, view};
@@ -21,7 +21,7 @@ pub fn listing(
     original: &[u8],
     facts: &Facts,
 ) -> Result<Text, ListError>
-    ensures exact { Lists result settings.now original.now facts.now }
+    ensures exact { ListsSettings result settings.now original.now facts.now }
 {
     let host = host_name(alloc, settings, original)?;
     let view = view(settings, original, host.as_bytes(), facts);

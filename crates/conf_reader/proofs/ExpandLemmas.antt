@@ -21,7 +21,7 @@ use Rattle.conf_rules.specs.Includes.{Source, file_at, globbed, files_of, paths_
 use Rattle.conf_rules.specs.Sources.{Line, Refused}
 use Rattle.conf_reader.specs.declared.open_file.OpenFile.{OpenFile}
 use Rattle.conf_reader.specs.declared.stack.OpenFiles.{OpenFiles}
-use Rattle.conf_reader.specs.Results.{Refuses}
+use Rattle.conf_reader.specs.Results.{RefusesLine}
 use Rattle.conf_reader.specs.Blocks.{Blocks, or_none}
 use Rattle.conf_reader.specs.Left.{source_of, frame_files, frames_left, deeper, cur, open_left, RefusesFirst, named_by, FoundPaths, named_as}
 use Rattle.conf_reader.proofs.LeftLemmas.{top_depth, top_outer, ReadStep, under, stays, Alike, refuses, token-refuses}
@@ -78,12 +78,12 @@ token-refused recorded place blocks o f rest e top include named =
 no-fault : (b : Bool) → b ≡ true → b ≡ false → ⊥
 no-fault b e f = let k : true ≡ false = sym e ∙ f in cc
 
-faulty : (before : List Line) (file : Bytes) (number : ℕ) (cause : Cause) (d : ResolveError) → is_fault cause ≡ true → Refuses (line_errors.Refused cause) file number d → moved before [] d
+faulty : (before : List Line) (file : Bytes) (number : ℕ) (cause : Cause) (d : ResolveError) → is_fault cause ≡ true → RefusesLine (line_errors.Refused cause) file number d → moved before [] d
 faulty before file number cause errors.OutOfMemory f r = tt
 faulty before file number cause (errors.At g n c) f r = λ fault. absurd (no-fault (is_fault c) (let k : c ≡ cause = cc in ap is_fault k ∙ f) fault)
 
 pub include-refused : (recorded : Recorded) (place : ℕ) (blocks : Blocks) (o : OpenFiles) (f : OpenFile) (rest : Bytes) (e : LineError) (d : ResolveError) → o.top ≡ Some f → f.include ≡ Some rest
-    → FoundPaths (Err e) (named_by (source_of o.system) recorded (words_of rest)) → Refuses e f.path (f.number - 1) d → moved (open_left recorded place blocks o) [] d
+    → FoundPaths (Err e) (named_by (source_of o.system) recorded (words_of rest)) → RefusesLine e f.path (f.number - 1) d → moved (open_left recorded place blocks o) [] d
 include-refused recorded place blocks o f rest line_errors.OutOfMemory errors.OutOfMemory top include found r = tt
 include-refused recorded place blocks o f rest line_errors.OutOfMemory (errors.At g n c) top include found r = absurd cc
 include-refused recorded place blocks o f rest (line_errors.Refused (causes.Token t)) d top include found r = moves-refused (open_left recorded place blocks o) [] f.path (f.number - 1) (causes.Token t) d r (token-refused recorded place blocks o f rest t top include found)

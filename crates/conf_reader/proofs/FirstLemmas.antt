@@ -21,11 +21,11 @@ use Rattle.conf_reader.proofs.RefusalLemmas.{moved, moves-refused}
 use Rattle.conf_rules.specs.declared.causes.ResolveError.{ResolveError}
 use Rattle.conf_rules.specs.declared.causes.ResolveError.TheVariants as errors
 use Rattle.conf_reader.specs.declared.errors.LineError.TheVariants as line_errors
-use Rattle.conf_reader.specs.declared.files.Found.{Found}
-use Rattle.conf_reader.specs.declared.files.Found.TheVariants.{TooLarge}
+use Rattle.conf_reader.specs.declared.files.FoundFile.{FoundFile}
+use Rattle.conf_reader.specs.declared.files.FoundFile.TheVariants.{TooLarge}
 use Rattle.conf_reader.specs.Looking.{FirstFails}
 use Rattle.conf_rules.specs.Diagnostics.{is_fault}
-use Rattle.conf_reader.specs.Results.{Refuses}
+use Rattle.conf_reader.specs.Results.{RefusesLine}
 
 -- a file that is there and not too large
 first-text : (recorded : Recorded) (place : ℕ) (f : FirstFile) (text : Bytes) (t : Bool) → f.required ≡ t → is_plain_first f ≡ true → recorded.content f.path ≡ Some text → first_left recorded place f ≡ first_file (source_of f.system) recorded place (record { path = f.path; text = text })
@@ -145,7 +145,7 @@ skips-next recorded place blocks r top below low lacks = by (slice_get r.firsts.
     by (Some f) e h = skips-left recorded place blocks r f top below e h.0 h.1
 
 pub size-moves : (recorded : Recorded) (place : ℕ) (blocks : Blocks) (r : Lines) (f : FirstFile) (e : ResolveError) (content : Option Bytes) → recorded.content f.path ≡ content → r.open_files.top ≡ None → r.open_files.below.items ≡ [] → slice_get r.firsts.items r.next_first ≡ Some f → is_plain_first f ≡ true → IsFound TooLarge content
-    → Refuses (line_errors.Refused causes.TooLarge) f.path 0 e → moved (left recorded place blocks r) [] e
+    → RefusesLine (line_errors.Refused causes.TooLarge) f.path 0 e → moved (left recorded place blocks r) [] e
 size-moves recorded place blocks r f e None content top below named plain found refused = absurd found
 size-moves recorded place blocks r f e (Some text) content top below named plain found refused = moves-refused (left recorded place blocks r) [] f.path 0 causes.TooLarge e refused (size-refused recorded place blocks r f text top below named plain content found)
 
@@ -163,6 +163,6 @@ lift-moves recorded place blocks r n (Err errors.OutOfMemory) m = tt
 lift-moves recorded place blocks r n (Err (errors.At file number cause)) m = λ fault. lift-first recorded place blocks r file number cause (m fault)
 
 -- a failed read refuses none of the lines that are left
-pub fails-moved : (before : List Line) (path : Bytes) (e : ResolveError) (failed now : Option (List Bytes)) → FirstFails {A = Found} path (Err e) failed now → moved before [] e
+pub fails-moved : (before : List Line) (path : Bytes) (e : ResolveError) (failed now : Option (List Bytes)) → FirstFails {A = FoundFile} path (Err e) failed now → moved before [] e
 fails-moved before path errors.OutOfMemory failed now fails = tt
 fails-moved before path (errors.At file line cause) failed now fails = λ quiet. absurd (let same : cause ≡ causes.ReadFault = cc in let loud : is_fault cause ≡ true = ap is_fault same in let k : true ≡ false = sym loud ∙ quiet in cc)

@@ -6,7 +6,7 @@ use Rattle.std.specs.Option.{option_and_then, option_map}
 use Rattle.std.proofs.lemmas.List.Sorted.{sum_by-IsPermutation}
 use Rattle.std.proofs.lemmas.List.Sums.{sum_by-cons, sum_by-append}
 use Rattle.mux_outside.specs.declared.pairs.Pair.{Pair}
-use Rattle.mux_outside.specs.Files.{inside, is_directory, as_name, name_in, with_name, names_in, Lists}
+use Rattle.mux_outside.specs.Files.{inside, is_folder_at, as_name, folder_name_in, with_name, names_in, Lists}
 use Rattle.conf_rules.specs.Texts.{Bytes, is_empty, split_at_first, split_at_each, with_front, onto_first}
 use Rattle.conf_rules.specs.Recorded.{Recorded}
 use Rattle.conf_rules.specs.Globs.{is_glob, component_takes}
@@ -62,13 +62,13 @@ none-inside : (f : List ℕ → List ℕ) (o : Option (List ℕ)) → is_some o 
 none-inside f None e = refl
 none-inside f (Some x) e = absurd cc
 
-no-names : (dir : Bytes) (files : List Pair) → list_any (λ p. is_some (inside dir p.name)) files ≡ false → filter_map (name_in dir) files ≡ []
+no-names : (dir : Bytes) (files : List Pair) → list_any (λ p. is_some (inside dir p.name)) files ≡ false → filter_map (folder_name_in dir) files ≡ []
 no-names dir [] e = refl
 no-names dir (p ∷ ps) e =
-    let here : name_in dir p ≡ None = none-inside _ (inside dir p.name) (or-first (is_some (inside dir p.name)) (list_any (λ q. is_some (inside dir q.name)) ps) e) in
+    let here : folder_name_in dir p ≡ None = none-inside _ (inside dir p.name) (or-first (is_some (inside dir p.name)) (list_any (λ q. is_some (inside dir q.name)) ps) e) in
     rw here (no-names dir ps (or-second (is_some (inside dir p.name)) (list_any (λ q. is_some (inside dir q.name)) ps) e))
 
-no-directory : (dir : Bytes) (files : List Pair) → is_directory files (or_root dir) ≡ false → names_in files (or_root dir) ≡ []
+no-directory : (dir : Bytes) (files : List Pair) → is_folder_at files (or_root dir) ≡ false → names_in files (or_root dir) ≡ []
 no-directory [] files e = absurd cc
 no-directory (b ∷ bs) files e = ap (fold with_name []) (no-names (b ∷ bs) files (or-second (bytes_eq (b ∷ bs) (47 ∷ [])) (list_any (λ p. is_some (inside (b ∷ bs) p.name)) files) e))
 

@@ -20,7 +20,7 @@ use Rattle.conf_rules.specs.Includes.{Source, paths_of, globbed}
 use Rattle.conf_rules.specs.Looks.{folders_of, looks_of, looks_along, looks_in, looks_at}
 use Rattle.conf_reader.specs.declared.errors.LineError.{LineError}
 use Rattle.conf_reader.specs.declared.errors.LineError.TheVariants as line_errors
-use Rattle.conf_reader.specs.declared.files.Found.{Found}
+use Rattle.conf_reader.specs.declared.files.FoundFile.{FoundFile}
 use Rattle.conf_reader.specs.declared.line.ConfLine.{ConfLine}
 use Rattle.conf_reader.specs.declared.open_file.OpenFile.{OpenFile}
 use Rattle.conf_reader.specs.declared.open_file.Said.{Said}
@@ -28,7 +28,7 @@ use Rattle.conf_reader.specs.declared.lines.FirstFile.{FirstFile}
 use Rattle.conf_reader.specs.declared.lines.Lines.{Lines}
 use Rattle.conf_reader.specs.declared.stack.OpenFiles.{OpenFiles}
 use Rattle.conf_reader.specs.Results.{refused_at}
-use Rattle.conf_reader.specs.Left.{source_of, IsSettled, GivenBy, gone, include_of, named_as, named_by}
+use Rattle.conf_reader.specs.Left.{source_of, IsFileSettled, GivenBy, gone, include_of, named_as, named_by}
 use Rattle.conf_reader.specs.Looking.{FailsAmong, FirstFails, LineFails, Test, meets_in, meets, firsts_meet, all_meet, line_meets, RecordsFailed}
 use Rattle.conf_reader.proofs.OpenLemmas.{drop-at}
 
@@ -97,7 +97,7 @@ records-line A B test file number paths (line_errors.Refused cause) e before now
 -- ---- one file
 
 -- a file that names no more files has nothing to look at
-pub settled-meets : (test : Test) (recorded : Recorded) (source : Source) (f : OpenFile) → IsSettled f → meets_in test recorded source f ≡ true
+pub settled-meets : (test : Test) (recorded : Recorded) (source : Source) (f : OpenFile) → IsFileSettled f → meets_in test recorded source f ≡ true
 settled-meets test recorded source f s = let none : drop f.next f.named ≡ [] = drop_of_length-le f.named s.1 in rw (s.0, none) refl
 
 pub begun-meets : (test : Test) (recorded : Recorded) (source : Source) (f : OpenFile) → f.include ≡ None → f.named ≡ [] → meets_in test recorded source f ≡ true
@@ -121,7 +121,7 @@ path-meets test recorded source f path include named h =
     both (p path) true (both-left (p path) (list_all p (drop (suc f.next) f.named)) some) refl
 
 -- one that goes after a line that is given
-pub said-meets : (test : Test) (recorded : Recorded) (source : Source) (o : OpenFiles) (f : OpenFile) (next : ℕ) (said : Said) (line : ConfLine) → IsSettled f → GivenBy o f said line → line_meets test recorded source line ≡ true → meets_in test recorded source (gone next (include_of said) f) ≡ true
+pub said-meets : (test : Test) (recorded : Recorded) (source : Source) (o : OpenFiles) (f : OpenFile) (next : ℕ) (said : Said) (line : ConfLine) → IsFileSettled f → GivenBy o f said line → line_meets test recorded source line ≡ true → meets_in test recorded source (gone next (include_of said) f) ≡ true
 said-meets test recorded source o f next said line s g h = by (same_word said.keyword (codes "include")) refl
   where
     by : (t : Bool) → same_word said.keyword (codes "include") ≡ t → meets_in test recorded source (gone next (include_of said) f) ≡ true
@@ -200,7 +200,7 @@ top-records A test recorded o f path e before now top include named r fails h =
 
 -- ---- a line
 
-pub given-looks : (test : Test) (recorded : Recorded) (o : OpenFiles) (t : Option OpenFile) (next : ℕ) (said : Said) (line : ConfLine) → o.top ≡ t → IfSome t (λ f. IsSettled f × (f.at < length f.text)) → IfSome t (λ f. GivenBy o f said line) → line_meets test recorded (source_of o.system) line ≡ true → meets test recorded o ≡ true
+pub given-looks : (test : Test) (recorded : Recorded) (o : OpenFiles) (t : Option OpenFile) (next : ℕ) (said : Said) (line : ConfLine) → o.top ≡ t → IfSome t (λ f. IsFileSettled f × (f.at < length f.text)) → IfSome t (λ f. GivenBy o f said line) → line_meets test recorded (source_of o.system) line ≡ true → meets test recorded o ≡ true
     → list_all (meets_in test recorded (source_of o.system)) (o.below.items ++ option_to_list (option_map (gone next (include_of said)) t)) ≡ true
 given-looks test recorded o None next said line top at by looks h = subst (λ t. list_all (meets_in test recorded (source_of o.system)) (o.below.items ++ option_to_list t) ≡ true) top h
 given-looks test recorded o (Some f) next said line top at by looks h =
@@ -231,7 +231,7 @@ first-meets test (g ∷ gs) zero f e h = let same : g ≡ f = cc in subst (λ (x
 first-meets test (g ∷ gs) (suc i) f e h = first-meets test gs i f e (both-right (test g.path 0 g.path) (firsts_meet test gs) h)
 
 -- a failed read of a first file
-pub first-records : (A : Type 0) (test : Test) (recorded : Recorded) (r : Lines) (f : FirstFile) (path : Bytes) (e : ResolveError) (before now : Option (List Bytes)) → slice_get r.firsts.items r.next_first ≡ Some f → path ≡ f.path → FirstFails {A = Found} path (Err e) before now
+pub first-records : (A : Type 0) (test : Test) (recorded : Recorded) (r : Lines) (f : FirstFile) (path : Bytes) (e : ResolveError) (before now : Option (List Bytes)) → slice_get r.firsts.items r.next_first ≡ Some f → path ≡ f.path → FirstFails {A = FoundFile} path (Err e) before now
     → all_meet test recorded r ≡ true → RecordsFailed {A = A} test (Err e) before now
 first-records A test recorded r f path errors.OutOfMemory before now named same fails h = fails
 first-records A test recorded r f path (errors.At file line cause) before now named same fails h =

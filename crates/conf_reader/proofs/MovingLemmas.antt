@@ -5,14 +5,14 @@ use Rattle.conf_rules.specs.declared.causes.ResolveError.{ResolveError}
 use Rattle.conf_reader.specs.declared.lines.Lines.{Lines}
 use Rattle.conf_reader.specs.declared.stack.OpenFiles.{OpenFiles}
 use Rattle.conf_reader.specs.Known.{RecordsFiles}
-use Rattle.conf_reader.specs.Left.{left, IsReady}
-use Rattle.conf_reader.specs.Moving.{GoesOn, MovesLines}
+use Rattle.conf_reader.specs.Left.{left, AreFilesReady}
+use Rattle.conf_reader.specs.Moving.{ReadingGoesOn, MovesLines}
 use Rattle.conf_reader.proofs.RefusalLemmas.{moved-before}
 
-pub goes-same : (o : OpenFiles) → IsReady o → GoesOn o o
+pub goes-same : (o : OpenFiles) → AreFilesReady o → ReadingGoesOn o o
 goes-same o ready = record { ready = ready; bounded = λ n b. b }
 
-pub goes-then : {a b c : OpenFiles} → GoesOn a b → GoesOn b c → GoesOn a c
+pub goes-then : {a b c : OpenFiles} → ReadingGoesOn a b → ReadingGoesOn b c → ReadingGoesOn a c
 goes-then x y = record { ready = y.ready; bounded = λ n b. y.bounded n (x.bounded n b) }
 
 -- what a step did to the lines that refused none
@@ -20,7 +20,7 @@ abbrev pub Moved : Option (List Pair) → Lines → Lines → Type 0
 Moved files old new = MovesLines {A = Unit {0}} files old new (Ok tt)
 
 -- lines that stay as they are
-pub lines-same : {A : Type 0} {files : Option (List Pair)} {v : A} (r : Lines) → IsReady r.open_files → MovesLines files r r (Ok v)
+pub lines-same : {A : Type 0} {files : Option (List Pair)} {v : A} (r : Lines) → AreFilesReady r.open_files → MovesLines files r r (Ok v)
 lines-same r ready = record { moves = λ recorded place blocks records. refl; goes_on = goes-same r.open_files ready; firsts = refl; count = refl }
 
 -- a step after another

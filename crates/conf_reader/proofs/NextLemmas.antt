@@ -7,14 +7,14 @@ use Rattle.conf_rules.specs.Recorded.{Recorded}
 use Rattle.conf_rules.specs.Sources.{Line}
 use Rattle.conf_rules.specs.Entries.{entry_of}
 use Rattle.conf_rules.specs.Resolution.{counted}
-use Rattle.conf_rules.specs.Rows.{Row}
+use Rattle.conf_rules.specs.Rows.{LineRow}
 use Rattle.conf_reader.specs.declared.line.ConfLine.{ConfLine}
 use Rattle.conf_reader.specs.declared.lines.Lines.{Lines}
 use Rattle.conf_reader.specs.declared.lines.ReadStep.TheVariants as steps
 use Rattle.conf_reader.specs.Blocks.{Blocks}
 use Rattle.conf_reader.specs.Left.{left, Bounded}
 use Rattle.std.specs.Prelude.{IfOk, IfSome}
-use Rattle.conf_reader.specs.Reads.{IsGivenFrom, AreIdle, GivesNext, RefusesNext, Reads, OneLine, SoFar}
+use Rattle.conf_reader.specs.ReaderReads.{IsGivenFrom, AreIdle, GivesNextLine, RefusesNext, ReaderReads, OneLine, SoFar}
 
 pub idle-append : (recorded : Recorded) (xs ys : List Line) (place : ℕ) → AreIdle recorded place xs → AreIdle recorded (place + length xs) ys → AreIdle recorded place (xs ++ ys)
 idle-append recorded [] ys place h k = subst (λ n. AreIdle recorded n ys) (let z : place + 0 ≡ place = omega arith in z) k
@@ -34,7 +34,7 @@ more recorded place blocks old now new s o count bounded =
     }
 
 -- the line after comments
-pub gives : (recorded : Recorded) (place : ℕ) (blocks : Blocks) (old now new : Lines) (given : ConfLine) (s : SoFar recorded place blocks old now) → OneLine recorded (place + length s.comments) blocks now new (Ok (steps.Given given)) → new.read ≡ now.read + 1 → GivesNext recorded place blocks old new given
+pub gives : (recorded : Recorded) (place : ℕ) (blocks : Blocks) (old now new : Lines) (given : ConfLine) (s : SoFar recorded place blocks old now) → OneLine recorded (place + length s.comments) blocks now new (Ok (steps.Given given)) → new.read ≡ now.read + 1 → GivesNextLine recorded place blocks old new given
 gives recorded place blocks old now new given s o count = record {
   comments = s.comments;
   line = o.0;
@@ -51,7 +51,7 @@ pub ends : (recorded : Recorded) (place : ℕ) (blocks : Blocks) (old now : Line
 ends recorded place blocks old now s e = subst (AreIdle recorded place) (sym (s.is ∙ ap (λ xs. s.comments ++ xs) e ∙ append-nil s.comments)) s.idle
 
 -- a refusal after them
-pub fails : (recorded : Recorded) (place : ℕ) (blocks : Blocks) (old now new : Lines) (e : ResolveError) (s : SoFar recorded place blocks old now) → OneLine recorded (place + length s.comments) blocks now new (Err e) → Reads recorded place blocks old new (Err e)
+pub fails : (recorded : Recorded) (place : ℕ) (blocks : Blocks) (old now new : Lines) (e : ResolveError) (s : SoFar recorded place blocks old now) → OneLine recorded (place + length s.comments) blocks now new (Err e) → ReaderReads recorded place blocks old new (Err e)
 fails recorded place blocks old now new errors.OutOfMemory s o = tt
 fails recorded place blocks old now new (errors.At file number cause) s o = λ fault.
     let r : RefusesNext recorded (place + length s.comments) (left recorded (place + length s.comments) blocks now) file number cause = o fault in
@@ -64,12 +64,12 @@ fails recorded place blocks old now new (errors.At file number cause) s o = λ f
       idle = idle-append recorded s.comments r.comments place s.idle r.idle;
       file_is = r.file_is;
       number_is = r.number_is;
-      refused = λ (rows : List Row). ap (counted recorded entry_of rows r.line) n ∙ r.refused rows;
+      refused = λ (rows : List LineRow). ap (counted recorded entry_of rows r.line) n ∙ r.refused rows;
     }
 
 -- ---- what stands before a line that was given
 
-pub reads-from : (recorded : Recorded) (place : ℕ) (blocks : Blocks) (old mid new : Lines) (r : Result (Option ConfLine) ResolveError) → left recorded place blocks old ≡ left recorded place blocks mid → Reads recorded place blocks mid new r → Reads recorded place blocks old new r
+pub reads-from : (recorded : Recorded) (place : ℕ) (blocks : Blocks) (old mid new : Lines) (r : Result (Option ConfLine) ResolveError) → left recorded place blocks old ≡ left recorded place blocks mid → ReaderReads recorded place blocks mid new r → ReaderReads recorded place blocks old new r
 reads-from recorded place blocks old mid new (Ok None) e h = subst (AreIdle recorded place) (sym e) h
 reads-from recorded place blocks old mid new (Ok (Some given)) e h = record {
   comments = h.comments;
@@ -84,7 +84,7 @@ reads-from recorded place blocks old mid new (Ok (Some given)) e h = record {
 reads-from recorded place blocks old mid new (Err errors.OutOfMemory) e h = tt
 reads-from recorded place blocks old mid new (Err (errors.At file number cause)) e h = λ fault. subst (λ ls. RefusesNext recorded place ls file number cause) (sym e) (h fault)
 
-pub one-reads : (recorded : Recorded) (place : ℕ) (blocks : Blocks) (old new : Lines) (e : ResolveError) → OneLine recorded place blocks old new (Err e) → Reads recorded place blocks old new (Err e)
+pub one-reads : (recorded : Recorded) (place : ℕ) (blocks : Blocks) (old new : Lines) (e : ResolveError) → OneLine recorded place blocks old new (Err e) → ReaderReads recorded place blocks old new (Err e)
 one-reads recorded place blocks old new errors.OutOfMemory h = tt
 one-reads recorded place blocks old new (errors.At file number cause) h = h
 

@@ -12,7 +12,7 @@ use Rattle.conf_rules.specs.declared.causes.ResolveError.{ResolveError}
 use Rattle.conf_rules.specs.declared.causes.ResolveError.TheVariants as errors
 use Rattle.conf_reader.specs.declared.errors.LineError.TheVariants as line_errors
 use Rattle.conf_reader.specs.declared.open_file.OpenFile.{OpenFile}
-use Rattle.conf_reader.specs.Results.{Refuses}
+use Rattle.conf_reader.specs.Results.{RefusesLine}
 use Rattle.conf_lexer.proofs.LineLemmas.{first_line}
 use Rattle.conf_reader.proofs.LeftLemmas.{top_depth, top_outer, file_line, head-left, front}
 use Rattle.conf_reader.proofs.OpenLemmas.{settled-files}
@@ -22,17 +22,17 @@ use Rattle.conf_rules.specs.Recorded.{Recorded}
 use Rattle.conf_rules.specs.Sources.{Line}
 use Rattle.conf_rules.specs.Heads.{lines_of}
 use Rattle.conf_rules.specs.Entries.{entry_of}
-use Rattle.conf_rules.specs.Resolution.{counted, is_past_limit, line_limit, is_asked, is_refusal}
+use Rattle.conf_rules.specs.Resolution.{counted, is_past_limit, line_limit, is_asked, is_refusal_content}
 use Rattle.conf_reader.specs.declared.stack.OpenFiles.{OpenFiles}
 use Rattle.conf_reader.specs.declared.lines.Lines.{Lines}
 use Rattle.conf_reader.specs.Blocks.{Blocks, or_none}
-use Rattle.conf_reader.specs.Left.{left, open_left, firsts_left, IsComment, RefusesFirst, RefusesHead, Takes, IsSettled, source_of, cur, frames_left}
-use Rattle.conf_reader.specs.Reads.{IsIdle, RefusesNext, OneLine}
+use Rattle.conf_reader.specs.Left.{left, open_left, firsts_left, IsComment, RefusesFirst, RefusesHead, TakesLine, IsFileSettled, source_of, cur, frames_left}
+use Rattle.conf_reader.specs.ReaderReads.{IsIdleLine, RefusesNext, OneLine}
 
 -- a line of a file within the limit
 pub within-limit : (recorded : Recorded) (line : Line) (place read : ℕ) → place ≡ length recorded.asked.lines + read → read < MAX_LINES → is_past_limit recorded line place ≡ false
 unfolding line_limit
-within-limit recorded line place read at low = by (is_asked line.source) (Rattle.conf_rules.specs.Resolution.is_refusal line.content)
+within-limit recorded line place read at low = by (is_asked line.source) (Rattle.conf_rules.specs.Resolution.is_refusal_content line.content)
   where
     past : nat_le MAX_LINES (place - length recorded.asked.lines) ≡ false
     past = lt-leb MAX_LINES (place - length recorded.asked.lines) (omega (arith, at, low))
@@ -43,7 +43,7 @@ within-limit recorded line place read at low = by (is_asked line.source) (Rattle
     by false false = past
 
 -- a comment says nothing, whatever stands before it
-pub comment-idle : (recorded : Recorded) (line : Line) (place read : ℕ) → IsComment line → place ≡ length recorded.asked.lines + read → read < MAX_LINES → IsIdle recorded place line
+pub comment-idle : (recorded : Recorded) (line : Line) (place read : ℕ) → IsComment line → place ≡ length recorded.asked.lines + read → read < MAX_LINES → IsIdleLine recorded place line
 unfolding entry_of
 comment-idle recorded line place read c at low = λ rows. rw (within-limit recorded line place read at low, c.spelled, c.head) refl
 
@@ -111,11 +111,11 @@ drop-some [] i h = absurd (omega (arith, h))
 drop-some (x ∷ xs) zero h = omega arith
 drop-some (x ∷ xs) (suc i) h = drop-some xs i (omega (arith, h))
 
-past-limit : (recorded : Recorded) (line : Line) (place read : ℕ) → place ≡ length recorded.asked.lines + read → MAX_LINES ≤ read → is_asked line.source ≡ false → is_refusal line.content ≡ false → is_past_limit recorded line place ≡ true
+past-limit : (recorded : Recorded) (line : Line) (place read : ℕ) → place ≡ length recorded.asked.lines + read → MAX_LINES ≤ read → is_asked line.source ≡ false → is_refusal_content line.content ≡ false → is_past_limit recorded line place ≡ true
 unfolding line_limit
 past-limit recorded line place read at many asked refusal = rw (asked, refusal) (le-leb MAX_LINES (place - length recorded.asked.lines) (omega (arith, at, many)))
 
-too-many : (recorded : Recorded) (place read : ℕ) (blocks : Blocks) (r : Lines) (f : OpenFile) → r.open_files.top ≡ Some f → IsSettled f → f.at < length f.text → place ≡ length recorded.asked.lines + read → MAX_LINES ≤ read
+too-many : (recorded : Recorded) (place read : ℕ) (blocks : Blocks) (r : Lines) (f : OpenFile) → r.open_files.top ≡ Some f → IsFileSettled f → f.at < length f.text → place ≡ length recorded.asked.lines + read → MAX_LINES ≤ read
     → RefusesNext recorded place (left recorded place blocks r) f.path f.number causes.TooManyLines
 too-many recorded place read blocks r f top s low at many =
     let o = r.open_files in
@@ -140,17 +140,17 @@ too-many recorded place read blocks r f top s low at many =
       refused = λ rows. let z : place + 0 ≡ place = omega arith in rw (z, past-limit recorded line place read at many (file-source o.system) refl) refl;
     }
 
-one-refused : (recorded : Recorded) (place : ℕ) (blocks : Blocks) (old new : Lines) (file : List ℕ) (number : ℕ) (cause : Cause) (e : ResolveError) → Refuses (line_errors.Refused cause) file number e → RefusesNext recorded place (left recorded place blocks old) file number cause → OneLine recorded place blocks old new (Err e)
+one-refused : (recorded : Recorded) (place : ℕ) (blocks : Blocks) (old new : Lines) (file : List ℕ) (number : ℕ) (cause : Cause) (e : ResolveError) → RefusesLine (line_errors.Refused cause) file number e → RefusesNext recorded place (left recorded place blocks old) file number cause → OneLine recorded place blocks old new (Err e)
 one-refused recorded place blocks old new file number cause errors.OutOfMemory r n = tt
 one-refused recorded place blocks old new file number cause (errors.At f m c) r n = λ fault.
     record { comments = n.comments; line = n.line; rest = n.rest; is = n.is; idle = n.idle; file_is = n.file_is ∙ (let k : file ≡ f = cc in k); number_is = n.number_is ∙ (let k : number ≡ m = cc in k); refused = λ rows. n.refused rows ∙ ap (λ x. Err x) (let k : cause ≡ c = cc in k) }
 
-pub limit-reached : (recorded : Recorded) (place read : ℕ) (blocks : Blocks) (r new : Lines) (t : Option OpenFile) (e : ResolveError) → r.open_files.top ≡ t → IsSome t → IfSome t (λ f. IsSettled f × (f.at < length f.text)) → IfSome t (λ f. Refuses (line_errors.Refused causes.TooManyLines) f.path f.number e)
+pub limit-reached : (recorded : Recorded) (place read : ℕ) (blocks : Blocks) (r new : Lines) (t : Option OpenFile) (e : ResolveError) → r.open_files.top ≡ t → IsSome t → IfSome t (λ f. IsFileSettled f × (f.at < length f.text)) → IfSome t (λ f. RefusesLine (line_errors.Refused causes.TooManyLines) f.path f.number e)
     → place ≡ length recorded.asked.lines + read → MAX_LINES ≤ read → OneLine recorded place blocks r new (Err e)
 limit-reached recorded place read blocks r new None e top some line refused at many = absurd (let k : false ≡ true = some in cc)
 limit-reached recorded place read blocks r new (Some f) e top some line refused at many = one-refused recorded place blocks r new f.path f.number causes.TooManyLines e refused (too-many recorded place read blocks r f top line.0 line.1 at many)
 
-pub head-failed : (recorded : Recorded) (place read : ℕ) (blocks : Blocks) (r new : Lines) (n : OpenFiles) (e : ResolveError) → Takes recorded place blocks r.open_files n (Err e) → place ≡ length recorded.asked.lines + read → read < MAX_LINES → OneLine recorded place blocks r new (Err e)
+pub head-failed : (recorded : Recorded) (place read : ℕ) (blocks : Blocks) (r new : Lines) (n : OpenFiles) (e : ResolveError) → TakesLine recorded place blocks r.open_files n (Err e) → place ≡ length recorded.asked.lines + read → read < MAX_LINES → OneLine recorded place blocks r new (Err e)
 head-failed recorded place read blocks r new n errors.OutOfMemory t at low = tt
 head-failed recorded place read blocks r new n (errors.At file number cause) t at low = λ fault. head-refused recorded place read blocks r file number cause t at low
 

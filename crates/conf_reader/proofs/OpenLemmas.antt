@@ -13,7 +13,7 @@ use Rattle.conf_rules.specs.Sources.{depth_limit, size_limit}
 use Rattle.conf_reader.specs.declared.open_file.OpenFile.{OpenFile}
 use Rattle.conf_reader.specs.declared.stack.OpenFiles.{OpenFiles}
 use Rattle.conf_reader.specs.Blocks.{Blocks, or_none}
-use Rattle.conf_reader.specs.Left.{source_of, frame_files, frames_left, stack, open_left, parts_left, IsSettled, IsReady, Names}
+use Rattle.conf_reader.specs.Left.{source_of, frame_files, frames_left, stack, open_left, parts_left, IsFileSettled, AreFilesReady, Names}
 use Rattle.conf_reader.proofs.LeftLemmas.{top_depth, top_outer, top-depth, ReadStep, under, closes, stays, opens-file, Opened, Alike}
 
 -- ---- lists
@@ -53,10 +53,10 @@ pub cur-below : (fresh : Bool) (n : ℕ) (blocks : Blocks) → take n (cond fres
 cur-below true n blocks = take-twice n blocks
 cur-below false n blocks = refl
 
-pub settled-files : (recorded : Recorded) (source : Source) (f : OpenFile) → IsSettled f → frame_files recorded source f ≡ Ok []
+pub settled-files : (recorded : Recorded) (source : Source) (f : OpenFile) → IsFileSettled f → frame_files recorded source f ≡ Ok []
 settled-files recorded source f s = let none : drop f.next f.named ≡ [] = drop_of_length-le f.named s.1 in rw (s.0, none) refl
 
-pub open-closes : (recorded : Recorded) (place : ℕ) (blocks : Blocks) (o : OpenFiles) (below : List OpenFile) (t : Option OpenFile) (f : OpenFile) → o.top ≡ Some f → IsSettled f → length f.text ≤ f.at
+pub open-closes : (recorded : Recorded) (place : ℕ) (blocks : Blocks) (o : OpenFiles) (below : List OpenFile) (t : Option OpenFile) (f : OpenFile) → o.top ≡ Some f → IsFileSettled f → length f.text ≤ f.at
     → o.below.items ≡ below ++ option_to_list t → open_left recorded place blocks o ≡ parts_left recorded place blocks o.system below t false
 unfolding lines_of
 open-closes recorded place blocks o below t f top s ended same =
@@ -74,7 +74,7 @@ open-closes recorded place blocks o below t f top s ended same =
     ∙ ap (frames_left recorded source 0 [] (below ++ option_to_list t) blocks) z
 
 -- the same of a top that may be there
-pub closes-top : (recorded : Recorded) (place : ℕ) (blocks : Blocks) (o : OpenFiles) (below : List OpenFile) (n t : Option OpenFile) → o.top ≡ n → IsSome n → IfSome n (λ f. IsSettled f × (length f.text ≤ f.at))
+pub closes-top : (recorded : Recorded) (place : ℕ) (blocks : Blocks) (o : OpenFiles) (below : List OpenFile) (n t : Option OpenFile) → o.top ≡ n → IsSome n → IfSome n (λ f. IsFileSettled f × (length f.text ≤ f.at))
     → o.below.items ≡ below ++ option_to_list t → open_left recorded place blocks o ≡ parts_left recorded place blocks o.system below t false
 closes-top recorded place blocks o below None t top some ended same = absurd (let k : false ≡ true = some in cc)
 closes-top recorded place blocks o below (Some f) t top some ended same = open-closes recorded place blocks o below t f top ended.0 ended.1 same
@@ -115,11 +115,11 @@ skips-top recorded place blocks o f top include low names = by-path (slice_get f
 
 -- ---- a file is opened
 
-not-fresh : (o : OpenFiles) (f : OpenFile) (t : Bool) → o.fresh ≡ t → (t ≡ true → IfSome o.top IsSettled) → o.top ≡ Some f → f.next < length f.named → t ≡ false
+not-fresh : (o : OpenFiles) (f : OpenFile) (t : Bool) → o.fresh ≡ t → (t ≡ true → IfSome o.top IsFileSettled) → o.top ≡ Some f → f.next < length f.named → t ≡ false
 not-fresh o f false e h top low = refl
-not-fresh o f true e h top low = let s : IsSettled f = rw top at (h refl) in absurd (let k = s.1 in omega (arith, low, k))
+not-fresh o f true e h top low = let s : IsFileSettled f = rw top at (h refl) in absurd (let k = s.1 in omega (arith, low, k))
 
-pub open-enters : (recorded : Recorded) (place : ℕ) (blocks : Blocks) (o : OpenFiles) (below : List OpenFile) (f g new : OpenFile) (path text : Bytes) → IsReady o → length o.below.items < depth_limit
+pub open-enters : (recorded : Recorded) (place : ℕ) (blocks : Blocks) (o : OpenFiles) (below : List OpenFile) (f g new : OpenFile) (path text : Bytes) → AreFilesReady o → length o.below.items < depth_limit
     → o.top ≡ Some f → f.include ≡ None → f.next < length f.named → slice_get f.named f.next ≡ Some path → recorded.content path ≡ Some text → nat_lt size_limit (length text) ≡ false
     → below ≡ o.below.items ++ g ∷ []
     → g ≡ record f { next = f.next + 1 } → new ≡ record { path = path; text = text; at = 0; number = 1; include = None; named = []; next = 0 }

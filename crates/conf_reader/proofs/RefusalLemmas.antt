@@ -9,9 +9,9 @@ use Rattle.conf_rules.specs.declared.causes.ResolveError.{ResolveError}
 use Rattle.conf_rules.specs.declared.causes.ResolveError.TheVariants as errors
 use Rattle.conf_reader.specs.declared.errors.LineError.{LineError}
 use Rattle.conf_reader.specs.declared.errors.LineError.TheVariants as line_errors
-use Rattle.conf_reader.specs.declared.files.Found.{Found}
-use Rattle.conf_reader.specs.declared.files.Found.TheVariants.{Nothing, TooLarge, Holds}
-use Rattle.conf_reader.specs.Results.{Refuses, refused_at}
+use Rattle.conf_reader.specs.declared.files.FoundFile.{FoundFile}
+use Rattle.conf_reader.specs.declared.files.FoundFile.TheVariants.{Nothing, TooLarge, Holds}
+use Rattle.conf_reader.specs.Results.{RefusesLine, refused_at}
 use Rattle.conf_rules.specs.Texts.{Bytes}
 use Rattle.conf_rules.specs.Recorded.{Recorded}
 use Rattle.conf_rules.specs.Includes.{Source, file_at, file_of}
@@ -19,7 +19,7 @@ use Rattle.conf_rules.specs.Sources.{Line, Refused, depth_limit, size_limit, eac
 use Rattle.conf_reader.specs.declared.open_file.OpenFile.{OpenFile}
 use Rattle.conf_reader.specs.declared.stack.OpenFiles.{OpenFiles}
 use Rattle.conf_reader.specs.Blocks.{Blocks, or_none}
-use Rattle.conf_reader.specs.Left.{source_of, frame_files, frames_left, cur, open_left, IsReady, is_expanded, RefusesFirst, RefusesTop, RefusesNext, Names, Moves, IsFound, deeper, one_below}
+use Rattle.conf_reader.specs.Left.{source_of, frame_files, frames_left, cur, open_left, AreFilesReady, is_expanded, RefusesFirst, RefusesTop, RefusesNext, Names, Moves, IsFound, deeper, one_below}
 use Rattle.conf_reader.proofs.LeftLemmas.{top_depth, top_outer, top-depth, front, refuses, depth-refuses, size-refuses}
 use Rattle.conf_reader.proofs.OpenLemmas.{drop-at}
 
@@ -86,11 +86,11 @@ abbrev pub moved : List Line → List Line → ResolveError → Type 0
 moved before after e = Moves {A = Unit {0}} before after (Err e)
 
 -- a refusal that wants no memory is one
-pub refuses-at : (le : LineError) (file : Bytes) (number : ℕ) (e : ResolveError) → e ≡ refused_at le file number → Refuses le file number e
+pub refuses-at : (le : LineError) (file : Bytes) (number : ℕ) (e : ResolveError) → e ≡ refused_at le file number → RefusesLine le file number e
 refuses-at line_errors.OutOfMemory file number e r = r
-refuses-at (line_errors.Refused cause) file number e r = subst (λ x. Refuses (line_errors.Refused cause) file number x) (sym r) refl
+refuses-at (line_errors.Refused cause) file number e r = subst (λ x. RefusesLine (line_errors.Refused cause) file number x) (sym r) refl
 
-pub moves-refused : (before after : List Line) (file : Bytes) (number : ℕ) (cause : Cause) (e : ResolveError) → Refuses (line_errors.Refused cause) file number e → RefusesFirst before file number cause → moved before after e
+pub moves-refused : (before after : List Line) (file : Bytes) (number : ℕ) (cause : Cause) (e : ResolveError) → RefusesLine (line_errors.Refused cause) file number e → RefusesFirst before file number cause → moved before after e
 moves-refused before after file number cause errors.OutOfMemory r first = tt
 moves-refused before after file number cause (errors.At f n c) r first = λ fault. refused-as before file f number n cause c first (cc) (cc) (cc)
 
@@ -100,7 +100,7 @@ past (x ∷ xs) zero h e = cc
 past (x ∷ xs) (suc i) h e = past xs i (omega (arith, h)) e
 
 -- a file was found, if it was
-pub found-text : (found : Found) (content : Option Bytes) → (found ≡ Nothing → ⊥) → IsFound found content → (text : Bytes) × (content ≡ Some text)
+pub found-text : (found : FoundFile) (content : Option Bytes) → (found ≡ Nothing → ⊥) → IsFound found content → (text : Bytes) × (content ≡ Some text)
 found-text Nothing content some is = absurd (some refl)
 found-text TooLarge None some is = absurd is
 found-text TooLarge (Some text) some is = (text, refl)
@@ -113,7 +113,7 @@ large-text (Some text) is = (text, (refl, is))
 abbrev pub named_one : OpenFile → Type 0
 named_one f = (f.include ≡ None) × (f.next < length f.named)
 
-pub moves-deep : (recorded : Recorded) (place : ℕ) (blocks : Blocks) (o : OpenFiles) (after : List Line) (found : Found) (e : ResolveError) (t : Option OpenFile) → o.top ≡ t → IsSome t → IfSome t named_one → length o.below.items ≡ depth_limit
+pub moves-deep : (recorded : Recorded) (place : ℕ) (blocks : Blocks) (o : OpenFiles) (after : List Line) (found : FoundFile) (e : ResolveError) (t : Option OpenFile) → o.top ≡ t → IsSome t → IfSome t named_one → length o.below.items ≡ depth_limit
     → (found ≡ Nothing → ⊥) → Names t (λ path. IsFound found (recorded.content path)) → RefusesTop t causes.TooDeep e → moved (open_left recorded place blocks o) after e
 moves-deep recorded place blocks o after found e None top some named deep is names r = absurd (let k : false ≡ true = some in cc)
 moves-deep recorded place blocks o after found e (Some f) top some named deep is names r = by-path (slice_get f.named f.next) refl names
@@ -127,7 +127,7 @@ pub moves-large : (recorded : Recorded) (place : ℕ) (blocks : Blocks) (o : Ope
 moves-large recorded place blocks o after e None top some named low names r = absurd (let k : false ≡ true = some in cc)
 moves-large recorded place blocks o after e (Some f) top some named low names r = by-path (slice_get f.named f.next) refl names r
   where
-    by-path : (p : Option Bytes) → slice_get f.named f.next ≡ p → IfSome p (λ path. IsFound TooLarge (recorded.content path)) → IfSome p (λ path. Refuses (line_errors.Refused causes.TooLarge) path 0 e) → moved (open_left recorded place blocks o) after e
+    by-path : (p : Option Bytes) → slice_get f.named f.next ≡ p → IfSome p (λ path. IsFound TooLarge (recorded.content path)) → IfSome p (λ path. RefusesLine (line_errors.Refused causes.TooLarge) path 0 e) → moved (open_left recorded place blocks o) after e
     by-path None at h k = absurd (past f.named f.next named.1 at)
     by-path (Some path) at h k = let text = large-text (recorded.content path) h in moves-refused (open_left recorded place blocks o) after path 0 causes.TooLarge e k (large-refused recorded place blocks o f path text.0 top named.0 at text.1.0 low text.1.1)
 
@@ -141,7 +141,7 @@ holds-names recorded text (Some f) some named names = by-path (slice_get f.named
     by-path (Some path) at h = h
 
 -- the last file has no paths to find
-pub ready-top : (o : OpenFiles) (f : OpenFile) → IsReady o → o.top ≡ Some f → f.include ≡ None
+pub ready-top : (o : OpenFiles) (f : OpenFile) → AreFilesReady o → o.top ≡ Some f → f.include ≡ None
 ready-top o f ready top = is-none f.include (last o.below.items f (ap (λ t. list_all is_expanded (o.below.items ++ option_to_list t)) (sym top) ∙ ready.expanded))
   where
     both : (a b : Bool) → (a && b) ≡ true → b ≡ true
@@ -173,7 +173,7 @@ one-left-path (x ∷ xs) zero p e = omega arith
 one-left-path (x ∷ xs) (suc i) p e = let k = one-left-path xs i p e in omega (arith, k)
 
 -- what was found at the path that is opened next
-pub found-names : (recorded : Recorded) (found : Found) (f : OpenFile) (path : Bytes) → slice_get f.named f.next ≡ Some path → IsFound found (recorded.content path) → Names (Some f) (λ path. IsFound found (recorded.content path))
+pub found-names : (recorded : Recorded) (found : FoundFile) (f : OpenFile) (path : Bytes) → slice_get f.named f.next ≡ Some path → IsFound found (recorded.content path) → Names (Some f) (λ path. IsFound found (recorded.content path))
 found-names recorded found f path named is = rw named is
 
 -- what a step did to what was left, it did to what was left before

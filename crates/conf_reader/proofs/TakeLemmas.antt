@@ -13,7 +13,7 @@ use Rattle.conf_rules.specs.declared.causes.ResolveError.TheVariants as errors
 use Rattle.conf_reader.specs.declared.errors.LineError.{LineError}
 use Rattle.conf_reader.specs.declared.errors.LineError.TheVariants as line_errors
 use Rattle.conf_reader.specs.declared.open_file.NextFile.{NextFile}
-use Rattle.conf_reader.specs.Results.{Refuses}
+use Rattle.conf_reader.specs.Results.{RefusesLine}
 use Rattle.conf_rules.specs.Texts.{Bytes, same_word, lower}
 use Rattle.conf_rules.specs.Heads.{Comment, Says, head_of, lines_of}
 use Rattle.conf_rules.specs.Recorded.{Recorded}
@@ -24,8 +24,8 @@ use Rattle.conf_reader.specs.declared.line.ConfLine.{ConfLine}
 use Rattle.conf_reader.specs.declared.open_file.OpenFile.{OpenFile}
 use Rattle.conf_reader.specs.declared.stack.OpenFiles.{OpenFiles}
 use Rattle.conf_reader.specs.declared.open_file.Said.{Said}
-use Rattle.conf_reader.specs.Blocks.{Blocks, or_none, own_of, opens_block, open_behind}
-use Rattle.conf_reader.specs.Left.{source_of, frame_files, frames_left, cur, open_left, IsSettled, NextLine, SkipsComment, GivesLine, GivenBy, gone, include_of, HeadIs, heading_of, RefusesHead, Takes}
+use Rattle.conf_reader.specs.Blocks.{Blocks, or_none, own_block_of, keyword_opens_block, open_behind}
+use Rattle.conf_reader.specs.Left.{source_of, frame_files, frames_left, cur, open_left, IsFileSettled, NextLine, SkipsComment, GivesLine, GivenBy, gone, include_of, HeadIs, heading_of, RefusesHead, TakesLine}
 use Rattle.conf_reader.proofs.LeftLemmas.{top_depth, top_outer, top-depth, top-outer, ReadStep, under, takes, Taken, file_line, head-left, front}
 use Rattle.conf_reader.proofs.OpenLemmas.{cur-below, settled-files}
 
@@ -43,13 +43,13 @@ comment-opens : (bytes : Bytes) → head_of bytes ≡ Ok Comment → is_opening 
 unfolding is_opening
 comment-opens bytes h = rw h refl
 
-gone-none : (recorded : Recorded) (source : Source) (f : OpenFile) (next : ℕ) → IsSettled f → frame_files recorded source (gone next None f) ≡ Ok []
+gone-none : (recorded : Recorded) (source : Source) (f : OpenFile) (next : ℕ) → IsFileSettled f → frame_files recorded source (gone next None f) ≡ Ok []
 gone-none recorded source f next s = let none : drop f.next f.named ≡ [] = drop_of_length-le f.named s.1 in rw none refl
 
 low-top : (o : OpenFiles) → length o.below.items ≤ depth_limit → top_depth 0 o.below.items ≤ depth_limit
 low-top o few = let k = top-depth 0 o.below.items in omega (arith, k, few)
 
-pub comment-left : (recorded : Recorded) (place : ℕ) (blocks : Blocks) (o : OpenFiles) (f : OpenFile) (next : ℕ) → length o.below.items ≤ depth_limit → o.top ≡ Some f → IsSettled f → NextLine f next (Ok Comment)
+pub comment-left : (recorded : Recorded) (place : ℕ) (blocks : Blocks) (o : OpenFiles) (f : OpenFile) (next : ℕ) → length o.below.items ≤ depth_limit → o.top ≡ Some f → IsFileSettled f → NextLine f next (Ok Comment)
     → SkipsComment recorded place blocks o (record o { top = Some (gone next None f) })
 comment-left recorded place blocks o f next few top s n =
     let fs = o.below.items in
@@ -78,16 +78,16 @@ comment-left recorded place blocks o f next few top s n =
 
 -- ---- lines that say something
 
-not-both : (keyword : Bytes) → same_word keyword (codes "include") ≡ true → opens_block keyword ≡ false
+not-both : (keyword : Bytes) → same_word keyword (codes "include") ≡ true → keyword_opens_block keyword ≡ false
 not-both keyword same =
     let lowered : lower keyword ≡ lower (codes "include") = (bytes_eq-Decides (lower keyword) (lower (codes "include"))).0 same in
     rw lowered refl
 
-said-opens : (bytes keyword rest : Bytes) → head_of bytes ≡ Ok (Says keyword rest) → is_opening bytes ≡ opens_block keyword
+said-opens : (bytes keyword rest : Bytes) → head_of bytes ≡ Ok (Says keyword rest) → is_opening bytes ≡ keyword_opens_block keyword
 unfolding is_opening
 said-opens bytes keyword rest h = rw h refl
 
-include-files : (recorded : Recorded) (source : Source) (f : OpenFile) (next : ℕ) (said : Said) (bytes : Bytes) (t : Bool) → same_word said.keyword (codes "include") ≡ t → IsSettled f → head_of bytes ≡ Ok (Says said.keyword said.rest)
+include-files : (recorded : Recorded) (source : Source) (f : OpenFile) (next : ℕ) (said : Said) (bytes : Bytes) (t : Bool) → same_word said.keyword (codes "include") ≡ t → IsFileSettled f → head_of bytes ≡ Ok (Says said.keyword said.rest)
     → frame_files recorded source (gone next (include_of said) f) ≡ included_files source recorded bytes
 unfolding included_files
 include-files recorded source f next said bytes true same s h = rw (h, same) refl
@@ -123,7 +123,7 @@ own-is : (fresh : Bool) (d : ℕ) (blocks : Blocks) → or_none (slice_get (drop
 own-is true d blocks = own-fresh d blocks
 own-is false d blocks = own-old d blocks
 
-pub gives-line : (recorded : Recorded) (place : ℕ) (blocks : Blocks) (o : OpenFiles) (f : OpenFile) (next : ℕ) (said : Said) (given : ConfLine) → length o.below.items ≤ depth_limit → length o.below.items ≤ length blocks → o.top ≡ Some f → IsSettled f
+pub gives-line : (recorded : Recorded) (place : ℕ) (blocks : Blocks) (o : OpenFiles) (f : OpenFile) (next : ℕ) (said : Said) (given : ConfLine) → length o.below.items ≤ depth_limit → length o.below.items ≤ length blocks → o.top ≡ Some f → IsFileSettled f
     → NextLine f next (Ok (Says said.keyword said.rest)) → GivenBy o f said given
     → GivesLine recorded place blocks o (record o { top = Some (gone next (include_of said) f); fresh = false }) given
 gives-line recorded place blocks o f next said given few size top s n by =
@@ -137,11 +137,11 @@ gives-line recorded place blocks o f next said given few size top s n by =
     let outer = top_outer [] fs cur-o in
     let g = gone next (include_of said) f in
     let behind = open_behind given place blocks in
-    let own-same : own ≡ own_of given blocks = own-is o.fresh d blocks ∙ ap (λ t. cond t None (or_none (slice_get blocks d))) (sym by.opens) ∙ ap (λ m. cond given.opens None (or_none (slice_get blocks m))) (sym by.depth) in
-    let opening : is_opening n.bytes ≡ opens_block given.keyword = said-opens n.bytes said.keyword said.rest n.head ∙ ap opens_block (sym by.keyword) in
+    let own-same : own ≡ own_block_of given blocks = own-is o.fresh d blocks ∙ ap (λ t. cond t None (or_none (slice_get blocks d))) (sym by.opens) ∙ ap (λ m. cond given.opens None (or_none (slice_get blocks m))) (sym by.depth) in
+    let opening : is_opening n.bytes ≡ keyword_opens_block given.keyword = said-opens n.bytes said.keyword said.rest n.head ∙ ap keyword_opens_block (sym by.keyword) in
     let behind-is : behind ≡ take d blocks ++ block_behind (is_opening n.bytes) place own ∷ [] =
-    ap (λ m. take m blocks ++ block_behind (opens_block given.keyword) place (own_of given blocks) ∷ []) by.depth
-    ∙ ap (λ w. take d blocks ++ block_behind (opens_block given.keyword) place w ∷ []) (sym own-same)
+    ap (λ m. take m blocks ++ block_behind (keyword_opens_block given.keyword) place (own_block_of given blocks) ∷ []) by.depth
+    ∙ ap (λ w. take d blocks ++ block_behind (keyword_opens_block given.keyword) place w ∷ []) (sym own-same)
     ∙ ap (λ t. take d blocks ++ block_behind t place own ∷ []) (sym opening) in
     let others-top : drop d behind ≡ block_behind (is_opening n.bytes) place own ∷ [] = ap (drop d) behind-is ∙ drop-front d blocks (block_behind (is_opening n.bytes) place own) size in
     let same : take d cur-o ≡ take d behind = cur-below o.fresh d blocks ∙ sym (take-front d blocks (block_behind (is_opening n.bytes) place own) size) ∙ sym (ap (take d) behind-is) in
@@ -167,27 +167,27 @@ gives-line recorded place blocks o f next said given few size top s n by =
         bytes = n.bytes;
         spelled = refl;
         says = n.head ∙ ap (λ k. Ok (Says k said.rest)) (sym by.keyword) ∙ ap (λ r. Ok (Says given.keyword r)) (sym by.rest);
-        stands = ap (λ xs. xs ++ own_block (is_opening n.bytes) own) outer-is ∙ ap (λ t. flat_map option_to_list (take given.depth blocks) ++ own_block t own) opening ∙ ap (λ w. flat_map option_to_list (take given.depth blocks) ++ own_block (opens_block given.keyword) w) own-same;
+        stands = ap (λ xs. xs ++ own_block (is_opening n.bytes) own) outer-is ∙ ap (λ t. flat_map option_to_list (take given.depth blocks) ++ own_block t own) opening ∙ ap (λ w. flat_map option_to_list (take given.depth blocks) ++ own_block (keyword_opens_block given.keyword) w) own-same;
       };
       source = refl;
     }
 
 -- ---- as the code needs them
 
-pub comment-top : (recorded : Recorded) (place : ℕ) (blocks : Blocks) (o : OpenFiles) (t : Option OpenFile) (next : NextFile) → o.top ≡ t → IsSome t → length o.below.items ≤ depth_limit → IfSome t (λ f. IsSettled f × (f.at < length f.text)) → IfSome t (λ f. HeadIs f (Ok next)) → next.said ≡ None
+pub comment-top : (recorded : Recorded) (place : ℕ) (blocks : Blocks) (o : OpenFiles) (t : Option OpenFile) (next : NextFile) → o.top ≡ t → IsSome t → length o.below.items ≤ depth_limit → IfSome t (λ f. IsFileSettled f × (f.at < length f.text)) → IfSome t (λ f. HeadIs f (Ok next)) → next.said ≡ None
     → SkipsComment recorded place blocks o (record o { top = option_map (gone next.next None) t })
 comment-top recorded place blocks o None next top some few line head said = absurd (let k : false ≡ true = some in cc)
 comment-top recorded place blocks o (Some f) next top some few line head said =
     comment-left recorded place blocks o f next.next few top line.0 (rw (ap heading_of said) at head)
 
 pub gives-top : (recorded : Recorded) (place : ℕ) (blocks : Blocks) (o : OpenFiles) (t : Option OpenFile) (next : NextFile) (said : Said) (given : ConfLine) → o.top ≡ t → IsSome t → length o.below.items ≤ depth_limit → length o.below.items ≤ length blocks
-    → IfSome t (λ f. IsSettled f × (f.at < length f.text)) → IfSome t (λ f. HeadIs f (Ok next)) → next.said ≡ Some said → IfSome t (λ f. GivenBy o f said given)
+    → IfSome t (λ f. IsFileSettled f × (f.at < length f.text)) → IfSome t (λ f. HeadIs f (Ok next)) → next.said ≡ Some said → IfSome t (λ f. GivenBy o f said given)
     → GivesLine recorded place blocks o (record o { top = option_map (gone next.next (include_of said)) t; fresh = false }) given
 gives-top recorded place blocks o None next said given top some few size line head says by = absurd (let k : false ≡ true = some in cc)
 gives-top recorded place blocks o (Some f) next said given top some few size line head says by =
     gives-line recorded place blocks o f next.next said given few size top line.0 (rw (ap heading_of says) at head) by
 
-refuses-line : (recorded : Recorded) (place : ℕ) (blocks : Blocks) (o : OpenFiles) (f : OpenFile) (next : ℕ) (e : LexError) → o.top ≡ Some f → IsSettled f → NextLine f next (Err e) → RefusesHead (open_left recorded place blocks o) f.path f.number (causes.Lex e)
+refuses-line : (recorded : Recorded) (place : ℕ) (blocks : Blocks) (o : OpenFiles) (f : OpenFile) (next : ℕ) (e : LexError) → o.top ≡ Some f → IsFileSettled f → NextLine f next (Err e) → RefusesHead (open_left recorded place blocks o) f.path f.number (causes.Lex e)
 refuses-line recorded place blocks o f next e top s n =
     let fs = o.below.items in
     let source = source_of o.system in
@@ -213,13 +213,13 @@ refuses-line recorded place blocks o f next e top s n =
 head-as : (left : List Line) (f g : Bytes) (m n : ℕ) (c d : Cause) → RefusesHead left f m c → g ≡ f → n ≡ m → d ≡ c → RefusesHead left g n d
 head-as left f g m n c d r file number cause = record { line = r.line; rest = r.rest; is = r.is; file_is = r.file_is ∙ sym file; number_is = r.number_is ∙ sym number; bytes = r.bytes; spelled = r.spelled; error = r.error; head = r.head; cause_is = cause ∙ r.cause_is }
 
-refused-by : (recorded : Recorded) (place : ℕ) (blocks : Blocks) (o n : OpenFiles) (f : OpenFile) (e : LineError) (d : ResolveError) → o.top ≡ Some f → IsSettled f → HeadIs f (Err e) → Refuses e f.path f.number d → Takes recorded place blocks o n (Err d)
+refused-by : (recorded : Recorded) (place : ℕ) (blocks : Blocks) (o n : OpenFiles) (f : OpenFile) (e : LineError) (d : ResolveError) → o.top ≡ Some f → IsFileSettled f → HeadIs f (Err e) → RefusesLine e f.path f.number d → TakesLine recorded place blocks o n (Err d)
 refused-by recorded place blocks o n f e errors.OutOfMemory top s head r = tt
 refused-by recorded place blocks o n f line_errors.OutOfMemory (errors.At file number cause) top s head r = absurd cc
 refused-by recorded place blocks o n f (line_errors.Refused c) (errors.At file number cause) top s head r =
     head-as (open_left recorded place blocks o) f.path file f.number number (causes.Lex head.1.0) cause (refuses-line recorded place blocks o f head.0 head.1.0 top s head.1.1.1) (cc) (cc) (let k : cause ≡ c = cc in k ∙ head.1.1.0)
 
-pub refused-top : (recorded : Recorded) (place : ℕ) (blocks : Blocks) (o n : OpenFiles) (t : Option OpenFile) (e : LineError) (d : ResolveError) → o.top ≡ t → IsSome t → IfSome t (λ f. IsSettled f × (f.at < length f.text)) → IfSome t (λ f. HeadIs f (Err e)) → IfSome t (λ f. Refuses e f.path f.number d)
-    → Takes recorded place blocks o n (Err d)
+pub refused-top : (recorded : Recorded) (place : ℕ) (blocks : Blocks) (o n : OpenFiles) (t : Option OpenFile) (e : LineError) (d : ResolveError) → o.top ≡ t → IsSome t → IfSome t (λ f. IsFileSettled f × (f.at < length f.text)) → IfSome t (λ f. HeadIs f (Err e)) → IfSome t (λ f. RefusesLine e f.path f.number d)
+    → TakesLine recorded place blocks o n (Err d)
 refused-top recorded place blocks o n None e d top some line head r = absurd (let k : false ≡ true = some in cc)
 refused-top recorded place blocks o n (Some f) e d top some line head r = refused-by recorded place blocks o n f e d top line.0 head r

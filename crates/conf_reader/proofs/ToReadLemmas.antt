@@ -9,7 +9,7 @@ use Rattle.mux_outside.specs.declared.reading.Reading.{Reading}
 use Rattle.conf_rules.specs.declared.causes.LexError.{LexError}
 use Rattle.conf_rules.specs.declared.causes.ResolveError.{ResolveError}
 use Rattle.conf_rules.specs.declared.causes.ResolveError.TheVariants as errors
-use Rattle.conf_reader.specs.declared.files.Found.{Found}
+use Rattle.conf_reader.specs.declared.files.FoundFile.{FoundFile}
 use Rattle.conf_rules.specs.declared.causes.TokenError.{TokenError}
 use Rattle.conf_rules.specs.declared.asked.ConfigFrom.{ConfigFrom}
 use Rattle.conf_rules.specs.declared.asked.ConfigFrom.TheVariants.{Standard, Nothing, File}
@@ -28,7 +28,7 @@ use Rattle.conf_reader.specs.declared.stack.OpenFiles.{OpenFiles}
 use Rattle.conf_reader.specs.declared.lines.FirstFile.{FirstFile}
 use Rattle.conf_reader.specs.declared.lines.Lines.{Lines}
 use Rattle.conf_reader.specs.Firsts.{firsts_of}
-use Rattle.conf_reader.specs.Left.{source_of, IsSettled, HeadIs, Names, heading_of, gone, include_of, named_as, named_by}
+use Rattle.conf_reader.specs.Left.{source_of, IsFileSettled, HeadIs, Names, heading_of, gone, include_of, named_as, named_by}
 use Rattle.conf_reader.specs.ToRead.{names_left, file_reads, files_read, open_reads, first_reads, all_read, reading_of, ReadsTo, ReadsSome, Notes, NotesFirst}
 use Rattle.conf_reader.proofs.OpenLemmas.{drop-at}
 
@@ -88,7 +88,7 @@ nobody-below source recorded (suc m) path none = rw none refl
 file-below : (source : Source) (recorded : Recorded) (m : ℕ) (path text : Bytes) → recorded.content path ≡ Some text → below_path source recorded (suc m) path ≡ flat_map (read_by source recorded m) (lines_of text)
 file-below source recorded m path text some = rw some (append-nil (flat_map (read_by source recorded m) (lines_of text)))
 
-settled-names : (recorded : Recorded) (source : Source) (f : OpenFile) → IsSettled f → names_left recorded source f ≡ []
+settled-names : (recorded : Recorded) (source : Source) (f : OpenFile) → IsFileSettled f → names_left recorded source f ≡ []
 settled-names recorded source f s = let none : drop f.next f.named ≡ [] = drop_of_length-le f.named s.1 in rw (s.0, none) refl
 
 next-reads : (recorded : Recorded) (source : Source) (depth : ℕ) (f : OpenFile) (path : Bytes) → f.include ≡ None → slice_get f.named f.next ≡ Some path
@@ -107,7 +107,7 @@ next-reads recorded source depth f path include named =
     ∙ ap (λ xs. path ∷ (below_path source recorded m path ++ (read_along source recorded m xs ++ lines))) (sym later)
 
 -- a file at its end
-closed-reads : (recorded : Recorded) (source : Source) (depth : ℕ) (f : OpenFile) → IsSettled f → length f.text ≤ f.at → file_reads recorded source depth f ≡ []
+closed-reads : (recorded : Recorded) (source : Source) (depth : ℕ) (f : OpenFile) → IsFileSettled f → length f.text ≤ f.at → file_reads recorded source depth f ≡ []
 unfolding lines_of
 closed-reads recorded source depth f s ended =
     let m = depth_limit - depth in
@@ -120,7 +120,7 @@ begun-reads : (recorded : Recorded) (source : Source) (depth : ℕ) (path text :
 begun-reads recorded source depth path text = ap (λ xs. xs ++ flat_map (read_by source recorded (depth_limit - depth)) (lines_of text)) (along-none source recorded (depth_limit - depth))
 
 -- a file after its next line
-taken-reads : (recorded : Recorded) (source : Source) (depth : ℕ) (f : OpenFile) (next : ℕ) (include : Option Bytes) (bytes : Bytes) → IsSettled f → lines_of (drop f.at f.text) ≡ bytes ∷ lines_of (drop next f.text)
+taken-reads : (recorded : Recorded) (source : Source) (depth : ℕ) (f : OpenFile) (next : ℕ) (include : Option Bytes) (bytes : Bytes) → IsFileSettled f → lines_of (drop f.at f.text) ≡ bytes ∷ lines_of (drop next f.text)
     → names_left recorded source (gone next include f) ≡ paths_at source recorded bytes → file_reads recorded source depth f ≡ file_reads recorded source depth (gone next include f)
 taken-reads recorded source depth f next include bytes s is names =
     let m = depth_limit - depth in
@@ -131,11 +131,11 @@ taken-reads recorded source depth f next include bytes s is names =
     ∙ ap (flat_map reads) is
     ∙ ap (λ xs. read_along source recorded m xs ++ later) (sym names)
 
-comment-names : (recorded : Recorded) (source : Source) (f : OpenFile) (next : ℕ) (bytes : Bytes) → IsSettled f → head_of bytes ≡ Ok Comment → names_left recorded source (gone next None f) ≡ paths_at source recorded bytes
+comment-names : (recorded : Recorded) (source : Source) (f : OpenFile) (next : ℕ) (bytes : Bytes) → IsFileSettled f → head_of bytes ≡ Ok Comment → names_left recorded source (gone next None f) ≡ paths_at source recorded bytes
 unfolding paths_at
 comment-names recorded source f next bytes s h = let none : drop f.next f.named ≡ [] = drop_of_length-le f.named s.1 in rw (h, none) refl
 
-said-names : (recorded : Recorded) (source : Source) (f : OpenFile) (next : ℕ) (said : Said) (bytes : Bytes) (t : Bool) → same_word said.keyword (codes "include") ≡ t → IsSettled f → head_of bytes ≡ Ok (Says said.keyword said.rest)
+said-names : (recorded : Recorded) (source : Source) (f : OpenFile) (next : ℕ) (said : Said) (bytes : Bytes) (t : Bool) → same_word said.keyword (codes "include") ≡ t → IsFileSettled f → head_of bytes ≡ Ok (Says said.keyword said.rest)
     → names_left recorded source (gone next (include_of said) f) ≡ paths_at source recorded bytes
 unfolding paths_at
 said-names recorded source f next said bytes true same s h = rw (h, same) refl
@@ -216,14 +216,14 @@ enters-reads recorded o below f g new path text deep top include named some belo
     ∙ ap (λ xs. path ∷ files_read recorded source 0 xs) parts
 
 -- the last one is closed
-pub closes-reads : (recorded : Recorded) (o : OpenFiles) (below : List OpenFile) (n t : Option OpenFile) → o.top ≡ n → IsSome n → IfSome n (λ f. IsSettled f × (length f.text ≤ f.at)) → o.below.items ≡ below ++ option_to_list t
+pub closes-reads : (recorded : Recorded) (o : OpenFiles) (below : List OpenFile) (n t : Option OpenFile) → o.top ≡ n → IsSome n → IfSome n (λ f. IsFileSettled f × (length f.text ≤ f.at)) → o.below.items ≡ below ++ option_to_list t
     → open_reads recorded o ≡ files_read recorded (source_of o.system) 0 (below ++ option_to_list t)
 closes-reads recorded o below None t top some ended same = absurd (let k : false ≡ true = some in cc)
 closes-reads recorded o below (Some f) t top some ended same =
     top-reads recorded o f top ∙ ap (λ xs. xs ++ files_read recorded (source_of o.system) 0 o.below.items) (closed-reads recorded (source_of o.system) (0 + length o.below.items) f ended.0 ended.1) ∙ ap (files_read recorded (source_of o.system) 0) same
 
 -- a comment names nothing to read
-pub comment-reads : (recorded : Recorded) (o : OpenFiles) (t : Option OpenFile) (next : NextFile) → o.top ≡ t → IsSome t → IfSome t (λ f. IsSettled f × (f.at < length f.text)) → IfSome t (λ f. HeadIs f (Ok next)) → next.said ≡ None
+pub comment-reads : (recorded : Recorded) (o : OpenFiles) (t : Option OpenFile) (next : NextFile) → o.top ≡ t → IsSome t → IfSome t (λ f. IsFileSettled f × (f.at < length f.text)) → IfSome t (λ f. HeadIs f (Ok next)) → next.said ≡ None
     → open_reads recorded o ≡ open_reads recorded (record o { top = option_map (gone next.next None) t })
 comment-reads recorded o None next top some line head said = absurd (let k : false ≡ true = some in cc)
 comment-reads recorded o (Some f) next top some line head said =
@@ -232,7 +232,7 @@ comment-reads recorded o (Some f) next top some line head said =
     changed-reads recorded o f (gone next.next None f) top (taken-reads recorded source (0 + length o.below.items) f next.next None n.bytes line.0 n.is (comment-names recorded source f next.next n.bytes line.0 n.head))
 
 -- a line is given
-pub gives-reads : (recorded : Recorded) (o : OpenFiles) (t : Option OpenFile) (next : NextFile) (said : Said) → o.top ≡ t → IsSome t → IfSome t (λ f. IsSettled f × (f.at < length f.text)) → IfSome t (λ f. HeadIs f (Ok next)) → next.said ≡ Some said
+pub gives-reads : (recorded : Recorded) (o : OpenFiles) (t : Option OpenFile) (next : NextFile) (said : Said) → o.top ≡ t → IsSome t → IfSome t (λ f. IsFileSettled f × (f.at < length f.text)) → IfSome t (λ f. HeadIs f (Ok next)) → next.said ≡ Some said
     → open_reads recorded o ≡ open_reads recorded (record o { top = option_map (gone next.next (include_of said)) t; fresh = false })
 gives-reads recorded o None next said top some line head says = absurd (let k : false ≡ true = some in cc)
 gives-reads recorded o (Some f) next said top some line head says =
@@ -343,7 +343,7 @@ first-behind recorded r f path readings now top below named same noted =
     fails-behind f.path (all_read recorded r) some.0 readings now some.1 (subst (λ p. now ≡ option_map (λ rs. rs ++ reading_of p ∷ []) readings) same noted)
 
 -- a first file's read, or the memory for it, failed
-pub first-fails : (path given : Bytes) (before rest : List Bytes) (e : ResolveError) (readings now : Option (List Reading)) → given ≡ path → before ≡ path ∷ rest → NotesFirst {A = Found} given (Err e) readings now → ReadsSome before readings now
+pub first-fails : (path given : Bytes) (before rest : List Bytes) (e : ResolveError) (readings now : Option (List Reading)) → given ≡ path → before ≡ path ∷ rest → NotesFirst {A = FoundFile} given (Err e) readings now → ReadsSome before readings now
 first-fails path given before rest errors.OutOfMemory readings now same is n = none-read before readings now n
 first-fails path given before rest (errors.At file line cause) readings now same is n = fails-behind path before rest readings now is (subst (λ p. now ≡ option_map (λ rs. rs ++ reading_of p ∷ []) readings) same n)
 

@@ -18,7 +18,7 @@ use Rattle.conf_reader.specs.declared.stack.OpenFiles.{OpenFiles}
 use Rattle.conf_reader.specs.FilesState.{FilesState}
 use Rattle.conf_reader.specs.Known.{RecordsFiles}
 use Rattle.conf_reader.specs.Looking.{Test, RecordsFailed}
-use Rattle.conf_reader.specs.Results.{IsFilesCause, HasLineCause, HasFilesCause, Refuses, refused_at, is_fault_at, is_run_fault}
+use Rattle.conf_reader.specs.Results.{IsFilesCause, HasReadCause, HasFilesCause, RefusesLine, refused_at, is_fault_at, is_run_fault}
 use Rattle.conf_reader.specs.ToRead.{ReadsSome}
 use Rattle.conf_reader.specs.Uses.{Coming, of_open, of_all, UsesFiles, UsesFilesFor}
 use Rattle.conf_reader.proofs.LookingLemmas.{all-look, files-meet, records-err, records-on}
@@ -43,16 +43,16 @@ quiet-records A test (errors.At file number causes.ReadFault) before now same qu
 quiet-records A test (errors.At file number cause) before now same quiet = same
 
 -- the refusal of a line whose error is no fault
-pub refuses-quiet : (cause : Cause) (file : Bytes) (number : ℕ) (e : ResolveError) → is_fault cause ≡ false → Refuses (line_errors.Refused cause) file number e → is_fault_at e ≡ false
+pub refuses-quiet : (cause : Cause) (file : Bytes) (number : ℕ) (e : ResolveError) → is_fault cause ≡ false → RefusesLine (line_errors.Refused cause) file number e → is_fault_at e ≡ false
 refuses-quiet cause file number errors.OutOfMemory quiet h = refl
 refuses-quiet cause file number (errors.At f n c) quiet h = let same : c ≡ cause = cc in ap is_fault same ∙ quiet
 
-pub line-quiet : (cause : Cause) (t : Option OpenFile) (e : ResolveError) → is_fault cause ≡ false → IsSome t → IfSome t (λ f. Refuses (line_errors.Refused cause) f.path f.number e) → is_fault_at e ≡ false
+pub line-quiet : (cause : Cause) (t : Option OpenFile) (e : ResolveError) → is_fault cause ≡ false → IsSome t → IfSome t (λ f. RefusesLine (line_errors.Refused cause) f.path f.number e) → is_fault_at e ≡ false
 line-quiet cause None e quiet some h = absurd (let k : false ≡ true = some in cc)
 line-quiet cause (Some f) e quiet some h = refuses-quiet cause f.path f.number e quiet h
 
 -- a line's error, reported as a refusal
-pub line-cause : (A B : Type 0) (le : LineError) (file : Bytes) (number : ℕ) (e : ResolveError) (before now : ℕ) → e ≡ refused_at le file number → HasLineCause {A = A} (Err le) before now → HasFilesCause {A = B} (Err e) before now
+pub line-cause : (A B : Type 0) (le : LineError) (file : Bytes) (number : ℕ) (e : ResolveError) (before now : ℕ) → e ≡ refused_at le file number → HasReadCause {A = A} (Err le) before now → HasFilesCause {A = B} (Err e) before now
 line-cause A B line_errors.OutOfMemory file number e before now is h = subst (λ x. HasFilesCause {A = B} (Err x) before now) (sym is) h
 line-cause A B (line_errors.Refused cause) file number e before now is h = subst (λ x. HasFilesCause {A = B} (Err x) before now) (sym is) h
 

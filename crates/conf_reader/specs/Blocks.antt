@@ -17,22 +17,22 @@ or_none None = None
 or_none (Some block) = block
 
 -- the block that is open in a line's own file: none where the line is the first of its file
-abbrev pub own_of : ConfLine → Blocks → Option ℕ
-own_of line blocks = if line.opens then None else or_none (slice_get blocks line.depth)
+abbrev pub own_block_of : ConfLine → Blocks → Option ℕ
+own_block_of line blocks = if line.opens then None else or_none (slice_get blocks line.depth)
 
 -- whether a keyword opens a block
-abbrev pub opens_block : Bytes → Bool
-opens_block keyword = same_word keyword (codes "host") || same_word keyword (codes "match")
+abbrev pub keyword_opens_block : Bytes → Bool
+keyword_opens_block keyword = same_word keyword (codes "host") || same_word keyword (codes "match")
 
 -- the blocks in which a line stands
 abbrev pub blocks_of : ConfLine → Blocks → List ℕ
 blocks_of line blocks = flat_map option_to_list (take line.depth blocks)
-    ++ own_block (opens_block line.keyword) (own_of line blocks)
+    ++ own_block (keyword_opens_block line.keyword) (own_block_of line blocks)
 
 -- the blocks that are open after a line at a place
 abbrev pub open_behind : ConfLine → ℕ → Blocks → Blocks
 open_behind line place blocks = take line.depth blocks
-    ++ block_behind (opens_block line.keyword) place (own_of line blocks) ∷ []
+    ++ block_behind (keyword_opens_block line.keyword) place (own_block_of line blocks) ∷ []
 
 -- a given line is this line, where these blocks are open
 pub record IsLine (given : ConfLine) (blocks : Blocks) (line : Line) : Type 0 where

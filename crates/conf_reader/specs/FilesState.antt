@@ -13,8 +13,8 @@ pub record FilesState : Type 0 where
   pub failed : Option (List Bytes)
   pub readings : Option (List Reading)
 
-abbrev pub state_of : {F : Type 0} → TheFiles F → F → FilesState
-state_of the files = record {
+abbrev pub files_state_of : {F : Type 0} → TheFiles F → F → FilesState
+files_state_of the files = record {
   recorded = the.recorded files;
   faults = the.faults files;
   failed = the.failed files;

@@ -27,10 +27,10 @@ use Rattle.conf_reader.specs.declared.lines.FirstFile.{FirstFile}
 use Rattle.conf_reader.specs.declared.lines.Lines.{Lines}
 use Rattle.conf_reader.specs.declared.stack.Stand.{Stand}
 use Rattle.conf_reader.specs.declared.stack.Stand.TheVariants as stands
-use Rattle.conf_reader.specs.declared.files.Found.{Found}
-use Rattle.conf_reader.specs.declared.files.Found.TheVariants.{Nothing, TooLarge, Holds}
+use Rattle.conf_reader.specs.declared.files.FoundFile.{FoundFile}
+use Rattle.conf_reader.specs.declared.files.FoundFile.TheVariants.{Nothing, TooLarge, Holds}
 use Rattle.conf_reader.specs.declared.errors.LineError.TheVariants as line_errors
-use Rattle.conf_reader.specs.Results.{Refuses, refused_at}
+use Rattle.conf_reader.specs.Results.{RefusesLine, refused_at}
 use Rattle.conf_reader.specs.Blocks.{Blocks, or_none, IsLine, open_behind}
 
 -- the source of files
@@ -99,8 +99,8 @@ abbrev pub open_left : Recorded → ℕ → Blocks → OpenFiles → List Line
 open_left recorded place blocks o = parts_left recorded place blocks o.system o.below.items o.top o.fresh
 
 -- whether an open file names no more files
-abbrev pub IsSettled : OpenFile → Type 0
-IsSettled f = (f.include ≡ None) × (length f.named ≤ f.next)
+abbrev pub IsFileSettled : OpenFile → Type 0
+IsFileSettled f = (f.include ≡ None) × (length f.named ≤ f.next)
 
 -- whether the paths are known that a file's last line names
 abbrev pub is_expanded : OpenFile → Bool
@@ -111,9 +111,9 @@ abbrev pub is_counted : OpenFile → Bool
 is_counted f = nat_le f.number (f.at + 1)
 
 -- what holds of open files between steps
-pub record IsReady (o : OpenFiles) : Type 0 where
+pub record AreFilesReady (o : OpenFiles) : Type 0 where
   pub few : length o.below.items ≤ depth_limit
-  pub fresh : o.fresh ≡ true → IfSome o.top IsSettled
+  pub fresh : o.fresh ≡ true → IfSome o.top IsFileSettled
   pub none : o.top ≡ None → o.below.items ≡ []
   pub expanded : list_all is_expanded (stack o) ≡ true
   pub counted : list_all is_counted (stack o) ≡ true
@@ -126,7 +126,7 @@ abbrev pub work : OpenFiles → ℕ
 work o = sum_by file_work (stack o)
 
 -- what a file was found to hold
-abbrev pub IsFound : Found → Option Bytes → Type 0
+abbrev pub IsFound : FoundFile → Option Bytes → Type 0
 IsFound Nothing content = content ≡ None
 IsFound TooLarge content = IsSomeAnd content (λ text. nat_lt size_limit (length text) ≡ true)
 IsFound (Holds text) content = (content ≡ Some text) × (nat_lt size_limit (length text) ≡ false)
@@ -156,14 +156,14 @@ Names (Some f) fact = IfSome (slice_get f.named f.next) fact
 -- the state of open files after a step
 abbrev pub StandOf : OpenFiles → OpenFiles → Stand → Type 0
 StandOf old new stands.Line = (new ≡ old)
-    × IfSome new.top (λ f. IsSettled f × (f.at < length f.text)) × IsSome new.top
+    × IfSome new.top (λ f. IsFileSettled f × (f.at < length f.text)) × IsSome new.top
 StandOf old new stands.Moved = work new < work old
 StandOf old new stands.End = (new ≡ old) × (new.top ≡ None)
 
 -- a refusal at the line that an open file read last
 abbrev pub RefusesTop : Option OpenFile → Cause → ResolveError → Type 0
 RefusesTop None cause error = Unit {0}
-RefusesTop (Some f) cause error = Refuses (line_errors.Refused cause) f.path (f.number - 1) error
+RefusesTop (Some f) cause error = RefusesLine (line_errors.Refused cause) f.path (f.number - 1) error
 
 -- the refusal at the line that an open file read last, whatever memory there is
 abbrev pub GivesUp : Option OpenFile → LineError → ResolveError → Type 0
@@ -174,7 +174,7 @@ GivesUp top error refusal =
 abbrev pub RefusesNext : Option OpenFile → Cause → ResolveError → Type 0
 RefusesNext None cause error = Unit {0}
 RefusesNext (Some f) cause error =
-    IfSome (slice_get f.named f.next) (λ path. Refuses (line_errors.Refused cause) path 0 error)
+    IfSome (slice_get f.named f.next) (λ path. RefusesLine (line_errors.Refused cause) path 0 error)
 
 -- what holds of open files after a line that was given
 pub record IsGiven (o : OpenFiles) : Type 0 where
@@ -240,12 +240,12 @@ pub record RefusesHead (left : List Line) (file : Bytes) (number : ℕ) (cause :
   pub head : head_of bytes ≡ Err error
   pub cause_is : cause ≡ causes.Lex error
 
-abbrev pub Takes : Recorded → ℕ → Blocks → OpenFiles → OpenFiles
+abbrev pub TakesLine : Recorded → ℕ → Blocks → OpenFiles → OpenFiles
     → Result (Option ConfLine) ResolveError → Type 0
-Takes recorded place blocks old new (Ok None) = SkipsComment recorded place blocks old new
-Takes recorded place blocks old new (Ok (Some given)) = GivesLine recorded place blocks old new given
-Takes recorded place blocks old new (Err OutOfMemory) = Unit {0}
-Takes recorded place blocks old new (Err (At file number cause)) =
+TakesLine recorded place blocks old new (Ok None) = SkipsComment recorded place blocks old new
+TakesLine recorded place blocks old new (Ok (Some given)) = GivesLine recorded place blocks old new given
+TakesLine recorded place blocks old new (Err OutOfMemory) = Unit {0}
+TakesLine recorded place blocks old new (Err (At file number cause)) =
     RefusesHead (open_left recorded place blocks old) file number cause
 
 -- a given line is what the last open file says
@@ -311,8 +311,8 @@ abbrev pub is_plain_first : FirstFile → Bool
 is_plain_first f = if f.required then not f.system else true
 
 -- the first file that is opened next holds this text
-abbrev pub BeginsWith : Recorded → Lines → Bytes → Type 0
-BeginsWith recorded r text =
+abbrev pub BeginsWithText : Recorded → Lines → Bytes → Type 0
+BeginsWithText recorded r text =
     IfSome (slice_get r.firsts.items r.next_first) (λ f. (recorded.content f.path ≡ Some text)
     × (nat_lt size_limit (length text) ≡ false))
 

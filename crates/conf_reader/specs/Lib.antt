@@ -7,7 +7,7 @@ pub mod Left
 pub mod Looking
 pub mod Moving
 pub mod Paths
-pub mod Reads
+pub mod ReaderReads
 pub mod Results
 pub mod ToRead
 pub mod Uses

@@ -84,7 +84,7 @@ line_meets test recorded source line = if same_word line.keyword (codes "include
     then list_all (test line.file line.number) (looks_at source recorded line.rest) else true
 
 -- one more path failed, and it may be reported there
-pub record FailsAt (test : Test) (file : Bytes) (number : ℕ) (before now : Option (List Bytes)) :
+pub record FailsAtPath (test : Test) (file : Bytes) (number : ℕ) (before now : Option (List Bytes)) :
     Type 0 where
   pub path : Bytes
   pub is : now ≡ option_map (λ failed. failed ++ path ∷ []) before
@@ -97,7 +97,7 @@ abbrev pub RecordsFailed : {A : Type 0} → Test → Result A ResolveError → O
 RecordsFailed test (Ok x) before now = now ≡ before
 RecordsFailed test (Err OutOfMemory) before now = now ≡ before
 RecordsFailed test (Err (At file number causes.ReadFault)) before now =
-    FailsAt test file number before now
+    FailsAtPath test file number before now
 RecordsFailed test (Err (At file number cause)) before now = now ≡ before
 
 -- ---- what steps do

@@ -12,8 +12,8 @@ use Rattle.conf_reader.specs.declared.lines.ReadStep.{ReadStep}
 use Rattle.conf_reader.specs.declared.stack.OpenFiles.{OpenFiles}
 use Rattle.conf_reader.specs.Blocks.{Blocks}
 use Rattle.conf_reader.specs.Known.{RecordsFiles}
-use Rattle.conf_reader.specs.Left.{open_left, left, Moves, IsReady, IsSettled, Bounded}
-use Rattle.conf_reader.specs.Reads.{OneLine, Reads}
+use Rattle.conf_reader.specs.Left.{open_left, left, Moves, AreFilesReady, IsFileSettled, Bounded}
+use Rattle.conf_reader.specs.ReaderReads.{OneLine, ReaderReads}
 
 -- ---- open files
 
@@ -23,7 +23,7 @@ NamesPath top = IfSome top (λ f. (f.include ≡ None) × (f.next < length f.nam
 
 -- a line of an open file comes next
 abbrev pub IsAtLine : Option OpenFile → Type 0
-IsAtLine top = IfSome top (λ f. IsSettled f × (f.at < length f.text))
+IsAtLine top = IfSome top (λ f. IsFileSettled f × (f.at < length f.text))
 
 -- a line was found, or no file is open
 abbrev pub Settles : Option OpenFile → Bool → Type 0
@@ -40,8 +40,8 @@ abbrev pub KeepsBounds : OpenFiles → OpenFiles → Type 0
 KeepsBounds old new = (n : ℕ) → Bounded old n → Bounded new n
 
 -- after a step the next one can be done, and no more files are open of which a line was given
-pub record GoesOn (old new : OpenFiles) : Type 0 where
-  pub ready : IsReady new
+pub record ReadingGoesOn (old new : OpenFiles) : Type 0 where
+  pub ready : AreFilesReady new
   pub bounded : KeepsBounds old new
 
 -- if files record, a step left everything as it was, or it refused
@@ -73,7 +73,7 @@ AllMove files old new result =
 pub record MovesLines {A : Type 0} (files : Option (List Pair)) (old new : Lines)
     (result : Result A ResolveError) : Type 0 where
   pub moves : AllMove files old new result
-  pub goes_on : OnOk result (GoesOn old.open_files new.open_files)
+  pub goes_on : OnOk result (ReadingGoesOn old.open_files new.open_files)
   pub firsts : new.firsts ≡ old.firsts
   pub count : new.read ≡ old.read
 
@@ -98,7 +98,7 @@ abbrev pub ReadsOver : Option (List Pair) → Lines → Lines
 ReadsOver files old new result =
     (recorded : Recorded) (place : ℕ) (blocks : Blocks)
     → RecordsFiles files recorded → place ≡ length recorded.asked.lines + old.read
-    → Bounded old.open_files (length blocks) → Reads recorded place blocks old new result
+    → Bounded old.open_files (length blocks) → ReaderReads recorded place blocks old new result
 
 -- the same of a call that looks at the machine too
 abbrev pub ReadsFor : Option (List Pair) → Facts → Bytes → Lines → Lines
@@ -107,4 +107,4 @@ ReadsFor files facts original old new result =
     (recorded : Recorded) (place : ℕ) (blocks : Blocks)
     → RecordsFiles files recorded → recorded.facts ≡ facts → recorded.asked.original ≡ original
     → place ≡ length recorded.asked.lines + old.read
-    → Bounded old.open_files (length blocks) → Reads recorded place blocks old new result
+    → Bounded old.open_files (length blocks) → ReaderReads recorded place blocks old new result

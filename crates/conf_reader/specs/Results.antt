@@ -66,10 +66,10 @@ IsFilesCause cause before now = MatchBool (is_fault cause) ((cause ≡ causes.Re
     × Rose before now) (now ≡ before)
 
 -- the same of a line's reading
-abbrev pub HasLineCause : {A : Type 0} → Result A LineError → ℕ → ℕ → Type 0
-HasLineCause (Ok x) before now = now ≡ before
-HasLineCause (Err line_errors.OutOfMemory) before now = now ≡ before
-HasLineCause (Err (line_errors.Refused cause)) before now = IsFilesCause cause before now
+abbrev pub HasReadCause : {A : Type 0} → Result A LineError → ℕ → ℕ → Type 0
+HasReadCause (Ok x) before now = now ≡ before
+HasReadCause (Err line_errors.OutOfMemory) before now = now ≡ before
+HasReadCause (Err (line_errors.Refused cause)) before now = IsFilesCause cause before now
 
 -- the same of a call that may refuse
 abbrev pub HasFilesCause : {A : Type 0} → Result A ResolveError → ℕ → ℕ → Type 0
@@ -78,10 +78,10 @@ HasFilesCause (Err OutOfMemory) before now = now ≡ before
 HasFilesCause (Err (At file line cause)) before now = IsFilesCause cause before now
 
 -- the refusal of a line of a file, unless memory ran out
-abbrev pub Refuses : LineError → Bytes → ℕ → ResolveError → Type 0
-Refuses line_errors.OutOfMemory file line error = error ≡ OutOfMemory
-Refuses (line_errors.Refused cause) file line OutOfMemory = Unit {0}
-Refuses (line_errors.Refused cause) file line (At f l c) = At f l c ≡ At file line cause
+abbrev pub RefusesLine : LineError → Bytes → ℕ → ResolveError → Type 0
+RefusesLine line_errors.OutOfMemory file line error = error ≡ OutOfMemory
+RefusesLine (line_errors.Refused cause) file line OutOfMemory = Unit {0}
+RefusesLine (line_errors.Refused cause) file line (At f l c) = At f l c ≡ At file line cause
 
 -- the same where the path of the file is given away for it, which wants no memory
 abbrev pub refused_at : LineError → Bytes → ℕ → ResolveError

@@ -1,6 +1,6 @@
 ghost use Rattle.std.specs.Prelude.{◌≡◌};
 ghost use Rattle.conf_reader.specs.declared.errors.LineError.TheVariants as line_errors;
-ghost use Rattle.conf_reader.specs.Results.{of_lex, of_value, of_match, of_eval, of_token, of_file, Refuses, refused_at};
+ghost use Rattle.conf_reader.specs.Results.{of_lex, of_value, of_match, of_eval, of_token, of_file, RefusesLine, refused_at};
 
 use conf_match::EvalError;
 use conf_rules::{Cause, LexError, MatchError, ResolveError, TokenError, ValueError};
@@ -105,7 +105,7 @@ impl LineError {
 
 /// The refusal of a line of a file, with a copy of the file's path.
 pub fn refuse(alloc: Global, file: &[u8], line: u64, error: LineError) -> ResolveError
-    ensures { Refuses error file.now line result }
+    ensures { RefusesLine error file.now line result }
 {
     match Text::copy(alloc, file) {
         Ok(file) => error.at(file, line),

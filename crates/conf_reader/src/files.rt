@@ -13,7 +13,7 @@ use ssh_fields::Text;
 
 /// What a path was found to hold.
 #[derive(Drop)]
-pub enum Found {
+pub enum FoundFile {
     Nothing,
     TooLarge,
     Holds(Text),
@@ -29,7 +29,7 @@ fn size_limit() -> usize
 }
 
 /// What a path holds.
-pub fn read_file<F: Files>(path: &[u8], files: &mut F) -> Result<Found, FileError>
+pub fn read_file<F: Files>(path: &[u8], files: &mut F) -> Result<FoundFile, FileError>
     ensures found { (recorded : Recorded) → RecordsFiles (F.recorded files.old) recorded
         → IfOk result (λ found. IsFound found (recorded.content path.now)) }
     ensures cause { HasCause result (F.faults files.old) (F.faults files.new) }
@@ -39,11 +39,11 @@ pub fn read_file<F: Files>(path: &[u8], files: &mut F) -> Result<Found, FileErro
     ensures recorded { F.recorded files.new ≡ F.recorded files.old }
 {
     let text = match files.read(path, size_limit() + 1)? {
-        None => return Ok(Found::Nothing),
+        None => return Ok(FoundFile::Nothing),
         Some(text) => text,
     };
     if text.as_bytes().len() > size_limit() {
-        return Ok(Found::TooLarge);
+        return Ok(FoundFile::TooLarge);
     }
-    Ok(Found::Holds(text))
+    Ok(FoundFile::Holds(text))
 }

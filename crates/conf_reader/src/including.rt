@@ -11,9 +11,9 @@ use mux_outside::{Facts, Files};
 use ssh_fields::{Text, Texts};
 
 impl OpenFiles {
-    ghost use Rattle.conf_reader.specs.FilesState.{state_of};
+    ghost use Rattle.conf_reader.specs.FilesState.{files_state_of};
     ghost use Rattle.conf_reader.specs.Left.{IsGiven, named_as};
-    ghost use Rattle.conf_reader.specs.Moving.{GoesOn, ExpandsOver};
+    ghost use Rattle.conf_reader.specs.Moving.{ReadingGoesOn, ExpandsOver};
     ghost use Rattle.conf_reader.specs.Uses.{UsesFilesFor, of_open};
 
     /// Notes the paths that the last line names.
@@ -47,10 +47,10 @@ impl OpenFiles {
         requires given { IsGiven self.old }
         ensures moves { ExpandsOver (F.recorded files.old) (known facts.now) original.now self.old
             self.new result }
-        ensures goes_on { OnOk result (GoesOn self.old self.new) }
+        ensures goes_on { OnOk result (ReadingGoesOn self.old self.new) }
         ensures below { OnOk result (self.new.below ≡ self.old.below) }
-        ensures files { UsesFilesFor (known facts.now) original.now (state_of F.Files files.old)
-            (state_of F.Files files.new) (of_open self.old) (of_open self.new) result }
+        ensures files { UsesFilesFor (known facts.now) original.now (files_state_of F.Files files.old)
+            (files_state_of F.Files files.new) (of_open self.old) (of_open self.new) result }
     {
         let found = match self.include() {
             None => return Ok(()),

@@ -145,10 +145,10 @@ pub struct LineReader {
 impl LineReader {
     ghost use Rattle.conf_rules.specs.Recorded.{Recorded};
     ghost use Rattle.conf_rules.specs.Sources.{lines_from};
-    ghost use Rattle.conf_reader.specs.FilesState.{state_of};
+    ghost use Rattle.conf_reader.specs.FilesState.{files_state_of};
     ghost use Rattle.conf_reader.specs.Left.{left, Bounded};
     ghost use Rattle.conf_reader.specs.Moving.{ReadsFor};
-    ghost use Rattle.conf_reader.specs.Reads.{IsAtEnd, IsGivenFrom, IsOver, KeepsAsked, open_count, is_spent};
+    ghost use Rattle.conf_reader.specs.ReaderReads.{IsAtEnd, IsGivenFrom, IsReadingOver, KeepsAsked, open_count, is_spent};
     ghost use Rattle.conf_reader.specs.Looking.{Test, meets};
     ghost use Rattle.conf_reader.specs.ToRead.{all_read};
     ghost use Rattle.conf_reader.specs.Uses.{UsesFilesFor, behind_call, of_all};
@@ -210,11 +210,11 @@ impl LineReader {
             self.old.lines self.new.lines result }
         ensures given { IfOk result (λ given.
             IfSome given (IsGivenFrom self.old.lines self.new.lines)) }
-        ensures over { IsOver result → IsAtEnd self.new }
+        ensures over { IsReadingOver result → IsAtEnd self.new }
         ensures spent { is_spent self.old ≡ true → result ≡ Ok None }
         ensures asked { KeepsAsked self.old self.new }
         ensures files { UsesFilesFor (known self.old.facts) self.old.original
-            (state_of F.Files files.old) (state_of F.Files files.new) (of_all self.old.lines)
+            (files_state_of F.Files files.old) (files_state_of F.Files files.new) (of_all self.old.lines)
             (behind_call result self.new.lines) result }
     {
         if self.over {

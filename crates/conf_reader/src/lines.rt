@@ -11,7 +11,7 @@ ghost use Rattle.conf_reader.specs.Results.{HasFilesCause};
 ghost use Rattle.conf_reader.specs.ToRead.{NotesFirst};
 
 use crate::errors::{LineError, refuse};
-use crate::files::{Found, read_file};
+use crate::files::{FoundFile, read_file};
 use crate::line::ConfLine;
 use crate::open_file::OpenFile;
 use crate::stack::OpenFiles;
@@ -52,7 +52,11 @@ pub struct Lines {
 
 // What a file holds that no line includes, or the refusal of a failed read at its line 0: the
 // memory for it is allocated before the read.
-fn first_found<F: Files>(alloc: Global, path: &[u8], files: &mut F) -> Result<Found, ResolveError>
+fn first_found<F: Files>(
+    alloc: Global,
+    path: &[u8],
+    files: &mut F,
+) -> Result<FoundFile, ResolveError>
     ensures found { (recorded : Recorded) → RecordsFiles (F.recorded files.old) recorded
         → IfOk result (λ found. IsFound found (recorded.content path.now)) }
     ensures cause { HasFilesCause result (F.faults files.old) (F.faults files.new) }
@@ -70,10 +74,10 @@ fn first_found<F: Files>(alloc: Global, path: &[u8], files: &mut F) -> Result<Fo
 
 impl Lines {
     ghost use Rattle.conf_reader.specs.declared.errors.LineError.TheVariants as line_errors;
-    ghost use Rattle.conf_reader.specs.Left.{left, IsReady, is_plain_first, BeginsWith, IsLacking};
-    ghost use Rattle.conf_reader.specs.FilesState.{state_of};
-    ghost use Rattle.conf_reader.specs.Moving.{IsAtLine, Settles, GoesOn, MovesLines};
-    ghost use Rattle.conf_reader.specs.Results.{Refuses};
+    ghost use Rattle.conf_reader.specs.Left.{left, AreFilesReady, is_plain_first, BeginsWithText, IsLacking};
+    ghost use Rattle.conf_reader.specs.FilesState.{files_state_of};
+    ghost use Rattle.conf_reader.specs.Moving.{IsAtLine, Settles, ReadingGoesOn, MovesLines};
+    ghost use Rattle.conf_reader.specs.Results.{RefusesLine};
     ghost use Rattle.conf_reader.specs.Looking.{KeepsLooks};
     ghost use Rattle.conf_reader.specs.ToRead.{all_read};
     ghost use Rattle.conf_reader.specs.Uses.{UsesFiles, of_all};
@@ -106,11 +110,11 @@ impl Lines {
         requires none { self.old.open_files.top ≡ None }
         requires next { self.old.next_first < length self.old.firsts.items }
         requires plain { list_all is_plain_first self.old.firsts.items ≡ true }
-        requires ready { IsReady self.old.open_files }
+        requires ready { AreFilesReady self.old.open_files }
         ensures left { OnOk result ((recorded : Recorded) (place : ℕ) (blocks : Blocks)
-            → BeginsWith recorded self.old text → left recorded place blocks self.old
+            → BeginsWithText recorded self.old text → left recorded place blocks self.old
             ≡ left recorded place blocks self.new) }
-        ensures goes_on { OnOk result (GoesOn self.old.open_files self.new.open_files) }
+        ensures goes_on { OnOk result (ReadingGoesOn self.old.open_files self.new.open_files) }
         ensures firsts { self.new.firsts ≡ self.old.firsts }
         ensures next { OnOk result (self.new.next_first ≡ self.old.next_first + 1) }
         ensures looks { OnOk result (KeepsLooks self.old.open_files self.new.open_files) }
@@ -135,7 +139,7 @@ impl Lines {
     // Skips a first file that isn't there.
     fn skip(&mut self)
         requires none { self.old.open_files.top ≡ None }
-        requires ready { IsReady self.old.open_files }
+        requires ready { AreFilesReady self.old.open_files }
         requires next { self.old.next_first < length self.old.firsts.items }
         ensures left { (recorded : Recorded) (place : ℕ) (blocks : Blocks) → IsLacking recorded self.old
             → left recorded place blocks self.old ≡ left recorded place blocks self.new }
@@ -155,7 +159,7 @@ impl Lines {
     fn file_refusal(&self, cause: Cause) -> ResolveError
         requires { self.now.next_first < length self.now.firsts.items }
         ensures { IfSome (slice_get self.now.firsts.items self.now.next_first) (λ f.
-            Refuses (line_errors.Refused cause) f.path 0 result) }
+            RefusesLine (line_errors.Refused cause) f.path 0 result) }
     {
         let Some(first) = self.next_file() else {
             unreachable!()
@@ -171,14 +175,14 @@ impl Lines {
     // Opens the next first file; `false` where there is none.
     fn first<F: Files>(&mut self, files: &mut F) -> Result<bool, ResolveError>
         requires none { self.old.open_files.top ≡ None }
-        requires ready { IsReady self.old.open_files }
+        requires ready { AreFilesReady self.old.open_files }
         requires plain { list_all is_plain_first self.old.firsts.items ≡ true }
         ensures lines { MovesLines (F.recorded files.old) self.old self.new result }
         ensures next { IfOk result (λ more.
             MatchBool more ((self.new.next_first ≡ self.old.next_first + 1)
             × (self.old.next_first < length self.old.firsts.items)) ((self.new ≡ self.old)
             × (length self.old.firsts.items ≤ self.old.next_first))) }
-        ensures files { UsesFiles (state_of F.Files files.old) (state_of F.Files files.new)
+        ensures files { UsesFiles (files_state_of F.Files files.old) (files_state_of F.Files files.new)
             (of_all self.old) (of_all self.new) result }
     {
         let Some(first) = self.next_file() else {
@@ -186,15 +190,15 @@ impl Lines {
         };
         let required = first.required;
         match first_found(self.alloc, first.path.as_bytes(), files)? {
-            Found::Nothing => {
+            FoundFile::Nothing => {
                 if required {
                     return Err(self.file_refusal(Cause::NoFile));
                 }
                 self.skip();
                 Ok(true)
             }
-            Found::TooLarge => Err(self.file_refusal(Cause::TooLarge)),
-            Found::Holds(text) => {
+            FoundFile::TooLarge => Err(self.file_refusal(Cause::TooLarge)),
+            FoundFile::Holds(text) => {
                 self.begin(text)?;
                 Ok(true)
             }
@@ -203,14 +207,14 @@ impl Lines {
 
     /// Goes to the next line of all files; `false` where there is none.
     pub fn reach<F: Files>(&mut self, files: &mut F) -> Result<bool, ResolveError>
-        requires ready { IsReady self.old.open_files }
+        requires ready { AreFilesReady self.old.open_files }
         requires plain { list_all is_plain_first self.old.firsts.items ≡ true }
         ensures lines { MovesLines (F.recorded files.old) self.old self.new result }
         ensures line { IfOk result (λ found.
             MatchBool found (IsAtLine self.new.open_files.top × IsSome self.new.open_files.top)
             ((self.new.open_files.top ≡ None)
             × (length self.new.firsts.items ≤ self.new.next_first))) }
-        ensures files { UsesFiles (state_of F.Files files.old) (state_of F.Files files.new)
+        ensures files { UsesFiles (files_state_of F.Files files.old) (files_state_of F.Files files.new)
             (of_all self.old) (of_all self.new) result }
     {
         loop {
@@ -226,11 +230,11 @@ impl Lines {
     // Goes to the next line of the open files. It stands apart for its proof alone: what is so of
     // open files is so of all lines.
     fn settle<F: Files>(&mut self, files: &mut F) -> Result<bool, ResolveError>
-        requires ready { IsReady self.old.open_files }
+        requires ready { AreFilesReady self.old.open_files }
         ensures lines { MovesLines (F.recorded files.old) self.old self.new result }
         ensures line { IfOk result (Settles self.new.open_files.top) }
         ensures others { self.new ≡ record self.old { open_files = self.new.open_files } }
-        ensures files { UsesFiles (state_of F.Files files.old) (state_of F.Files files.new)
+        ensures files { UsesFiles (files_state_of F.Files files.old) (files_state_of F.Files files.new)
             (of_all self.old) (of_all self.new) result }
     {
         self.open_files.settle(files)

@@ -16,7 +16,7 @@ ghost use Rattle.conf_reader.specs.Known.{RecordsFiles};
 ghost use Rattle.conf_reader.specs.Left.{FoundPaths, named_by, source_of};
 ghost use Rattle.conf_reader.specs.Paths.{SameTexts, with_component, all_globbed};
 ghost use Rattle.conf_reader.specs.Looking.{FileFails, LineFails};
-ghost use Rattle.conf_reader.specs.Results.{HasLineCause};
+ghost use Rattle.conf_reader.specs.Results.{HasReadCause};
 
 use crate::errors::LineError;
 use conf_lexer::{split_at_first, split_words};
@@ -412,7 +412,7 @@ pub fn named_paths<F: Files>(
     ensures found { (recorded : Recorded) → RecordsFiles (F.recorded files.old) recorded
         → recorded.facts ≡ known facts.now → recorded.asked.original ≡ original.now
         → FoundPaths result (named_by (source_of system) recorded (words_of rest.now)) }
-    ensures cause { HasLineCause result (F.faults files.old) (F.faults files.new) }
+    ensures cause { HasReadCause result (F.faults files.old) (F.faults files.new) }
     ensures failed { (recorded : Recorded) → RecordsFiles (F.recorded files.old) recorded
         → recorded.facts ≡ known facts.now → recorded.asked.original ≡ original.now
         → LineFails (looks_in (source_of system) recorded (words_of rest.now)) result

@@ -5,7 +5,7 @@ ghost use Rattle.conf_rules.specs.Recorded.{Recorded};
 ghost use Rattle.conf_reader.specs.Blocks.{Blocks};
 
 use crate::errors::{LineError, refuse};
-use crate::files::{Found, read_file};
+use crate::files::{FoundFile, read_file};
 use crate::open_file::OpenFile;
 use conf_rules::{Cause, MAX_DEPTH, ResolveError};
 use mux_outside::{FileError, Files};
@@ -36,9 +36,9 @@ pub enum Stand {
 }
 
 impl OpenFiles {
-    ghost use Rattle.conf_reader.specs.Left.{open_left, IsReady, IsSettled, work, Moves, Names, RefusesTop, RefusesNext, GivesUp, StandOf, IsFound};
-    ghost use Rattle.conf_reader.specs.Moving.{NamesPath, Settles, KeepsLeft, GoesOn, MovesOver};
-    ghost use Rattle.conf_reader.specs.FilesState.{state_of};
+    ghost use Rattle.conf_reader.specs.Left.{open_left, AreFilesReady, IsFileSettled, work, Moves, Names, RefusesTop, RefusesNext, GivesUp, StandOf, IsFound};
+    ghost use Rattle.conf_reader.specs.Moving.{NamesPath, Settles, KeepsLeft, ReadingGoesOn, MovesOver};
+    ghost use Rattle.conf_reader.specs.FilesState.{files_state_of};
     ghost use Rattle.conf_reader.specs.Results.{is_fault_at};
     ghost use Rattle.conf_reader.specs.Looking.{KeepsLooks};
     ghost use Rattle.conf_reader.specs.ToRead.{open_reads};
@@ -60,11 +60,11 @@ impl OpenFiles {
 
     /// Closes the last file, which is at its end.
     pub fn close(&mut self)
-        requires ready { IsReady self.old }
-        requires ended { IfSome self.old.top (λ f. IsSettled f × (length f.text ≤ f.at)) }
+        requires ready { AreFilesReady self.old }
+        requires ended { IfSome self.old.top (λ f. IsFileSettled f × (length f.text ≤ f.at)) }
         requires some { IsSome self.old.top }
         ensures left { KeepsLeft self.old self.new }
-        ensures goes_on { GoesOn self.old self.new }
+        ensures goes_on { ReadingGoesOn self.old self.new }
         ensures less { work self.new < work self.old }
         ensures looks { KeepsLooks self.old self.new }
         ensures reads { (recorded : Recorded) → open_reads recorded self.old ≡ open_reads recorded self.new }
@@ -75,13 +75,13 @@ impl OpenFiles {
 
     /// Skips the path that is opened next, where there is no file.
     pub fn skip(&mut self)
-        requires ready { IsReady self.old }
+        requires ready { AreFilesReady self.old }
         requires named { NamesPath self.old.top }
         requires some { IsSome self.old.top }
         ensures left { (recorded : Recorded) (place : ℕ) (blocks : Blocks)
             → Names self.old.top (λ path. recorded.content path ≡ None)
             → open_left recorded place blocks self.old ≡ open_left recorded place blocks self.new }
-        ensures goes_on { GoesOn self.old self.new }
+        ensures goes_on { ReadingGoesOn self.old self.new }
         ensures less { work self.new < work self.old }
         ensures looks { KeepsLooks self.old self.new }
         ensures reads { (recorded : Recorded) → Names self.old.top (λ path. recorded.content path ≡ None
@@ -94,7 +94,7 @@ impl OpenFiles {
 
     /// Opens the file of this text at the path that is opened next.
     pub fn enter(&mut self, text: Text) -> Result<(), OutOfMemory>
-        requires ready { IsReady self.old }
+        requires ready { AreFilesReady self.old }
         requires named { NamesPath self.old.top }
         requires some { IsSome self.old.top }
         requires deep { length self.old.below.items < depth_limit }
@@ -102,7 +102,7 @@ impl OpenFiles {
             → Names self.old.top (λ path. recorded.content path ≡ Some text)
             → nat_lt size_limit (length text) ≡ false → open_left recorded place blocks self.old
             ≡ open_left recorded place blocks self.new) }
-        ensures goes_on { OnOk result (GoesOn self.old self.new) }
+        ensures goes_on { OnOk result (ReadingGoesOn self.old self.new) }
         ensures less { OnOk result (work self.new < work self.old) }
         ensures looks { OnOk result (KeepsLooks self.old self.new) }
         ensures reads { OnOk result ((recorded : Recorded)
@@ -168,15 +168,15 @@ impl OpenFiles {
     }
 
     /// Opens what the path holds that is opened next.
-    pub fn open(&mut self, found: Found) -> Result<(), ResolveError>
-        requires ready { IsReady self.old }
+    pub fn open(&mut self, found: FoundFile) -> Result<(), ResolveError>
+        requires ready { AreFilesReady self.old }
         requires named { NamesPath self.old.top }
         requires some { IsSome self.old.top }
         ensures moves { (recorded : Recorded) (place : ℕ) (blocks : Blocks)
             → Names self.old.top (λ path. IsFound found (recorded.content path))
             → Moves (open_left recorded place blocks self.old)
             (open_left recorded place blocks self.new) result }
-        ensures goes_on { OnOk result (GoesOn self.old self.new) }
+        ensures goes_on { OnOk result (ReadingGoesOn self.old self.new) }
         ensures less { OnOk result (work self.new < work self.old) }
         ensures looks { OnOk result (KeepsLooks self.old self.new) }
         ensures quiet { IfErr result (λ e. is_fault_at e ≡ false) }
@@ -185,18 +185,18 @@ impl OpenFiles {
             → open_reads recorded self.old ≡ path ∷ open_reads recorded self.new)) }
     {
         match found {
-            Found::Nothing => {
+            FoundFile::Nothing => {
                 self.skip();
                 Ok(())
             }
-            Found::TooLarge => {
+            FoundFile::TooLarge => {
                 if self.below.len() < MAX_DEPTH {
                     Err(self.too_large())
                 } else {
                     Err(self.refusal(Cause::TooDeep))
                 }
             }
-            Found::Holds(text) => {
+            FoundFile::Holds(text) => {
                 if self.below.len() < MAX_DEPTH {
                     self.enter(text)?;
                     Ok(())
@@ -209,11 +209,11 @@ impl OpenFiles {
 
     /// Does one step towards the next line.
     pub fn advance<F: Files>(&mut self, files: &mut F) -> Result<Stand, ResolveError>
-        requires ready { IsReady self.old }
+        requires ready { AreFilesReady self.old }
         ensures moves { MovesOver (F.recorded files.old) self.old self.new result }
-        ensures goes_on { OnOk result (GoesOn self.old self.new) }
+        ensures goes_on { OnOk result (ReadingGoesOn self.old self.new) }
         ensures stand { IfOk result (StandOf self.old self.new) }
-        ensures files { UsesFiles (state_of F.Files files.old) (state_of F.Files files.new)
+        ensures files { UsesFiles (files_state_of F.Files files.old) (files_state_of F.Files files.new)
             (of_open self.old) (of_open self.new) result }
     {
         let Some(top) = &self.top else {
@@ -240,11 +240,11 @@ impl OpenFiles {
 
     /// Goes to the next line; `false` where there is none.
     pub fn settle<F: Files>(&mut self, files: &mut F) -> Result<bool, ResolveError>
-        requires ready { IsReady self.old }
+        requires ready { AreFilesReady self.old }
         ensures moves { MovesOver (F.recorded files.old) self.old self.new result }
-        ensures goes_on { OnOk result (GoesOn self.old self.new) }
+        ensures goes_on { OnOk result (ReadingGoesOn self.old self.new) }
         ensures line { IfOk result (Settles self.new.top) }
-        ensures files { UsesFiles (state_of F.Files files.old) (state_of F.Files files.new)
+        ensures files { UsesFiles (files_state_of F.Files files.old) (files_state_of F.Files files.new)
             (of_open self.old) (of_open self.new) result }
     {
         loop {

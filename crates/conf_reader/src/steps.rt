@@ -15,10 +15,10 @@ use mux_outside::{Facts, Files};
 
 impl Lines {
     ghost use Rattle.conf_reader.specs.declared.lines.ReadStep.TheVariants as steps;
-    ghost use Rattle.conf_reader.specs.Reads.{CountsOne, GivenStep, IsGivenFrom};
-    ghost use Rattle.conf_reader.specs.Left.{left, IsReady, IsGiven, is_plain_first, Bounded};
-    ghost use Rattle.conf_reader.specs.FilesState.{state_of};
-    ghost use Rattle.conf_reader.specs.Moving.{GoesOn, AllExpand, TakesOne, ReadsOver, ReadsFor};
+    ghost use Rattle.conf_reader.specs.ReaderReads.{CountsOne, GivenStep, IsGivenFrom};
+    ghost use Rattle.conf_reader.specs.Left.{left, AreFilesReady, IsGiven, is_plain_first, Bounded};
+    ghost use Rattle.conf_reader.specs.FilesState.{files_state_of};
+    ghost use Rattle.conf_reader.specs.Moving.{ReadingGoesOn, AllExpand, TakesOne, ReadsOver, ReadsFor};
     ghost use Rattle.conf_reader.specs.Between.{is_ended};
     ghost use Rattle.conf_reader.specs.Looking.{Test, meets};
     ghost use Rattle.conf_reader.specs.ToRead.{all_read};
@@ -26,15 +26,15 @@ impl Lines {
 
     // Takes one line of all files.
     fn one<F: Files>(&mut self, files: &mut F) -> Result<ReadStep, ResolveError>
-        requires ready { IsReady self.old.open_files }
+        requires ready { AreFilesReady self.old.open_files }
         requires plain { list_all is_plain_first self.old.firsts.items ≡ true }
         ensures one { TakesOne (F.recorded files.old) self.old self.new result }
         ensures comment { result ≡ Ok steps.Comment
-            → GoesOn self.old.open_files self.new.open_files }
+            → ReadingGoesOn self.old.open_files self.new.open_files }
         ensures firsts { self.new.firsts ≡ self.old.firsts }
         ensures counts { IfOk result (λ step. CountsOne step self.old.read self.new.read) }
         ensures given { IfOk result (λ step. GivenStep step self.old self.new) }
-        ensures files { UsesFiles (state_of F.Files files.old) (state_of F.Files files.new)
+        ensures files { UsesFiles (files_state_of F.Files files.old) (files_state_of F.Files files.new)
             (of_all self.old) (behind_step result self.new) result }
     {
         if !self.reach(files)? {
@@ -55,12 +55,12 @@ impl Lines {
 
     /// The next line with content.
     pub fn next_line<F: Files>(&mut self, files: &mut F) -> Result<Option<ConfLine>, ResolveError>
-        requires ready { IsReady self.old.open_files }
+        requires ready { AreFilesReady self.old.open_files }
         requires plain { list_all is_plain_first self.old.firsts.items ≡ true }
         ensures reads { ReadsOver (F.recorded files.old) self.old self.new result }
         ensures given { IfOk result (λ given. IfSome given (IsGivenFrom self.old self.new)) }
         ensures firsts { self.new.firsts ≡ self.old.firsts }
-        ensures files { UsesFiles (state_of F.Files files.old) (state_of F.Files files.new)
+        ensures files { UsesFiles (files_state_of F.Files files.old) (files_state_of F.Files files.new)
             (of_all self.old) (behind_call result self.new) result }
     {
         loop {
@@ -82,10 +82,10 @@ impl Lines {
         requires given { IsGiven self.old.open_files }
         ensures moves { AllExpand (F.recorded files.old) (known facts.now) original.now self.old
             self.new result }
-        ensures goes_on { OnOk result (GoesOn self.old.open_files self.new.open_files) }
+        ensures goes_on { OnOk result (ReadingGoesOn self.old.open_files self.new.open_files) }
         ensures others { self.new ≡ record self.old { open_files = self.new.open_files } }
-        ensures files { UsesFilesFor (known facts.now) original.now (state_of F.Files files.old)
-            (state_of F.Files files.new) (of_all self.old) (of_all self.new) result }
+        ensures files { UsesFilesFor (known facts.now) original.now (files_state_of F.Files files.old)
+            (files_state_of F.Files files.new) (of_all self.old) (of_all self.new) result }
     {
         self.open_files.expand(facts, original, files)
     }
@@ -103,8 +103,8 @@ impl Lines {
             self.new result }
         ensures given { IfOk result (λ given. IfSome given (IsGivenFrom self.old self.new)) }
         ensures firsts { self.new.firsts ≡ self.old.firsts }
-        ensures files { UsesFilesFor (known facts.now) original.now (state_of F.Files files.old)
-            (state_of F.Files files.new) (of_all self.old) (behind_call result self.new) result }
+        ensures files { UsesFilesFor (known facts.now) original.now (files_state_of F.Files files.old)
+            (files_state_of F.Files files.new) (of_all self.old) (behind_call result self.new) result }
     {
         self.expand(facts, original, files)?;
         self.next_line(files)

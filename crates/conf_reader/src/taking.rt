@@ -14,9 +14,9 @@ use conf_rules::ResolveError;
 use ssh_fields::{OutOfMemory, Text};
 
 impl OpenFiles {
-    ghost use Rattle.conf_reader.specs.Left.{IsReady, stack, Takes, IsGiven, IsGivenBy, gone, HeadIs};
-    ghost use Rattle.conf_reader.specs.Moving.{IsAtLine, GoesOn};
-    ghost use Rattle.conf_reader.specs.Results.{Refuses, is_fault_at};
+    ghost use Rattle.conf_reader.specs.Left.{AreFilesReady, stack, TakesLine, IsGiven, IsGivenBy, gone, HeadIs};
+    ghost use Rattle.conf_reader.specs.Moving.{IsAtLine, ReadingGoesOn};
+    ghost use Rattle.conf_reader.specs.Results.{RefusesLine, is_fault_at};
     ghost use Rattle.conf_reader.specs.Looking.{TakesLooks};
     ghost use Rattle.conf_reader.specs.ToRead.{open_reads};
 
@@ -67,7 +67,7 @@ impl OpenFiles {
     /// The refusal of the next line of the last file.
     pub fn line_refusal(&self, error: LineError) -> ResolveError
         requires some { IsSome self.now.top }
-        ensures { IfSome self.now.top (λ f. Refuses error f.path f.number result) }
+        ensures { IfSome self.now.top (λ f. RefusesLine error f.path f.number result) }
     {
         let Some(top) = &self.top else { unreachable!() };
         refuse(self.alloc, top.path.as_bytes(), top.number, error)
@@ -75,13 +75,13 @@ impl OpenFiles {
 
     /// Takes the next line of the last file; `None` is a comment.
     pub fn take_line(&mut self) -> Result<Option<ConfLine>, ResolveError>
-        requires ready { IsReady self.old }
+        requires ready { AreFilesReady self.old }
         requires some { IsSome self.old.top }
         requires line { IsAtLine self.old.top }
         ensures takes { (recorded : Recorded) (place : ℕ) (blocks : Blocks)
             → length self.old.below.items ≤ length blocks
-            → Takes recorded place blocks self.old self.new result }
-        ensures comment { result ≡ Ok None → GoesOn self.old self.new }
+            → TakesLine recorded place blocks self.old self.new result }
+        ensures comment { result ≡ Ok None → ReadingGoesOn self.old self.new }
         ensures given { IfOk result (λ line.
             IfSome line (λ l. IsGiven self.new × (l.depth ≡ length self.new.below.items))) }
         ensures opens { IfOk result (λ line.

@@ -8,57 +8,57 @@ use Rattle.conf_rules.specs.declared.entry.LineContent.{LineContent}
 use Rattle.conf_rules.specs.declared.entry.LineContent.TheVariants.{Nothing}
 use Rattle.conf_rules.specs.Recorded.{Recorded}
 use Rattle.conf_rules.specs.Sources.{Line, asked_line}
-use Rattle.conf_rules.specs.Rows.{Row, Pass}
+use Rattle.conf_rules.specs.Rows.{LineRow, Pass}
 use Rattle.conf_rules.specs.Entries.{entry_of}
 use Rattle.conf_rules.specs.Resolution.{counted, is_active, effect_of, row_of, rows_from, is_refused}
 use Rattle.conf_match.specs.Evaluated.{RanAll, RanSome}
-use Rattle.conf_reader.specs.Reads.{IsIdle}
-use Rattle.conf_fold.specs.Stands.{next_row}
+use Rattle.conf_reader.specs.ReaderReads.{IsIdleLine}
+use Rattle.conf_fold.specs.FoldRepresents.{next_row}
 use Rattle.conf_fold.proofs.AskedLemmas.{asked_with, asked-row-is, asked-row-says}
 use Rattle.conf_fold.proofs.OrderLemmas.{from, rows-on, rows-end}
-use Rattle.conf_resolve.specs.Passes.{Commands, commands}
+use Rattle.conf_resolve.specs.PassGives.{Commands, commands}
 
 -- ---- one row
 
-pub commands-more : (rows : List Row) (row : Row) → commands (rows ++ row ∷ []) ≡ commands rows ++ row.ran
+pub commands-more : (rows : List LineRow) (row : LineRow) → commands (rows ++ row ∷ []) ≡ commands rows ++ row.ran
 commands-more rows row = flat_map-append (λ r. r.ran) rows (row ∷ []) ∙ ap (λ cs. commands rows ++ cs) (append-nil row.ran)
 
-pub commands-quiet : (rows : List Row) (row : Row) → row.ran ≡ [] → commands (rows ++ row ∷ []) ≡ commands rows
+pub commands-quiet : (rows : List LineRow) (row : LineRow) → row.ran ≡ [] → commands (rows ++ row ∷ []) ≡ commands rows
 commands-quiet rows row h = commands-more rows row ∙ ap (λ cs. commands rows ++ cs) h ∙ append-nil (commands rows)
 
-idle-effect : (recorded : Recorded) (pass : Pass) (rows : List Row) (active : Bool) → (effect_of recorded pass rows active (Ok Nothing)).ran ≡ []
+idle-effect : (recorded : Recorded) (pass : Pass) (rows : List LineRow) (active : Bool) → (effect_of recorded pass rows active (Ok Nothing)).ran ≡ []
 idle-effect recorded pass rows true = refl
 idle-effect recorded pass rows false = refl
 
-idle-ran : (recorded : Recorded) (pass : Pass) (rows : List Row) (place : ℕ) (line : Line) → IsIdle recorded place line → (next_row recorded pass rows place line).ran ≡ []
+idle-ran : (recorded : Recorded) (pass : Pass) (rows : List LineRow) (place : ℕ) (line : Line) → IsIdleLine recorded place line → (next_row recorded pass rows place line).ran ≡ []
 unfolding next_row row_of
 idle-ran recorded pass rows place line idle = rw (idle rows) (idle-effect recorded pass rows (is_active rows pass line))
 
 -- a line that says nothing runs nothing
-pub idle-commands : (recorded : Recorded) (pass : Pass) (rows : List Row) (place : ℕ) (line : Line) → IsIdle recorded place line → commands (rows ++ next_row recorded pass rows place line ∷ []) ≡ commands rows
+pub idle-commands : (recorded : Recorded) (pass : Pass) (rows : List LineRow) (place : ℕ) (line : Line) → IsIdleLine recorded place line → commands (rows ++ next_row recorded pass rows place line ∷ []) ≡ commands rows
 idle-commands recorded pass rows place line idle = commands-quiet rows (next_row recorded pass rows place line) (idle-ran recorded pass rows place line idle)
 
-refused-effect : (recorded : Recorded) (pass : Pass) (rows : List Row) (active : Bool) (c : Cause) → (effect_of recorded pass rows active (Err c)).ran ≡ []
+refused-effect : (recorded : Recorded) (pass : Pass) (rows : List LineRow) (active : Bool) (c : Cause) → (effect_of recorded pass rows active (Err c)).ran ≡ []
 refused-effect recorded pass rows true c = refl
 refused-effect recorded pass rows false c = refl
 
 -- a line that the reader refuses runs nothing
-pub refused-ran : (recorded : Recorded) (pass : Pass) (rows : List Row) (place : ℕ) (line : Line) (c : Cause) → ((rows : List Row) → counted recorded entry_of rows line place ≡ Err c) → (next_row recorded pass rows place line).ran ≡ []
+pub refused-ran : (recorded : Recorded) (pass : Pass) (rows : List LineRow) (place : ℕ) (line : Line) (c : Cause) → ((rows : List LineRow) → counted recorded entry_of rows line place ≡ Err c) → (next_row recorded pass rows place line).ran ≡ []
 unfolding next_row row_of
 refused-ran recorded pass rows place line c refused = rw (refused rows) (refused-effect recorded pass rows (is_active rows pass line) c)
 
 -- ---- the command line
 
-asked-ran : (recorded : Recorded) (pass : Pass) (rows : List Row) (place : ℕ) (l : AskedLine) → (next_row recorded pass rows place (asked_line l)).ran ≡ []
+asked-ran : (recorded : Recorded) (pass : Pass) (rows : List LineRow) (place : ℕ) (l : AskedLine) → (next_row recorded pass rows place (asked_line l)).ran ≡ []
 unfolding asked_with
 asked-ran recorded pass rows place l = on (entry_of rows (asked_line l)) refl
   where
     on : (r : Result LineContent Cause) → entry_of rows (asked_line l) ≡ r → (next_row recorded pass rows place (asked_line l)).ran ≡ []
-    on (Ok e) is = ap (λ (x : Row). x.ran) (asked-row-says recorded pass rows place l e is)
-    on (Err c) is = ap (λ (x : Row). x.ran) (asked-row-is recorded pass rows place l) ∙ ap (λ r. (effect_of recorded pass rows true r).ran) is ∙ refused-effect recorded pass rows true c
+    on (Ok e) is = ap (λ (x : LineRow). x.ran) (asked-row-says recorded pass rows place l e is)
+    on (Err c) is = ap (λ (x : LineRow). x.ran) (asked-row-is recorded pass rows place l) ∙ ap (λ r. (effect_of recorded pass rows true r).ran) is ∙ refused-effect recorded pass rows true c
 
 -- the lines of the command line run nothing
-pub asked-quiet : (recorded : Recorded) (pass : Pass) (ls : List AskedLine) (rows : List Row) (place : ℕ) → commands (from recorded pass rows place (map asked_line ls)) ≡ commands rows
+pub asked-quiet : (recorded : Recorded) (pass : Pass) (ls : List AskedLine) (rows : List LineRow) (place : ℕ) → commands (from recorded pass rows place (map asked_line ls)) ≡ commands rows
 unfolding rows_from
 asked-quiet recorded pass [] rows place = refl
 asked-quiet recorded pass (l ∷ ls) rows place = on (is_refused (next_row recorded pass rows place (asked_line l)).entry) refl (asked-quiet recorded pass ls (rows ++ next_row recorded pass rows place (asked_line l) ∷ []) (place + 1))

@@ -3,25 +3,25 @@ use Rattle.std.proofs.Common.{◌≡◌, ℕ, ◌+◌, ◌≤◌, Bool, true, fa
 use Rattle.std.specs.Prelude.{option_to_list}
 use Rattle.std.proofs.lemmas.List.{length-append, length-map}
 use Rattle.conf_rules.specs.Recorded.{Recorded}
-use Rattle.conf_rules.specs.Rows.{Row, Pass}
+use Rattle.conf_rules.specs.Rows.{LineRow, Pass}
 use Rattle.conf_reader.specs.declared.line.ConfLine.{ConfLine}
 use Rattle.conf_reader.specs.declared.stack.OpenFiles.{OpenFiles}
 use Rattle.conf_reader.specs.declared.lines.Lines.{Lines}
 use Rattle.conf_reader.specs.Blocks.{Blocks}
 use Rattle.conf_reader.specs.Left.{stack, Bounded}
-use Rattle.conf_reader.specs.Reads.{LiesAt, IsGivenFrom, open_count}
+use Rattle.conf_reader.specs.ReaderReads.{LiesAt, IsGivenFrom, open_count}
 use Rattle.conf_fold.specs.declared.fold.Fold.{Fold}
-use Rattle.conf_fold.specs.Stands.{Stands, open_applies}
+use Rattle.conf_fold.specs.FoldRepresents.{FoldRepresents, open_applies}
 
 depth-by : (old new : ℕ) (given : ConfLine) (t : Bool) → given.opens ≡ t → LiesAt old new given → given.depth ≤ old
 depth-by old new given true e l = l.opened e
 depth-by old new given false e l = let k = l.known e in omega (arith, k)
 
-pub marks-length : (recorded : Recorded) (pass : Pass) (fold : Fold) (rows : List Row) (blocks : Blocks) → Stands recorded pass fold rows blocks → length fold.applies ≡ length blocks
+pub marks-length : (recorded : Recorded) (pass : Pass) (fold : Fold) (rows : List LineRow) (blocks : Blocks) → FoldRepresents recorded pass fold rows blocks → length fold.applies ≡ length blocks
 marks-length recorded pass fold rows blocks s = ap length s.applies ∙ length-map blocks (open_applies rows pass)
 
 -- a given line lies at most as deep as files are open
-pub depth-low : (recorded : Recorded) (pass : Pass) (fold : Fold) (rows : List Row) (blocks : Blocks) (old new : Lines) (given : ConfLine) → Stands recorded pass fold rows blocks → IsGivenFrom old new given → Bounded old.open_files (length fold.applies) → given.depth ≤ length blocks
+pub depth-low : (recorded : Recorded) (pass : Pass) (fold : Fold) (rows : List LineRow) (blocks : Blocks) (old new : Lines) (given : ConfLine) → FoldRepresents recorded pass fold rows blocks → IsGivenFrom old new given → Bounded old.open_files (length fold.applies) → given.depth ≤ length blocks
 depth-low recorded pass fold rows blocks old new given s g fits =
     let d = depth-by (length fold.applies) (open_count new) given given.opens refl (g.lies (length fold.applies) fits) in
     let k = marks-length recorded pass fold rows blocks s in

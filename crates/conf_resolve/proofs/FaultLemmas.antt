@@ -7,7 +7,7 @@ use Rattle.conf_rules.specs.declared.causes.ResolveError.{ResolveError}
 use Rattle.conf_rules.specs.declared.causes.ResolveError.TheVariants as errors
 use Rattle.conf_rules.specs.Recorded.{Recorded}
 use Rattle.conf_rules.specs.Sources.{Line}
-use Rattle.conf_rules.specs.Rows.{Row, Pass, First, Second}
+use Rattle.conf_rules.specs.Rows.{LineRow, Pass, First, Second}
 use Rattle.conf_rules.specs.Entries.{entry_of}
 use Rattle.conf_rules.specs.Resolution.{all_rows, is_refused, refusal_in, rows_from}
 use Rattle.conf_match.specs.Evaluated.{RanAll}
@@ -16,15 +16,15 @@ use Rattle.conf_reader.specs.declared.lines.Lines.{Lines}
 use Rattle.conf_reader.specs.Blocks.{open_behind}
 use Rattle.conf_reader.specs.Firsts.{firsts_of}
 use Rattle.conf_reader.specs.Left.{left}
-use Rattle.conf_reader.specs.Reads.{GivesNext}
+use Rattle.conf_reader.specs.ReaderReads.{GivesNextLine}
 use Rattle.conf_reader.specs.Results.{is_run_fault, is_fault_at}
 use Rattle.conf_reader.specs.Looking.{Test, all_meet, RecordsFailed}
 use Rattle.conf_fold.specs.declared.fold.Fold.{Fold}
 use Rattle.conf_fold.specs.Begins.{asked_rows, asked_again, SecondBegins}
-use Rattle.conf_fold.specs.Results.{FailsAt, HasRunCause}
-use Rattle.conf_fold.specs.Stands.{Stands, IsNext, next_row}
+use Rattle.conf_fold.specs.Results.{FailsAtLine, HasRunCause}
+use Rattle.conf_fold.specs.FoldRepresents.{FoldRepresents, IsNextLine, next_row}
 use Rattle.conf_fold.proofs.OrderLemmas.{from, rows-on, rows-end, row-line, from-front}
-use Rattle.conf_resolve.specs.Passes.{Commands, commands, AreAgain, final_rows, first_rows}
+use Rattle.conf_resolve.specs.PassGives.{Commands, commands, AreAgain, final_rows, first_rows}
 use Rattle.conf_resolve.specs.Faults.{FailedPaths, FaultStands, NoneFails}
 use Rattle.conf_resolve.proofs.IncludeLemmas.{may_record, recorded-place, all-recorded}
 use Rattle.conf_resolve.proofs.IdleLemmas.{idle-many}
@@ -34,10 +34,10 @@ use Rattle.conf_resolve.proofs.ResolveLemmas.{all-front, first-is, twice-all}
 -- ---- rows
 
 -- the row of a line and what may come after it
-row-front : (recorded : Recorded) (pass : Pass) (rows : List Row) (place : ℕ) (line : Line) (rest : List Line) → (later : List Row) × (from recorded pass rows place (line ∷ rest) ≡ rows ++ next_row recorded pass rows place line ∷ later)
+row-front : (recorded : Recorded) (pass : Pass) (rows : List LineRow) (place : ℕ) (line : Line) (rest : List Line) → (later : List LineRow) × (from recorded pass rows place (line ∷ rest) ≡ rows ++ next_row recorded pass rows place line ∷ later)
 row-front recorded pass rows place line rest = on (is_refused (next_row recorded pass rows place line).entry) refl
   where
-    on : (t : Bool) → is_refused (next_row recorded pass rows place line).entry ≡ t → (later : List Row) × (from recorded pass rows place (line ∷ rest) ≡ rows ++ next_row recorded pass rows place line ∷ later)
+    on : (t : Bool) → is_refused (next_row recorded pass rows place line).entry ≡ t → (later : List LineRow) × (from recorded pass rows place (line ∷ rest) ≡ rows ++ next_row recorded pass rows place line ∷ later)
     on true h = ([], rows-end recorded pass rows place line rest h)
     on false h =
         let row = next_row recorded pass rows place line in
@@ -47,7 +47,7 @@ row-front recorded pass rows place line rest = on (is_refused (next_row recorded
 -- ---- a pass
 
 -- a failed read
-pub read-stands : (recorded : Recorded) (pass : Pass) (fold : Fold) (old : Lines) (final first : List Row) (start now before : Commands) (u : Underway recorded pass fold old final first start now) (e : ResolveError) (failed failed-mid failed-now : FailedPaths) → failed-mid ≡ failed
+pub read-stands : (recorded : Recorded) (pass : Pass) (fold : Fold) (old : Lines) (final first : List LineRow) (start now before : Commands) (u : Underway recorded pass fold old final first start now) (e : ResolveError) (failed failed-mid failed-now : FailedPaths) → failed-mid ≡ failed
     → ((test : Test) → all_meet test recorded old ≡ true → RecordsFailed {A = Option ConfLine} test (Err e) failed-mid failed-now) → is_run_fault e ≡ false → old.firsts.items ≡ firsts_of recorded.facts.home recorded.asked.from → RanAll before start (commands first)
     → FaultStands recorded final e before now failed failed-now
 read-stands recorded pass fold old final first start now before u errors.OutOfMemory failed failed-mid failed-now same records quiet firsts began = tt
@@ -67,9 +67,9 @@ read-stands recorded pass fold old final first start now before u (errors.At fil
 read-stands recorded pass fold old final first start now before u (errors.At file number cause) failed failed-mid failed-now same records quiet firsts began = tt
 
 -- a command that could not be run
-pub run-stands : (recorded : Recorded) (pass : Pass) (fold : Fold) (old reader : Lines) (final first : List Row) (start now later before : Commands) (u : Underway recorded pass fold old final first start now) (line : ConfLine) (e : ResolveError) (runner runner' : ℕ) (failed failed-now : FailedPaths)
-    → GivesNext recorded u.place u.blocks old reader line → HasRunCause {A = Unit {0}} (Err e) runner runner'
-    → ((rows : List Row) (place : ℕ) (l : Line) → Stands recorded pass fold rows u.blocks → IsNext recorded pass rows u.blocks line place l → FailsAt {A = Unit {0}} line.file line.number (Err e) now later (next_row recorded pass rows place l).ran)
+pub run-stands : (recorded : Recorded) (pass : Pass) (fold : Fold) (old reader : Lines) (final first : List LineRow) (start now later before : Commands) (u : Underway recorded pass fold old final first start now) (line : ConfLine) (e : ResolveError) (runner runner' : ℕ) (failed failed-now : FailedPaths)
+    → GivesNextLine recorded u.place u.blocks old reader line → HasRunCause {A = Unit {0}} (Err e) runner runner'
+    → ((rows : List LineRow) (place : ℕ) (l : Line) → FoldRepresents recorded pass fold rows u.blocks → IsNextLine recorded pass rows u.blocks line place l → FailsAtLine {A = Unit {0}} line.file line.number (Err e) now later (next_row recorded pass rows place l).ran)
     → RanAll before start (commands first) → FaultStands recorded final e before later failed failed-now
 run-stands recorded pass fold old reader final first start now later before u line errors.OutOfMemory runner runner' failed failed-now gives cause fails began = tt
 run-stands recorded pass fold old reader final first start now later before u line (errors.At file number causes.ReadFault) runner runner' failed failed-now gives cause fails began = absurd cause
@@ -77,7 +77,7 @@ run-stands recorded pass fold old reader final first start now later before u li
     let place = u.place + length gives.comments in
     let rest = left recorded (place + 1) (open_behind line place u.blocks) reader in
     let a = idle-many recorded pass fold u.blocks gives.comments (gives.line ∷ rest) u.rows final u.place u.stands u.at u.none gives.idle (subst (AreAgain recorded pass u.place) gives.is u.again) (ap (rows_from recorded entry_of u.rows (record { pass = pass; line = u.place })) (sym gives.is) ∙ u.final_is) in
-    let next : IsNext recorded pass a.rows u.blocks line place gives.line = record { is_line = gives.is_line; at = a.at; within = gives.within; again = a.again.0 } in
+    let next : IsNextLine recorded pass a.rows u.blocks line place gives.line = record { is_line = gives.is_line; at = a.at; within = gives.within; again = a.again.0 } in
     let came = fails a.rows place gives.line a.stands next in
     let front = row-front recorded pass a.rows place gives.line rest in
     let same = row-line recorded pass a.rows place gives.line in
@@ -97,14 +97,14 @@ run-stands recorded pass fold old reader final first start now later before u li
 -- ---- both passes
 
 -- what is no fault is reported anywhere
-pub plain-stands : (recorded : Recorded) (all : List Row) (e : ResolveError) (before now : Commands) (failed failed-now : FailedPaths) → is_fault_at e ≡ false → FaultStands recorded all e before now failed failed-now
+pub plain-stands : (recorded : Recorded) (all : List LineRow) (e : ResolveError) (before now : Commands) (failed failed-now : FailedPaths) → is_fault_at e ≡ false → FaultStands recorded all e before now failed failed-now
 plain-stands recorded all errors.OutOfMemory before now failed failed-now h = tt
 plain-stands recorded all (errors.At file number causes.ReadFault) before now failed failed-now h = absurd cc
 plain-stands recorded all (errors.At file number causes.RunFault) before now failed failed-now h = absurd cc
 plain-stands recorded all (errors.At file number cause) before now failed failed-now h = tt
 
 -- where more rows come after
-more-stands : (recorded : Recorded) (rows all more : List Row) (e : ResolveError) (before now : Commands) (failed failed-now : FailedPaths) → all ≡ rows ++ more → FaultStands recorded rows e before now failed failed-now → FaultStands recorded all e before now failed failed-now
+more-stands : (recorded : Recorded) (rows all more : List LineRow) (e : ResolveError) (before now : Commands) (failed failed-now : FailedPaths) → all ≡ rows ++ more → FaultStands recorded rows e before now failed failed-now → FaultStands recorded all e before now failed failed-now
 more-stands recorded rows all more errors.OutOfMemory before now failed failed-now is f = tt
 more-stands recorded rows all more (errors.At file number causes.ReadFault) before now failed failed-now is f = record {
   rows = f.rows;

@@ -6,31 +6,31 @@ use Rattle.std.proofs.lemmas.List.{append-nil, length-append}
 use Rattle.conf_rules.specs.declared.entry.LineContent.TheVariants.{Nothing}
 use Rattle.conf_rules.specs.Recorded.{Recorded}
 use Rattle.conf_rules.specs.Sources.{Line}
-use Rattle.conf_rules.specs.Rows.{Row, Pass, First, Second, given, entry_gives}
+use Rattle.conf_rules.specs.Rows.{LineRow, Pass, First, Second, given, entry_gives}
 use Rattle.conf_rules.specs.Entries.{entry_of}
-use Rattle.conf_rules.specs.Resolution.{start_of, is_active, Effect, effect_of, no_block, row_of, rows_from, is_refused, refusal_in, wants_second, asks_again}
+use Rattle.conf_rules.specs.Resolution.{pass_start_of, is_active, Effect, effect_of, no_block, row_of, rows_from, is_refused, refusal_in, wants_second, asks_again}
 use Rattle.conf_reader.specs.Blocks.{Blocks}
-use Rattle.conf_reader.specs.Reads.{IsIdle, AreIdle}
+use Rattle.conf_reader.specs.ReaderReads.{IsIdleLine, AreIdle}
 use Rattle.conf_fold.specs.declared.fold.Fold.{Fold}
-use Rattle.conf_fold.specs.Stands.{Stands, IsAgain, next_row, InPass, collects, collected}
+use Rattle.conf_fold.specs.FoldRepresents.{FoldRepresents, IsAgain, next_row, InPass, collects, collected}
 use Rattle.conf_fold.proofs.BlockLemmas.{marks-kept, each-kept}
 use Rattle.conf_fold.proofs.RowLemmas.{or-false, given-more, wants-more, collected-more, take-next, none-collected}
 use Rattle.conf_fold.proofs.FoldLemmas.{gives-nothing}
 use Rattle.conf_fold.proofs.OrderLemmas.{refusal-behind, ok-none, rows-on}
-use Rattle.conf_resolve.specs.Passes.{commands, AreAgain}
+use Rattle.conf_resolve.specs.PassGives.{commands, AreAgain}
 use Rattle.conf_resolve.proofs.CommandLemmas.{idle-commands}
 
 -- ---- lines that say nothing
 
-idle-effect : (recorded : Recorded) (pass : Pass) (rows : List Row) (active : Bool) → effect_of recorded pass rows active (Ok Nothing) ≡ no_block (Ok Nothing)
+idle-effect : (recorded : Recorded) (pass : Pass) (rows : List LineRow) (active : Bool) → effect_of recorded pass rows active (Ok Nothing) ≡ no_block (Ok Nothing)
 idle-effect recorded pass rows true = refl
 idle-effect recorded pass rows false = refl
 
-idle-entry : (recorded : Recorded) (pass : Pass) (rows : List Row) (place : ℕ) (line : Line) → IsIdle recorded place line → (row_of recorded entry_of rows (record { pass = pass; line = place }) line).entry ≡ Ok Nothing
+idle-entry : (recorded : Recorded) (pass : Pass) (rows : List LineRow) (place : ℕ) (line : Line) → IsIdleLine recorded place line → (row_of recorded entry_of rows (record { pass = pass; line = place }) line).entry ≡ Ok Nothing
 unfolding row_of
 idle-entry recorded pass rows place line idle = rw (idle rows) (ap (λ (f : Effect). f.entry) (idle-effect recorded pass rows (is_active rows pass line)))
 
-pass-idle : (recorded : Recorded) (pass : Pass) (fold : Fold) (rows : List Row) (place : ℕ) (line : Line) (row : Row) → InPass recorded pass fold rows → length rows ≡ start_of pass + place → IsIdle recorded place line → IsAgain recorded pass place line → row.entry ≡ Ok Nothing → InPass recorded pass fold (rows ++ row ∷ [])
+pass-idle : (recorded : Recorded) (pass : Pass) (fold : Fold) (rows : List LineRow) (place : ℕ) (line : Line) (row : LineRow) → InPass recorded pass fold rows → length rows ≡ pass_start_of pass + place → IsIdleLine recorded place line → IsAgain recorded pass place line → row.entry ≡ Ok Nothing → InPass recorded pass fold (rows ++ row ∷ [])
 pass-idle recorded First fold rows place line row p at idle again entry = record {
   name = p.name;
   active = p.active ∙ sym (append-nil (flat_map collected rows)) ∙ ap (λ xs. flat_map collected rows ++ xs) (sym (none-collected row (ap collects entry))) ∙ sym (collected-more rows row);
@@ -49,8 +49,8 @@ pass-idle recorded (Second before) fold rows place line row p at idle again entr
 }
 
 -- the fold represents one more idle row
-pub stands-idle : (recorded : Recorded) (pass : Pass) (fold : Fold) (rows : List Row) (blocks : Blocks) (place : ℕ) (line : Line) → Stands recorded pass fold rows blocks → length rows ≡ start_of pass + place → IsIdle recorded place line → IsAgain recorded pass place line
-    → ((next_row recorded pass rows place line).entry ≡ Ok Nothing) × Stands recorded pass fold (rows ++ next_row recorded pass rows place line ∷ []) blocks
+pub stands-idle : (recorded : Recorded) (pass : Pass) (fold : Fold) (rows : List LineRow) (blocks : Blocks) (place : ℕ) (line : Line) → FoldRepresents recorded pass fold rows blocks → length rows ≡ pass_start_of pass + place → IsIdleLine recorded place line → IsAgain recorded pass place line
+    → ((next_row recorded pass rows place line).entry ≡ Ok Nothing) × FoldRepresents recorded pass fold (rows ++ next_row recorded pass rows place line ∷ []) blocks
 unfolding next_row
 stands-idle recorded pass fold rows blocks place line s at idle again =
     let row = next_row recorded pass rows place line in
@@ -67,25 +67,25 @@ stands-idle recorded pass fold rows blocks place line s at idle again =
     )
 
 -- after idle lines
-pub record Ahead (recorded : Recorded) (pass : Pass) (fold : Fold) (blocks : Blocks) (place : ℕ) (rest : List Line) (final start : List Row) : Type 0 where
-  pub rows : List Row
-  pub stands : Stands recorded pass fold rows blocks
-  pub at : length rows ≡ start_of pass + place
+pub record Ahead (recorded : Recorded) (pass : Pass) (fold : Fold) (blocks : Blocks) (place : ℕ) (rest : List Line) (final start : List LineRow) : Type 0 where
+  pub rows : List LineRow
+  pub stands : FoldRepresents recorded pass fold rows blocks
+  pub at : length rows ≡ pass_start_of pass + place
   pub none : refusal_in rows ≡ None
   pub final_is : rows_from recorded entry_of rows (record { pass = pass; line = place }) rest ≡ final
   pub again : AreAgain recorded pass place rest
   pub ran : commands rows ≡ commands start
-  pub more : List Row
+  pub more : List LineRow
   pub begins : rows ≡ start ++ more
 
-pub idle-many : (recorded : Recorded) (pass : Pass) (fold : Fold) (blocks : Blocks) (comments rest : List Line) (rows final : List Row) (place : ℕ) → Stands recorded pass fold rows blocks → length rows ≡ start_of pass + place → refusal_in rows ≡ None
+pub idle-many : (recorded : Recorded) (pass : Pass) (fold : Fold) (blocks : Blocks) (comments rest : List Line) (rows final : List LineRow) (place : ℕ) → FoldRepresents recorded pass fold rows blocks → length rows ≡ pass_start_of pass + place → refusal_in rows ≡ None
     → AreIdle recorded place comments → AreAgain recorded pass place (comments ++ rest) → rows_from recorded entry_of rows (record { pass = pass; line = place }) (comments ++ rest) ≡ final → Ahead recorded pass fold blocks (place + length comments) rest final rows
 idle-many recorded pass fold blocks [] rest rows final place s at none idle again final-is =
     let z : place ≡ place + 0 = omega arith in
     record {
       rows = rows;
       stands = s;
-      at = at ∙ ap (λ n. start_of pass + n) z;
+      at = at ∙ ap (λ n. pass_start_of pass + n) z;
       none = none;
       final_is = ap (λ n. rows_from recorded entry_of rows (record { pass = pass; line = n }) rest) (sym z) ∙ final-is;
       again = subst (λ n. AreAgain recorded pass n rest) z again;
@@ -98,7 +98,7 @@ idle-many recorded pass fold blocks (l ∷ ls) rest rows final place s at none i
     let row = next_row recorded pass rows place l in
     let ok : is_refused row.entry ≡ false = ap is_refused one.0 in
     let k : length (rows ++ row ∷ []) ≡ length rows + 1 = length-append rows (row ∷ []) in
-    let at' : length (rows ++ row ∷ []) ≡ start_of pass + (place + 1) = omega (arith, k, at) in
+    let at' : length (rows ++ row ∷ []) ≡ pass_start_of pass + (place + 1) = omega (arith, k, at) in
     let more = idle-many recorded pass fold blocks ls rest (rows ++ row ∷ []) final (place + 1) one.1 at' (refusal-behind rows row none ∙ ok-none row.line row.entry ok) idle.1 again.1 (sym (rows-on recorded pass rows place l (ls ++ rest) ok) ∙ final-is) in
     let n : place + 1 + length ls ≡ place + suc (length ls) = omega arith in
     let same : commands (rows ++ row ∷ []) ≡ commands rows = idle-commands recorded pass rows place l idle.0 in

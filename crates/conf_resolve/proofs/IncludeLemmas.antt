@@ -13,7 +13,7 @@ use Rattle.conf_rules.specs.Recorded.{Recorded}
 use Rattle.conf_rules.specs.Includes.{Source}
 use Rattle.conf_rules.specs.Looks.{looks_at, looked_at}
 use Rattle.conf_rules.specs.Sources.{Line}
-use Rattle.conf_rules.specs.Rows.{Row}
+use Rattle.conf_rules.specs.Rows.{LineRow}
 use Rattle.conf_reader.specs.declared.line.ConfLine.{ConfLine}
 use Rattle.conf_reader.specs.declared.stack.OpenFiles.{OpenFiles}
 use Rattle.conf_reader.specs.declared.lines.FirstFile.{FirstFile}
@@ -22,7 +22,7 @@ use Rattle.conf_reader.specs.Blocks.{Blocks, IsLine}
 use Rattle.conf_reader.specs.Firsts.{firsts_of}
 use Rattle.conf_reader.specs.Left.{source_of, stack}
 use Rattle.conf_reader.specs.Looking.{to_look, meets_in, meets, firsts_meet, all_meet, line_meets}
-use Rattle.conf_resolve.specs.Faults.{LooksFrom, IsFirst}
+use Rattle.conf_resolve.specs.Faults.{LooksFrom, IsFirstFault}
 
 -- ---- lists
 
@@ -60,7 +60,7 @@ same-path path = (bytes_eq-Decides path path).1 refl
 -- ---- the test
 
 -- whether a row's line stands there and looks at this path
-abbrev pub looks_from : Recorded → Bytes → ℕ → Bytes → Row → Bool
+abbrev pub looks_from : Recorded → Bytes → ℕ → Bytes → LineRow → Bool
 looks_from recorded file number path row = bytes_eq row.line.file file && ((row.line.number == number) && list_any (bytes_eq path) (looked_at row.line.source recorded row.line.content))
 
 -- whether line 0 of a first file is meant, and its path
@@ -68,15 +68,15 @@ abbrev pub is_first : Bytes → ℕ → Bytes → FirstFile → Bool
 is_first file number path f = bytes_eq f.path file && (bytes_eq f.path path && (number == 0))
 
 -- whether a failed read of a path may be reported there, after these rows
-pub may_record : Recorded → List Row → Bytes → ℕ → Bytes → Bool
+pub may_record : Recorded → List LineRow → Bytes → ℕ → Bytes → Bool
 may_record recorded rows file number path = list_any (looks_from recorded file number path) rows || list_any (is_first file number path) (firsts_of recorded.facts.home recorded.asked.from)
 
 -- the place where it is reported
-pub recorded-place : (recorded : Recorded) (rows : List Row) (file : Bytes) (number : ℕ) (path : Bytes) → may_record recorded rows file number path ≡ true → LooksFrom recorded rows file number path ⊎ IsFirst recorded file number path
+pub recorded-place : (recorded : Recorded) (rows : List LineRow) (file : Bytes) (number : ℕ) (path : Bytes) → may_record recorded rows file number path ≡ true → LooksFrom recorded rows file number path ⊎ IsFirstFault recorded file number path
 unfolding may_record
 recorded-place recorded rows file number path e = on (either (list_any (looks_from recorded file number path) rows) _ e)
   where
-    on : ((list_any (looks_from recorded file number path) rows ≡ true) ⊎ (list_any (is_first file number path) (firsts_of recorded.facts.home recorded.asked.from) ≡ true)) → LooksFrom recorded rows file number path ⊎ IsFirst recorded file number path
+    on : ((list_any (looks_from recorded file number path) rows ≡ true) ⊎ (list_any (is_first file number path) (firsts_of recorded.facts.home recorded.asked.from) ≡ true)) → LooksFrom recorded rows file number path ⊎ IsFirstFault recorded file number path
     on (inl h) =
         let f = found (looks_from recorded file number path) rows h in
         let row = f.1.0 in
@@ -96,11 +96,11 @@ or-more : (a b c : Bool) → (a || c) ≡ true → ((a || b) || c) ≡ true
 or-more true b c e = refl
 or-more false b c e = rw e (or-true b)
 
-more-recorded : (recorded : Recorded) (rows more : List Row) (file : Bytes) (number : ℕ) (path : Bytes) → may_record recorded rows file number path ≡ true → may_record recorded (rows ++ more) file number path ≡ true
+more-recorded : (recorded : Recorded) (rows more : List LineRow) (file : Bytes) (number : ℕ) (path : Bytes) → may_record recorded rows file number path ≡ true → may_record recorded (rows ++ more) file number path ≡ true
 unfolding may_record
 more-recorded recorded rows more file number path e = rw (list_any-append (looks_from recorded file number path) rows more) (or-more (list_any (looks_from recorded file number path) rows) _ _ e)
 
-pub meets-more : (recorded : Recorded) (rows more : List Row) (o : OpenFiles) → meets (may_record recorded rows) recorded o ≡ true → meets (may_record recorded (rows ++ more)) recorded o ≡ true
+pub meets-more : (recorded : Recorded) (rows more : List LineRow) (o : OpenFiles) → meets (may_record recorded rows) recorded o ≡ true → meets (may_record recorded (rows ++ more)) recorded o ≡ true
 meets-more recorded rows more o e =
     all-more (meets_in (may_record recorded rows) recorded (source_of o.system)) (meets_in (may_record recorded (rows ++ more)) recorded (source_of o.system)) (stack o)
     (λ f h. all-more (may_record recorded rows f.path (f.number - 1)) (may_record recorded (rows ++ more) f.path (f.number - 1)) (to_look recorded (source_of o.system) f) (λ path k. more-recorded recorded rows more f.path (f.number - 1) path k) h) e
@@ -114,27 +114,27 @@ first-self : (f : FirstFile) → same_first f f ≡ true
 unfolding same_first
 first-self f = rw (same-path f.path) refl
 
-first-recorded : (recorded : Recorded) (rows : List Row) (f : FirstFile) → list_any (same_first f) (firsts_of recorded.facts.home recorded.asked.from) ≡ true → may_record recorded rows f.path 0 f.path ≡ true
+first-recorded : (recorded : Recorded) (rows : List LineRow) (f : FirstFile) → list_any (same_first f) (firsts_of recorded.facts.home recorded.asked.from) ≡ true → may_record recorded rows f.path 0 f.path ≡ true
 unfolding may_record same_first
 first-recorded recorded rows f e = rw e (or-true (list_any (looks_from recorded f.path 0 f.path) rows))
 
-firsts-recorded : (recorded : Recorded) (rows : List Row) (firsts : List FirstFile) → firsts ≡ firsts_of recorded.facts.home recorded.asked.from → firsts_meet (may_record recorded rows) firsts ≡ true
+firsts-recorded : (recorded : Recorded) (rows : List LineRow) (firsts : List FirstFile) → firsts ≡ firsts_of recorded.facts.home recorded.asked.from → firsts_meet (may_record recorded rows) firsts ≡ true
 firsts-recorded recorded rows firsts e =
     all-more (λ f. list_any (same_first f) firsts) (λ f. may_record recorded rows f.path 0 f.path) firsts (λ f h. first-recorded recorded rows f (subst (λ fs. list_any (same_first f) fs ≡ true) e h))
     (all-among same_first firsts firsts first-self (λ f h. h))
 
 -- all that a reader has still to look at
-pub all-recorded : (recorded : Recorded) (rows : List Row) (r : Lines) → r.firsts.items ≡ firsts_of recorded.facts.home recorded.asked.from → meets (may_record recorded rows) recorded r.open_files ≡ true → all_meet (may_record recorded rows) recorded r ≡ true
+pub all-recorded : (recorded : Recorded) (rows : List LineRow) (r : Lines) → r.firsts.items ≡ firsts_of recorded.facts.home recorded.asked.from → meets (may_record recorded rows) recorded r.open_files ≡ true → all_meet (may_record recorded rows) recorded r ≡ true
 all-recorded recorded rows r firsts e = rw e (firsts-recorded recorded rows r.firsts.items firsts)
 
 -- ---- the row of a line that was given
 
-own-recorded : (recorded : Recorded) (rows : List Row) (row : Row) (file : Bytes) (number : ℕ) (path : Bytes) → row.line.file ≡ file → row.line.number ≡ number → list_any (bytes_eq path) (looked_at row.line.source recorded row.line.content) ≡ true → may_record recorded (rows ++ row ∷ []) file number path ≡ true
+own-recorded : (recorded : Recorded) (rows : List LineRow) (row : LineRow) (file : Bytes) (number : ℕ) (path : Bytes) → row.line.file ≡ file → row.line.number ≡ number → list_any (bytes_eq path) (looked_at row.line.source recorded row.line.content) ≡ true → may_record recorded (rows ++ row ∷ []) file number path ≡ true
 unfolding may_record
 own-recorded recorded rows row file number path f n h =
     rw (list_any-append (looks_from recorded file number path) rows (row ∷ []), (bytes_eq-Decides row.line.file file).1 f, eq-eqb row.line.number number n, h, or-true (list_any (looks_from recorded file number path) rows)) refl
 
-pub line-recorded : (recorded : Recorded) (rows : List Row) (row : Row) (blocks : Blocks) (given : ConfLine) (line : Line) (source : Source) → row.line ≡ line → IsLine given blocks line → line.source ≡ source → line_meets (may_record recorded (rows ++ row ∷ [])) recorded source given ≡ true
+pub line-recorded : (recorded : Recorded) (rows : List LineRow) (row : LineRow) (blocks : Blocks) (given : ConfLine) (line : Line) (source : Source) → row.line ≡ line → IsLine given blocks line → line.source ≡ source → line_meets (may_record recorded (rows ++ row ∷ [])) recorded source given ≡ true
 line-recorded recorded rows row blocks given line source is l from = on (same_word given.keyword (codes "include")) refl
   where
     looked : same_word given.keyword (codes "include") ≡ true → looked_at row.line.source recorded row.line.content ≡ looks_at source recorded given.rest

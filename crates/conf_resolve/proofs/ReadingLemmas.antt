@@ -14,7 +14,7 @@ use Rattle.conf_reader.specs.declared.lines.Lines.{Lines}
 use Rattle.conf_reader.specs.ToRead.{reading_of, ReadsSome, ReadsTo}
 use Rattle.conf_reader.specs.Uses.{behind_call}
 use Rattle.conf_reader.proofs.ToReadLemmas.{more-left, then-read, then-some}
-use Rattle.conf_resolve.specs.Passes.{first_rows}
+use Rattle.conf_resolve.specs.PassGives.{first_rows}
 use Rattle.conf_resolve.specs.Readings.{Readings, ReadsAll, ReadsUnless}
 use Rattle.conf_resolve.proofs.PartsLemmas.{none-refused}
 

@@ -9,21 +9,21 @@ use Rattle.conf_rules.specs.declared.causes.ResolveError.TheVariants as errors
 use Rattle.conf_rules.specs.Recorded.{Recorded}
 use Rattle.conf_rules.specs.Diagnostics.{is_fault}
 use Rattle.conf_rules.specs.Sources.{Line, asked_line, all_lines}
-use Rattle.conf_rules.specs.Rows.{Row, Pass, First, Second, given}
+use Rattle.conf_rules.specs.Rows.{LineRow, Pass, First, Second, given}
 use Rattle.conf_rules.specs.Entries.{entry_of}
 use Rattle.conf_rules.specs.Resolution.{row_of, rows_from, rows_behind, rows_by, all_rows, is_refused, refuses, refusal_in, execs, wants_second}
-use Rattle.conf_options.specs.Kept.{Given, Keeps}
+use Rattle.conf_options.specs.Kept.{Given, KeepsSettings}
 use Rattle.conf_match.specs.Evaluated.{RanAll, RanSome}
 use Rattle.conf_reader.specs.declared.lines.Lines.{Lines}
 use Rattle.conf_reader.specs.Left.{left, Bounded}
 use Rattle.conf_reader.specs.Looking.{Test, meets}
 use Rattle.conf_fold.specs.declared.fold.Fold.{Fold}
 use Rattle.conf_fold.specs.Results.{RanUnless, breaks_off}
-use Rattle.conf_fold.specs.Stands.{Stands, next_row}
-use Rattle.conf_fold.specs.Begins.{asked_rows, IsBegun, Behind, asked_again, SecondBegins}
+use Rattle.conf_fold.specs.FoldRepresents.{FoldRepresents, next_row}
+use Rattle.conf_fold.specs.Begins.{asked_rows, IsFoldBegun, Behind, asked_again, SecondBegins}
 use Rattle.conf_fold.proofs.BlockLemmas.{slice_get-next}
 use Rattle.conf_fold.proofs.OrderLemmas.{from, none-parts, rows-on, from-front}
-use Rattle.conf_resolve.specs.Passes.{Commands, commands, AreAgain, file_lines, Begins, Passes, Represents, final_rows, first_rows, BothPass, Resolved}
+use Rattle.conf_resolve.specs.PassGives.{Commands, commands, AreAgain, file_lines, Begins, PassGives, PassesRepresent, final_rows, first_rows, BothPass, Resolved}
 use Rattle.conf_resolve.proofs.PartsLemmas.{none-refused, any-refused, ends-refused, rows-append, rows-stop, rows-length}
 use Rattle.conf_resolve.proofs.CommandLemmas.{asked-quiet, ran-nothing, ran-front, ran-longer}
 use Rattle.conf_resolve.proofs.IncludeLemmas.{may_record}
@@ -38,7 +38,7 @@ again-first recorded place (l ∷ ls) = (tt, again-first recorded (place + 1) ls
 pub asked-length : (recorded : Recorded) → refusal_in (asked_rows recorded) ≡ None → length (asked_rows recorded) ≡ length recorded.asked.lines
 asked-length recorded none = let k = rows-length recorded First (map asked_line recorded.asked.lines) [] 0 refl none in let n = length-map recorded.asked.lines asked_line in omega (arith, k, n)
 
-pub first-begins : (recorded : Recorded) (fold : Fold) → Stands recorded First fold (asked_rows recorded) [] → refusal_in (asked_rows recorded) ≡ None → Begins recorded First fold (asked_rows recorded)
+pub first-begins : (recorded : Recorded) (fold : Fold) → FoldRepresents recorded First fold (asked_rows recorded) [] → refusal_in (asked_rows recorded) ≡ None → Begins recorded First fold (asked_rows recorded)
 first-begins recorded fold s none = record {
   stands = s;
   at = let k = asked-length recorded none in omega (arith, k);
@@ -47,7 +47,7 @@ first-begins recorded fold s none = record {
 }
 
 -- where a pass begins
-pub underway : (recorded : Recorded) (pass : Pass) (fold : Fold) (reader : Lines) (rows : List Row) (start : Commands) → Begins recorded pass fold rows → left recorded (length recorded.asked.lines) [] reader ≡ file_lines recorded → reader.read ≡ 0 → Bounded reader.open_files 0 → ((test : Test) (recorded : Recorded) → meets test recorded reader.open_files ≡ true)
+pub underway : (recorded : Recorded) (pass : Pass) (fold : Fold) (reader : Lines) (rows : List LineRow) (start : Commands) → Begins recorded pass fold rows → left recorded (length recorded.asked.lines) [] reader ≡ file_lines recorded → reader.read ≡ 0 → Bounded reader.open_files 0 → ((test : Test) (recorded : Recorded) → meets test recorded reader.open_files ≡ true)
     → Underway recorded pass fold reader (final_rows recorded pass rows) rows start start
 underway recorded pass fold reader rows start b is read bounded looks = record {
   rows = rows;
@@ -65,7 +65,7 @@ underway recorded pass fold reader rows start b is read bounded looks = record {
 }
 
 -- the rows of all lines in a pass
-pass-rows : (recorded : Recorded) (pass : Pass) (rows : List Row) → refusal_in rows ≡ None → refusal_in (from recorded pass rows 0 (map asked_line recorded.asked.lines)) ≡ None
+pass-rows : (recorded : Recorded) (pass : Pass) (rows : List LineRow) → refusal_in rows ≡ None → refusal_in (from recorded pass rows 0 (map asked_line recorded.asked.lines)) ≡ None
     → final_rows recorded pass (from recorded pass rows 0 (map asked_line recorded.asked.lines)) ≡ from recorded pass rows 0 (all_lines recorded)
 unfolding all_lines
 pass-rows recorded pass rows none all =
@@ -91,10 +91,10 @@ unfolding all_rows rows_by rows_behind
 all-twice recorded h w = rw (h, w) refl
 
 -- those of the first pass stand first
-pub all-front : (recorded : Recorded) → (more : List Row) × (all_rows recorded ≡ first_rows recorded ++ more)
+pub all-front : (recorded : Recorded) → (more : List LineRow) × (all_rows recorded ≡ first_rows recorded ++ more)
 all-front recorded = on (list_any refuses (first_rows recorded)) refl (list_any wants_second (first_rows recorded)) refl
   where
-    on : (r : Bool) → list_any refuses (first_rows recorded) ≡ r → (w : Bool) → list_any wants_second (first_rows recorded) ≡ w → (more : List Row) × (all_rows recorded ≡ first_rows recorded ++ more)
+    on : (r : Bool) → list_any refuses (first_rows recorded) ≡ r → (w : Bool) → list_any wants_second (first_rows recorded) ≡ w → (more : List LineRow) × (all_rows recorded ≡ first_rows recorded ++ more)
     on true h w k = ([], all-first recorded h ∙ sym (append-nil (first_rows recorded)))
     on false h false k = ([], all-once recorded h k ∙ sym (append-nil (first_rows recorded)))
     on false h true k = let front = from-front recorded (Second (first_rows recorded)) (all_lines recorded) (first_rows recorded) 0 in (front.0, all-twice recorded h k ∙ front.1)
@@ -112,21 +112,21 @@ asked-all recorded e some =
 first-all : (recorded : Recorded) (e : ResolveError) → refusal_in (asked_rows recorded) ≡ None → refusal_in (final_rows recorded First (asked_rows recorded)) ≡ Some e → all_rows recorded ≡ first_rows recorded
 first-all recorded e none some = all-first recorded (any-refused (first_rows recorded) e (ap refusal_in (sym (first-is recorded none)) ∙ some))
 
-pub first-refused : (recorded : Recorded) (new : Fold) (e : ResolveError) → refusal_in (asked_rows recorded) ≡ None → Passes recorded First (asked_rows recorded) new (Err e) → BothPass recorded new (Err e)
+pub first-refused : (recorded : Recorded) (new : Fold) (e : ResolveError) → refusal_in (asked_rows recorded) ≡ None → PassGives recorded First (asked_rows recorded) new (Err e) → BothPass recorded new (Err e)
 first-refused recorded new errors.OutOfMemory none p = tt
 first-refused recorded new (errors.At file number cause) none p = λ fault.
     let some = p fault in
     ap refusal_in (first-all recorded _ none some) ∙ ap refusal_in (sym (first-is recorded none)) ∙ some
 
 -- a fold that wasn't begun
-pub begin-refused : (recorded : Recorded) (e : ResolveError) → IsBegun recorded (Err e) → Resolved recorded (Err e)
+pub begin-refused : (recorded : Recorded) (e : ResolveError) → IsFoldBegun recorded (Err e) → Resolved recorded (Err e)
 begin-refused recorded errors.OutOfMemory b = tt
 begin-refused recorded (errors.At file number cause) b = λ fault. ap refusal_in (asked-all recorded (errors.At file number cause) b) ∙ b
 
 -- ---- after the first pass
 
-pub first-stands : (recorded : Recorded) (new : Fold) → refusal_in (asked_rows recorded) ≡ None → Represents recorded First new (final_rows recorded First (asked_rows recorded)) → Represents recorded First new (first_rows recorded)
-first-stands recorded new none s = subst (Represents recorded First new) (first-is recorded none) s
+pub first-stands : (recorded : Recorded) (new : Fold) → refusal_in (asked_rows recorded) ≡ None → PassesRepresent recorded First new (final_rows recorded First (asked_rows recorded)) → PassesRepresent recorded First new (first_rows recorded)
+first-stands recorded new none s = subst (PassesRepresent recorded First new) (first-is recorded none) s
 
 pub behind-asked : (recorded : Recorded) → refusal_in (asked_rows recorded) ≡ None → refusal_in (first_rows recorded) ≡ None → Behind recorded (first_rows recorded)
 behind-asked recorded asked none =
@@ -134,23 +134,23 @@ behind-asked recorded asked none =
     record { later = front.0; parts = sym (first-is recorded asked) ∙ front.1; none = none }
 
 -- where no second one begins
-pub once : (recorded : Recorded) (old new : Fold) → Represents recorded First old (first_rows recorded) → list_any wants_second (first_rows recorded) ≡ false → new ≡ old → BothPass recorded new (Ok tt)
+pub once : (recorded : Recorded) (old new : Fold) → PassesRepresent recorded First old (first_rows recorded) → list_any wants_second (first_rows recorded) ≡ false → new ≡ old → BothPass recorded new (Ok tt)
 once recorded old new s w same =
     let all : all_rows recorded ≡ first_rows recorded = all-once recorded (none-refused (first_rows recorded) s.none) w in
     (ap refusal_in all ∙ s.none, rw (all, same) s.stands.keeps)
 
 -- ---- the second pass
 
-take-front : (xs ys : List Row) → take (length xs) (xs ++ ys) ≡ xs
+take-front : (xs ys : List LineRow) → take (length xs) (xs ++ ys) ≡ xs
 take-front [] ys = refl
 take-front (x ∷ xs) ys = ap (λ zs. x ∷ zs) (take-front xs ys)
 
-row-again : (recorded : Recorded) (rows full : List Row) (place : ℕ) (x : Line) → take place full ≡ rows → next_row recorded First rows place x ≡ row_of recorded entry_of (take place full) (record { pass = First; line = place }) x
+row-again : (recorded : Recorded) (rows full : List LineRow) (place : ℕ) (x : Line) → take place full ≡ rows → next_row recorded First rows place x ≡ row_of recorded entry_of (take place full) (record { pass = First; line = place }) x
 unfolding next_row
 row-again recorded rows full place x e = ap (λ rs. row_of recorded entry_of rs (record { pass = First; line = place }) x) (sym e)
 
 -- each line of the first pass is given again
-again-all : (recorded : Recorded) (full : List Row) (lines : List Line) (rows : List Row) (place : ℕ) → place ≡ length rows → refusal_in rows ≡ None → refusal_in full ≡ None → full ≡ from recorded First rows place lines → AreAgain recorded (Second full) place lines
+again-all : (recorded : Recorded) (full : List LineRow) (lines : List Line) (rows : List LineRow) (place : ℕ) → place ≡ length rows → refusal_in rows ≡ None → refusal_in full ≡ None → full ≡ from recorded First rows place lines → AreAgain recorded (Second full) place lines
 unfolding rows_from
 again-all recorded full [] rows place at none all is = tt
 again-all recorded full (x ∷ xs) rows place at none all is = on (is_refused (next_row recorded First rows place x).entry) refl (again-all recorded full xs (rows ++ next_row recorded First rows place x ∷ []) (place + 1))
@@ -185,10 +185,10 @@ second-is recorded none again = pass-rows recorded (Second (first_rows recorded)
 pub twice-all : (recorded : Recorded) (mid : Fold) → refusal_in (first_rows recorded) ≡ None → SecondBegins recorded (first_rows recorded) mid true → final_rows recorded (Second (first_rows recorded)) (asked_again recorded (first_rows recorded)) ≡ all_rows recorded
 twice-all recorded mid none b = second-is recorded none b.1.1 ∙ sym (all-twice recorded (none-refused (first_rows recorded) none) b.0)
 
-pub twice : (recorded : Recorded) (old new mid : Fold) (r : Result (Unit {0}) ResolveError) → Represents recorded First old (first_rows recorded) → SecondBegins recorded (first_rows recorded) mid true → Passes recorded (Second (first_rows recorded)) (asked_again recorded (first_rows recorded)) new r → BothPass recorded new r
+pub twice : (recorded : Recorded) (old new mid : Fold) (r : Result (Unit {0}) ResolveError) → PassesRepresent recorded First old (first_rows recorded) → SecondBegins recorded (first_rows recorded) mid true → PassGives recorded (Second (first_rows recorded)) (asked_again recorded (first_rows recorded)) new r → BothPass recorded new r
 twice recorded old new mid (Ok x) s b p =
     let all = twice-all recorded mid s.none b in
-    (ap refusal_in (sym all) ∙ p.none, subst (λ rows. Keeps new.settings (flat_map given rows)) all p.stands.keeps)
+    (ap refusal_in (sym all) ∙ p.none, subst (λ rows. KeepsSettings new.settings (flat_map given rows)) all p.stands.keeps)
 twice recorded old new mid (Err errors.OutOfMemory) s b p = tt
 twice recorded old new mid (Err (errors.At file number cause)) s b p = λ fault. ap refusal_in (sym (twice-all recorded mid s.none b)) ∙ p fault
 
@@ -201,7 +201,7 @@ asked-commands recorded = asked-quiet recorded First recorded.asked.lines [] 0
 pub asked-start : (recorded : Recorded) (start : Commands) → RanAll start start (commands (asked_rows recorded))
 asked-start recorded start = subst (RanAll start start) (sym (asked-commands recorded)) (ran-nothing start)
 
-pub begin-ran : (recorded : Recorded) (e : ResolveError) (now : Commands) → IsBegun recorded (Err e) → RanUnless (breaks_off {A = Unit {0}} (Err e)) now now (execs recorded)
+pub begin-ran : (recorded : Recorded) (e : ResolveError) (now : Commands) → IsFoldBegun recorded (Err e) → RanUnless (breaks_off {A = Unit {0}} (Err e)) now now (execs recorded)
 begin-ran recorded errors.OutOfMemory now b = ran-front now now [] (execs recorded) (ran-nothing now)
 begin-ran recorded (errors.At file number cause) now b = on (is_fault cause)
   where
@@ -222,7 +222,7 @@ pub first-broken : (recorded : Recorded) (before now : Commands) → refusal_in 
 first-broken recorded before now none r =
     first-more recorded before now (record { done = commands (first_rows recorded); others = []; parts = sym (append-nil (commands (first_rows recorded))); ran = subst (λ rs. RanAll before now (commands rs)) (first-is recorded none) r })
 
-pub first-ran : (recorded : Recorded) (new : Fold) (e : ResolveError) (before now : Commands) → refusal_in (asked_rows recorded) ≡ None → Passes recorded First (asked_rows recorded) new (Err e)
+pub first-ran : (recorded : Recorded) (new : Fold) (e : ResolveError) (before now : Commands) → refusal_in (asked_rows recorded) ≡ None → PassGives recorded First (asked_rows recorded) new (Err e)
     → RanUnless (breaks_off {A = Unit {0}} (Err e)) before now (commands (final_rows recorded First (asked_rows recorded))) → RanUnless (breaks_off {A = Unit {0}} (Err e)) before now (execs recorded)
 first-ran recorded new errors.OutOfMemory before now none p r = first-more recorded before now (subst (λ rs. RanSome before now (commands rs)) (first-is recorded none) r)
 first-ran recorded new (errors.At file number cause) before now none p r = on (is_fault cause) refl p r
@@ -231,7 +231,7 @@ first-ran recorded new (errors.At file number cause) before now none p r = on (i
     on true h p r = first-more recorded before now (subst (λ rs. RanSome before now (commands rs)) (first-is recorded none) r)
     on false h p r = subst (λ rs. RanAll before now (commands rs)) (first-is recorded none ∙ sym (first-all recorded _ none (p h))) r
 
-pub once-ran : (recorded : Recorded) (old : Fold) (before now : Commands) → refusal_in (asked_rows recorded) ≡ None → Represents recorded First old (first_rows recorded) → list_any wants_second (first_rows recorded) ≡ false
+pub once-ran : (recorded : Recorded) (old : Fold) (before now : Commands) → refusal_in (asked_rows recorded) ≡ None → PassesRepresent recorded First old (first_rows recorded) → list_any wants_second (first_rows recorded) ≡ false
     → RanAll before now (commands (final_rows recorded First (asked_rows recorded))) → RanAll before now (execs recorded)
 once-ran recorded old before now none s w r =
     let all : all_rows recorded ≡ first_rows recorded = all-once recorded (none-refused (first_rows recorded) s.none) w in

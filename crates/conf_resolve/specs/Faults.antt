@@ -9,28 +9,28 @@ use Rattle.conf_rules.specs.declared.causes.ResolveError.TheVariants.{At, OutOfM
 use Rattle.conf_rules.specs.Texts.{Bytes}
 use Rattle.conf_rules.specs.Recorded.{Recorded}
 use Rattle.conf_rules.specs.Looks.{looked_at}
-use Rattle.conf_rules.specs.Rows.{Row}
+use Rattle.conf_rules.specs.Rows.{LineRow}
 use Rattle.conf_match.specs.Evaluated.{RanAll, FailsOne}
 use Rattle.conf_reader.specs.declared.lines.FirstFile.{FirstFile}
 use Rattle.conf_reader.specs.Firsts.{firsts_of}
-use Rattle.conf_resolve.specs.Passes.{Commands, commands}
+use Rattle.conf_resolve.specs.PassGives.{Commands, commands}
 
 -- the paths of calls that failed, if they are recorded
 abbrev pub FailedPaths : Type 0
 FailedPaths = Option (List Bytes)
 
 -- an Include line of these rows stands there, and looks at this path
-pub record LooksFrom (recorded : Recorded) (rows : List Row) (file : Bytes) (number : ℕ) (path : Bytes) :
+pub record LooksFrom (recorded : Recorded) (rows : List LineRow) (file : Bytes) (number : ℕ) (path : Bytes) :
     Type 0 where
   pub at : ℕ
-  pub row : Row
+  pub row : LineRow
   pub is : slice_get rows at ≡ Some row
   pub looks : list_any (bytes_eq path) (looked_at row.line.source recorded row.line.content) ≡ true
   pub file_is : row.line.file ≡ file
   pub number_is : row.line.number ≡ number
 
 -- this path is that of a file that no line includes, and line 0 of it is meant
-pub record IsFirst (recorded : Recorded) (file : Bytes) (number : ℕ) (path : Bytes) : Type 0 where
+pub record IsFirstFault (recorded : Recorded) (file : Bytes) (number : ℕ) (path : Bytes) : Type 0 where
   pub at : ℕ
   pub first : FirstFile
   pub is : slice_get (firsts_of recorded.facts.home recorded.asked.from) at ≡ Some first
@@ -41,23 +41,23 @@ pub record IsFirst (recorded : Recorded) (file : Bytes) (number : ℕ) (path : B
 -- A read of a path failed after these rows, whose commands were all run. It is reported at one of
 -- their Include lines that looks at this very path, or at line 0 of this path, a file that no line
 -- includes.
-pub record ReadFails (recorded : Recorded) (all : List Row) (file : Bytes) (number : ℕ)
+pub record ReadFails (recorded : Recorded) (all : List LineRow) (file : Bytes) (number : ℕ)
     (before now : Commands) (failed failed_now : FailedPaths) : Type 0 where
-  pub rows : List Row
-  pub later : List Row
+  pub rows : List LineRow
+  pub later : List LineRow
   pub parts : all ≡ rows ++ later
   pub ran : RanAll before now (commands rows)
   pub path : Bytes
   pub is : failed_now ≡ option_map (λ paths. paths ++ path ∷ []) failed
-  pub place : LooksFrom recorded rows file number path ⊎ IsFirst recorded file number path
+  pub place : LooksFrom recorded rows file number path ⊎ IsFirstFault recorded file number path
 
 -- A command could not be run, after rows whose commands were all run. It is reported at the line of
 -- the row that asks for it, whose earlier commands were run.
-pub record RunFails (all : List Row) (file : Bytes) (number : ℕ) (before now : Commands) :
+pub record RunFails (all : List LineRow) (file : Bytes) (number : ℕ) (before now : Commands) :
     Type 0 where
-  pub rows : List Row
-  pub row : Row
-  pub later : List Row
+  pub rows : List LineRow
+  pub row : LineRow
+  pub later : List LineRow
   pub parts : all ≡ rows ++ row ∷ later
   pub file_is : row.line.file ≡ file
   pub number_is : row.line.number ≡ number
@@ -66,7 +66,7 @@ pub record RunFails (all : List Row) (file : Bytes) (number : ℕ) (before now :
   pub fails : FailsOne reached now row.ran
 
 -- a fault is reported where it came up
-abbrev pub FaultStands : Recorded → List Row → ResolveError → Commands → Commands → FailedPaths
+abbrev pub FaultStands : Recorded → List LineRow → ResolveError → Commands → Commands → FailedPaths
     → FailedPaths → Type 0
 FaultStands recorded all (At file number causes.ReadFault) before now failed failed_now =
     ReadFails recorded all file number before now failed failed_now

@@ -1,5 +1,5 @@
 pub mod Causes
 pub mod Faults
-pub mod Passes
+pub mod PassGives
 pub mod Readings
 pub mod Recording

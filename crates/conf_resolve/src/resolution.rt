@@ -1,13 +1,13 @@
 ghost use Rattle.std.specs.Prelude.{◌≡◌, List, [], Ok, IfErr};
-ghost use Rattle.conf_rules.specs.Rows.{Row, Pass, First};
+ghost use Rattle.conf_rules.specs.Rows.{LineRow, Pass, First};
 ghost use Rattle.conf_rules.specs.Resolution.{all_rows, execs, refusal_in};
 ghost use Rattle.conf_rules.specs.ReadOrder.{all_reads, read_once};
 ghost use Rattle.conf_tokens.specs.Known.{known};
 ghost use Rattle.conf_match.specs.Evaluated.{RanAll};
 ghost use Rattle.conf_fold.specs.Results.{RanUnless, breaks_off};
-ghost use Rattle.conf_fold.specs.Stands.{Stands};
+ghost use Rattle.conf_fold.specs.FoldRepresents.{FoldRepresents};
 ghost use Rattle.conf_fold.specs.Begins.{asked_rows};
-ghost use Rattle.conf_resolve.specs.Passes.{Commands, commands, Begins, Passes, final_rows, BothPass, Resolved};
+ghost use Rattle.conf_resolve.specs.PassGives.{Commands, commands, Begins, PassGives, final_rows, BothPass, Resolved};
 ghost use Rattle.conf_resolve.specs.Causes.{HasCauses};
 ghost use Rattle.conf_resolve.specs.Faults.{FaultStands, NoneFails};
 ghost use Rattle.conf_resolve.specs.Readings.{ReadsUnless};
@@ -30,15 +30,15 @@ fn pass<F: Files, R: Runner>(
     runner: &mut R,
 ) -> Result<(), ResolveError>
     ensures passes { WhereRecorded asked.now (known facts.now) (F.recorded files.old) (R.recorded runner.old)
-        (λ recorded. (pass : Pass) (rows : List Row) → Begins recorded pass fold.old rows
-        → Passes recorded pass rows fold.new result) }
+        (λ recorded. (pass : Pass) (rows : List LineRow) → Begins recorded pass fold.old rows
+        → PassGives recorded pass rows fold.new result) }
     ensures ran { WhereRecorded asked.now (known facts.now) (F.recorded files.old) (R.recorded runner.old)
-        (λ recorded. (pass : Pass) (rows : List Row) (before : Commands)
+        (λ recorded. (pass : Pass) (rows : List LineRow) (before : Commands)
         → Begins recorded pass fold.old rows → RanAll before (R.ran runner.old) (commands rows)
         → RanUnless (breaks_off result) before (R.ran runner.new)
         (commands (final_rows recorded pass rows))) }
     ensures fault { WhereRecorded asked.now (known facts.now) (F.recorded files.old) (R.recorded runner.old)
-        (λ recorded. (pass : Pass) (rows : List Row) (before : Commands)
+        (λ recorded. (pass : Pass) (rows : List LineRow) (before : Commands)
         → Begins recorded pass fold.old rows → RanAll before (R.ran runner.old) (commands rows)
         → IfErr result (λ e. FaultStands recorded (final_rows recorded pass rows) e before
         (R.ran runner.new) (F.failed files.old) (F.failed files.new))) }
@@ -69,14 +69,14 @@ fn passes<F: Files, R: Runner>(
     runner: &mut R,
 ) -> Result<(), ResolveError>
     ensures passes { WhereRecorded asked.now (known facts.now) (F.recorded files.old) (R.recorded runner.old)
-        (λ recorded. Stands recorded First fold.old (asked_rows recorded) []
+        (λ recorded. FoldRepresents recorded First fold.old (asked_rows recorded) []
         → refusal_in (asked_rows recorded) ≡ None → BothPass recorded fold.new result) }
     ensures ran { WhereRecorded asked.now (known facts.now) (F.recorded files.old) (R.recorded runner.old)
-        (λ recorded. Stands recorded First fold.old (asked_rows recorded) []
+        (λ recorded. FoldRepresents recorded First fold.old (asked_rows recorded) []
         → refusal_in (asked_rows recorded) ≡ None
         → RanUnless (breaks_off result) (R.ran runner.old) (R.ran runner.new) (execs recorded)) }
     ensures fault { WhereRecorded asked.now (known facts.now) (F.recorded files.old) (R.recorded runner.old)
-        (λ recorded. Stands recorded First fold.old (asked_rows recorded) []
+        (λ recorded. FoldRepresents recorded First fold.old (asked_rows recorded) []
         → refusal_in (asked_rows recorded) ≡ None
         → IfErr result (λ e.
         FaultStands recorded (all_rows recorded) e (R.ran runner.old) (R.ran runner.new)
@@ -84,7 +84,7 @@ fn passes<F: Files, R: Runner>(
     ensures failed { WhereRecorded asked.now (known facts.now) (F.recorded files.old) (R.recorded runner.old)
         (λ recorded. NoneFails result (F.failed files.old) (F.failed files.new)) }
     ensures noted { WhereRecorded asked.now (known facts.now) (F.recorded files.old) (R.recorded runner.old)
-        (λ recorded. Stands recorded First fold.old (asked_rows recorded) []
+        (λ recorded. FoldRepresents recorded First fold.old (asked_rows recorded) []
         → refusal_in (asked_rows recorded) ≡ None
         → ReadsUnless (all_reads recorded) result (F.readings files.old) (F.readings files.new)) }
     ensures cause { HasCauses result (F.faults files.old) (F.faults files.new) (R.faults runner.old)

@@ -1,4 +1,4 @@
--- What a line says, or its first refusal: of form, keyword, words, and value or criteria, in this
+-- What a line means, or its first refusal: of form, keyword, words, and value or criteria, in this
 -- order.
 use Rattle.std.specs.Prelude.{Bool, true, false, List, [], Option, Some, None, Result, Ok, Err}
 use Rattle.conf_rules.specs.declared.key.Key.{Key}
@@ -18,11 +18,11 @@ use Rattle.conf_rules.specs.Values.{value_for}
 use Rattle.conf_rules.specs.Criteria.{read_criteria}
 use Rattle.conf_rules.specs.Includes.{Source, CommandLine}
 use Rattle.conf_rules.specs.Sources.{Line, Content, Spelled, Parts, Refused}
-use Rattle.conf_rules.specs.Rows.{Row, value, word_in}
+use Rattle.conf_rules.specs.Rows.{LineRow, value, word_in}
 use Rattle.conf_rules.specs.declared.entry.LineContent.{LineContent}
 use Rattle.conf_rules.specs.declared.entry.LineContent.TheVariants.{Nothing, Host, Match, Gives}
 
--- what a line says, or why it is refused
+-- what a line means, or why it is refused
 abbrev pub ReadEntry : Type 0
 ReadEntry = Result LineContent Cause
 
@@ -30,7 +30,7 @@ ReadEntry = Result LineContent Cause
 abbrev pub SplitWords : Type 0
 SplitWords = Result (List Bytes) Cause
 
--- whether a list of patterns takes a keyword, both in lower case
+-- whether a list of patterns matches a keyword, both in lower case
 abbrev pub takes_keyword : Option Bytes → Bytes → Bool
 takes_keyword None keyword = false
 takes_keyword (Some patterns) keyword = list_takes (lower patterns) (lower keyword)
@@ -66,7 +66,7 @@ abbrev pub unknown_entry : Bool → Bytes → SplitWords → ReadEntry
 unknown_entry true keyword words = words_entry words
 unknown_entry false keyword words = Err (causes.UnknownKeyword (lower keyword))
 
--- what only a file may say
+-- what only a file may contain
 abbrev pub in_file : Source → ReadEntry → ReadEntry
 in_file CommandLine entry = Err causes.NotOnCommandLine
 in_file source entry = entry
@@ -82,13 +82,13 @@ keyword_entry ignored source keyword rest words kinds.Unchecked = Ok Nothing
 keyword_entry ignored source keyword rest words kinds.Unknown =
     unknown_entry (takes_keyword ignored keyword) keyword words
 
--- what a heading says
+-- what a heading means
 abbrev pub headed_entry : Option Bytes → Source → Heading → ReadEntry
 headed_entry ignored source Comment = Ok Nothing
 headed_entry ignored source (Says keyword rest) =
     keyword_entry ignored source keyword rest (split rest) (meaning_of keyword)
 
--- what the content of a line says
+-- what the content of a line means
 abbrev pub content_entry : Option Bytes → Source → Content → ReadEntry
 content_entry ignored source (Spelled bytes) =
     as_error causes.Lex (head_of bytes) >>= headed_entry ignored source
@@ -98,5 +98,5 @@ content_entry ignored source (Refused cause) = Err cause
 
 -- the content of a line after rows: an unknown keyword that IgnoreUnknown, set earlier, matches is
 -- ignored
-unfoldable pub entry_of : List Row → Line → ReadEntry
+unfoldable pub entry_of : List LineRow → Line → ReadEntry
 entry_of rows line = content_entry (word_in (value IgnoreUnknown rows)) line.source line.content

@@ -83,7 +83,7 @@ abbrev pub ends_with_slash : Bytes → Bool
 ends_with_slash path = elim (split_last path) [ None ↦ false | Some p ↦ p.1 == 47 ]
 
 -- The paths that an absolute path expands to; of one with globs those in the order of their bytes,
--- but none where a slash at its end asks for directories alone.
+-- but none if a slash at its end means directories alone.
 unfoldable pub globbed : Recorded → Bytes → List Bytes
 globbed recorded path =
     let found = sorted (along recorded (components_of path) ([] ∷ [])) in

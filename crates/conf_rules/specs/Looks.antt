@@ -1,4 +1,4 @@
--- What an Include line looks at: the directories whose names its patterns ask for, and the files
+-- What an Include line looks at: the directories whose names its patterns need, and the files
 -- that it names.
 use Rattle.std.specs.Prelude.{if◌then◌else◌, List, [], ◌∷◌, ◌++◌, map, flat_map, Result, Ok, Err, codes}
 use Rattle.conf_rules.specs.declared.causes.LexError.{LexError}
@@ -11,14 +11,14 @@ use Rattle.conf_rules.specs.Recorded.{Recorded}
 use Rattle.conf_rules.specs.Includes.{Source, paths_of, or_root, below, components_of, ends_with_slash, globbed}
 use Rattle.conf_rules.specs.Sources.{Content, Spelled}
 
--- the directories whose names components ask for, from these bases on
+-- the directories whose names components need, from these bases on
 abbrev pub folders_along : Recorded → List Bytes → List Bytes → List Bytes
 folders_along recorded [] bases = []
 folders_along recorded (component ∷ components) bases =
     (if is_glob component then map or_root bases else [])
     ++ folders_along recorded components (flat_map (below recorded component) bases)
 
--- the directories whose names an absolute path asks for
+-- the directories whose names an absolute path needs
 abbrev pub folders_of : Recorded → Bytes → List Bytes
 folders_of recorded path = if ends_with_slash path then []
     else folders_along recorded (components_of path) ([] ∷ [])

@@ -12,7 +12,7 @@ use Rattle.conf_rules.specs.Words.{words_of}
 use Rattle.conf_rules.specs.Recorded.{Recorded}
 use Rattle.conf_rules.specs.Includes.{Source, UserFile, SystemFile, file_at, paths_of, globbed}
 use Rattle.conf_rules.specs.Sources.{all_lines, depth_limit, user_path}
-use Rattle.conf_rules.specs.Rows.{First, Row}
+use Rattle.conf_rules.specs.Rows.{First, LineRow}
 use Rattle.conf_rules.specs.Entries.{entry_of}
 use Rattle.conf_rules.specs.Resolution.{first_place, refuses, rows_from, wants_second}
 
@@ -70,7 +70,7 @@ read_once recorded Nothing = []
 read_once recorded (File path) = read_first UserFile recorded path
 
 -- whether rows have a second pass after them
-abbrev pub asks_second : List Row → Bool
+abbrev pub asks_second : List LineRow → Bool
 asks_second rows = if list_any refuses rows then false else list_any wants_second rows
 
 -- the paths that are read in all passes

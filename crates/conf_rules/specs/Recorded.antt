@@ -1,4 +1,4 @@
--- What a resolution looks at: files, facts of the machine, what was asked, and how commands end.
+-- What a resolution looks at: files, facts of the machine, the request, and how commands end.
 use Rattle.std.specs.Prelude.{ℕ, List, Option}
 use Rattle.conf_rules.specs.declared.asked.Asked.{Asked}
 use Rattle.conf_rules.specs.Texts.{Bytes}

@@ -1,14 +1,14 @@
-/// What a running master is asked.
+/// A request to a running master.
 #[derive(Clone, Copy, Drop, PartialEq, Eq)]
 pub enum MasterCommand {
-    /// Whether it is there.
+    /// Whether it runs.
     Check,
-    /// That it ends.
+    /// To end.
     Exit,
-    /// That it accepts no more clients.
+    /// To accept no more clients.
     Stop,
-    /// That it opens the forwardings that the words name.
+    /// To open the forwardings that the words name.
     Forward,
-    /// That it closes them.
+    /// To close them.
     Cancel,
 }

@@ -1,6 +1,6 @@
 use ssh_fields::{ListOf, Text};
 
-/// What a list of patterns says of a name.
+/// How a list of patterns matches a name.
 #[derive(Clone, Copy, Drop, PartialEq, Eq)]
 pub enum ListAnswer {
     Yes,
@@ -36,7 +36,7 @@ pub enum Named {
     NoName,
 }
 
-/// A criterion of `Match`. The value is empty where the criterion takes none.
+/// A criterion of `Match`. The value is empty if the criterion has none.
 #[derive(Drop)]
 pub struct Criterion {
     pub negated: bool,

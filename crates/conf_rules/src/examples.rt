@@ -4,7 +4,7 @@
 ghost use Rattle.std.specs.Prelude.{◌≡◌, List, [], ◌∷◌, codes, length, true, false};
 ghost use Rattle.conf_rules.specs.Heads.{lines_of};
 ghost use Rattle.conf_rules.specs.Memory.{Pair};
-ghost use Rattle.conf_rules.specs.Outcome.{outcome, ran_for, Opens, Drills};
+ghost use Rattle.conf_rules.specs.CommandOutcome.{outcome, ran_for, Opens, Drills};
 ghost use Rattle.conf_rules.specs.Samples.{lines, file, ann, at_home, machine, bare, with_f, with_root_f, list_file, written, listed_values, says, full_machine, full_listing, exec_machine};
 
 /// Every kind of line that a first configuration has, with an included file.
@@ -50,7 +50,7 @@ pub fn including_itself()
         ≡ says (codes "/f line 1: not a token here") }
 {}
 
-/// Lines that are refused, and one that IgnoreUnknown takes.
+/// Lines that are refused, and one with a keyword that IgnoreUnknown names.
 pub fn refused_lines()
     ensures equals { written
         (outcome (with_f (codes "Port = = 2" ∷ [])) (list_file (codes "f") (codes "x")))
@@ -85,19 +85,39 @@ pub fn control_path_of_the_master()
         ∷ codes "x" ∷ [])) ≡ says (codes "controlpath: not set") }
     ensures opened { outcome bare (codes "-M" ∷ codes "-F" ∷ codes "none" ∷ codes "--transport"
         ∷ codes "/t" ∷ codes "-S" ∷ codes "/c" ∷ codes "x" ∷ [])
-        ≡ Opens (codes "/c") (codes "/t") (record { opens = []; listens = []; sessions = true }) }
+        ≡ Opens (codes "/c") (codes "/t") (record { opens = []; listens = []; sessions = true; here = [] }) }
 {}
 
-/// Sessions are permitted unless the last word on them says otherwise, which only a master has.
+/// Sessions are permitted unless the last `--permit-session` is `none`; only a master has it.
 pub fn sessions_of_the_master()
     ensures none { outcome bare (codes "-M" ∷ codes "-F" ∷ codes "none" ∷ codes "--transport"
         ∷ codes "/t" ∷ codes "-S" ∷ codes "/c" ∷ codes "--permit-session" ∷ codes "any"
         ∷ codes "--permit-session" ∷ codes "none" ∷ codes "x" ∷ [])
-        ≡ Opens (codes "/c") (codes "/t") (record { opens = []; listens = []; sessions = false }) }
+        ≡ Opens (codes "/c") (codes "/t") (record { opens = []; listens = []; sessions = false; here = [] }) }
     ensures bad { written (outcome bare (codes "-M" ∷ codes "--permit-session" ∷ codes "80" ∷ []))
         ≡ says (codes "word 3: not a permission") }
     ensures listing { written (outcome bare (codes "-G" ∷ codes "--permit-session" ∷ codes "80"
         ∷ [])) ≡ says (codes "word 2: only for -M") }
+{}
+
+/// Where the master's own forwardings may listen: the entries of several options are one list, and
+/// a bad one is refused at its word, the earliest first over all lists.
+pub fn listening_of_the_master()
+    ensures two { outcome bare (codes "-M" ∷ codes "-F" ∷ codes "none" ∷ codes "--transport"
+        ∷ codes "/t" ∷ codes "-S" ∷ codes "/c" ∷ codes "--permit-here" ∷ codes "127.0.0.1:*"
+        ∷ codes "--permit-here" ∷ codes "80" ∷ codes "x" ∷ [])
+        ≡ Opens (codes "/c") (codes "/t") (record {
+          opens = [];
+          listens = [];
+          sessions = true;
+          here = codes "127.0.0.1:*" ∷ codes "80" ∷ [];
+        }) }
+    ensures bad { written (outcome bare (codes "-M" ∷ codes "-F" ∷ codes "none"
+        ∷ codes "--transport" ∷ codes "/t" ∷ codes "-S" ∷ codes "/c" ∷ codes "--permit-here"
+        ∷ codes "a:b" ∷ codes "--permit-listen" ∷ codes "a:b" ∷ codes "x" ∷ []))
+        ≡ says (codes "word 9: not a permission") }
+    ensures listing { written (outcome bare (codes "-G" ∷ codes "--permit-here" ∷ codes "a:b"
+        ∷ codes "x" ∷ [])) ≡ says (codes "word 2: only for -M") }
 {}
 
 /// A drill is read from three numbers in their ranges.
@@ -140,7 +160,7 @@ pub fn first_value_wins()
         (list_file (codes "f") (codes "x"))) ≡ codes "1" ∷ [] }
 {}
 
-/// A pattern of SendEnv behind a dash removes the earlier ones that it matches.
+/// A pattern of SendEnv that follows a dash removes the earlier ones that it matches.
 pub fn removed_patterns()
     ensures { listed_values (codes "sendenv")
         (outcome (with_f (codes "SendEnv LANG LC_*" ∷ codes "SendEnv -LC_?" ∷ codes "SendEnv -L*G X"
@@ -218,8 +238,8 @@ pub fn refused_words()
         ≡ says (codes "word 3: only one destination is taken") }
 {}
 
-/// What a running master is asked: no such thing, beside another mode, with no forwarding or no
-/// destination, with an option of the master, and twice.
+/// Requests to a running master: an unknown one, one beside another mode, without a forwarding or a
+/// destination, with an option of the master, and two of them.
 pub fn words_of_the_client()
     ensures command { written (outcome bare (codes "-O" ∷ codes "restart" ∷ codes "x" ∷ []))
         ≡ says (codes "word 2: not a command") }
@@ -280,8 +300,7 @@ pub fn directories_alone()
         (list_file (codes "/f") (codes "x"))) ≡ codes "b" ∷ [] }
 {}
 
-/// A second pass, where a Match line asks for it: its blocks see the host name behind the first
-/// pass.
+/// A second pass, if a Match line requests it: its blocks see the host name after the first pass.
 pub fn second_pass()
     ensures late { listed_values (codes "user")
         (outcome (with_f (codes "Host 10.*" ∷ codes "Port 9" ∷ codes "Host db"
@@ -326,7 +345,7 @@ pub fn each_pass()
         ∷ codes "Port 6" ∷ [])) (list_file (codes "f") (codes "db"))) ≡ codes "6" ∷ [] }
 {}
 
-/// A refusal of the second pass counts, and its commands run behind those of the first.
+/// A refusal of the second pass counts, and its commands run after those of the first.
 pub fn reached_in_the_second_pass()
     ensures refused { written
         (outcome (machine (record ann { local_user = None })

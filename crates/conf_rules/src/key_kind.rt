@@ -5,9 +5,9 @@ use crate::key::Key;
 pub enum KeyKind {
     /// It sets a key.
     Key(Key),
-    /// It opens a block for the names that patterns take.
+    /// It opens a block for the names that patterns match.
     Host,
-    /// It opens a block for where criteria hold.
+    /// It opens a block that applies if criteria hold.
     Match,
     /// It includes files.
     Include,

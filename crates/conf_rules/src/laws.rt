@@ -7,8 +7,8 @@ ghost use Rattle.conf_rules.specs.declared.limits.TheConstants.{MAX_FILE, MAX_LI
 ghost use Rattle.conf_rules.specs.Texts.{Bytes};
 ghost use Rattle.conf_rules.specs.Recorded.{Recorded};
 ghost use Rattle.conf_rules.specs.Sources.{Includes, Where, Line, file_lines, refused_at, size_limit};
-ghost use Rattle.conf_rules.specs.Rows.{Row};
-ghost use Rattle.conf_rules.specs.Resolution.{Reader, counted, is_asked, is_refusal, is_past_limit, line_limit};
+ghost use Rattle.conf_rules.specs.Rows.{LineRow};
+ghost use Rattle.conf_rules.specs.Resolution.{Reader, counted, is_asked, is_refusal_content, is_past_limit, line_limit};
 
 /// A file past its size is refused with line 0.
 #[tactic(auto, unfolding(crate::specs::Sources::size_limit, crate::specs::Sources::file_lines))]
@@ -22,8 +22,8 @@ pub fn a_file_past_its_size()
 /// A line of a file before which `MAX_LINES` stand is refused.
 #[tactic(auto, unfolding(crate::specs::Resolution::line_limit))]
 pub fn a_line_past_the_last()
-    ensures { (recorded : Recorded) (reads : Reader) (rows : List Row) (line : Line) (number : ℕ)
-        → is_asked line.source ≡ false → is_refusal line.content ≡ false
+    ensures { (recorded : Recorded) (reads : Reader) (rows : List LineRow) (line : Line) (number : ℕ)
+        → is_asked line.source ≡ false → is_refusal_content line.content ≡ false
         → nat_le MAX_LINES (number - length recorded.asked.lines) ≡ true
         → counted recorded reads rows line number ≡ Err causes.TooManyLines }
 {}

@@ -6,7 +6,7 @@ use Rattle.conf_rules.specs.declared.token_set.TokenSet.{TokenSet}
 use Rattle.conf_rules.specs.declared.causes.TokenError.{TokenError}
 use Rattle.conf_rules.specs.Results.{◌>>=◌, Fails}
 use Rattle.conf_rules.specs.Wants.{token_wants_memory}
-use Rattle.conf_rules.specs.Tokens.{View, Part, part_at, expand_from, name_expanded}
+use Rattle.conf_rules.specs.Tokens.{View, TokenPart, part_at, expand_from, name_expanded}
 use Rattle.conf_tokens.specs.Puts.{onto, onto_part, name_token}
 
 -- bytes that belong to a part are skipped
@@ -23,7 +23,7 @@ regrouped old text (Err e) = refl
 regrouped old text (Ok rest) = rw append_assoc refl
 
 -- a part, and what comes after it
-joined : (old : List ℕ) (part : Result Part TokenError) (others : ℕ → Result (List ℕ) TokenError) (new : List ℕ) (more : ℕ) → onto_part old part ≡ Ok (new, more) → onto old (part >>= λ p. others p.more >>= λ rest. Ok (p.text ++ rest)) ≡ onto new (others more)
+joined : (old : List ℕ) (part : Result TokenPart TokenError) (others : ℕ → Result (List ℕ) TokenError) (new : List ℕ) (more : ℕ) → onto_part old part ≡ Ok (new, more) → onto old (part >>= λ p. others p.more >>= λ rest. Ok (p.text ++ rest)) ≡ onto new (others more)
 joined old (Err e) others new more h = absurd cc
 joined old (Ok p) others new more h =
     let pair : (old ++ p.text, p.more) ≡ (new, more) = cc in

@@ -4,7 +4,7 @@ use Rattle.conf_rules.specs.declared.causes.TokenError.{TokenError}
 use Rattle.conf_rules.specs.Results.{◌>>=◌, Fails}
 use Rattle.conf_rules.specs.Wants.{token_wants_memory}
 use Rattle.conf_rules.specs.Texts.{Bytes}
-use Rattle.conf_rules.specs.Tokens.{Part, fact_of, before_dot}
+use Rattle.conf_rules.specs.Tokens.{TokenPart, fact_of, before_dot}
 
 -- a text before a reading
 abbrev pub onto : Bytes → Result Bytes TokenError → Result Bytes TokenError
@@ -17,11 +17,11 @@ Puts (Ok x) old new reading = onto old reading ≡ Ok new
 Puts (Err e) old new reading = Fails token_wants_memory e reading
 
 -- a part after what stood there, and how many bytes follow its first
-abbrev pub onto_part : Bytes → Result Part TokenError → Result (Bytes × ℕ) TokenError
+abbrev pub onto_part : Bytes → Result TokenPart TokenError → Result (Bytes × ℕ) TokenError
 onto_part front reading = reading >>= λ part. Ok (front ++ part.text, part.more)
 
 -- what stood there has the part's text after it, unless memory ran out
-abbrev pub PutsPart : Result ℕ TokenError → Bytes → Bytes → Result Part TokenError → Type 0
+abbrev pub PutsPart : Result ℕ TokenError → Bytes → Bytes → Result TokenPart TokenError → Type 0
 PutsPart (Ok more) old new reading = onto_part old reading ≡ Ok (new, more)
 PutsPart (Err e) old new reading = Fails token_wants_memory e reading
 

@@ -1,6 +1,6 @@
 ghost use Rattle.std.specs.Prelude.{◌≡◌};
 ghost use Rattle.std.specs.Option.{option_map};
-ghost use Rattle.mux_outside.specs.Files.{value_at};
+ghost use Rattle.mux_outside.specs.Files.{pair_value_at};
 ghost use Rattle.conf_rules.specs.Tokens.{fact_of, user_of};
 ghost use Rattle.conf_rules.specs.Results.{Shows};
 ghost use Rattle.conf_tokens.specs.Seen.{seen};
@@ -33,7 +33,7 @@ pub fn user<'a>(byte: u8, view: &View<'a>) -> Result<&'a [u8], TokenError>
 
 /// The value of a variable, of equal names the first.
 pub fn variable<'a>(vars: &'a Pairs, name: &[u8]) -> Option<&'a [u8]>
-    ensures { option_map (λ v. v.now) result ≡ value_at vars.now name.now }
+    ensures { option_map (λ v. v.now) result ≡ pair_value_at vars.now name.now }
 {
     for pair in vars.as_slice() {
         if pair.name.as_bytes() == name {

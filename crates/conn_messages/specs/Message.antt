@@ -13,11 +13,11 @@ use Rattle.ssh_grammar.specs.Messages as grammar
 use Rattle.ssh_grammar.specs.ReadMessage.{with_reading, Form, OfNone, forms}
 use Rattle.ssh_grammar.specs.Tables.{by_number}
 
-abbrev pub request_of : Request → grammar.Global
-request_of (request.Forward key) = grammar.Forward (key_of key)
-request_of (request.Cancel key) = grammar.Cancel (key_of key)
-request_of request.KeepAlive = grammar.KeepAlive
-request_of request.Other = grammar.OtherName
+abbrev pub grammar_request_of : Request → grammar.Global
+grammar_request_of (request.Forward key) = grammar.Forward (key_of key)
+grammar_request_of (request.Cancel key) = grammar.Cancel (key_of key)
+grammar_request_of request.KeepAlive = grammar.KeepAlive
+grammar_request_of request.Other = grammar.OtherName
 
 abbrev pub opening_of : Opening → grammar.Opens
 opening_of opening.Session = grammar.Session
@@ -28,7 +28,7 @@ opening_of opening.Other = grammar.OtherType
 abbrev pub message_of : Message → grammar.Message
 message_of (message.Transport number rest) = grammar.Plain (grammar.Transport number rest.now)
 message_of (message.GlobalRequest name want rest what) =
-    grammar.Plain (grammar.GlobalRequest name.now want rest.now (request_of what))
+    grammar.Plain (grammar.GlobalRequest name.now want rest.now (grammar_request_of what))
 message_of (message.RequestSuccess rest) = grammar.Plain (grammar.RequestSuccess rest.now)
 message_of message.RequestFailure = grammar.Plain grammar.RequestFailure
 message_of (message.Open kind sender window maximum rest what) =

@@ -2,7 +2,7 @@ ghost use Rattle.ssh_grammar.specs.Gives.{Gives};
 ghost use Rattle.ssh_grammar.specs.ReadMessage.{read_key, read_path, read_global, read_ends, read_direct_path, read_forwarded_path, read_opens};
 ghost use Rattle.ssh_grammar.specs.Messages as grammar;
 ghost use Rattle.conn_messages.specs.Keys.{key_of};
-ghost use Rattle.conn_messages.specs.Message.{opening_of, request_of};
+ghost use Rattle.conn_messages.specs.Message.{opening_of, grammar_request_of};
 
 use crate::key::Key;
 use crate::message::{Opening, Request};
@@ -31,14 +31,14 @@ fn port_key<'a>(fields: &mut FieldReader<'a>) -> Result<Key<'a>, Bad>
 }
 
 fn forward<'a>(fields: &mut FieldReader<'a>) -> Result<Request<'a>, Bad>
-    ensures { Gives request_of result (read_key fields.old.cursor fields.old.at grammar.Forward) }
+    ensures { Gives grammar_request_of result (read_key fields.old.cursor fields.old.at grammar.Forward) }
 {
     let key = port_key(fields)?;
     Ok(Request::Forward(key))
 }
 
 fn cancel<'a>(fields: &mut FieldReader<'a>) -> Result<Request<'a>, Bad>
-    ensures { Gives request_of result (read_key fields.old.cursor fields.old.at grammar.Cancel) }
+    ensures { Gives grammar_request_of result (read_key fields.old.cursor fields.old.at grammar.Cancel) }
 {
     let key = port_key(fields)?;
     Ok(Request::Cancel(key))
@@ -55,14 +55,14 @@ fn path_key<'a>(fields: &mut FieldReader<'a>) -> Result<Key<'a>, Bad>
 }
 
 fn forward_path<'a>(fields: &mut FieldReader<'a>) -> Result<Request<'a>, Bad>
-    ensures { Gives request_of result (read_path fields.old.cursor fields.old.at grammar.Forward) }
+    ensures { Gives grammar_request_of result (read_path fields.old.cursor fields.old.at grammar.Forward) }
 {
     let key = path_key(fields)?;
     Ok(Request::Forward(key))
 }
 
 fn cancel_path<'a>(fields: &mut FieldReader<'a>) -> Result<Request<'a>, Bad>
-    ensures { Gives request_of result (read_path fields.old.cursor fields.old.at grammar.Cancel) }
+    ensures { Gives grammar_request_of result (read_path fields.old.cursor fields.old.at grammar.Cancel) }
 {
     let key = path_key(fields)?;
     Ok(Request::Cancel(key))
@@ -73,7 +73,7 @@ pub(crate) fn request_data<'a>(
     name: &[u8],
     fields: &mut FieldReader<'a>,
 ) -> Result<Request<'a>, Bad>
-    ensures { Gives request_of result (read_global name.now fields.old.cursor fields.old.at) }
+    ensures { Gives grammar_request_of result (read_global name.now fields.old.cursor fields.old.at) }
 {
     if name == FORWARD {
         forward(fields)

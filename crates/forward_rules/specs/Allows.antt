@@ -15,8 +15,8 @@ use Rattle.forward_rules.specs.declared.policy.PolicyError.{PolicyError}
 use Rattle.forward_rules.specs.declared.policy.PolicyError.TheVariants as error
 
 -- a host that is lent
-abbrev pub host_of : Option (Bor (List ℕ)) → Option (List ℕ)
-host_of host = option_map (λ h. h.now) host
+abbrev pub lent_host_of : Option (Bor (List ℕ)) → Option (List ℕ)
+lent_host_of host = option_map (λ h. h.now) host
 
 -- two texts that are lent
 abbrev pub sides_of : Bor (List ℕ) × Bor (List ℕ) → List ℕ × List ℕ
@@ -24,25 +24,25 @@ sides_of sides = (sides.0.now, sides.1.now)
 
 -- an entry as its text has it
 abbrev pub parts_of : Parts → history.Entry
-parts_of (parts.Ports host port) = history.Ports (host_of host) port
+parts_of (parts.Ports host port) = history.Ports (lent_host_of host) port
 parts_of (parts.Path path) = history.Paths path.now
 
 -- one with bytes of its own
-abbrev pub entry_of : Entry → history.Entry
-entry_of (entry.Ports host port) = history.Ports host port
-entry_of (entry.Path path) = history.Paths path
+abbrev pub owned_entry_of : Entry → history.Entry
+owned_entry_of (entry.Ports host port) = history.Ports host port
+owned_entry_of (entry.Path path) = history.Paths path
 
 -- a list
 abbrev pub allow_of : Allowed → history.Allow
 allow_of allowed.Anything = history.Anything
-allow_of (allowed.Entries entries) = history.Entries (map entry_of entries.items)
+allow_of (allowed.Entries entries) = history.Entries (map owned_entry_of entries.items)
 
 -- ---- one list
 
--- what was returned is what reading gives; want of memory is free
+-- what was returned is what reading gives; running out of memory is free
 abbrev pub EntriesReadAs : Result (Vec Entry Global) ListFault
     → Result (List history.Entry) ℕ → Type 0
-EntriesReadAs (Ok entries) read = read ≡ Ok (map entry_of entries.items)
+EntriesReadAs (Ok entries) read = read ≡ Ok (map owned_entry_of entries.items)
 EntriesReadAs (Err (fault.Bad at)) read = read ≡ Err at
 EntriesReadAs (Err fault.OutOfMemory) read = Unit {0}
 
@@ -73,12 +73,12 @@ read_policy opens listens sessions = elim (history.read_list opens) [
   | Err at ↦ Err (record { for_open = true; at = at })
 ]
 
--- what was returned is what reading gives; want of memory is free
-abbrev pub ReadsAs : Result history.Policy PolicyError → Result history.Policy BadText → Type 0
-ReadsAs (Ok policy) read = read ≡ Ok policy
-ReadsAs (Err (error.BadEntry for_open at)) read =
+-- what was returned is what reading gives; running out of memory is free
+abbrev pub ReadsPolicyAs : Result history.Policy PolicyError → Result history.Policy BadText → Type 0
+ReadsPolicyAs (Ok policy) read = read ≡ Ok policy
+ReadsPolicyAs (Err (error.BadEntry for_open at)) read =
     read ≡ Err (record { for_open = for_open; at = at })
-ReadsAs (Err error.OutOfMemory) read = Unit {0}
+ReadsPolicyAs (Err error.OutOfMemory) read = Unit {0}
 
 -- a fault of one of the lists
 abbrev pub error_in : Bool → ListFault → PolicyError

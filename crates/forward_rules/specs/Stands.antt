@@ -8,10 +8,10 @@ use Rattle.mux_history.specs.Rows.{Row}
 use Rattle.mux_history.specs.Requests.{Ask, asks, replies}
 use Rattle.mux_history.specs.Forwardings.{Forwarding}
 use Rattle.forward_rules.specs.State.{Forward}
-use Rattle.forward_rules.specs.Step.{cancels, count_of}
+use Rattle.forward_rules.specs.Step.{cancels, forward_count_of}
 
 -- one forwarding
-pub record Fits (f : Forward) (g : Forwarding) : Type 0 where
+pub record ForwardingFits (f : Forward) (g : Forwarding) : Type 0 where
   pub client : f.client ≡ g.client
   pub key : f.key ≡ unwrap_or g.live g.key
   pub live : f.live ≡ is_some g.live
@@ -19,11 +19,11 @@ pub record Fits (f : Forward) (g : Forwarding) : Type 0 where
   pub on : g.over ≡ false
 
 -- one by one
-abbrev pub AreListed : List Forward → List Forwarding → Type 0
-AreListed [] [] = Unit {0}
-AreListed [] (g ∷ gs) = ⊥
-AreListed (f ∷ fs) [] = ⊥
-AreListed (f ∷ fs) (g ∷ gs) = Fits f g × AreListed fs gs
+abbrev pub AreForwardsListed : List Forward → List Forwarding → Type 0
+AreForwardsListed [] [] = Unit {0}
+AreForwardsListed [] (g ∷ gs) = ⊥
+AreForwardsListed (f ∷ fs) [] = ⊥
+AreForwardsListed (f ∷ fs) (g ∷ gs) = ForwardingFits f g × AreForwardsListed fs gs
 
 -- of two of one client, the cancel of the one was sent before that of the other in both
 abbrev pub InOrder : Forward → Forwarding → Forward → Forwarding → Type 0
@@ -39,10 +39,10 @@ InOrderWith f g fs [] = Unit {0}
 InOrderWith f g (f' ∷ fs) (g' ∷ gs) = InOrder f g f' g' × InOrderWith f g fs gs
 
 -- each two
-abbrev pub AreInOrder : List Forward → List Forwarding → Type 0
-AreInOrder [] gs = Unit {0}
-AreInOrder fs [] = Unit {0}
-AreInOrder (f ∷ fs) (g ∷ gs) = InOrderWith f g fs gs × AreInOrder fs gs
+abbrev pub AreForwardingsInOrder : List Forward → List Forwarding → Type 0
+AreForwardingsInOrder [] gs = Unit {0}
+AreForwardingsInOrder fs [] = Unit {0}
+AreForwardingsInOrder (f ∷ fs) (g ∷ gs) = InOrderWith f g fs gs × AreForwardingsInOrder fs gs
 
 -- the wanted requests that were sent, and how many of them have a reply
 pub record Places : Type 0 where
@@ -64,14 +64,14 @@ pub record IsAwaited (own : Places) (g : Forwarding) : Type 0 where
   pub either : g.live ≡ None → g.cancel ≡ None
 
 -- no two wait at one place
-pub record AreTwo (g h : Forwarding) : Type 0 where
+pub record AreTwoPlaces (g h : Forwarding) : Type 0 where
   pub asked : g.client ≡ h.client → g.live ≡ None → h.live ≡ None → g.request < h.request
   pub leaving : (q : ℕ) → g.client ≡ h.client → g.cancel ≡ Some q → h.cancel ≡ Some q → ⊥
 
 -- each two
 abbrev pub EachTwo : List Forwarding → Type 0
 EachTwo [] = Unit {0}
-EachTwo (g ∷ gs) = AllByRecursion (AreTwo g) gs × EachTwo gs
+EachTwo (g ∷ gs) = AllByRecursion (AreTwoPlaces g) gs × EachTwo gs
 
 -- whose request waits at a place
 abbrev pub is_asked_at : ℕ → Forwarding → Bool
@@ -100,10 +100,10 @@ IsRanked fs f = (r : ℕ) → f.cancel ≡ Some r → r < cancels f.client fs
 -- client, and these clients are lost
 pub record AreFit (fs : List Forward) (gs : List Forwarding) (own : ℕ → Places) (lost : ℕ
     → Bool) : Type 0 where
-  pub listed : AreListed fs gs
-  pub in_order : AreInOrder fs gs
+  pub listed : AreForwardsListed fs gs
+  pub in_order : AreForwardingsInOrder fs gs
   pub awaited : AllByRecursion (λ g. IsAwaited (own g.client) g) gs
   pub two : EachTwo gs
-  pub few : (k : ℕ) → count_of fs k ≤ MAX_FORWARDINGS
+  pub few : (k : ℕ) → forward_count_of fs k ≤ MAX_FORWARDINGS
   pub each : (k : ℕ) → lost k ≡ false → EachHas (own k) (filter (λ g. g.client == k) gs)
   pub ranked : AllByRecursion (IsRanked fs) fs

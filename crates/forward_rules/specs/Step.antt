@@ -28,14 +28,14 @@ is_leaving_at k key f = is_of k f && (is_some f.cancel && is_live_at key f)
 
 -- ---- changes of the first that passes
 
-abbrev pub change_first : (Forward → Bool) → (Forward → Forward) → List Forward → List Forward
-change_first test change [] = []
-change_first test change (f ∷ fs) =
-    elim (test f) [ true ↦ change f ∷ fs | false ↦ f ∷ change_first test change fs ]
+abbrev pub change_first_forward : (Forward → Bool) → (Forward → Forward) → List Forward → List Forward
+change_first_forward test change [] = []
+change_first_forward test change (f ∷ fs) =
+    elim (test f) [ true ↦ change f ∷ fs | false ↦ f ∷ change_first_forward test change fs ]
 
-abbrev pub without_first : (Forward → Bool) → List Forward → List Forward
-without_first test [] = []
-without_first test (f ∷ fs) = elim (test f) [ true ↦ fs | false ↦ f ∷ without_first test fs ]
+abbrev pub without_first_forward : (Forward → Bool) → List Forward → List Forward
+without_first_forward test [] = []
+without_first_forward test (f ∷ fs) = elim (test f) [ true ↦ fs | false ↦ f ∷ without_first_forward test fs ]
 
 -- ---- asking
 
@@ -44,14 +44,14 @@ abbrev pub asked : ℕ → Key → Forward
 asked k key = record { client = k; key = key; live = false; cancel = None }
 
 -- how many of a client are asked or live
-abbrev pub count_of : List Forward → ℕ → ℕ
-count_of fs k = length (filter (is_of k) fs)
+abbrev pub forward_count_of : List Forward → ℕ → ℕ
+forward_count_of fs k = length (filter (is_of k) fs)
 
 -- the server's answer to the one of this key that was asked first: it is live, or it is none
 abbrev pub answered : ℕ → Key → Option ℕ → List Forward → List Forward
-answered k key None fs = without_first (is_asked_at k key) fs
+answered k key None fs = without_first_forward (is_asked_at k key) fs
 answered k key (Some port) fs =
-    change_first (is_asked_at k key) (λ f. record f { live = true; key = with_port port f.key }) fs
+    change_first_forward (is_asked_at k key) (λ f. record f { live = true; key = with_port port f.key }) fs
 
 -- ---- cancelling
 
@@ -67,8 +67,8 @@ cancels k fs = length (filter (is_leaving k) fs)
 -- wait, and one that wants none ends the forwarding
 abbrev pub cancelled : ℕ → Key → Bool → List Forward → List Forward
 cancelled k key true fs =
-    change_first (is_free_at k key) (λ f. record f { cancel = Some (cancels k fs) }) fs
-cancelled k key false fs = without_first (is_free_at k key) fs
+    change_first_forward (is_free_at k key) (λ f. record f { cancel = Some (cancels k fs) }) fs
+cancelled k key false fs = without_first_forward (is_free_at k key) fs
 
 -- there is one that may be cancelled
 abbrev pub some_free : ℕ → Key → List Forward → Bool
@@ -112,20 +112,20 @@ settled k r true fs = map (without_cancel_of k r) (filter (λ f. not (is_cancell
 settled k r false fs = map (without_cancel_of k r) fs
 
 -- where there is one
-abbrev pub settled_at : ℕ → Option ℕ → Bool → List Forward → List Forward
-settled_at k None done fs = fs
-settled_at k (Some r) done fs = settled k r done fs
+abbrev pub forward_settled_at : ℕ → Option ℕ → Bool → List Forward → List Forward
+forward_settled_at k None done fs = fs
+forward_settled_at k (Some r) done fs = settled k r done fs
 
 -- the server's answer to the client's cancel of this key that was sent first
 abbrev pub cancel_answered : ℕ → Key → Bool → List Forward → List Forward
-cancel_answered k key done fs = settled_at k (first_cancel (is_leaving_at k key) fs) done fs
+cancel_answered k key done fs = forward_settled_at k (first_cancel (is_leaving_at k key) fs) done fs
 
 -- ---- who is meant, and who leaves
 
 -- the client of the earliest that is live with this key
-abbrev pub owner_at : Key → List Forward → Option ℕ
-owner_at key fs = option_map (λ f. f.client) (find (is_live_at key) fs)
+abbrev pub forward_owner_at : Key → List Forward → Option ℕ
+forward_owner_at key fs = option_map (λ f. f.client) (find (is_live_at key) fs)
 
 -- without all of a client's
-abbrev pub without_client : ℕ → List Forward → List Forward
-without_client k fs = filter (λ f. not (is_of k f)) fs
+abbrev pub forwards_without_client : ℕ → List Forward → List Forward
+forwards_without_client k fs = filter (λ f. not (is_of k f)) fs

@@ -4,7 +4,7 @@ use Rattle.ssh_grammar.specs.Messages as grammar
 use Rattle.mux_history.specs.declared.limits.TheConstants.{MAX_FORWARDINGS}
 use Rattle.conn_messages.specs.Keys.{own_key_of}
 use Rattle.forward_rules.specs.State.{Forward}
-use Rattle.forward_rules.specs.Step.{count_of, is_of, moved_up, without_client, without_first}
+use Rattle.forward_rules.specs.Step.{forward_count_of, is_of, moved_up, forwards_without_client, without_first_forward}
 use Rattle.conn_messages.specs.declared.key.OwnKey.{OwnKey}
 use Rattle.forward_rules.specs.declared.forwards.ForwardRefused.{ForwardRefused}
 use Rattle.forward_rules.specs.declared.forwards.ForwardRefused.TheVariants.{Full, OutOfMemory}
@@ -12,13 +12,13 @@ use Rattle.forward_rules.specs.declared.forwards.ForwardRefused.TheVariants.{Ful
 -- at 64 of a client none is added, and below none is refused for that; running out of memory is
 -- free
 abbrev pub AddsAs : List Forward → ℕ → Result Unit ForwardRefused → Type 0
-AddsAs fs k (Ok u) = count_of fs k < MAX_FORWARDINGS
-AddsAs fs k (Err (Full count)) = (count ≡ count_of fs k) × (count ≡ MAX_FORWARDINGS)
-AddsAs fs k (Err OutOfMemory) = count_of fs k < MAX_FORWARDINGS
+AddsAs fs k (Ok u) = forward_count_of fs k < MAX_FORWARDINGS
+AddsAs fs k (Err (Full count)) = (count ≡ forward_count_of fs k) × (count ≡ MAX_FORWARDINGS)
+AddsAs fs k (Err OutOfMemory) = forward_count_of fs k < MAX_FORWARDINGS
 
 -- no client has more than 64
 abbrev pub AreFew : List Forward → Type 0
-AreFew fs = (k : ℕ) → count_of fs k ≤ MAX_FORWARDINGS
+AreFew fs = (k : ℕ) → forward_count_of fs k ≤ MAX_FORWARDINGS
 
 -- ---- taking out
 
@@ -31,12 +31,12 @@ abbrev pub first_live : ℕ → List Forward → Option Forward
 first_live k fs = find (is_live_of k) fs
 
 -- what is recorded of it: its key, and whether a cancel of it has no reply
-abbrev pub recorded_of : Forward → grammar.Key × Bool
-recorded_of f = (f.key, is_some f.cancel)
+abbrev pub recorded_forward_of : Forward → grammar.Key × Bool
+recorded_forward_of f = (f.key, is_some f.cancel)
 
 -- what is handed out
-abbrev pub taken_of : OwnKey × Bool → grammar.Key × Bool
-taken_of t = (own_key_of t.0, t.1)
+abbrev pub recorded_taken_of : OwnKey × Bool → grammar.Key × Bool
+recorded_taken_of t = (own_key_of t.0, t.1)
 
 -- one cancel of the client fewer was sent before a later one
 abbrev pub moved_up_of : ℕ → ℕ → Forward → Forward
@@ -52,12 +52,12 @@ closed_up k (Some r) fs = map (moved_up_of k r) fs
 
 -- what stays: all but that one; where there is none, all but the client's
 abbrev pub rest_after : ℕ → List Forward → Option Forward → List Forward
-rest_after k fs None = without_client k fs
-rest_after k fs (Some f) = closed_up k f.cancel (without_first (is_live_of k) fs)
+rest_after k fs None = forwards_without_client k fs
+rest_after k fs (Some f) = closed_up k f.cancel (without_first_forward (is_live_of k) fs)
 
 abbrev pub after_taking : ℕ → List Forward → List Forward
 after_taking k fs = rest_after k fs (first_live k fs)
 
 -- what removing them records one after the other, until there is none
 abbrev pub recorded_one_by_one : ℕ → List Forward → List (grammar.Key × Bool)
-recorded_one_by_one k fs = map recorded_of (filter (is_live_of k) fs)
+recorded_one_by_one k fs = map recorded_forward_of (filter (is_live_of k) fs)

@@ -2,7 +2,7 @@ ghost use Rattle.std.specs.Prelude.{◌≡◌, map, IfOk};
 ghost use Rattle.mux_history.specs.Policy.{has_host, has_port, is_for, permits};
 ghost use Rattle.mux_history.specs.Rows.{any_of};
 ghost use Rattle.conn_messages.specs.Keys.{key_of};
-ghost use Rattle.forward_rules.specs.Allows.{allow_of, entry_of, parts_of};
+ghost use Rattle.forward_rules.specs.Allows.{allow_of, owned_entry_of, parts_of};
 
 use conn_messages::Key;
 use ssh_fields::{OutOfMemory, Text};
@@ -33,7 +33,7 @@ pub enum Entry {
 impl Entry {
     /// A copy of what was read.
     pub fn copy(alloc: Global, parts: Parts<'_>) -> Result<Entry, OutOfMemory>
-        ensures { IfOk result (λ e. entry_of e ≡ parts_of parts.entry) }
+        ensures { IfOk result (λ e. owned_entry_of e ≡ parts_of parts.entry) }
     {
         match parts {
             Parts::Ports { host, port } => {
@@ -49,7 +49,7 @@ impl Entry {
 
     // Whether it is for this key. One for ports is for no path, and one for a path is for no port.
     fn is_for(&self, key: Key<'_>) -> bool
-        ensures { result ≡ is_for (key_of key.entry) (entry_of self.now) }
+        ensures { result ≡ is_for (key_of key.entry) (owned_entry_of self.now) }
     {
         match (self, key) {
             (
@@ -105,7 +105,7 @@ impl Allowed {
 }
 
 fn any_for(entries: &[Entry], key: Key<'_>) -> bool
-    ensures { result ≡ any_of (is_for (key_of key.entry)) (map entry_of entries.now) }
+    ensures { result ≡ any_of (is_for (key_of key.entry)) (map owned_entry_of entries.now) }
 {
     for entry in entries {
         if entry.is_for(key) {

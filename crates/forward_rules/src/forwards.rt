@@ -1,9 +1,9 @@
 ghost use Rattle.std.specs.Prelude.{◌≡◌, ◌≤◌, ◌+◌, ◌++◌, [], ◌∷◌, filter, map, not, position, true, false, option_map, IfSome, IfNone, OnSome, OnOk, OnErr};
 ghost use Rattle.mux_history.specs.declared.limits.TheConstants.{MAX_FORWARDINGS};
 ghost use Rattle.conn_messages.specs.Keys.{key_of, own_key_of, IsShort};
-ghost use Rattle.forward_rules.specs.Step.{asked, answered, cancelled, cancels, cancel_answered, earlier, first_cancel, is_asked_at, is_cancelled_at, is_free_at, is_leaving_at, is_live_at, some_free, owner_at, count_of, without_cancel_of, without_client};
-ghost use Rattle.forward_rules.specs.Listing.{forward_of};
-ghost use Rattle.forward_rules.specs.Taking.{AddsAs, after_taking, closed_up, first_live, is_live_of, moved_up_of, taken_of, recorded_of};
+ghost use Rattle.forward_rules.specs.Step.{asked, answered, cancelled, cancels, cancel_answered, earlier, first_cancel, is_asked_at, is_cancelled_at, is_free_at, is_leaving_at, is_live_at, some_free, forward_owner_at, forward_count_of, without_cancel_of, forwards_without_client};
+ghost use Rattle.forward_rules.specs.Listing.{listed_forward_of};
+ghost use Rattle.forward_rules.specs.Taking.{AddsAs, after_taking, closed_up, first_live, is_live_of, moved_up_of, recorded_taken_of, recorded_forward_of};
 
 use crate::listed::Listed;
 use conn_messages::{Key, OwnKey};
@@ -31,14 +31,14 @@ pub struct Forwards {
 impl Model for Forwards {
     ghost use Rattle.std.specs.Prelude.{List, map};
     ghost use Rattle.forward_rules.specs.State.{Forward};
-    ghost use Rattle.forward_rules.specs.Listing.{forward_of};
+    ghost use Rattle.forward_rules.specs.Listing.{listed_forward_of};
     ghost use Rattle.forward_rules.specs.Taking.{AreFew};
 
     ghost Value = { List Forward };
 
-    ghost view = { λ a. map forward_of a.listed.items };
+    ghost view = { λ a. map listed_forward_of a.listed.items };
 
-    ghost invariant = { λ a. AreFew (map forward_of a.listed.items) };
+    ghost invariant = { λ a. AreFew (map listed_forward_of a.listed.items) };
 }
 
 impl Forwards {
@@ -129,7 +129,7 @@ impl Forwards {
 
     /// The client of the earliest live forwarding of this key.
     pub fn owner_of(&self, key: Key<'_>) -> Option<u64>
-        ensures { result ≡ owner_at (key_of key.entry) self.now }
+        ensures { result ≡ forward_owner_at (key_of key.entry) self.now }
     {
         let place = live_in(&self.listed, key)?;
         Some(self.listed[place].client)
@@ -137,7 +137,7 @@ impl Forwards {
 
     /// How many forwardings of a client are asked or live.
     pub fn count(&self, client: u64) -> usize
-        ensures exact { result ≡ count_of self.now client }
+        ensures exact { result ≡ forward_count_of self.now client }
         ensures few { result ≤ MAX_FORWARDINGS }
     {
         count_in(&self.listed, client)
@@ -146,13 +146,13 @@ impl Forwards {
     /// Removes a client's earliest live forwarding: its key, and whether a cancel of it has no
     /// reply. Where it has no live one, all that it has asked are removed, and None is answered.
     pub fn take_of(&mut self, client: u64) -> Option<(OwnKey, bool)>
-        ensures exact { option_map taken_of result
-            ≡ option_map recorded_of (first_live client self.old) }
+        ensures exact { option_map recorded_taken_of result
+            ≡ option_map recorded_forward_of (first_live client self.old) }
         ensures step { self.new ≡ after_taking client self.old }
         ensures short { IfSome result (λ t. IsShort (own_key_of t.0)) }
-        ensures fewer { OnSome result (count_of self.new client + 1 ≡ count_of self.old client) }
-        ensures few { count_of self.old client ≤ MAX_FORWARDINGS }
-        ensures none { IfNone result (self.new ≡ without_client client self.old) }
+        ensures fewer { OnSome result (forward_count_of self.new client + 1 ≡ forward_count_of self.old client) }
+        ensures few { forward_count_of self.old client ≤ MAX_FORWARDINGS }
+        ensures none { IfNone result (self.new ≡ forwards_without_client client self.old) }
     {
         let Some(place) = live_of(&self.listed, client) else {
             self.leave(client);
@@ -165,7 +165,7 @@ impl Forwards {
 
     /// Takes all forwardings of a client out.
     pub fn leave(&mut self, client: u64)
-        ensures { self.new ≡ without_client client self.old }
+        ensures { self.new ≡ forwards_without_client client self.old }
     {
         self.listed.retain(|f| f.client != client);
     }
@@ -197,7 +197,7 @@ impl Forwards {
 
 // The place of the client's first that has this key and is asked.
 fn asked_in(listed: &[Listed], client: u64, key: Key<'_>) -> Option<usize>
-    ensures { result ≡ position (λ f. is_asked_at client (key_of key.entry) (forward_of f))
+    ensures { result ≡ position (λ f. is_asked_at client (key_of key.entry) (listed_forward_of f))
         listed.now }
 {
     listed.iter().position(|f| f.is_asked(client, key))
@@ -205,7 +205,7 @@ fn asked_in(listed: &[Listed], client: u64, key: Key<'_>) -> Option<usize>
 
 // The place of the client's first that is live with this key, and that no unanswered cancel means.
 fn free_in(listed: &[Listed], client: u64, key: Key<'_>) -> Option<usize>
-    ensures { result ≡ position (λ f. is_free_at client (key_of key.entry) (forward_of f))
+    ensures { result ≡ position (λ f. is_free_at client (key_of key.entry) (listed_forward_of f))
         listed.now }
 {
     listed.iter().position(|f| f.is_free(client, key))
@@ -213,21 +213,21 @@ fn free_in(listed: &[Listed], client: u64, key: Key<'_>) -> Option<usize>
 
 // The place of the first that is live with this key.
 fn live_in(listed: &[Listed], key: Key<'_>) -> Option<usize>
-    ensures { result ≡ position (λ f. is_live_at (key_of key.entry) (forward_of f)) listed.now }
+    ensures { result ≡ position (λ f. is_live_at (key_of key.entry) (listed_forward_of f)) listed.now }
 {
     listed.iter().position(|f| f.is_live(key))
 }
 
 // The place of the client's first that is live.
 fn live_of(listed: &[Listed], client: u64) -> Option<usize>
-    ensures { result ≡ position (λ f. is_live_of client (forward_of f)) listed.now }
+    ensures { result ≡ position (λ f. is_live_of client (listed_forward_of f)) listed.now }
 {
     listed.iter().position(|f| f.client == client && f.live)
 }
 
 // How many are a client's.
 fn count_in(listed: &[Listed], client: u64) -> usize
-    ensures { result ≡ count_of (map forward_of listed.now) client }
+    ensures { result ≡ forward_count_of (map listed_forward_of listed.now) client }
 {
     let mut count = 0;
     for f in listed {
@@ -240,7 +240,7 @@ fn count_in(listed: &[Listed], client: u64) -> usize
 
 // How many cancels of a client have no reply: the rank of its next one.
 fn cancels_in(listed: &[Listed], client: u64) -> usize
-    ensures { result ≡ cancels client (map forward_of listed.now) }
+    ensures { result ≡ cancels client (map listed_forward_of listed.now) }
 {
     let mut count = 0;
     for f in listed {
@@ -254,7 +254,7 @@ fn cancels_in(listed: &[Listed], client: u64) -> usize
 // The rank of the client's first unanswered cancel of this key.
 fn first_cancel_in(listed: &[Listed], client: u64, key: Key<'_>) -> Option<usize>
     ensures { result ≡ first_cancel (is_leaving_at client (key_of key.entry))
-        (map forward_of listed.now) }
+        (map listed_forward_of listed.now) }
 {
     let mut first = None;
     for f in listed {
@@ -278,8 +278,8 @@ fn earlier(a: Option<usize>, b: Option<usize>) -> Option<usize>
 
 // The client's cancel of this rank is answered: the later ones move up.
 fn settle_in(listed: &mut [Listed], client: u64, rank: usize)
-    ensures { map forward_of listed.new
-        ≡ map (without_cancel_of client rank) (map forward_of listed.old) }
+    ensures { map listed_forward_of listed.new
+        ≡ map (without_cancel_of client rank) (map listed_forward_of listed.old) }
 {
     for f in listed.iter_mut() {
         f.settle(client, rank);
@@ -288,8 +288,8 @@ fn settle_in(listed: &mut [Listed], client: u64, rank: usize)
 
 // The client's cancels after this rank move up by one.
 fn move_up_in(listed: &mut [Listed], client: u64, rank: usize)
-    ensures { map forward_of listed.new
-        ≡ map (moved_up_of client rank) (map forward_of listed.old) }
+    ensures { map listed_forward_of listed.new
+        ≡ map (moved_up_of client rank) (map listed_forward_of listed.old) }
 {
     for f in listed.iter_mut() {
         f.move_up(client, rank);

@@ -9,5 +9,7 @@ mod policy;
 mod reading;
 mod steps;
 
+pub use entry::{Allowed, Entry};
 pub use forwards::{ForwardRefused, Forwards};
 pub use policy::{Policy, PolicyError};
+pub use reading::{ListFault, read_list};

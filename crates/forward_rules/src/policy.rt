@@ -1,6 +1,6 @@
 ghost use Rattle.std.specs.Prelude.{◌≡◌};
 ghost use Rattle.mux_history.specs.Policy.{permits};
-ghost use Rattle.forward_rules.specs.Allows.{error_in, read_policy, ReadsAs};
+ghost use Rattle.forward_rules.specs.Allows.{error_in, read_policy, ReadsPolicyAs};
 ghost use Rattle.conn_messages.specs.Keys.{key_of};
 
 use crate::entry::Allowed;
@@ -43,7 +43,7 @@ impl Model for Policy {
     } };
 }
 
-/// The list in which the first bad text stands, and its place there.
+// The list in which the first bad text stands, and its place there.
 fn bad_in(for_open: bool, fault: ListFault) -> PolicyError
     ensures { result ≡ error_in for_open fault }
 {
@@ -63,7 +63,7 @@ impl Policy {
         listens: &Texts,
         sessions: bool,
     ) -> Result<Policy, PolicyError>
-        ensures { ReadsAs result (read_policy opens.now listens.now sessions) }
+        ensures { ReadsPolicyAs result (read_policy opens.now listens.now sessions) }
     {
         let opens = match read_list(alloc, opens.as_slice()) {
             Ok(allowed) => allowed,

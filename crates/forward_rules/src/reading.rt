@@ -2,7 +2,7 @@ ghost use Rattle.std.specs.Prelude.{◌≡◌, option_map};
 ghost use Rattle.mux_history.specs.Policy as history;
 ghost use Rattle.mux_history.specs.Rows.{any_of};
 ghost use Rattle.forward_rules.specs.declared.reading.ListFault.TheVariants as faults;
-ghost use Rattle.forward_rules.specs.Allows.{allow_of, host_of, parts_of, sides_of, EntriesReadAs, ListReadsAs};
+ghost use Rattle.forward_rules.specs.Allows.{allow_of, lent_host_of, parts_of, sides_of, EntriesReadAs, ListReadsAs};
 
 use crate::entry::{Allowed, Entry, Parts};
 use memchr::memrchr;
@@ -70,7 +70,7 @@ fn read_port(text: &[u8]) -> Option<Option<u32>>
 
 // `*`, which is each host, or a text that isn't empty and doesn't begin with a slash.
 fn read_host(text: &[u8]) -> Option<Option<&[u8]>>
-    ensures { option_map host_of result ≡ history.read_host text.now }
+    ensures { option_map lent_host_of result ≡ history.read_host text.now }
 {
     match text {
         [] => None,

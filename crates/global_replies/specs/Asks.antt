@@ -13,11 +13,11 @@ what_of (ask.Cancel key) = Cancel (keys.own_key_of key)
 what_of ask.KeepAlive = KeepAlive
 
 -- the address or the path of a request
-abbrev pub text_of : Global → List ℕ
-text_of (Forward key) = keys.text_of key
-text_of (Cancel key) = keys.text_of key
-text_of what = []
+abbrev pub request_text_of : Global → List ℕ
+request_text_of (Forward key) = keys.text_of key
+request_text_of (Cancel key) = keys.text_of key
+request_text_of what = []
 
 -- it isn't too long to be sent in a cancel
-abbrev pub IsShort : Global → Type 0
-IsShort what = length (text_of what) ≤ MAX_ADDRESS
+abbrev pub IsShortRequest : Global → Type 0
+IsShortRequest what = length (request_text_of what) ≤ MAX_ADDRESS

@@ -12,8 +12,8 @@ abbrev pub request_of : ℕ → Ask → history.Ask
 request_of k what = record { client = k; what = what_of what }
 
 -- one that is kept
-abbrev pub asked_of : AskRecord → history.Ask
-asked_of a = request_of a.client a.what
+abbrev pub kept_ask_of : AskRecord → history.Ask
+kept_ask_of a = request_of a.client a.what
 
 -- a client's
 abbrev pub is_of : ℕ → history.Ask → Bool
@@ -45,10 +45,10 @@ or_behind [] = []
 or_behind (sent ∷ flags) = (sent ∷ flags) ++ false ∷ []
 
 -- the first was sent
-abbrev pub IsAwaited : List Bool → Type 0
-IsAwaited [] = ⊥
-IsAwaited (true ∷ flags) = Unit {0}
-IsAwaited (false ∷ flags) = ⊥
+abbrev pub IsReplyAwaited : List Bool → Type 0
+IsReplyAwaited [] = ⊥
+IsReplyAwaited (true ∷ flags) = Unit {0}
+IsReplyAwaited (false ∷ flags) = ⊥
 
 -- the refusals at the front
 abbrev pub leading : List Bool → ℕ

@@ -4,7 +4,7 @@ use Rattle.ssh_grammar.specs.SpellMessage.{request_failure}
 use Rattle.mux_history.specs.Requests as history
 use Rattle.mux_history.specs.Requests.{answers_to}
 use Rattle.global_replies.specs.declared.ask.Ask.{Ask}
-use Rattle.global_replies.specs.Replies.{request_of, IsAwaited}
+use Rattle.global_replies.specs.Replies.{request_of, IsReplyAwaited}
 
 -- ---- who asked
 
@@ -64,7 +64,7 @@ RefusalGoesOn old new now =
 -- one more reply arrived for a request that was sent: it is answered, and so many refusals after it
 abbrev pub AnswerGoesOn : List Bool → List Bool → ℕ → Type 0
 AnswerGoesOn old new refusals =
-    (flags : List Bool) (heard : List (List ℕ)) (p : List ℕ) → IsAwaited old → Waits flags heard old
+    (flags : List Bool) (heard : List (List ℕ)) (p : List ℕ) → IsReplyAwaited old → Waits flags heard old
     → Waits flags (heard ++ p ∷ []) new
     × (answers_to flags (heard ++ p ∷ []) ≡ answers_to flags heard
     ++ (p ∷ replicate refusals request_failure))

@@ -4,7 +4,7 @@ use Rattle.indexmap.specs.IndexMap.{IndexMap, get}
 use Rattle.mux_history.specs.Requests as history
 use Rattle.global_replies.specs.declared.ask.AskRecord.{AskRecord}
 use Rattle.global_replies.specs.declared.ask.TheConstants.{MOST_WAITING}
-use Rattle.global_replies.specs.Replies.{asked_of, is_of}
+use Rattle.global_replies.specs.Replies.{kept_ask_of, is_of}
 
 -- a client of which nothing is kept has none
 abbrev pub counted : Option ℕ → ℕ
@@ -12,10 +12,10 @@ counted None = 0
 counted (Some n) = n
 
 -- how many of these requests are a client's
-abbrev pub count_of : ℕ → List history.Ask → ℕ
-count_of k asks = length (filter (is_of k) asks)
+abbrev pub request_count_of : ℕ → List history.Ask → ℕ
+request_count_of k asks = length (filter (is_of k) asks)
 
 -- each client has its count, and the requests are not too many
 pub record IsTally {S : Type 0} (counts : IndexMap ℕ ℕ S) (asked : List AskRecord) : Type 0 where
   pub few : length asked ≤ MOST_WAITING
-  pub counts_are : (k : ℕ) → counted (get nat_eq counts k) ≡ count_of k (map asked_of asked)
+  pub counts_are : (k : ℕ) → counted (get nat_eq counts k) ≡ request_count_of k (map kept_ask_of asked)

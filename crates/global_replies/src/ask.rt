@@ -1,6 +1,6 @@
 ghost use Rattle.std.specs.Prelude.{◌≡◌};
-ghost use Rattle.conn_messages.specs.Message.{request_of};
-ghost use Rattle.global_replies.specs.Asks.{IsShort, what_of};
+ghost use Rattle.conn_messages.specs.Message.{grammar_request_of};
+ghost use Rattle.global_replies.specs.Asks.{IsShortRequest, what_of};
 
 use conn_messages::{OwnKey, Request};
 
@@ -19,7 +19,7 @@ pub enum Ask {
 impl Ask {
     /// The same request, lent.
     pub fn as_request(&self) -> Request<'_>
-        ensures { request_of result ≡ what_of self.now }
+        ensures { grammar_request_of result ≡ what_of self.now }
     {
         match self {
             Ask::Forward(key) => Request::Forward(key.as_key()),
@@ -34,5 +34,5 @@ impl Ask {
 pub struct AskRecord {
     pub client: u64,
     pub what: Ask,
-    ghost short: { IsShort (what_of what) },
+    ghost short: { IsShortRequest (what_of what) },
 }

@@ -1,10 +1,10 @@
 ghost use Rattle.std.specs.Prelude.{◌≡◌, ◌++◌, [], ◌∷◌, map, length, filter, IfSome, OnOk, OnErr};
-ghost use Rattle.global_replies.specs.Asks.{IsShort, what_of};
-ghost use Rattle.global_replies.specs.Replies.{asked_of, request_of, FirstAsked, rest_of, is_of};
+ghost use Rattle.global_replies.specs.Asks.{IsShortRequest, what_of};
+ghost use Rattle.global_replies.specs.Replies.{kept_ask_of, request_of, FirstAsked, rest_of, is_of};
 ghost use Rattle.global_replies.specs.Stands.{AskGoesOn, ReplyGoesOn};
 
 use crate::ask::{Ask, AskRecord, MOST_WAITING};
-use crate::tally::{add_one, count_of, drop_one};
+use crate::tally::{add_one, drop_one, request_count_of};
 use indexmap::IndexMap;
 use ssh_fields::OutOfMemory;
 use std::alloc::Global;
@@ -23,12 +23,12 @@ pub struct Askers {
 impl Model for Askers {
     ghost use Rattle.std.specs.Prelude.{List, map};
     ghost use Rattle.mux_history.specs.Requests.{Ask};
-    ghost use Rattle.global_replies.specs.Replies.{asked_of};
+    ghost use Rattle.global_replies.specs.Replies.{kept_ask_of};
     ghost use Rattle.global_replies.specs.Tally.{IsTally};
 
     ghost Value = { List Ask };
 
-    ghost view = { λ a. map asked_of a.waiting.items };
+    ghost view = { λ a. map kept_ask_of a.waiting.items };
 
     ghost invariant = { λ a. IsTally a.counts a.waiting.items };
 }
@@ -47,7 +47,7 @@ impl Askers {
     /// A request of a client is sent, whose address or path has at most 255 bytes. An `Err` also
     /// comes where 2^32 - 1 requests wait.
     pub fn ask(&mut self, client: u64, what: Ask) -> Result<(), OutOfMemory>
-        requires { IsShort (what_of what) }
+        requires { IsShortRequest (what_of what) }
         ensures stands { OnOk result (AskGoesOn self.old self.new (request_of client what)) }
         ensures ok { OnOk result (self.new ≡ self.old ++ request_of client what ∷ []) }
         ensures unchanged { OnErr result (self.new ≡ self.old) }
@@ -69,7 +69,7 @@ impl Askers {
         ensures stands { ReplyGoesOn self.old self.new result }
         ensures first { FirstAsked self.old result }
         ensures rest { self.new ≡ rest_of self.old }
-        ensures short { IfSome result (λ a. IsShort (what_of a.1)) }
+        ensures short { IfSome result (λ a. IsShortRequest (what_of a.1)) }
     {
         let asked = self.waiting.pop_front()?;
         drop_one(&mut self.counts, asked.client);
@@ -80,6 +80,6 @@ impl Askers {
     pub fn count(&self, client: u64) -> u32
         ensures { result ≡ length (filter (is_of client) self.now) }
     {
-        count_of(&self.counts, client)
+        request_count_of(&self.counts, client)
     }
 }

@@ -7,7 +7,7 @@ use indexmap::IndexMap;
 use ssh_fields::OutOfMemory;
 
 /// How many there are of a client.
-pub fn count_of(counts: &IndexMap<u64, u32>, client: u64) -> u32
+pub fn request_count_of(counts: &IndexMap<u64, u32>, client: u64) -> u32
     ensures { result ≡ counted (get nat_eq counts.now client) }
 {
     match counts.get(&client) {
@@ -25,7 +25,7 @@ pub fn add_one(counts: &mut IndexMap<u64, u32>, client: u64) -> Result<(), OutOf
     ensures unchanged { OnErr result ((k : ℕ) → get nat_eq counts.new k
         ≡ get nat_eq counts.old k) }
 {
-    let count = count_of(counts, client) + 1;
+    let count = request_count_of(counts, client) + 1;
     counts.insert(client, count)?;
     Ok(())
 }

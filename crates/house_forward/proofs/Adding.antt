@@ -3,12 +3,13 @@ use Rattle.std.proofs.Common.{◌≡◌, sym, ap, subst, arith, ℕ, zero, suc, 
 use Rattle.std.specs.Prelude.{slice_get}
 use Rattle.mux_outside.specs.declared.start_ask.StartAsk.{StartAsk}
 use Rattle.house_forward.specs.Forwardings.{Begins, StartsIf, Standing, Opens, changed, standing, closes_of, after_close, EndsLeave, ComesIf, ComesUnless, is_first}
-use Rattle.house_forward.specs.Rules.{is_refused_alone}
+use Rattle.house_forward.specs.Rules.{is_ruled_out}
 use Rattle.house_forward.specs.declared.asks.Asked.{Asked}
 use Rattle.house_forward.specs.declared.asks.Asked.TheVariants.{Now, Later}
 use Rattle.house_forward.specs.declared.forwarding.Change.TheVariants as change
 use Rattle.house_forward.specs.declared.forwarding.Forwarding.{Forwarding}
 use Rattle.house_forward.specs.declared.rules.Ends.{Ends}
+use Rattle.house_forward.specs.declared.rules.ListenRules.{ListenRules}
 use Rattle.house_forward.proofs.Causing.{in-range, there-is}
 
 -- it holds where nothing changes, where one is added for which nothing was done yet, and where one is
@@ -27,20 +28,20 @@ on-opens : (R : List Forwarding → List Forwarding → Type 0) → HoldsOnAsk R
 on-opens R h false ends serial start old new o = on-same R h old new o
 on-opens R h true ends serial start old new o = subst (R old) (sym o.2) (h.more old o.0 o.1.first)
 
-on-start : (R : List Forwarding → List Forwarding → Type 0) → HoldsOnAsk R → (b gateway : Bool) (ask : StartAsk) (i : ℕ)
-    (old new : Standing) → StartsIf b gateway ask i old new → R old.all new.all
-on-start R h true gateway ask i old new s = on-same R h old.all new.all (ap (λ (t : Standing). t.all) s)
-on-start R h false gateway ask i old new s = on-opens R h _ s.0 old.serials (Some i) old.all new.all s.2.all
+on-start : (R : List Forwarding → List Forwarding → Type 0) → HoldsOnAsk R → (b : Bool) (rules : ListenRules) (ask : StartAsk) (i : ℕ)
+    (old new : Standing) → StartsIf b rules ask i old new → R old.all new.all
+on-start R h true rules ask i old new s = on-same R h old.all new.all (ap (λ (t : Standing). t.all) s)
+on-start R h false rules ask i old new s = on-opens R h _ s.0 old.serials (Some i) old.all new.all s.2.all
 
 -- all that is asked for at the start
-pub on-starts : (R : List Forwarding → List Forwarding → Type 0) → HoldsOnAsk R → (gateway : Bool) (asks : List StartAsk) (i : ℕ)
-    (old new : Standing) → i ≤ length asks → Begins gateway asks i old new → R old.all new.all
-on-starts R h gateway asks zero old new l b = on-same R h old.all new.all (ap (λ (t : Standing). t.all) b)
-on-starts R h gateway asks (suc i) old new l b =
+pub on-starts : (R : List Forwarding → List Forwarding → Type 0) → HoldsOnAsk R → (rules : ListenRules) (asks : List StartAsk) (i : ℕ)
+    (old new : Standing) → i ≤ length asks → Begins rules asks i old new → R old.all new.all
+on-starts R h rules asks zero old new l b = on-same R h old.all new.all (ap (λ (t : Standing). t.all) b)
+on-starts R h rules asks (suc i) old new l b =
     let at = in-range asks i (omega arith) in
-    let starts = there-is (λ (ask : StartAsk). StartsIf (is_refused_alone ask) gateway ask i b.0 new) (slice_get asks i) at.0 at.1 b.2 in
-    h.both old.all b.0.all new.all (on-starts R h gateway asks i old b.0 (omega arith) b.1)
-    (on-start R h (is_refused_alone at.0) gateway at.0 i b.0 new starts)
+    let starts = there-is (λ (ask : StartAsk). StartsIf (is_ruled_out rules ask) rules ask i b.0 new) (slice_get asks i) at.0 at.1 b.2 in
+    h.both old.all b.0.all new.all (on-starts R h rules asks i old b.0 (omega arith) b.1)
+    (on-start R h (is_ruled_out rules at.0) rules at.0 i b.0 new starts)
 
 on-closed : (R : List Forwarding → List Forwarding → Type 0) → HoldsOnAsk R → (comes : Asked) (old new : List Forwarding)
     → new ≡ after_close comes old → R old new
@@ -52,13 +53,13 @@ on-ends : (R : List Forwarding → List Forwarding → Type 0) → HoldsOnAsk R 
 on-ends R h true serial ends old new e = on-opens R h _ ends serial None old new e
 on-ends R h false serial ends old new e = on-closed R h (closes_of (standing ends old)) old new e
 
-on-if : (R : List Forwarding → List Forwarding → Type 0) → HoldsOnAsk R → (alone gateway opening : Bool) (ask : StartAsk) (serial : ℕ)
-    (old new : List Forwarding) (comes : Asked) → ComesIf alone gateway opening ask serial old new comes → R old new
-on-if R h true gateway opening ask serial old new comes c = on-same R h old new c.1
-on-if R h false gateway opening ask serial old new comes c = on-ends R h opening serial c.0 old new c.3
+on-if : (R : List Forwarding → List Forwarding → Type 0) → HoldsOnAsk R → (alone : Bool) (rules : ListenRules) (opening : Bool) (ask : StartAsk) (serial : ℕ)
+    (old new : List Forwarding) (comes : Asked) → ComesIf alone rules opening ask serial old new comes → R old new
+on-if R h true rules opening ask serial old new comes c = on-same R h old new c.1
+on-if R h false rules opening ask serial old new comes c = on-ends R h opening serial c.0 old new c.3
 
 -- a client's ask
-pub on-ask : (R : List Forwarding → List Forwarding → Type 0) → HoldsOnAsk R → (away gateway opening : Bool) (ask : StartAsk) (serial : ℕ)
-    (old new : List Forwarding) (comes : Asked) → ComesUnless away gateway opening ask serial old new comes → R old new
-on-ask R h true gateway opening ask serial old new comes c = on-same R h old new c.1
-on-ask R h false gateway opening ask serial old new comes c = on-if R h (is_refused_alone ask) gateway opening ask serial old new comes c
+pub on-ask : (R : List Forwarding → List Forwarding → Type 0) → HoldsOnAsk R → (away : Bool) (rules : ListenRules) (opening : Bool) (ask : StartAsk) (serial : ℕ)
+    (old new : List Forwarding) (comes : Asked) → ComesUnless away rules opening ask serial old new comes → R old new
+on-ask R h true rules opening ask serial old new comes c = on-same R h old new c.1
+on-ask R h false rules opening ask serial old new comes c = on-if R h (is_ruled_out rules ask) rules opening ask serial old new comes c

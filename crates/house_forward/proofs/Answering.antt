@@ -7,7 +7,7 @@ use Rattle.std.proofs.lemmas.List.Edits.{length-remove}
 use Rattle.std.proofs.lemmas.List.Quantifiers.{position-Some}
 use Rattle.mux_outside.specs.House.{AnswerFits, gives_none, ReplyFits, is_ask, has_ask, without_ask, OpenAsk}
 use Rattle.mux_outside.specs.declared.house.HouseReply.{HouseReply}
-use Rattle.house_forward.specs.Asks.{has_outcome, is_settled, earlier, earlier_at, earliest, reply_of, reply_in, stamp_of, is_waiting, taken_at, answer_in, answer_of, after_answer, answers_in}
+use Rattle.house_forward.specs.Asks.{has_outcome, is_settled, earlier, earlier_at, earliest, reply_of, ask_reply_in, stamp_of, is_waiting, taken_at, answer_in, answer_of, after_answer, answers_in}
 use Rattle.house_forward.specs.Known.{open_ask, open_asks, asks_after_answer}
 use Rattle.house_forward.specs.Quiet.{answers_none}
 use Rattle.house_forward.specs.declared.asks.Outcome.{Outcome}
@@ -78,7 +78,7 @@ is-own w = and_from _ _ (eq-eqb w.client w.client refl) (eq-eqb w.id w.id refl)
 
 fits-in : (o : Option (ℕ × Outcome)) (b : Bool) (client id : ℕ) (asks : List OpenAsk)
     → IsTrue (list_any (is_ask client id) asks) → (b ≡ true → IsTrue (has_ask client id true asks))
-    → ReplyFits (reply_in o b) client id asks
+    → ReplyFits (ask_reply_in o b) client id asks
 fits-in None b client id asks one may = one
 fits-in (Some (at, Done)) b client id asks one may = one
 fits-in (Some (at, Port port)) true client id asks one may = may refl

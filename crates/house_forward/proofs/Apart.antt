@@ -5,8 +5,8 @@ use Rattle.std.specs.List.{All, list_any, position, remove}
 use Rattle.std.proofs.lemmas.Bool.{and_parts, and_from, or_parts, or_from, both_ways, cases_Bool, eqb-true, eq-eqb}
 use Rattle.std.proofs.lemmas.List.Elements.{All-nil, All-cons}
 use Rattle.std.proofs.lemmas.List.Quantifiers.{position-Some}
-use Rattle.house_forward.specs.Asks.{has_open, is_waiting, settled, settled_at, is_about, refused, counted, taken_at}
-use Rattle.house_forward.specs.Forwardings.{opened_asks, replied_asks, ordered_asks, live_in, is_asked}
+use Rattle.house_forward.specs.Asks.{has_open, is_waiting, settled, ask_settled_at, is_ask_about, refused, counted, taken_at}
+use Rattle.house_forward.specs.Forwardings.{opened_asks, replied_asks, ordered_asks, live_outcome_in, is_asked}
 use Rattle.house_forward.specs.declared.asks.Outcome.{Outcome}
 use Rattle.house_forward.specs.declared.asks.Outcome.TheVariants.{Done, Refused}
 use Rattle.house_forward.specs.declared.asks.Waiting.{Waiting}
@@ -57,7 +57,7 @@ settled-open : (serial : ℕ) (opening : Bool) (at : ℕ) (outcome : Outcome) (w
 settled-open serial opening at outcome [] c i = refl
 settled-open serial opening at outcome (w ∷ ws) c i =
     ap (λ b. b || has_open c i (settled serial opening at outcome ws))
-    (settle-same (is_about serial opening w) w (settled_at at outcome w.outcome) c i)
+    (settle-same (is_ask_about serial opening w) w (ask_settled_at at outcome w.outcome) c i)
     ∙ ap (λ b. ((w.client == c) && (w.id == i)) || b) (settled-open serial opening at outcome ws c i)
 
 one-apart : (b : Bool) (w : Waiting) (o : Option (ℕ × Outcome)) (ws : List Waiting) → has_open w.client w.id ws ≡ false
@@ -69,7 +69,7 @@ pub apart-settled : (serial : ℕ) (opening : Bool) (at : ℕ) (outcome : Outcom
     → Apart (settled serial opening at outcome ws)
 apart-settled serial opening at outcome [] h = tt
 apart-settled serial opening at outcome (w ∷ ws) h = (
-  one-apart (is_about serial opening w) w (settled_at at outcome w.outcome) (settled serial opening at outcome ws)
+  one-apart (is_ask_about serial opening w) w (ask_settled_at at outcome w.outcome) (settled serial opening at outcome ws)
       (settled-open serial opening at outcome ws w.client w.id ∙ h.0),
   apart-settled serial opening at outcome ws h.1,
 )
@@ -86,7 +86,7 @@ pub apart-replied : (success : Bool) (port : Option ℕ) (r : Option ForwardingR
     → Apart (replied_asks success port r fs at ws)
 apart-replied true port None fs at ws h = h
 apart-replied false port None fs at ws h = h
-apart-replied true port (Some (Listen serial)) fs at ws h = apart-opened (live_in port (find (is_asked serial) fs)) serial at ws h
+apart-replied true port (Some (Listen serial)) fs at ws h = apart-opened (live_outcome_in port (find (is_asked serial) fs)) serial at ws h
 apart-replied false port (Some (Listen serial)) fs at ws h = apart-refused serial at ws h
 apart-replied true port (Some (Cancel serial)) fs at ws h = apart-settled serial false at Done ws h
 apart-replied false port (Some (Cancel serial)) fs at ws h = apart-settled serial false at Refused ws h

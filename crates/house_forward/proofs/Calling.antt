@@ -6,7 +6,7 @@ use Rattle.std.proofs.lemmas.List.Elements.{All-nil}
 use Rattle.ssh_grammar.specs.declared.framing.Framing.TheVariants as framing
 use Rattle.proxy_frames.specs.State.{FramerState}
 use Rattle.proxy_frames.specs.Steps.{new_framer, pushed}
-use Rattle.house_relay.specs.Relay.{Stands}
+use Rattle.house_relay.specs.Relay.{RelayRepresents}
 use Rattle.mux_outside.specs.House.{Known, order_marks, ordered_marks, known_after_order}
 use Rattle.mux_outside.specs.HouseCalls.{HouseCall, Marks, calls_of}
 use Rattle.mux_outside.specs.HouseCalls.{Receives as ReceivesBytes}
@@ -15,7 +15,7 @@ use Rattle.mux_outside.specs.declared.order.Order.{Order}
 use Rattle.mux_outside.specs.declared.order.Order.TheVariants as order
 use Rattle.house_forward.specs.ForwardingState.{empty_forwarding_state, forwarding_state_of}
 use Rattle.house_forward.specs.Known.{ordering_of}
-use Rattle.house_forward.specs.RelayTraces.{Life, first_trace, HasLived, Trace, Held, GoesFurther, Represents, StandsSince, AwaitsNumber, GetsNumber, held, held_of, Follows, GivesOrder, OrdersIn, ReceivesNext, taken_in}
+use Rattle.house_forward.specs.RelayTraces.{Life, first_trace, HasLived, Trace, Held, GoesFurther, ForwarderRepresents, StandsSince, AwaitsNumber, GetsNumber, held, forwarder_held_of, Follows, GivesOrder, OrdersIn, ReceivesNext, taken_in}
 use Rattle.house_forward.specs.State.{held_in}
 use Rattle.house_forward.specs.declared.forwarder_state.ForwarderState.{ForwarderState}
 use Rattle.house_forward.specs.declared.forwarder_state.Stage.TheVariants.{Control}
@@ -32,11 +32,11 @@ from-same P old middle new e goes = subst (λ (h : ForwarderState). GoesFurther 
 -- ---- where no number is awaited
 
 pub since-none : (at : Option Ordering) (calls : List HouseCall) (h : Held) → at ≡ None → StandsSince at calls h
-    → Represents calls h
-since-none None calls h e s = subst (λ (x : Held). Represents calls x) (sym s.2) s.1
+    → ForwarderRepresents calls h
+since-none None calls h e s = subst (λ (x : Held). ForwarderRepresents calls x) (sym s.2) s.1
 since-none (Some o) calls h e s = cc
 
-pub none-since : (at : Option Ordering) (calls : List HouseCall) (h : Held) → at ≡ None → Represents calls h
+pub none-since : (at : Option Ordering) (calls : List HouseCall) (h : Held) → at ≡ None → ForwarderRepresents calls h
     → StandsSince at calls h
 none-since None calls h e s = (h, s, refl)
 none-since (Some o) calls h e s = cc
@@ -55,7 +55,7 @@ since-on at at' calls call old new e f none goes h =
 
 -- one in which bytes are accepted
 pub since-taken : (at at' : Option Ordering) (calls : List HouseCall) (call : HouseCall) (old new : Held) → at ≡ None → at' ≡ None
-    → (Represents calls old → Represents (calls ++ call ∷ []) new) → StandsSince at calls old
+    → (ForwarderRepresents calls old → ForwarderRepresents (calls ++ call ∷ []) new) → StandsSince at calls old
     → StandsSince at' (calls ++ call ∷ []) new
 since-taken at at' calls call old new e f goes h =
     none-since at' (calls ++ call ∷ []) new f (goes (since-none at calls old e h))
@@ -65,16 +65,16 @@ pub since-same : (at at' : Option Ordering) (calls : List HouseCall) (old new : 
     → StandsSince at calls old → StandsSince at' (calls ++ []) new
 since-same at at' calls old new e f same h =
     none-since at' (calls ++ []) new f
-    (subst (λ (cs : List HouseCall). Represents cs new) (sym (append-nil calls))
-    (subst (λ (x : Held). Represents calls x) (sym same) (since-none at calls old e h)))
+    (subst (λ (cs : List HouseCall). ForwarderRepresents cs new) (sym (append-nil calls))
+    (subst (λ (x : Held). ForwarderRepresents calls x) (sym same) (since-none at calls old e h)))
 
 -- ---- orders
 
 -- what is ordered is what is awaited
-awaited : (at : Option Ordering) (calls : List HouseCall) (old new : Held) → Represents calls old → AwaitsNumber at old new
+awaited : (at : Option Ordering) (calls : List HouseCall) (old new : Held) → ForwarderRepresents calls old → AwaitsNumber at old new
     → StandsSince at (calls ++ []) new
 awaited at calls old new h awaits =
-    (old, subst (λ (cs : List HouseCall). Represents cs old) (sym (append-nil calls)) h, awaits)
+    (old, subst (λ (cs : List HouseCall). ForwarderRepresents cs old) (sym (append-nil calls)) h, awaits)
 
 -- an order
 pub stands-given : (o : Option Order) (known : Known) (at at' : Option Ordering) (calls : List HouseCall) (old new : Held) → at ≡ None
@@ -98,8 +98,8 @@ stands-given (Some (order.Close t)) known at at' calls old new e none is goes h 
     since-on at at' calls (Marks (HouseOrder (order.Close t) None)) old new e (no-ordering at' (is ∙ none)) refl goes h
 
 numbered-by : (o : Option Order) (number : Option ℕ) (calls : List HouseCall) (before new : Held) → IsSome o
-    → IfSome o (λ given. GoesFurther (OrdersIn given number) before new) → Represents calls before
-    → Represents (calls ++ calls_of (ordered_marks o number)) new
+    → IfSome o (λ given. GoesFurther (OrdersIn given number) before new) → ForwarderRepresents calls before
+    → ForwarderRepresents (calls ++ calls_of (ordered_marks o number)) new
 numbered-by None number calls before new is goes h = cc
 numbered-by (Some given) number calls before new is goes h =
     stands-on calls (Marks (HouseOrder given number)) before new refl goes h
@@ -126,7 +126,7 @@ lived-first h e =
       reached = refl;
       is = record {
         relay_traces = tt;
-        past = All-nil (λ (l : Life). Stands l.dials l.acts l.relay);
+        past = All-nil (λ (l : Life). RelayRepresents l.dials l.acts l.relay);
         framer_is = refl;
         stage_is = refl;
         forwarding_state_is = refl;
@@ -148,9 +148,9 @@ pub takes-in : (bytes : List ℕ) (old taken now middle : ForwarderState) (one :
     → middle ≡ now → one ≡ false → GoesFurther (ReceivesNext one) (held_in middle) new
     → GoesFurther (Follows (ReceivesBytes bytes)) (held_in old) new
 takes-in bytes old taken now middle one new others framer leads same none goes =
-    let forwarding_state = forwarding_state_of old.gateway old.greeted old.forwardings old.asks in
+    let forwarding_state = forwarding_state_of old.rules old.greeted old.forwardings old.asks in
     let first : held_in taken ≡ held old.relays.all.items (pushed bytes old.framer) old.stage forwarding_state =
-    ap (λ (x : ForwarderState). held_of x.relays taken.framer x.stage x.gateway x.greeted x.forwardings x.asks) others
+    ap (λ (x : ForwarderState). forwarder_held_of x.relays taken.framer x.stage x.rules x.greeted x.forwardings x.asks) others
     ∙ ap (λ (f : FramerState). held old.relays.all.items f old.stage forwarding_state) framer in
     leads-last bytes old.relays.all.items old.framer old.stage forwarding_state (held_in now) new
     (subst (λ (h : Held). LeadsOn h (held_in now)) first leads)

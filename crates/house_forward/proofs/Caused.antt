@@ -7,13 +7,13 @@ use Rattle.std.proofs.lemmas.List.Elements.{All-head, All-tail, All-contains_its
 use Rattle.mux_outside.specs.declared.house.HouseReply.{HouseReply}
 use Rattle.mux_outside.specs.declared.house.HouseReply.TheVariants as given
 use Rattle.mux_outside.specs.declared.start_ask.StartAsk.{StartAsk}
-use Rattle.house_forward.specs.Asks.{earlier, earlier_at, earliest, has_outcome, is_settled, stamp_of, reply_in, reply_of, answer_in, turns_away}
-use Rattle.house_forward.specs.Causes.{answers, AreOne, IsFor, IsNext, IsGranted, ListensSince, ServesAt, IsGrant, IsServed, EachServed, CameBy, MadeBy, RepliedBy, HasCause, EachAnswer}
+use Rattle.house_forward.specs.Asks.{earlier, earlier_at, earliest, has_outcome, is_settled, stamp_of, ask_reply_in, reply_of, answer_in, turns_away}
+use Rattle.house_forward.specs.Causes.{answers, AreOne, IsFor, IsNextRequest, IsGranted, ListensSince, ServesAt, IsGrant, IsServed, EachServed, CameBy, ListenerMadeBy, RepliedBy, AnswerHasCause, EachAnswer}
 use Rattle.house_forward.specs.ForwarderEvents.{ForwarderEvent}
 use Rattle.house_forward.specs.ForwarderEvents.{Begins, Asks, Answers, Greets, Requests, Replies, Listens, Unlistens}
 use Rattle.house_forward.specs.ForwardingState.{ForwardingState}
-use Rattle.house_forward.specs.Forwardings.{ComesIf, ComesUnless, comes_of_ends, opens_of, closes_of, as_first, standing, counts, how_many, listens_at, connects_to, outcome_of, outcome_at, reply_to, bound_to}
-use Rattle.house_forward.specs.Rules.{AreEnds, is_refused_alone, listens_here, connects_there, listen_host}
+use Rattle.house_forward.specs.Forwardings.{ComesIf, ComesUnless, comes_of_ends, opens_of, closes_of, as_first, standing, counts, how_many, listens_at, connects_to, forwarding_outcome_of, outcome_at, reply_to, bound_to}
+use Rattle.house_forward.specs.Rules.{AreEnds, listens_here, connects_there, listen_host, is_ruled_out}
 use Rattle.house_forward.specs.declared.asks.Asked.{Asked as Comes}
 use Rattle.house_forward.specs.declared.asks.Asked.TheVariants.{Now, Later}
 use Rattle.house_forward.specs.declared.asks.Outcome.{Outcome}
@@ -25,13 +25,14 @@ use Rattle.house_forward.specs.declared.forwarding.ForwardingRequest.TheVariants
 use Rattle.house_forward.specs.declared.forwarding.Stage.{Stage}
 use Rattle.house_forward.specs.declared.forwarding.Stage.TheVariants.{ToListen, Ordered, Listening, ToRequest, Requested, Live, Cancelling}
 use Rattle.house_forward.specs.declared.rules.Ends.{Ends}
+use Rattle.house_forward.specs.declared.rules.ListenRules.{ListenRules}
 use Rattle.house_forward.specs.declared.rules.TheConstants.{MOST_FORWARDINGS}
 use Rattle.house_forward.proofs.Causing.{Knows, knows, found, itself, is-for, there-is}
 use Rattle.house_forward.proofs.Serving.{StageFits, Stands, Came, CameIf, Waits}
 
 -- ---- one forwarding at two times
 
-one-next : (what : ℕ → ForwardingRequest) (a f : Forwarding) (forwarder_events : List ForwarderEvent) → AreOne a f → IsNext what a forwarder_events → IsNext what f forwarder_events
+one-next : (what : ℕ → ForwardingRequest) (a f : Forwarding) (forwarder_events : List ForwarderEvent) → AreOne a f → IsNextRequest what a forwarder_events → IsNextRequest what f forwarder_events
 one-next what a f forwarder_events one n = record {
   first = n.first;
   others = n.others;
@@ -63,11 +64,11 @@ pub one-listens : (a f : Forwarding) (l : ℕ) (forwarder_events : List Forwarde
 one-listens a f l forwarder_events one h = subst (λ (p : ℕ). ListensSince f.listen_host p l forwarder_events) one.listen_port
     (subst (λ (x : List ℕ). ListensSince x a.listen_port l forwarder_events) one.listens h)
 
-pub one-is-for : (gateway opening : Bool) (ask : StartAsk) (a f : Forwarding) → AreOne a f → IsFor gateway opening ask a
-    → IsFor gateway opening ask f
-one-is-for gateway opening ask a f one h = record {
+pub one-is-for : (rules : ListenRules) (opening : Bool) (ask : StartAsk) (a f : Forwarding) → AreOne a f → IsFor rules opening ask a
+    → IsFor rules opening ask f
+one-is-for rules opening ask a f one h = record {
   kind = h.kind ∙ ap (λ k. Some k) one.kind;
-  listens = sym one.listens ∙ h.listens ∙ ap (λ k. listen_host k gateway ask.listen_host) one.kind;
+  listens = sym one.listens ∙ h.listens ∙ ap (λ k. listen_host k rules.gateway ask.listen_host) one.kind;
   listen_port = sym one.listen_port ∙ h.listen_port;
   connects = λ o there.
       let both = h.connects o (ap connects_there one.kind ∙ there) in
@@ -100,8 +101,8 @@ record Granting (old : ForwardingState) (forwarder_events : List ForwarderEvent)
   grants : IsGrant answer
 
 as-found : (old : ForwardingState) (forwarder_events : List ForwarderEvent) (ask : StartAsk) (answer : HouseReply) (comes : Comes) (ends : Ends) (f : Forwarding)
-    (o : Option Outcome) → Granting old forwarder_events answer comes → AreEnds old.gateway ask ends
-    → find (λ g. counts g && listens_at ends g) old.all ≡ Some f → connects_to ends f ≡ true → outcome_of f ≡ o → comes ≡ as_first f o
+    (o : Option Outcome) → Granting old forwarder_events answer comes → AreEnds old.rules ask ends
+    → find (λ g. counts g && listens_at ends g) old.all ≡ Some f → connects_to ends f ≡ true → forwarding_outcome_of f ≡ o → comes ≡ as_first f o
     → IsServed true ask answer old.all forwarder_events
 as-found old forwarder_events ask answer comes ends f None g are is connects out e =
     not-later answer comes f.serial (IsServed true ask answer old.all forwarder_events) g.answers e g.grants
@@ -113,7 +114,7 @@ as-found old forwarder_events ask answer comes ends f (Some o) g are is connects
       forwarding = f;
       outcome = o;
       stands = has.0;
-      is_for = subst (λ (b : Bool). IsFor b true ask f) g.knows.gateway (is-for old.gateway true ask ends f f are (itself f)
+      is_for = subst (λ (b : ListenRules). IsFor b true ask f) g.knows.rules (is-for old.rules true ask ends f f are (itself f)
           (and_parts (counts f) (listens_at ends f) at.1).1 (λ _. connects));
       counts_yet = (and_parts (counts f) (listens_at ends f) at.1).0;
       serves = serves-at f.stage (g.knows.home f.serial) f f.listen_port o forwarder_events at.0.same out at.0.stage;
@@ -122,11 +123,11 @@ as-found old forwarder_events ask answer comes ends f (Some o) g are is connects
     }
 
 connects-if : (old : ForwardingState) (forwarder_events : List ForwarderEvent) (ask : StartAsk) (answer : HouseReply) (comes : Comes) (ends : Ends) (f : Forwarding)
-    (b : Bool) → Granting old forwarder_events answer comes → AreEnds old.gateway ask ends
+    (b : Bool) → Granting old forwarder_events answer comes → AreEnds old.rules ask ends
     → find (λ g. counts g && listens_at ends g) old.all ≡ Some f → connects_to ends f ≡ b
-    → comes ≡ (if b then as_first f (outcome_of f) else Now Refused) → IsServed true ask answer old.all forwarder_events
+    → comes ≡ (if b then as_first f (forwarding_outcome_of f) else Now Refused) → IsServed true ask answer old.all forwarder_events
 connects-if old forwarder_events ask answer comes ends f true g are is connects e =
-    as-found old forwarder_events ask answer comes ends f (outcome_of f) g are is connects refl e
+    as-found old forwarder_events ask answer comes ends f (forwarding_outcome_of f) g are is connects refl e
 connects-if old forwarder_events ask answer comes ends f false g are is connects e =
     not-now answer comes (IsServed true ask answer old.all forwarder_events) g.answers e g.grants
 
@@ -137,7 +138,7 @@ room-if old forwarder_events ask answer comes true g e =
 room-if old forwarder_events ask answer comes false g e = not-now answer comes (IsServed true ask answer old.all forwarder_events) g.answers e g.grants
 
 opens-by : (old : ForwardingState) (forwarder_events : List ForwarderEvent) (ask : StartAsk) (answer : HouseReply) (comes : Comes) (ends : Ends)
-    (o : Option Forwarding) → Granting old forwarder_events answer comes → AreEnds old.gateway ask ends → standing ends old.all ≡ o
+    (o : Option Forwarding) → Granting old forwarder_events answer comes → AreEnds old.rules ask ends → standing ends old.all ≡ o
     → comes ≡ opens_of old.serials ends old.all o → IsServed true ask answer old.all forwarder_events
 opens-by old forwarder_events ask answer comes ends None g are is e =
     room-if old forwarder_events ask answer comes (nat_lt (how_many old.all) MOST_FORWARDINGS) g e
@@ -156,25 +157,25 @@ closes-by old forwarder_events ask answer comes None g e = not-now answer comes 
 closes-by old forwarder_events ask answer comes (Some f) g e = closes-if old forwarder_events ask answer comes f f.closing g e
 
 served-by : (opening : Bool) (old : ForwardingState) (forwarder_events : List ForwarderEvent) (ask : StartAsk) (answer : HouseReply) (comes : Comes) (ends : Ends)
-    → Granting old forwarder_events answer comes → AreEnds old.gateway ask ends → comes ≡ comes_of_ends opening old.serials ends old.all
+    → Granting old forwarder_events answer comes → AreEnds old.rules ask ends → comes ≡ comes_of_ends opening old.serials ends old.all
     → IsServed opening ask answer old.all forwarder_events
 served-by true old forwarder_events ask answer comes ends g are e =
     opens-by old forwarder_events ask answer comes ends (standing ends old.all) g are refl e
 served-by false old forwarder_events ask answer comes ends g are e = closes-by old forwarder_events ask answer comes (standing ends old.all) g e
 
 served-if : (alone opening : Bool) (old : ForwardingState) (forwarder_events : List ForwarderEvent) (ask : StartAsk) (answer : HouseReply) (comes : Comes) (new : List Forwarding)
-    → Granting old forwarder_events answer comes → ComesIf alone old.gateway opening ask old.serials old.all new comes
+    → Granting old forwarder_events answer comes → ComesIf alone old.rules opening ask old.serials old.all new comes
     → IsServed opening ask answer old.all forwarder_events
 served-if true opening old forwarder_events ask answer comes new g c = not-now answer comes (IsServed opening ask answer old.all forwarder_events) g.answers c.0 g.grants
 served-if false opening old forwarder_events ask answer comes new g c = served-by opening old forwarder_events ask answer comes c.0 g c.1 c.2
 
 served-unless : (away opening : Bool) (old : ForwardingState) (forwarder_events : List ForwarderEvent) (ask : StartAsk) (answer : HouseReply) (comes : Comes) (new : List Forwarding)
-    → Granting old forwarder_events answer comes → ComesUnless away old.gateway opening ask old.serials old.all new comes
+    → Granting old forwarder_events answer comes → ComesUnless away old.rules opening ask old.serials old.all new comes
     → IsServed opening ask answer old.all forwarder_events
 served-unless true opening old forwarder_events ask answer comes new g c =
     not-now answer comes (IsServed opening ask answer old.all forwarder_events) g.answers c.0 g.grants
 served-unless false opening old forwarder_events ask answer comes new g c =
-    served-if (is_refused_alone ask) opening old forwarder_events ask answer comes new g c
+    served-if (is_ruled_out old.rules ask) opening old forwarder_events ask answer comes new g c
 
 pub each-served : EachServed
 each-served client id opening ask answer forwarder_events old new left a grants =
@@ -205,7 +206,7 @@ picked P (v ∷ ws) a w e k h =
     picked P ws (earlier a v) w e (picks P v.outcome a v refl (All-head P v ws h) k) (All-tail P v ws h)
 
 -- its outcome is what it is answered
-made-reply : (number : Option ℕ) (p : ℕ) (P : Type 0) → MadeBy number false (Port p) → P
+made-reply : (number : Option ℕ) (p : ℕ) (P : Type 0) → ListenerMadeBy number false (Port p) → P
 made-reply None p P e = cc
 made-reply (Some l) p P e = absurd e
 
@@ -225,14 +226,14 @@ no-port (Listens host port number) earlier f p P h = made-reply number p P h.3
 no-port (Unlistens l) earlier f p P h = let e = h.2 in cc
 
 records : (forwarder_event : ForwarderEvent) (earlier : List ForwarderEvent) (opening : Bool) (f : Forwarding) (at : ℕ) (outcome : Outcome)
-    → CameBy forwarder_event earlier opening f outcome → reply_in (Some (at, outcome)) opening ≡ reply_to (Now outcome)
+    → CameBy forwarder_event earlier opening f outcome → ask_reply_in (Some (at, outcome)) opening ≡ reply_to (Now outcome)
 records forwarder_event earlier opening f at Done h = refl
 records forwarder_event earlier opening f at Refused h = refl
 records forwarder_event earlier true f at (Port p) h = refl
 records forwarder_event earlier false f at (Port p) h = no-port forwarder_event earlier f p (given.Refused ≡ given.Port p) h
 
 caused-by : (home : ℕ → Forwarding) (serials : ℕ) (forwarder_events : List ForwarderEvent) (w : Waiting) (o : Option (ℕ × Outcome)) → w.outcome ≡ o
-    → is_settled o ≡ true → Waits home serials forwarder_events w → HasCause w.client w.id (reply_of w) forwarder_events
+    → is_settled o ≡ true → Waits home serials forwarder_events w → AnswerHasCause w.client w.id (reply_of w) forwarder_events
 caused-by home serials forwarder_events w None e some h = cc
 caused-by home serials forwarder_events w (Some o) e some h =
     let ask : ForwarderEvent = Asks w.client w.id w.opening h.ask given.Later in
@@ -251,7 +252,7 @@ caused-by home serials forwarder_events w (Some o) e some h =
       open_yet = subst (λ (ds : List ForwarderEvent). list_any (answers w.client w.id) ds ≡ false) came.were h.open_yet;
       is_for = h.is_for;
       came = came.by;
-      replies = ap (λ x. reply_in x w.opening) e
+      replies = ap (λ x. ask_reply_in x w.opening) e
           ∙ records came.forwarder_event (came.older ++ ask ∷ h.earlier) w.opening (home w.forwarding) o.0 o.1 came.by;
     }
 
@@ -259,15 +260,15 @@ pub same-answer : (a b : ℕ × ℕ × HouseReply) → Some a ≡ Some b → a �
 same-answer a b e = cc
 
 answers-by : (o : Option Waiting) (client id : ℕ) (answer : HouseReply) (forwarder_events : List ForwarderEvent)
-    → answer_in o ≡ Some (client, id, answer) → IfSome o (λ w. HasCause w.client w.id (reply_of w) forwarder_events)
-    → HasCause client id answer forwarder_events
+    → answer_in o ≡ Some (client, id, answer) → IfSome o (λ w. AnswerHasCause w.client w.id (reply_of w) forwarder_events)
+    → AnswerHasCause client id answer forwarder_events
 answers-by None client id answer forwarder_events e h = cc
 answers-by (Some w) client id answer forwarder_events e h =
-    subst (λ (a : ℕ × ℕ × HouseReply). HasCause a.0 a.1 a.2 forwarder_events)
+    subst (λ (a : ℕ × ℕ × HouseReply). AnswerHasCause a.0 a.1 a.2 forwarder_events)
     (same-answer (w.client, w.id, reply_of w) (client, id, answer) e) h
 
 if-earliest : (ws : List Waiting) (o : Option Waiting) (forwarder_events : List ForwarderEvent) (home : ℕ → Forwarding) (serials : ℕ) → earliest ws ≡ o
-    → All (Waits home serials forwarder_events) ws → IfSome o (λ w. HasCause w.client w.id (reply_of w) forwarder_events)
+    → All (Waits home serials forwarder_events) ws → IfSome o (λ w. AnswerHasCause w.client w.id (reply_of w) forwarder_events)
 if-earliest ws None forwarder_events home serials e h = tt
 if-earliest ws (Some w) forwarder_events home serials e h =
     let one = picked (Waits home serials forwarder_events) ws None w e tt h in

@@ -12,13 +12,13 @@ use Rattle.std.proofs.lemmas.Slice.Eq.{bytes_eq-Decides}
 use Rattle.mux_outside.specs.declared.house.HouseReply.{HouseReply}
 use Rattle.mux_outside.specs.declared.start_ask.StartAsk.{StartAsk}
 use Rattle.mux_outside.specs.declared.starts.Starts.{Starts}
-use Rattle.house_forward.specs.Asks.{has_open, turns_away, settled, counted, owes_opening, after_answer, taken_at, is_waiting, waiting_for}
-use Rattle.house_forward.specs.Causes.{gateway_in, unanswered, AreOne, IsFor, IsNext, IsGranted, CameBy}
+use Rattle.house_forward.specs.Asks.{has_open, is_full_for, turns_away, settled, counted, owes_opening, after_answer, taken_at, is_waiting, waiting_for}
+use Rattle.house_forward.specs.Causes.{rules_in, unanswered, AreOne, IsFor, IsNextRequest, IsGranted, CameBy}
 use Rattle.house_forward.specs.ForwarderEvents.{ForwarderEvent, Does, Leave}
 use Rattle.house_forward.specs.ForwarderEvents.{Begins, Asks, Answers, Greets, Requests, Replies, Listens, Unlistens}
-use Rattle.house_forward.specs.ForwardingState.{ForwardingState, empty_forwarding_state, BeginsWith, IsAsked, Answers as IsAnswered, greeting_sent, request_sent, reply_received, GetsListener, EndsListener, standing_at}
-use Rattle.house_forward.specs.Forwardings.{Begins as BeginsAt, StartsIf, Standing, Opens, serials_after, IsAskedFor, is_first, waits_at, has_request, requests_at, request_of, request_at, after_sending, changed, removed_at, standing, counts, how_many, listens_at, connects_to, as_first, outcome_of, opens_of, closes_of, comes_of_ends, after_close, is_new, EndsLeave, ComesIf, ComesUnless, reply_to, asks_after, bound_to, granted, stage_after, is_asked, asks_at, is_cancelled, live_in, opened_asks, replied_all, replied_asks, first_of, to_listen, MadeAt, ordered_asks, serial_of, next_of, next_at, ends_at, has_listener, is_listener, listener_at}
-use Rattle.house_forward.specs.Rules.{listens_here, connects_there, same_kind, listen_host, AreEnds, is_refused_alone}
+use Rattle.house_forward.specs.ForwardingState.{ForwardingState, empty_forwarding_state, BeginsWith, IsClientAsk, Answers as IsAnswered, greeting_sent, request_sent, reply_received, GetsListener, EndsListener, standing_at}
+use Rattle.house_forward.specs.Forwardings.{Begins as BeginsAt, StartsIf, Standing, Opens, serials_after, IsAskedFor, is_first, waits_at, has_request, requests_at, forwarding_request_of, forwarding_request_at, after_sending, changed, removed_at, standing, counts, how_many, listens_at, connects_to, as_first, forwarding_outcome_of, opens_of, closes_of, comes_of_ends, after_close, is_new, EndsLeave, ComesIf, ComesUnless, reply_to, waiting_after, bound_to, granted, stage_after, is_asked, asks_at, is_cancelled, live_outcome_in, opened_asks, replied_all, replied_asks, first_of, to_listen, MadeAt, ordered_asks, serial_of, next_of, next_at, forwarding_ends_at, has_listener, is_listener, listener_at}
+use Rattle.house_forward.specs.Rules.{listens_here, connects_there, same_kind, listen_host, AreEnds, is_ruled_out, rules_of}
 use Rattle.house_forward.specs.declared.asks.Asked.{Asked as Comes}
 use Rattle.house_forward.specs.declared.asks.Asked.TheVariants.{Now, Later}
 use Rattle.house_forward.specs.declared.asks.Outcome.{Outcome}
@@ -33,9 +33,10 @@ use Rattle.house_forward.specs.declared.forwarding.Stage.TheVariants.{ToListen, 
 use Rattle.house_forward.specs.declared.forwardings.ForwardingWant.{ForwardingWant}
 use Rattle.house_forward.specs.declared.forwardings.ForwardingWant.TheVariants as want
 use Rattle.house_forward.specs.declared.rules.Ends.{Ends}
-use Rattle.house_forward.specs.declared.rules.Kind.{Kind}
-use Rattle.house_forward.specs.declared.rules.Kind.TheVariants as kind
-use Rattle.house_forward.specs.declared.rules.TheConstants.{MOST_ASKS, MOST_FORWARDINGS}
+use Rattle.house_forward.specs.declared.rules.ForwardingKind.{ForwardingKind}
+use Rattle.house_forward.specs.declared.rules.ForwardingKind.TheVariants as kind
+use Rattle.house_forward.specs.declared.rules.ListenRules.{ListenRules}
+use Rattle.house_forward.specs.declared.rules.TheConstants.{MOST_FORWARDINGS}
 use Rattle.house_forward.proofs.Apart.{Apart, apart-more, apart-replied, apart-ordered, apart-settled, apart-taken, others}
 use Rattle.house_forward.proofs.ForwardingStates.{same-forwarding_states}
 use Rattle.house_forward.proofs.Lists.{found-first}
@@ -44,8 +45,8 @@ use Rattle.house_forward.proofs.Serving.{StageFits, Stands, Asked, Waits, Lets, 
 -- what is known
 pub record Knows (forwarder_events : List ForwarderEvent) (d : ForwardingState) : Type 0 where
   pub home : ℕ → Forwarding
-  pub gateway : d.gateway ≡ gateway_in forwarder_events
-  pub requests : d.requests ≡ map request_of (unanswered forwarder_events)
+  pub rules : d.rules ≡ rules_in forwarder_events
+  pub requests : d.requests ≡ map forwarding_request_of (unanswered forwarder_events)
   pub all : All (Stands home d.serials forwarder_events) d.all
   pub asked : All (Asked home d.serials) (unanswered forwarder_events)
   pub waiting : All (Waits home d.serials forwarder_events) d.waiting
@@ -180,12 +181,12 @@ opens true ends serials start forwarder_events home old new h o =
 
 -- ---- the start
 
-starts-one : (b gateway : Bool) (ask : StartAsk) (i : ℕ) (forwarder_events : List ForwarderEvent) (home : ℕ → Forwarding) (old new : Standing)
-    → All (Stands home old.serials forwarder_events) old.all → StartsIf b gateway ask i old new
+starts-one : (b : Bool) (rules : ListenRules) (ask : StartAsk) (i : ℕ) (forwarder_events : List ForwarderEvent) (home : ℕ → Forwarding) (old new : Standing)
+    → All (Stands home old.serials forwarder_events) old.all → StartsIf b rules ask i old new
     → Grown home old.serials forwarder_events new.all new.serials
-starts-one true gateway ask i forwarder_events home old new h s =
+starts-one true rules ask i forwarder_events home old new h s =
     subst (λ (t : Standing). Grown home old.serials forwarder_events t.all t.serials) (sym s) (as-many home old.serials forwarder_events old.all h)
-starts-one false gateway ask i forwarder_events home old new h s =
+starts-one false rules ask i forwarder_events home old new h s =
     subst (λ (m : ℕ). Grown home old.serials forwarder_events new.all m) (sym s.2.serials)
     (opens _ s.0 old.serials (Some i) forwarder_events home old.all new.all h s.2.all)
 
@@ -193,17 +194,17 @@ pub there-is : {X : Type 0} (P : X → Type 0) (o : Option X) (x : X) → o ≡ 
 there-is P None x e h = cc
 there-is P (Some y) x e h = let same : y ≡ x = cc in subst P same h
 
-begins : (gateway : Bool) (asks : List StartAsk) (i : ℕ) (forwarder_events : List ForwarderEvent) (home : ℕ → Forwarding) (old new : Standing)
-    → i ≤ length asks → All (Stands home old.serials forwarder_events) old.all → BeginsAt gateway asks i old new
+begins : (rules : ListenRules) (asks : List StartAsk) (i : ℕ) (forwarder_events : List ForwarderEvent) (home : ℕ → Forwarding) (old new : Standing)
+    → i ≤ length asks → All (Stands home old.serials forwarder_events) old.all → BeginsAt rules asks i old new
     → Grown home old.serials forwarder_events new.all new.serials
-begins gateway asks zero forwarder_events home old new l h b =
+begins rules asks zero forwarder_events home old new l h b =
     subst (λ (t : Standing). Grown home old.serials forwarder_events t.all t.serials) (sym b) (as-many home old.serials forwarder_events old.all h)
-begins gateway asks (suc i) forwarder_events home old new l h b =
-    let first = begins gateway asks i forwarder_events home old b.0 (omega arith) h b.1 in
+begins rules asks (suc i) forwarder_events home old new l h b =
+    let first = begins rules asks i forwarder_events home old b.0 (omega arith) h b.1 in
     let at = in-range asks i (omega arith) in
-    let starts = there-is (λ (ask : StartAsk). StartsIf (is_refused_alone ask) gateway ask i b.0 new) (slice_get asks i) at.0 at.1 b.2 in
+    let starts = there-is (λ (ask : StartAsk). StartsIf (is_ruled_out rules ask) rules ask i b.0 new) (slice_get asks i) at.0 at.1 b.2 in
     grown-on home old.serials forwarder_events b.0.all new.all b.0.serials new.serials first
-    (starts-one (is_refused_alone at.0) gateway at.0 i forwarder_events first.to b.0 new first.all starts)
+    (starts-one (is_ruled_out rules at.0) rules at.0 i forwarder_events first.to b.0 new first.all starts)
 
 all-asked-grown : (home to : ℕ → Forwarding) (serials more : ℕ) (gs : List Forwarding) → serials ≤ more → Keeps home to serials
     → All (Asked home serials) gs → All (Asked to more) gs
@@ -220,11 +221,11 @@ after-start : (starts : Starts) (forwarder_events : List ForwarderEvent) (old ne
     → Knows (Begins starts ∷ forwarder_events) new
 after-start starts forwarder_events old new k b =
     let forwarder_event : ForwarderEvent = Begins starts in
-    let g = begins starts.gateway starts.asks (length starts.asks) (forwarder_event ∷ forwarder_events) k.home (standing_at old) (standing_at new)
+    let g = begins (rules_of starts) starts.asks (length starts.asks) (forwarder_event ∷ forwarder_events) k.home (standing_at old) (standing_at new)
     (omega arith) (all-later k.home old.serials forwarder_event forwarder_events old.all (λ l. refl) k.all) b.begins in
     record {
       home = g.to;
-      gateway = ap (λ (d : ForwardingState). d.gateway) b.others;
+      rules = ap (λ (d : ForwardingState). d.rules) b.others;
       requests = ap (λ (d : ForwardingState). d.requests) b.others ∙ k.requests;
       all = g.all;
       asked = all-asked-grown k.home g.to old.serials new.serials (unanswered forwarder_events) g.less g.keeps k.asked;
@@ -253,7 +254,7 @@ nobody = record {
 knows-nothing : Knows [] empty_forwarding_state
 knows-nothing = record {
   home = λ n. nobody;
-  gateway = refl;
+  rules = refl;
   requests = refl;
   all = All-nil (Stands (λ n. nobody) 0 []);
   asked = All-nil (Asked (λ n. nobody) 0);
@@ -263,7 +264,7 @@ knows-nothing = record {
 
 -- ---- a request
 
-same-kinds : (a b : Kind) → same_kind a b ≡ true → a ≡ b
+same-kinds : (a b : ForwardingKind) → same_kind a b ≡ true → a ≡ b
 same-kinds kind.Local kind.Local e = refl
 same-kinds kind.Local kind.Remote e = cc
 same-kinds kind.Local kind.Dynamic e = cc
@@ -283,16 +284,16 @@ one-end true p q e is = and_parts p q e
 one-end false p q e is = cc
 
 -- a forwarding that listens where a request is to listen is the one that it is for
-pub is-for : (gateway opening : Bool) (ask : StartAsk) (ends : Ends) (f a : Forwarding) → AreEnds gateway ask ends → AreOne a f
-    → listens_at ends f ≡ true → (opening ≡ true → connects_to ends f ≡ true) → IsFor gateway opening ask a
-is-for gateway opening ask ends f a are one listens connects =
+pub is-for : (rules : ListenRules) (opening : Bool) (ask : StartAsk) (ends : Ends) (f a : Forwarding) → AreEnds rules ask ends → AreOne a f
+    → listens_at ends f ≡ true → (opening ≡ true → connects_to ends f ≡ true) → IsFor rules opening ask a
+is-for rules opening ask ends f a are one listens connects =
     let first = and_parts (same_kind f.kind ends.kind) ((f.listen_port == ends.listen_port) && bytes_eq f.listen_host ends.listen_host.now) listens in
     let second = and_parts (f.listen_port == ends.listen_port) (bytes_eq f.listen_host ends.listen_host.now) first.1 in
     let kinds : a.kind ≡ ends.kind = one.kind ∙ same-kinds f.kind ends.kind first.0 in
     record {
-      kind = are.kind ∙ ap (λ (k : Kind). Some k) (sym kinds);
+      kind = are.kind ∙ ap (λ (k : ForwardingKind). Some k) (sym kinds);
       listens = one.listens ∙ same-bytes f.listen_host ends.listen_host.now second.1 ∙ are.listens
-          ∙ ap (λ (k : Kind). listen_host k gateway ask.listen_host) (sym kinds);
+          ∙ ap (λ (k : ForwardingKind). listen_host k rules.gateway ask.listen_host) (sym kinds);
       listen_port = one.listen_port ∙ eqb-true f.listen_port ends.listen_port second.0 ∙ are.listen_port;
       connects = λ o there.
           let both = one-end (connects_there f.kind) (f.connect_port == ends.connect_port)
@@ -302,26 +303,26 @@ is-for gateway opening ask ends f a are one listens connects =
           );
     }
 
-pub new-is-for : (gateway opening : Bool) (ask : StartAsk) (ends : Ends) (serial : ℕ) (start : Option ℕ) (f : Forwarding)
-    → AreEnds gateway ask ends → IsAskedFor ends serial start f → IsFor gateway opening ask f
-new-is-for gateway opening ask ends serial start f are a = record {
-  kind = are.kind ∙ ap (λ (k : Kind). Some k) (sym a.kind_is);
-  listens = a.listens ∙ are.listens ∙ ap (λ (k : Kind). listen_host k gateway ask.listen_host) (sym a.kind_is);
+pub new-is-for : (rules : ListenRules) (opening : Bool) (ask : StartAsk) (ends : Ends) (serial : ℕ) (start : Option ℕ) (f : Forwarding)
+    → AreEnds rules ask ends → IsAskedFor ends serial start f → IsFor rules opening ask f
+new-is-for rules opening ask ends serial start f are a = record {
+  kind = are.kind ∙ ap (λ (k : ForwardingKind). Some k) (sym a.kind_is);
+  listens = a.listens ∙ are.listens ∙ ap (λ (k : ForwardingKind). listen_host k rules.gateway ask.listen_host) (sym a.kind_is);
   listen_port = a.listen_port_is ∙ are.listen_port;
   connects = λ o there. (a.connects ∙ are.connects, a.connect_port_is ∙ are.connect_port);
 }
 
 -- the forwarding for whose fate a request waits
-record WaitsFor (home : ℕ → Forwarding) (serials : ℕ) (gateway opening : Bool) (ask : StartAsk) (serial : ℕ) : Type 0 where
+record WaitsFor (home : ℕ → Forwarding) (serials : ℕ) (rules : ListenRules) (opening : Bool) (ask : StartAsk) (serial : ℕ) : Type 0 where
   below : serial < serials
   serial_is : (home serial).serial ≡ serial
-  is_for : IsFor gateway opening ask (home serial)
+  is_for : IsFor rules opening ask (home serial)
 
 -- what a request leaves
-record Leaves (home : ℕ → Forwarding) (serials : ℕ) (forwarder_events : List ForwarderEvent) (gateway opening : Bool) (ask : StartAsk) (comes : Comes)
+record Leaves (home : ℕ → Forwarding) (serials : ℕ) (forwarder_events : List ForwarderEvent) (rules : ListenRules) (opening : Bool) (ask : StartAsk) (comes : Comes)
     (fs : List Forwarding) (more : ℕ) : Type 0 where
   grown : Grown home serials forwarder_events fs more
-  waits : (serial : ℕ) → comes ≡ Later serial → WaitsFor grown.to more gateway opening ask serial
+  waits : (serial : ℕ) → comes ≡ Later serial → WaitsFor grown.to more rules opening ask serial
 
 abbrev pub more_than : ℕ → List Forwarding → List Forwarding → ℕ
 more_than serials old new = serials + (length new - length old)
@@ -335,169 +336,169 @@ one-many serials fs f = omega (arith, length-append fs (f ∷ []))
 never : (o : Outcome) (comes : Comes) (serial : ℕ) (P : Type 0) → comes ≡ Now o → comes ≡ Later serial → P
 never o comes serial P e f = cc
 
-now : (home : ℕ → Forwarding) (serials : ℕ) (forwarder_events : List ForwarderEvent) (gateway opening : Bool) (ask : StartAsk) (comes : Comes)
+now : (home : ℕ → Forwarding) (serials : ℕ) (forwarder_events : List ForwarderEvent) (rules : ListenRules) (opening : Bool) (ask : StartAsk) (comes : Comes)
     (o : Outcome) (fs new : List Forwarding) → All (Stands home serials forwarder_events) fs → comes ≡ Now o → new ≡ fs
-    → Leaves home serials forwarder_events gateway opening ask comes new (more_than serials fs new)
-now home serials forwarder_events gateway opening ask comes o fs new k e same =
+    → Leaves home serials forwarder_events rules opening ask comes new (more_than serials fs new)
+now home serials forwarder_events rules opening ask comes o fs new k e same =
     let grown : Grown home serials forwarder_events new (more_than serials fs new) =
     subst (λ (m : ℕ). Grown home serials forwarder_events new m) (same-many serials fs new (ap (λ (xs : List Forwarding). length xs) same))
     (subst (λ (xs : List Forwarding). Grown home serials forwarder_events xs serials) (sym same) (as-many home serials forwarder_events fs k)) in
     record {
       grown = grown;
-      waits = λ serial is. never o comes serial (WaitsFor grown.to (more_than serials fs new) gateway opening ask serial) e is;
+      waits = λ serial is. never o comes serial (WaitsFor grown.to (more_than serials fs new) rules opening ask serial) e is;
     }
 
 -- one more
-new-one : (home : ℕ → Forwarding) (serials : ℕ) (forwarder_events : List ForwarderEvent) (gateway : Bool) (ask : StartAsk) (comes : Comes) (ends : Ends)
-    (fs new : List Forwarding) (f : Forwarding) → All (Stands home serials forwarder_events) fs → AreEnds gateway ask ends
+new-one : (home : ℕ → Forwarding) (serials : ℕ) (forwarder_events : List ForwarderEvent) (rules : ListenRules) (ask : StartAsk) (comes : Comes) (ends : Ends)
+    (fs new : List Forwarding) (f : Forwarding) → All (Stands home serials forwarder_events) fs → AreEnds rules ask ends
     → comes ≡ Later serials → IsAskedFor ends serials None f → new ≡ fs ++ f ∷ []
-    → Leaves home serials forwarder_events gateway true ask comes new (more_than serials fs new)
+    → Leaves home serials forwarder_events rules true ask comes new (more_than serials fs new)
 unfolding one-more
-new-one home serials forwarder_events gateway ask comes ends fs new f k are e a more =
+new-one home serials forwarder_events rules ask comes ends fs new f k are e a more =
     let g = one-more home serials forwarder_events ends None f fs a k in
     let to = with_one serials f home in
     let here : to serials ≡ f = one-new serials f home in
-    let got : Leaves home serials forwarder_events gateway true ask comes (fs ++ f ∷ []) (serials + 1) = record {
+    let got : Leaves home serials forwarder_events rules true ask comes (fs ++ f ∷ []) (serials + 1) = record {
       grown = g;
       waits = λ serial is.
           let same : serials ≡ serial = cc in
-          subst (λ (n : ℕ). WaitsFor to (serials + 1) gateway true ask n) same (record {
+          subst (λ (n : ℕ). WaitsFor to (serials + 1) rules true ask n) same (record {
             below = omega arith;
             serial_is = ap (λ (x : Forwarding). x.serial) here ∙ a.serial_is;
-            is_for = subst (λ (x : Forwarding). IsFor gateway true ask x) (sym here)
-                (new-is-for gateway true ask ends serials None f are a);
+            is_for = subst (λ (x : Forwarding). IsFor rules true ask x) (sym here)
+                (new-is-for rules true ask ends serials None f are a);
           });
     } in
-    subst (λ (xs : List Forwarding). Leaves home serials forwarder_events gateway true ask comes xs (more_than serials fs xs)) (sym more)
-    (subst (λ (m : ℕ). Leaves home serials forwarder_events gateway true ask comes (fs ++ f ∷ []) m) (one-many serials fs f) got)
+    subst (λ (xs : List Forwarding). Leaves home serials forwarder_events rules true ask comes xs (more_than serials fs xs)) (sym more)
+    (subst (λ (m : ℕ). Leaves home serials forwarder_events rules true ask comes (fs ++ f ∷ []) m) (one-many serials fs f) got)
 
 -- one that stands
-same-one : (home : ℕ → Forwarding) (serials : ℕ) (forwarder_events : List ForwarderEvent) (gateway opening : Bool) (ask : StartAsk) (ends : Ends) (f : Forwarding)
-    → AreEnds gateway ask ends → Stands home serials forwarder_events f → listens_at ends f ≡ true
-    → (opening ≡ true → connects_to ends f ≡ true) → WaitsFor home serials gateway opening ask f.serial
-same-one home serials forwarder_events gateway opening ask ends f are s listens connects = record {
+same-one : (home : ℕ → Forwarding) (serials : ℕ) (forwarder_events : List ForwarderEvent) (rules : ListenRules) (opening : Bool) (ask : StartAsk) (ends : Ends) (f : Forwarding)
+    → AreEnds rules ask ends → Stands home serials forwarder_events f → listens_at ends f ≡ true
+    → (opening ≡ true → connects_to ends f ≡ true) → WaitsFor home serials rules opening ask f.serial
+same-one home serials forwarder_events rules opening ask ends f are s listens connects = record {
   below = s.below;
   serial_is = s.same.serial;
-  is_for = is-for gateway opening ask ends f (home f.serial) are s.same listens connects;
+  is_for = is-for rules opening ask ends f (home f.serial) are s.same listens connects;
 }
 
-as-found : (home : ℕ → Forwarding) (serials : ℕ) (forwarder_events : List ForwarderEvent) (gateway : Bool) (ask : StartAsk) (comes : Comes)
+as-found : (home : ℕ → Forwarding) (serials : ℕ) (forwarder_events : List ForwarderEvent) (rules : ListenRules) (ask : StartAsk) (comes : Comes)
     (fs new : List Forwarding) (f : Forwarding) (o : Option Outcome) → All (Stands home serials forwarder_events) fs
-    → comes ≡ as_first f o → new ≡ fs → WaitsFor home serials gateway true ask f.serial
-    → Leaves home serials forwarder_events gateway true ask comes new (more_than serials fs new)
+    → comes ≡ as_first f o → new ≡ fs → WaitsFor home serials rules true ask f.serial
+    → Leaves home serials forwarder_events rules true ask comes new (more_than serials fs new)
 unfolding as-many
-as-found home serials forwarder_events gateway ask comes fs new f (Some o) k e same w =
-    now home serials forwarder_events gateway true ask comes o fs new k e same
-as-found home serials forwarder_events gateway ask comes fs new f None k e same w =
-    let got : Leaves home serials forwarder_events gateway true ask comes fs serials = record {
+as-found home serials forwarder_events rules ask comes fs new f (Some o) k e same w =
+    now home serials forwarder_events rules true ask comes o fs new k e same
+as-found home serials forwarder_events rules ask comes fs new f None k e same w =
+    let got : Leaves home serials forwarder_events rules true ask comes fs serials = record {
       grown = as-many home serials forwarder_events fs k;
       waits = λ serial is.
           let its : f.serial ≡ serial = cc in
-          subst (λ (n : ℕ). WaitsFor home serials gateway true ask n) its w;
+          subst (λ (n : ℕ). WaitsFor home serials rules true ask n) its w;
     } in
-    subst (λ (xs : List Forwarding). Leaves home serials forwarder_events gateway true ask comes xs (more_than serials fs xs)) (sym same)
-    (subst (λ (m : ℕ). Leaves home serials forwarder_events gateway true ask comes fs m) (same-many serials fs fs refl) got)
+    subst (λ (xs : List Forwarding). Leaves home serials forwarder_events rules true ask comes xs (more_than serials fs xs)) (sym same)
+    (subst (λ (m : ℕ). Leaves home serials forwarder_events rules true ask comes fs m) (same-many serials fs fs refl) got)
 
-opens-none : (home : ℕ → Forwarding) (serials : ℕ) (forwarder_events : List ForwarderEvent) (gateway : Bool) (ask : StartAsk) (comes : Comes) (ends : Ends)
-    (fs new : List Forwarding) (b : Bool) → All (Stands home serials forwarder_events) fs → AreEnds gateway ask ends
+opens-none : (home : ℕ → Forwarding) (serials : ℕ) (forwarder_events : List ForwarderEvent) (rules : ListenRules) (ask : StartAsk) (comes : Comes) (ends : Ends)
+    (fs new : List Forwarding) (b : Bool) → All (Stands home serials forwarder_events) fs → AreEnds rules ask ends
     → comes ≡ (if b then Later serials else Now Refused) → Opens b ends serials None fs new
-    → Leaves home serials forwarder_events gateway true ask comes new (more_than serials fs new)
-opens-none home serials forwarder_events gateway ask comes ends fs new true k are e o =
-    new-one home serials forwarder_events gateway ask comes ends fs new o.0 k are e o.1 o.2
-opens-none home serials forwarder_events gateway ask comes ends fs new false k are e o =
-    now home serials forwarder_events gateway true ask comes Refused fs new k e o
+    → Leaves home serials forwarder_events rules true ask comes new (more_than serials fs new)
+opens-none home serials forwarder_events rules ask comes ends fs new true k are e o =
+    new-one home serials forwarder_events rules ask comes ends fs new o.0 k are e o.1 o.2
+opens-none home serials forwarder_events rules ask comes ends fs new false k are e o =
+    now home serials forwarder_events rules true ask comes Refused fs new k e o
 
-opens-some : (home : ℕ → Forwarding) (serials : ℕ) (forwarder_events : List ForwarderEvent) (gateway : Bool) (ask : StartAsk) (comes : Comes)
+opens-some : (home : ℕ → Forwarding) (serials : ℕ) (forwarder_events : List ForwarderEvent) (rules : ListenRules) (ask : StartAsk) (comes : Comes)
     (fs new : List Forwarding) (f : Forwarding) (b : Bool) → All (Stands home serials forwarder_events) fs
-    → comes ≡ (if b then as_first f (outcome_of f) else Now Refused) → new ≡ fs
-    → (b ≡ true → WaitsFor home serials gateway true ask f.serial)
-    → Leaves home serials forwarder_events gateway true ask comes new (more_than serials fs new)
-opens-some home serials forwarder_events gateway ask comes fs new f true k e same w =
-    as-found home serials forwarder_events gateway ask comes fs new f (outcome_of f) k e same (w refl)
-opens-some home serials forwarder_events gateway ask comes fs new f false k e same w =
-    now home serials forwarder_events gateway true ask comes Refused fs new k e same
+    → comes ≡ (if b then as_first f (forwarding_outcome_of f) else Now Refused) → new ≡ fs
+    → (b ≡ true → WaitsFor home serials rules true ask f.serial)
+    → Leaves home serials forwarder_events rules true ask comes new (more_than serials fs new)
+opens-some home serials forwarder_events rules ask comes fs new f true k e same w =
+    as-found home serials forwarder_events rules ask comes fs new f (forwarding_outcome_of f) k e same (w refl)
+opens-some home serials forwarder_events rules ask comes fs new f false k e same w =
+    now home serials forwarder_events rules true ask comes Refused fs new k e same
 
-opens-by : (home : ℕ → Forwarding) (serials : ℕ) (forwarder_events : List ForwarderEvent) (gateway : Bool) (ask : StartAsk) (comes : Comes) (ends : Ends)
+opens-by : (home : ℕ → Forwarding) (serials : ℕ) (forwarder_events : List ForwarderEvent) (rules : ListenRules) (ask : StartAsk) (comes : Comes) (ends : Ends)
     (fs new : List Forwarding) (o : Option Forwarding) → standing ends fs ≡ o → All (Stands home serials forwarder_events) fs
-    → AreEnds gateway ask ends → comes ≡ opens_of serials ends fs o → Opens (is_new ends fs o) ends serials None fs new
-    → Leaves home serials forwarder_events gateway true ask comes new (more_than serials fs new)
-opens-by home serials forwarder_events gateway ask comes ends fs new None is k are e o =
-    opens-none home serials forwarder_events gateway ask comes ends fs new (nat_lt (how_many fs) MOST_FORWARDINGS) k are e o
-opens-by home serials forwarder_events gateway ask comes ends fs new (Some f) is k are e o =
+    → AreEnds rules ask ends → comes ≡ opens_of serials ends fs o → Opens (is_new ends fs o) ends serials None fs new
+    → Leaves home serials forwarder_events rules true ask comes new (more_than serials fs new)
+opens-by home serials forwarder_events rules ask comes ends fs new None is k are e o =
+    opens-none home serials forwarder_events rules ask comes ends fs new (nat_lt (how_many fs) MOST_FORWARDINGS) k are e o
+opens-by home serials forwarder_events rules ask comes ends fs new (Some f) is k are e o =
     let at = found (Stands home serials forwarder_events) (λ g. counts g && listens_at ends g) fs f is k in
     let listens = (and_parts (counts f) (listens_at ends f) at.1).1 in
-    opens-some home serials forwarder_events gateway ask comes fs new f (connects_to ends f) k e o
-    (λ there. same-one home serials forwarder_events gateway true ask ends f are at.0 listens (λ _. there))
+    opens-some home serials forwarder_events rules ask comes fs new f (connects_to ends f) k e o
+    (λ there. same-one home serials forwarder_events rules true ask ends f are at.0 listens (λ _. there))
 
 -- one closes
-closes-one : (home : ℕ → Forwarding) (serials : ℕ) (forwarder_events : List ForwarderEvent) (gateway : Bool) (ask : StartAsk) (comes : Comes)
+closes-one : (home : ℕ → Forwarding) (serials : ℕ) (forwarder_events : List ForwarderEvent) (rules : ListenRules) (ask : StartAsk) (comes : Comes)
     (fs new : List Forwarding) (f : Forwarding) (b : Bool) → All (Stands home serials forwarder_events) fs
     → comes ≡ (if b then Now Refused else Later f.serial) → new ≡ after_close (if b then Now Refused else Later f.serial) fs
-    → WaitsFor home serials gateway false ask f.serial
-    → Leaves home serials forwarder_events gateway false ask comes new (more_than serials fs new)
+    → WaitsFor home serials rules false ask f.serial
+    → Leaves home serials forwarder_events rules false ask comes new (more_than serials fs new)
 unfolding as-many
-closes-one home serials forwarder_events gateway ask comes fs new f true k e same w =
-    now home serials forwarder_events gateway false ask comes Refused fs new k e same
-closes-one home serials forwarder_events gateway ask comes fs new f false k e same w =
+closes-one home serials forwarder_events rules ask comes fs new f true k e same w =
+    now home serials forwarder_events rules false ask comes Refused fs new k e same
+closes-one home serials forwarder_events rules ask comes fs new f false k e same w =
     let all : All (Stands home serials forwarder_events) (map (changed change.Close f.serial) fs) =
     all-changed home serials forwarder_events change.Close f.serial fs
     (λ g is one h. steady-stage change.Close g.listen_port g.stage (home g.serial) forwarder_events tt h) k in
     let closed = map (changed change.Close f.serial) fs in
-    let got : Leaves home serials forwarder_events gateway false ask comes closed serials = record {
+    let got : Leaves home serials forwarder_events rules false ask comes closed serials = record {
       grown = as-many home serials forwarder_events closed all;
       waits = λ serial is.
           let its : f.serial ≡ serial = cc in
-          subst (λ (n : ℕ). WaitsFor home serials gateway false ask n) its w;
+          subst (λ (n : ℕ). WaitsFor home serials rules false ask n) its w;
     } in
-    subst (λ (xs : List Forwarding). Leaves home serials forwarder_events gateway false ask comes xs (more_than serials fs xs)) (sym same)
-    (subst (λ (m : ℕ). Leaves home serials forwarder_events gateway false ask comes closed m)
+    subst (λ (xs : List Forwarding). Leaves home serials forwarder_events rules false ask comes xs (more_than serials fs xs)) (sym same)
+    (subst (λ (m : ℕ). Leaves home serials forwarder_events rules false ask comes closed m)
     (same-many serials fs closed (length-map fs (changed change.Close f.serial))) got)
 
-closes-by : (home : ℕ → Forwarding) (serials : ℕ) (forwarder_events : List ForwarderEvent) (gateway : Bool) (ask : StartAsk) (comes : Comes) (ends : Ends)
+closes-by : (home : ℕ → Forwarding) (serials : ℕ) (forwarder_events : List ForwarderEvent) (rules : ListenRules) (ask : StartAsk) (comes : Comes) (ends : Ends)
     (fs new : List Forwarding) (o : Option Forwarding) → standing ends fs ≡ o → All (Stands home serials forwarder_events) fs
-    → AreEnds gateway ask ends → comes ≡ closes_of o → new ≡ after_close (closes_of o) fs
-    → Leaves home serials forwarder_events gateway false ask comes new (more_than serials fs new)
-closes-by home serials forwarder_events gateway ask comes ends fs new None is k are e same =
-    now home serials forwarder_events gateway false ask comes Refused fs new k e same
-closes-by home serials forwarder_events gateway ask comes ends fs new (Some f) is k are e same =
+    → AreEnds rules ask ends → comes ≡ closes_of o → new ≡ after_close (closes_of o) fs
+    → Leaves home serials forwarder_events rules false ask comes new (more_than serials fs new)
+closes-by home serials forwarder_events rules ask comes ends fs new None is k are e same =
+    now home serials forwarder_events rules false ask comes Refused fs new k e same
+closes-by home serials forwarder_events rules ask comes ends fs new (Some f) is k are e same =
     let at = found (Stands home serials forwarder_events) (λ g. counts g && listens_at ends g) fs f is k in
     let listens = (and_parts (counts f) (listens_at ends f) at.1).1 in
-    closes-one home serials forwarder_events gateway ask comes fs new f f.closing k e same
-    (same-one home serials forwarder_events gateway false ask ends f are at.0 listens (λ o. cc))
+    closes-one home serials forwarder_events rules ask comes fs new f f.closing k e same
+    (same-one home serials forwarder_events rules false ask ends f are at.0 listens (λ o. cc))
 
-comes-by : (opening : Bool) (home : ℕ → Forwarding) (serials : ℕ) (forwarder_events : List ForwarderEvent) (gateway : Bool) (ask : StartAsk) (comes : Comes)
-    (ends : Ends) (fs new : List Forwarding) → All (Stands home serials forwarder_events) fs → AreEnds gateway ask ends
+comes-by : (opening : Bool) (home : ℕ → Forwarding) (serials : ℕ) (forwarder_events : List ForwarderEvent) (rules : ListenRules) (ask : StartAsk) (comes : Comes)
+    (ends : Ends) (fs new : List Forwarding) → All (Stands home serials forwarder_events) fs → AreEnds rules ask ends
     → comes ≡ comes_of_ends opening serials ends fs → EndsLeave opening serials ends fs new
-    → Leaves home serials forwarder_events gateway opening ask comes new (more_than serials fs new)
-comes-by true home serials forwarder_events gateway ask comes ends fs new k are e l =
-    opens-by home serials forwarder_events gateway ask comes ends fs new (standing ends fs) refl k are e l
-comes-by false home serials forwarder_events gateway ask comes ends fs new k are e l =
-    closes-by home serials forwarder_events gateway ask comes ends fs new (standing ends fs) refl k are e l
+    → Leaves home serials forwarder_events rules opening ask comes new (more_than serials fs new)
+comes-by true home serials forwarder_events rules ask comes ends fs new k are e l =
+    opens-by home serials forwarder_events rules ask comes ends fs new (standing ends fs) refl k are e l
+comes-by false home serials forwarder_events rules ask comes ends fs new k are e l =
+    closes-by home serials forwarder_events rules ask comes ends fs new (standing ends fs) refl k are e l
 
-comes-if : (alone opening : Bool) (home : ℕ → Forwarding) (serials : ℕ) (forwarder_events : List ForwarderEvent) (gateway : Bool) (ask : StartAsk) (comes : Comes)
+comes-if : (alone opening : Bool) (home : ℕ → Forwarding) (serials : ℕ) (forwarder_events : List ForwarderEvent) (rules : ListenRules) (ask : StartAsk) (comes : Comes)
     (fs new : List Forwarding) → All (Stands home serials forwarder_events) fs
-    → ComesIf alone gateway opening ask serials fs new comes
-    → Leaves home serials forwarder_events gateway opening ask comes new (more_than serials fs new)
-comes-if true opening home serials forwarder_events gateway ask comes fs new k c =
-    now home serials forwarder_events gateway opening ask comes Refused fs new k c.0 c.1
-comes-if false opening home serials forwarder_events gateway ask comes fs new k c =
-    comes-by opening home serials forwarder_events gateway ask comes c.0 fs new k c.1 c.2 c.3
+    → ComesIf alone rules opening ask serials fs new comes
+    → Leaves home serials forwarder_events rules opening ask comes new (more_than serials fs new)
+comes-if true opening home serials forwarder_events rules ask comes fs new k c =
+    now home serials forwarder_events rules opening ask comes Refused fs new k c.0 c.1
+comes-if false opening home serials forwarder_events rules ask comes fs new k c =
+    comes-by opening home serials forwarder_events rules ask comes c.0 fs new k c.1 c.2 c.3
 
-comes-unless : (away opening : Bool) (home : ℕ → Forwarding) (serials : ℕ) (forwarder_events : List ForwarderEvent) (gateway : Bool) (ask : StartAsk) (comes : Comes)
+comes-unless : (away opening : Bool) (home : ℕ → Forwarding) (serials : ℕ) (forwarder_events : List ForwarderEvent) (rules : ListenRules) (ask : StartAsk) (comes : Comes)
     (fs new : List Forwarding) → All (Stands home serials forwarder_events) fs
-    → ComesUnless away gateway opening ask serials fs new comes
-    → Leaves home serials forwarder_events gateway opening ask comes new (more_than serials fs new)
-comes-unless true opening home serials forwarder_events gateway ask comes fs new k c =
-    now home serials forwarder_events gateway opening ask comes Refused fs new k c.0 c.1
-comes-unless false opening home serials forwarder_events gateway ask comes fs new k c =
-    comes-if (is_refused_alone ask) opening home serials forwarder_events gateway ask comes fs new k c
+    → ComesUnless away rules opening ask serials fs new comes
+    → Leaves home serials forwarder_events rules opening ask comes new (more_than serials fs new)
+comes-unless true opening home serials forwarder_events rules ask comes fs new k c =
+    now home serials forwarder_events rules opening ask comes Refused fs new k c.0 c.1
+comes-unless false opening home serials forwarder_events rules ask comes fs new k c =
+    comes-if (is_ruled_out rules ask) opening home serials forwarder_events rules ask comes fs new k c
 
 -- it waits, where it is to
 waits-more : (home : ℕ → Forwarding) (serials : ℕ) (forwarder_events : List ForwarderEvent) (client id : ℕ) (opening : Bool) (ask : StartAsk)
     (answer : HouseReply) (comes : Comes) (ws : List Waiting) → answer ≡ reply_to comes
-    → ((serial : ℕ) → comes ≡ Later serial → WaitsFor home serials (gateway_in forwarder_events) opening ask serial)
+    → ((serial : ℕ) → comes ≡ Later serial → WaitsFor home serials (rules_in forwarder_events) opening ask serial)
     → All (Waits home serials (Asks client id opening ask answer ∷ forwarder_events)) ws
-    → All (Waits home serials (Asks client id opening ask answer ∷ forwarder_events)) (asks_after comes client id opening ws)
+    → All (Waits home serials (Asks client id opening ask answer ∷ forwarder_events)) (waiting_after comes client id opening ws)
 waits-more home serials forwarder_events client id opening ask answer (Now o) ws e waits h = h
 waits-more home serials forwarder_events client id opening ask answer (Later serial) ws e waits h =
     let w = waits serial refl in
@@ -514,31 +515,31 @@ waits-more home serials forwarder_events client id opening ask answer (Later ser
     })
 
 apart-came : (comes : Comes) (client id : ℕ) (opening : Bool) (ws : List Waiting) → has_open client id ws ≡ false → Apart ws
-    → Apart (asks_after comes client id opening ws)
+    → Apart (waiting_after comes client id opening ws)
 apart-came (Now o) client id opening ws e h = h
 apart-came (Later serial) client id opening ws e h = apart-more ws (waiting_for client id opening serial) h e
 
 -- a request waits where its client has none with its id
-apart-asked : (client id : ℕ) (opening : Bool) (ask : StartAsk) (comes : Comes) (gateway : Bool) (serials : ℕ)
+apart-asked : (client id : ℕ) (opening : Bool) (ask : StartAsk) (comes : Comes) (rules : ListenRules) (serials : ℕ)
     (fs new : List Forwarding) (ws : List Waiting) (away : Bool) → turns_away client id ws ≡ away
-    → ComesUnless away gateway opening ask serials fs new comes → Apart ws → Apart (asks_after comes client id opening ws)
-apart-asked client id opening ask comes gateway serials fs new ws true e c h =
-    subst (λ (x : Comes). Apart (asks_after x client id opening ws)) (sym c.0) h
-apart-asked client id opening ask comes gateway serials fs new ws false e c h =
-    apart-came comes client id opening ws (or_parts (has_open client id ws) (nat_le MOST_ASKS (length ws)) e).0 h
+    → ComesUnless away rules opening ask serials fs new comes → Apart ws → Apart (waiting_after comes client id opening ws)
+apart-asked client id opening ask comes rules serials fs new ws true e c h =
+    subst (λ (x : Comes). Apart (waiting_after x client id opening ws)) (sym c.0) h
+apart-asked client id opening ask comes rules serials fs new ws false e c h =
+    apart-came comes client id opening ws (or_parts (has_open client id ws) (is_full_for client ws) e).0 h
 
 after-ask : (client id : ℕ) (opening : Bool) (ask : StartAsk) (answer : HouseReply) (forwarder_events : List ForwarderEvent) (old new : ForwardingState) → Knows forwarder_events old
-    → IsAsked client id opening ask answer old new → Knows (Asks client id opening ask answer ∷ forwarder_events) new
+    → IsClientAsk client id opening ask answer old new → Knows (Asks client id opening ask answer ∷ forwarder_events) new
 after-ask client id opening ask answer forwarder_events old new k a =
     let forwarder_event : ForwarderEvent = Asks client id opening ask answer in
     let more = more_than old.serials old.all new.all in
-    let left = comes-unless _ opening k.home old.serials (forwarder_event ∷ forwarder_events) old.gateway ask a.came_to old.all new.all
+    let left = comes-unless _ opening k.home old.serials (forwarder_event ∷ forwarder_events) old.rules ask a.came_to old.all new.all
     (all-later k.home old.serials forwarder_event forwarder_events old.all (λ l. refl) k.all) a.comes in
     let g = left.grown in
     let serials : more ≡ new.serials = sym (ap (λ (d : ForwardingState). d.serials) a.others) in
     record {
       home = g.to;
-      gateway = ap (λ (d : ForwardingState). d.gateway) a.others ∙ k.gateway;
+      rules = ap (λ (d : ForwardingState). d.rules) a.others ∙ k.rules;
       requests = ap (λ (d : ForwardingState). d.requests) a.others ∙ k.requests;
       all = subst (λ (n : ℕ). All (Stands g.to n (forwarder_event ∷ forwarder_events)) new.all) serials g.all;
       asked = subst (λ (n : ℕ). All (Asked g.to n) (unanswered forwarder_events)) serials
@@ -546,11 +547,11 @@ after-ask client id opening ask answer forwarder_events old new k a =
       waiting = subst (λ (n : ℕ). All (Waits g.to n (forwarder_event ∷ forwarder_events)) new.waiting) serials
           (subst (λ (ws : List Waiting). All (Waits g.to more (forwarder_event ∷ forwarder_events)) ws) (sym (ap (λ (d : ForwardingState). d.waiting) a.others))
           (waits-more g.to more forwarder_events client id opening ask answer a.came_to old.waiting a.replies
-          (λ serial later. subst (λ (b : Bool). WaitsFor g.to more b opening ask serial) k.gateway (left.waits serial later))
+          (λ serial later. subst (λ (b : ListenRules). WaitsFor g.to more b opening ask serial) k.rules (left.waits serial later))
           (all-wait-grown k.home g.to old.serials more (forwarder_event ∷ forwarder_events) old.waiting g.less g.keeps
           (all-wait-later k.home old.serials forwarder_event forwarder_events (λ c i. refl) old.waiting k.waiting))));
       apart = subst Apart (sym (ap (λ (d : ForwardingState). d.waiting) a.others))
-          (apart-asked client id opening ask a.came_to old.gateway old.serials old.all new.all old.waiting
+          (apart-asked client id opening ask a.came_to old.rules old.serials old.all new.all old.waiting
           (turns_away client id old.waiting) refl a.comes k.apart);
     }
 
@@ -572,7 +573,7 @@ after-answering client id answer forwarder_events old new k a =
     let left : ForwardingState = record old { waiting = after_answer (Some (client, id, answer)) old.waiting } in
     let got : Knows (forwarder_event ∷ forwarder_events) left = record {
       home = k.home;
-      gateway = k.gateway;
+      rules = k.rules;
       requests = k.requests;
       all = all-later k.home old.serials forwarder_event forwarder_events old.all (λ l. refl) k.all;
       asked = k.asked;
@@ -586,7 +587,7 @@ after-greeting : (forwarder_events : List ForwarderEvent) (old new : ForwardingS
 after-greeting forwarder_events old new k e =
     let got : Knows (Greets ∷ forwarder_events) (greeting_sent old) = record {
       home = k.home;
-      gateway = k.gateway;
+      rules = k.rules;
       requests = k.requests;
       all = all-later k.home old.serials Greets forwarder_events old.all (λ l. refl) k.all;
       asked = k.asked;
@@ -622,9 +623,9 @@ after-request f forwarder_events old new k is e =
     let at = found (Stands k.home old.serials forwarder_events) has_request old.all f is k.all in
     let got : Knows (forwarder_event ∷ forwarder_events) (request_sent f old) = record {
       home = k.home;
-      gateway = k.gateway;
-      requests = ap (λ rs. rs ++ request_of f ∷ []) k.requests ∙ sym (map-append request_of (unanswered forwarder_events) (f ∷ []));
-      all = said-all (request_of f) k.home old.serials (forwarder_event ∷ forwarder_events) old.all
+      rules = k.rules;
+      requests = ap (λ rs. rs ++ forwarding_request_of f ∷ []) k.requests ∙ sym (map-append forwarding_request_of (unanswered forwarder_events) (f ∷ []));
+      all = said-all (forwarding_request_of f) k.home old.serials (forwarder_event ∷ forwarder_events) old.all
           (all-later k.home old.serials forwarder_event forwarder_events old.all (λ l. refl) k.all);
       asked = All-push (Asked k.home old.serials) (unanswered forwarder_events) f k.asked (record {
         below = at.0.below;
@@ -654,19 +655,19 @@ record Replied (home : ℕ → Forwarding) (serials : ℕ) (forwarder_events : L
   waiting : All (Waits home serials forwarder_events) ws
 
 next-is : (home : ℕ → Forwarding) (serials : ℕ) (forwarder_events : List ForwarderEvent) (what : ℕ → ForwardingRequest) (g : Forwarding) (gs : List Forwarding)
-    → unanswered forwarder_events ≡ g ∷ gs → Asked home serials g → request_of g ≡ what g.serial → IsNext what (home g.serial) forwarder_events
+    → unanswered forwarder_events ≡ g ∷ gs → Asked home serials g → forwarding_request_of g ≡ what g.serial → IsNextRequest what (home g.serial) forwarder_events
 next-is home serials forwarder_events what g gs e a is =
     record { first = g; others = gs; were = e; is = a.same; asks = is; there = a.there }
 
-refused-either : (a : Forwarding) (forwarder_events : List ForwarderEvent) (port : Option ℕ) → IsNext Listen a forwarder_events → (opening : Bool)
+refused-either : (a : Forwarding) (forwarder_events : List ForwarderEvent) (port : Option ℕ) → IsNextRequest Listen a forwarder_events → (opening : Bool)
     → CameBy (Replies false port) forwarder_events opening a Refused
 refused-either a forwarder_events port next true = (next, refl)
 refused-either a forwarder_events port next false = (inl next, refl)
 
 opened : (home : ℕ → Forwarding) (serials : ℕ) (forwarder_events : List ForwarderEvent) (port : Option ℕ) (serial at : ℕ) (fs : List Forwarding)
-    (ws : List Waiting) (o : Option Forwarding) → find (is_asked serial) fs ≡ o → IsNext Listen (home serial) forwarder_events
+    (ws : List Waiting) (o : Option Forwarding) → find (is_asked serial) fs ≡ o → IsNextRequest Listen (home serial) forwarder_events
     → All (Stands home serials forwarder_events) fs → All (Waits home serials forwarder_events) ws
-    → All (Waits home serials (Replies true port ∷ forwarder_events)) (opened_asks (live_in port o) serial at ws)
+    → All (Waits home serials (Replies true port ∷ forwarder_events)) (opened_asks (live_outcome_in port o) serial at ws)
 opened home serials forwarder_events port serial at fs ws None e next all h = all-wait-later home serials (Replies true port) forwarder_events (λ c i. refl) ws h
 opened home serials forwarder_events port serial at fs ws (Some f) e next all h =
     let one = found (Stands home serials forwarder_events) (is_asked serial) fs f e all in
@@ -677,14 +678,14 @@ opened home serials forwarder_events port serial at fs ws (Some f) e next all h 
 
 replied : (success : Bool) (r : ForwardingRequest) (home : ℕ → Forwarding) (serials : ℕ) (forwarder_events : List ForwarderEvent) (port : Option ℕ) (at : ℕ)
     (fs : List Forwarding) (ws : List Waiting) (g : Forwarding) (gs : List Forwarding) → unanswered forwarder_events ≡ g ∷ gs
-    → Asked home serials g → request_of g ≡ r → (r ≡ Listen g.serial) ⊎ (r ≡ Cancel g.serial)
+    → Asked home serials g → forwarding_request_of g ≡ r → (r ≡ Listen g.serial) ⊎ (r ≡ Cancel g.serial)
     → All (Stands home serials forwarder_events) fs → All (Waits home serials forwarder_events) ws
     → Replied home serials (Replies success port ∷ forwarder_events) (replied_all success port (Some r) fs)
     (replied_asks success port (Some r) fs at ws)
 replied true (Listen serial) home serials forwarder_events port at fs ws g gs e a is (inl which) all h =
     let same : serial ≡ g.serial = cc in
     let forwarder_event : ForwarderEvent = Replies true port in
-    let next : IsNext Listen (home serial) forwarder_events = subst (λ (n : ℕ). IsNext Listen (home n) forwarder_events) (sym same)
+    let next : IsNextRequest Listen (home serial) forwarder_events = subst (λ (n : ℕ). IsNextRequest Listen (home n) forwarder_events) (sym same)
     (next-is home serials forwarder_events Listen g gs e a (is ∙ which)) in
     record {
       all = all-changed home serials (forwarder_event ∷ forwarder_events) (change.Live port) serial fs
@@ -693,7 +694,7 @@ replied true (Listen serial) home serials forwarder_events port at fs ws g gs e 
             later = [];
             earlier = forwarder_events;
             were = refl;
-            next = subst (λ (n : ℕ). IsNext Listen (home n) forwarder_events) (sym its) next;
+            next = subst (λ (n : ℕ). IsNextRequest Listen (home n) forwarder_events) (sym its) next;
             bound = ap (λ n. bound_to n port) (sym one.listen_port);
           }) k)
           (all-later home serials forwarder_event forwarder_events fs (λ l. refl) all);
@@ -704,7 +705,7 @@ replied true (Cancel serial) home serials forwarder_events port at fs ws g gs e 
 replied true (Cancel serial) home serials forwarder_events port at fs ws g gs e a is (inr which) all h =
     let same : serial ≡ g.serial = cc in
     let forwarder_event : ForwarderEvent = Replies true port in
-    let next : IsNext Cancel (home serial) forwarder_events = subst (λ (n : ℕ). IsNext Cancel (home n) forwarder_events) (sym same)
+    let next : IsNextRequest Cancel (home serial) forwarder_events = subst (λ (n : ℕ). IsNextRequest Cancel (home n) forwarder_events) (sym same)
     (next-is home serials forwarder_events Cancel g gs e a (is ∙ which)) in
     record {
       all = all-removed (Stands home serials (forwarder_event ∷ forwarder_events)) (position (is_cancelled serial) fs) fs
@@ -714,7 +715,7 @@ replied true (Cancel serial) home serials forwarder_events port at fs ws g gs e 
 replied false (Listen serial) home serials forwarder_events port at fs ws g gs e a is (inl which) all h =
     let same : serial ≡ g.serial = cc in
     let forwarder_event : ForwarderEvent = Replies false port in
-    let next : IsNext Listen (home serial) forwarder_events = subst (λ (n : ℕ). IsNext Listen (home n) forwarder_events) (sym same)
+    let next : IsNextRequest Listen (home serial) forwarder_events = subst (λ (n : ℕ). IsNextRequest Listen (home n) forwarder_events) (sym same)
     (next-is home serials forwarder_events Listen g gs e a (is ∙ which)) in
     record {
       all = all-removed (Stands home serials (forwarder_event ∷ forwarder_events)) (position (is_asked serial) fs) fs
@@ -726,7 +727,7 @@ replied false (Cancel serial) home serials forwarder_events port at fs ws g gs e
 replied false (Cancel serial) home serials forwarder_events port at fs ws g gs e a is (inr which) all h =
     let same : serial ≡ g.serial = cc in
     let forwarder_event : ForwarderEvent = Replies false port in
-    let next : IsNext Cancel (home serial) forwarder_events = subst (λ (n : ℕ). IsNext Cancel (home n) forwarder_events) (sym same)
+    let next : IsNextRequest Cancel (home serial) forwarder_events = subst (λ (n : ℕ). IsNextRequest Cancel (home n) forwarder_events) (sym same)
     (next-is home serials forwarder_events Cancel g gs e a (is ∙ which)) in
     record {
       all = all-changed home serials (forwarder_event ∷ forwarder_events) change.Stay serial fs
@@ -735,7 +736,7 @@ replied false (Cancel serial) home serials forwarder_events port at fs ws g gs e
       waiting = all-settled home serials forwarder_event forwarder_events (λ c i. refl) serial false at Refused ws (inr next, refl) h;
     }
 
-pub request-is : (s : Stage) (serial : ℕ) → (request_at s serial ≡ Listen serial) ⊎ (request_at s serial ≡ Cancel serial)
+pub request-is : (s : Stage) (serial : ℕ) → (forwarding_request_at s serial ≡ Listen serial) ⊎ (forwarding_request_at s serial ≡ Cancel serial)
 request-is (ToListen host) serial = inl refl
 request-is Ordered serial = inl refl
 request-is (Listening l) serial = inl refl
@@ -747,18 +748,18 @@ request-is (Cancelling port) serial = inl refl
 -- what a reply leaves, with the requests that wait then
 replied-by : (success : Bool) (port : Option ℕ) (forwarder_events : List ForwarderEvent) (old : ForwardingState) (gs : List Forwarding) (k : Knows forwarder_events old)
     → unanswered forwarder_events ≡ gs → Replied k.home old.serials (Replies success port ∷ forwarder_events)
-    (replied_all success port (first_of (map request_of gs)) old.all)
-    (replied_asks success port (first_of (map request_of gs)) old.all old.done old.waiting)
+    (replied_all success port (first_of (map forwarding_request_of gs)) old.all)
+    (replied_asks success port (first_of (map forwarding_request_of gs)) old.all old.done old.waiting)
 replied-by success port forwarder_events old [] k e = record {
   all = all-later k.home old.serials (Replies success port) forwarder_events old.all (λ l. refl) k.all;
   waiting = all-wait-later k.home old.serials (Replies success port) forwarder_events (λ c i. refl) old.waiting k.waiting;
 }
 replied-by success port forwarder_events old (g ∷ gs) k e =
     let a = All-head (Asked k.home old.serials) g gs (subst (All (Asked k.home old.serials)) e k.asked) in
-    replied success (request_of g) k.home old.serials forwarder_events port old.done old.all old.waiting g gs e a refl
+    replied success (forwarding_request_of g) k.home old.serials forwarder_events port old.done old.all old.waiting g gs e a refl
     (request-is g.stage g.serial) k.all k.waiting
 
-drop-map : (gs : List Forwarding) → drop 1 (map request_of gs) ≡ map request_of (drop 1 gs)
+drop-map : (gs : List Forwarding) → drop 1 (map forwarding_request_of gs) ≡ map forwarding_request_of (drop 1 gs)
 drop-map [] = refl
 drop-map (g ∷ gs) = refl
 
@@ -769,7 +770,7 @@ after-reply success port forwarder_events old new k e =
     let left = replied-by success port forwarder_events old (unanswered forwarder_events) k refl in
     let got : Knows (forwarder_event ∷ forwarder_events) (reply_received success port old) = record {
       home = k.home;
-      gateway = k.gateway;
+      rules = k.rules;
       requests = ap (λ (rs : List ForwardingRequest). drop 1 rs) k.requests ∙ drop-map (unanswered forwarder_events);
       all = subst (λ (rs : List ForwardingRequest). All (Stands k.home old.serials (forwarder_event ∷ forwarder_events))
           (replied_all success port (first_of rs) old.all)) (sym k.requests) left.all;
@@ -782,7 +783,7 @@ after-reply success port forwarder_events old new k e =
 
 -- ---- a listener is ordered
 
-listens-there : (s : Stage) (a : Forwarding) (forwarder_events : List ForwarderEvent) → waits_at s ≡ true → StageFits s a forwarder_events
+pub listens-there : (s : Stage) (a : Forwarding) (forwarder_events : List ForwarderEvent) → waits_at s ≡ true → StageFits s a forwarder_events
     → listens_here a.kind ≡ true
 listens-there (ToListen host) a forwarder_events e h = h
 listens-there Ordered a forwarder_events e h = h
@@ -879,7 +880,7 @@ after-listen host port number forwarder_events old new k h =
     let t : ForwardingState = record old { all = new.all; refused = new.refused; waiting = new.waiting; done = new.done } in
     let m = h.makes.others in
     let s = h.orders.others in
-    let e : new ≡ t = same-forwarding_states new t (ap (λ (d : ForwardingState). d.gateway) m ∙ ap (λ (d : ForwardingState). d.gateway) s)
+    let e : new ≡ t = same-forwarding_states new t (ap (λ (d : ForwardingState). d.rules) m ∙ ap (λ (d : ForwardingState). d.rules) s)
     (ap (λ (d : ForwardingState). d.greeted) m ∙ ap (λ (d : ForwardingState). d.greeted) s) refl
     (ap (λ (d : ForwardingState). d.serials) m ∙ ap (λ (d : ForwardingState). d.serials) s) refl
     (ap (λ (d : ForwardingState). d.requests) m ∙ ap (λ (d : ForwardingState). d.requests) s) refl refl in
@@ -888,7 +889,7 @@ after-listen host port number forwarder_events old new k h =
     ∙ ap (λ (ws : List Waiting). ordered_asks number f.serial b.done ws) (ap (λ (d : ForwardingState). d.waiting) s) in
     let got : Knows (forwarder_event ∷ forwarder_events) t = record {
       home = k.home;
-      gateway = k.gateway;
+      rules = k.rules;
       requests = k.requests;
       all = made-all k.home old.serials host port forwarder_events number b.all new.all g h.makes.place o h.makes.first h.makes.made;
       asked = k.asked;
@@ -914,7 +915,7 @@ ends-if true serial k l n e = cc
 ends-if false serial k l n e = (cc, cc)
 
 ends-at : (P : Forwarding → Type 0) (ws : List Waiting) (f : Forwarding) (serial k l : ℕ) (closing : Bool) (next : Option ForwardingWant)
-    → f.stage ≡ Listening k → f.closing ≡ closing → P f → ends_at k closing f.serial ws next ≡ Some (want.Unlisten serial l)
+    → f.stage ≡ Listening k → f.closing ≡ closing → P f → forwarding_ends_at k closing f.serial ws next ≡ Some (want.Unlisten serial l)
     → (next ≡ Some (want.Unlisten serial l) → Closing P serial l) → Closing P serial l
 ends-at P ws f serial k l true next s c h e rest =
     let both = ends-if (owes_opening f.serial ws) serial k l f.serial e in
@@ -966,7 +967,7 @@ after-unlisten l forwarder_events old new k h =
     } in
     let got : Knows (forwarder_event ∷ forwarder_events) t = record {
       home = k.home;
-      gateway = k.gateway;
+      rules = k.rules;
       requests = k.requests;
       all = λ i d lt. stands-later k.home old.serials forwarder_event forwarder_events (get_or kept i d) (stays l (get_or kept i d) (pass i d lt)) (stand i d lt);
       asked = k.asked;

@@ -10,11 +10,11 @@ use Rattle.mux_outside.specs.OwnStreams.{is_one}
 use Rattle.mux_outside.specs.declared.own_streams.OwnStream.{OwnStream}
 use Rattle.mux_outside.specs.declared.piece.TheConstants.{LONGEST_PIECE}
 use Rattle.house_relay.specs.declared.relay.Relay.{Relay}
-use Rattle.house_forward.specs.Due.{stream_due, link_due, one_if, turns}
-use Rattle.house_forward.specs.Links.{own_of, streams_of, are_distinct, is_left, is_without, is_offered, is_awaited, offers, awaits, is_taken, made_stream, made_streams}
+use Rattle.house_forward.specs.Due.{stream_due, link_due, count_if, turns}
+use Rattle.house_forward.specs.Links.{own_stream_of, streams_of, are_distinct, is_left, is_without, is_offered, is_awaited, offers, awaits, is_taken, made_stream, made_streams}
 use Rattle.house_forward.specs.declared.link.Link.{Link}
-use Rattle.house_forward.specs.declared.link.Stream.{Stream}
-use Rattle.house_forward.specs.declared.link.Stream.TheVariants.{Offered, Awaited, Made, Gone}
+use Rattle.house_forward.specs.declared.link.LinkStream.{LinkStream}
+use Rattle.house_forward.specs.declared.link.LinkStream.TheVariants.{Offered, Awaited, Made, Gone}
 use Rattle.mux_outside.specs.House.{gives_none}
 use Rattle.house_forward.proofs.Lists.{kept-set, kept-remove, one-passes, found-first}
 use Rattle.house_forward.proofs.Streams.{distinct-more}
@@ -29,9 +29,9 @@ pub record Keeps (old new : List Link) : Type 0 where
   pub streams : streams_of new ≡ streams_of old
 
 pub changes : (ls : List Link) (i : ℕ) (y d : Link) → i < length ls → Few ls → are_distinct (streams_of ls) ≡ true
-    → length y.relay.held.waiting ≤ LONGEST_PIECE → own_of y.stream ≡ own_of (get_or ls i d).stream → Keeps ls (set ls i y)
+    → length y.relay.held.waiting ≤ LONGEST_PIECE → own_stream_of y.stream ≡ own_stream_of (get_or ls i d).stream → Keeps ls (set ls i y)
 changes ls i y d l few distinct fits same =
-    let streams = kept-set (λ (x : Link). own_of x.stream) ls i y d l same in
+    let streams = kept-set (λ (x : Link). own_stream_of x.stream) ls i y d l same in
     record {
       few = All-set (λ (x : Link). length x.relay.held.waiting ≤ LONGEST_PIECE) ls i y fits few;
       distinct = ap are_distinct streams ∙ distinct;
@@ -50,7 +50,7 @@ pub changes-at : (p : Link → Bool) (ls : List Link) (i : ℕ) (x y : Link) →
     → are_distinct (streams_of ls) ≡ true → length y.relay.held.waiting ≤ LONGEST_PIECE → y.stream ≡ x.stream → Keeps ls (set ls i y)
 changes-at p ls i x y e at few distinct fits same =
     let first = position-Some p ls i x e in
-    changes ls i y x first.0 few distinct fits (ap own_of same ∙ ap (λ (z : Link). own_of z.stream) at)
+    changes ls i y x first.0 few distinct fits (ap own_stream_of same ∙ ap (λ (z : Link). own_stream_of z.stream) at)
 
 few-remove : (ls : List Link) (i : ℕ) → Few ls → Few (remove ls i)
 few-remove ls i few = All-append (λ (x : Link). length x.relay.held.waiting ≤ LONGEST_PIECE) (take i ls) (drop (suc i) ls)
@@ -58,9 +58,9 @@ few-remove ls i few = All-append (λ (x : Link). length x.relay.held.waiting ≤
     (All-drop (λ (x : Link). length x.relay.held.waiting ≤ LONGEST_PIECE) (suc i) ls few)
 
 removes : (ls : List Link) (i : ℕ) (d : Link) → i < length ls → Few ls → are_distinct (streams_of ls) ≡ true
-    → own_of (get_or ls i d).stream ≡ None → Keeps ls (remove ls i)
+    → own_stream_of (get_or ls i d).stream ≡ None → Keeps ls (remove ls i)
 removes ls i d l few distinct none =
-    let streams = kept-remove (λ (x : Link). own_of x.stream) ls i d l none in
+    let streams = kept-remove (λ (x : Link). own_stream_of x.stream) ls i d l none in
     record {
       few = few-remove ls i few;
       distinct = ap are_distinct streams ∙ distinct;
@@ -69,13 +69,13 @@ removes ls i d l few distinct none =
 
 -- ---- nothing is left of one
 
-left-none : (s : Stream) (b : Bool) → (is_without s && b) ≡ true → own_of s ≡ None
+left-none : (s : LinkStream) (b : Bool) → (is_without s && b) ≡ true → own_stream_of s ≡ None
 left-none (Offered host port) b e = cc
 left-none Awaited b e = cc
 left-none (Made own) b e = cc
 left-none Gone b e = refl
 
-left-due : (s : Stream) (r : Relay) (b : Bool) → (is_without s && b) ≡ true → stream_due s r ≡ 0
+left-due : (s : LinkStream) (r : Relay) (b : Bool) → (is_without s && b) ≡ true → stream_due s r ≡ 0
 left-due (Offered host port) r b e = cc
 left-due Awaited r b e = cc
 left-due (Made own) r b e = cc
@@ -97,13 +97,13 @@ swept-due ls i d e =
 
 -- ---- a socket is ordered
 
-offers-none : (s : Stream) → offers s ≡ true → own_of s ≡ None
+offers-none : (s : LinkStream) → offers s ≡ true → own_stream_of s ≡ None
 offers-none (Offered host port) e = refl
 offers-none Awaited e = cc
 offers-none (Made own) e = cc
 offers-none Gone e = cc
 
-offers-due : (s : Stream) (r : Relay) → offers s ≡ true → stream_due s r ≡ 4
+offers-due : (s : LinkStream) (r : Relay) → offers s ≡ true → stream_due s r ≡ 4
 offers-due (Offered host port) r e = refl
 offers-due Awaited r e = cc
 offers-due (Made own) r e = cc
@@ -126,7 +126,7 @@ ordered ls i x y e at few distinct is =
     let first = position-Some is_offered ls i x e in
     let offered : offers x.stream ≡ true = subst (λ (z : Link). offers z.stream ≡ true) (sym at) first.1 in
     let fits : length x.relay.held.waiting ≤ LONGEST_PIECE = subst (λ (z : Link). length z.relay.held.waiting ≤ LONGEST_PIECE) (sym at) (few i x first.0) in
-    let none : own_of (get_or ls i x).stream ≡ None = offers-none (get_or ls i x).stream first.1 in
+    let none : own_stream_of (get_or ls i x).stream ≡ None = offers-none (get_or ls i x).stream first.1 in
     rw is (record {
       keeps = changes ls i (record x { stream = Awaited }) x first.0 few distinct fits (sym none);
       due =
@@ -138,19 +138,19 @@ ordered ls i x y e at few distinct is =
 
 -- ---- a stream is made
 
-awaits-none : (s : Stream) → awaits s ≡ true → own_of s ≡ None
+awaits-none : (s : LinkStream) → awaits s ≡ true → own_stream_of s ≡ None
 awaits-none (Offered host port) e = cc
 awaits-none Awaited e = refl
 awaits-none (Made own) e = cc
 awaits-none Gone e = cc
 
-awaits-due : (s : Stream) (r : Relay) → awaits s ≡ true → stream_due s r ≡ 4
+awaits-due : (s : LinkStream) (r : Relay) → awaits s ≡ true → stream_due s r ≡ 4
 awaits-due (Offered host port) r e = cc
 awaits-due Awaited r e = refl
 awaits-due (Made own) r e = cc
 awaits-due Gone r e = cc
 
-one-most : (b : Bool) → one_if b ≤ 1
+one-most : (b : Bool) → count_if b ≤ 1
 one-most true = omega arith
 one-most false = omega arith
 
@@ -158,7 +158,7 @@ made-due : (o : Option ℕ) (r : Relay) → stream_due (made_stream o) r ≤ 3
 made-due None r = omega arith
 made-due (Some t) r = let one = one-most (turns r (record { number = t; paused = false; finished = false; ended = false })) in omega (arith, one)
 
-made-last : (o : Option ℕ) → cons_option (own_of (made_stream o)) [] ≡ made_streams o
+made-last : (o : Option ℕ) → cons_option (own_stream_of (made_stream o)) [] ≡ made_streams o
 made-last None = refl
 made-last (Some t) = refl
 
@@ -185,9 +185,9 @@ made ls i x y o e at few distinct free is held =
     let fits : length y.relay.held.waiting ≤ LONGEST_PIECE = rw held (subst (λ (z : Link). length z.relay.held.waiting ≤ LONGEST_PIECE) (sym at) (few i x first.0)) in
     let none = awaits-none (get_or ls i x).stream first.1 in
     let gone = removes ls i x first.0 few distinct none in
-    let last : filter_map (λ (l : Link). own_of l.stream) (y ∷ []) ≡ made_streams o = ap (λ s. cons_option (own_of s) []) is ∙ made-last o in
-    let streams = filter_map-append (λ (l : Link). own_of l.stream) (remove ls i) (y ∷ [])
-    ∙ ap (λ ss. ss ++ filter_map (λ (l : Link). own_of l.stream) (y ∷ [])) gone.streams ∙ ap (λ ss. streams_of ls ++ ss) last in
+    let last : filter_map (λ (l : Link). own_stream_of l.stream) (y ∷ []) ≡ made_streams o = ap (λ s. cons_option (own_stream_of s) []) is ∙ made-last o in
+    let streams = filter_map-append (λ (l : Link). own_stream_of l.stream) (remove ls i) (y ∷ [])
+    ∙ ap (λ ss. ss ++ filter_map (λ (l : Link). own_stream_of l.stream) (y ∷ [])) gone.streams ∙ ap (λ ss. streams_of ls ++ ss) last in
     record {
       few = All-push (λ (l : Link). length l.relay.held.waiting ≤ LONGEST_PIECE) (remove ls i) y gone.few fits;
       distinct = ap are_distinct streams ∙ made-distinct o (streams_of ls) distinct free;
@@ -196,14 +196,14 @@ made ls i x y o e at few distinct free is held =
           let one = sum_by-remove link_due ls i x first.0 in
           let two = awaits-due (get_or ls i x).stream (get_or ls i x).relay first.1 in
           let three = sum_by_push link_due (remove ls i) y in
-          let four : link_due y ≤ 3 = subst (λ (s : Stream). stream_due s y.relay ≤ 3) (sym is) (made-due o y.relay) in
+          let four : link_due y ≤ 3 = subst (λ (s : LinkStream). stream_due s y.relay ≤ 3) (sym is) (made-due o y.relay) in
           omega (arith, one, two, three, four);
     }
 
 -- ---- one more comes
 
-taken-distinct : (s : Stream) (ss : List OwnStream) → are_distinct ss ≡ true → is_taken s ss ≡ false
-    → are_distinct (ss ++ cons_option (own_of s) []) ≡ true
+taken-distinct : (s : LinkStream) (ss : List OwnStream) → are_distinct ss ≡ true → is_taken s ss ≡ false
+    → are_distinct (ss ++ cons_option (own_stream_of s) []) ≡ true
 taken-distinct (Offered host port) ss d free = ap are_distinct (nil-last ss) ∙ d
 taken-distinct Awaited ss d free = ap are_distinct (nil-last ss) ∙ d
 taken-distinct (Made own) ss d free = distinct-more ss own d free
@@ -211,7 +211,7 @@ taken-distinct Gone ss d free = ap are_distinct (nil-last ss) ∙ d
 
 pub more_distinct : (ls : List Link) (y : Link) → are_distinct (streams_of ls) ≡ true → is_taken y.stream (streams_of ls) ≡ false
     → are_distinct (streams_of (ls ++ y ∷ [])) ≡ true
-more_distinct ls y d free = ap are_distinct (filter_map-append (λ (l : Link). own_of l.stream) ls (y ∷ []))
+more_distinct ls y d free = ap are_distinct (filter_map-append (λ (l : Link). own_stream_of l.stream) ls (y ∷ []))
     ∙ taken-distinct y.stream (streams_of ls) d free
 
 -- ---- the first that passes a test
@@ -240,9 +240,9 @@ pub one-there : (p : Link → Bool) (ls : List Link) (i : ℕ) → position p ls
 one-there p [] i e = cc
 one-there p (l ∷ ls) i e = one-at p (l ∷ ls) i l e
 
-pub offered_more : (ls : List Link) (l : Link) → own_of l.stream ≡ None → streams_of (ls ++ l ∷ []) ≡ streams_of ls
-offered_more ls l e = filter_map-append (λ (x : Link). own_of x.stream) ls (l ∷ [])
+pub offered_more : (ls : List Link) (l : Link) → own_stream_of l.stream ≡ None → streams_of (ls ++ l ∷ []) ≡ streams_of ls
+offered_more ls l e = filter_map-append (λ (x : Link). own_stream_of x.stream) ls (l ∷ [])
     ∙ ap (λ o. streams_of ls ++ cons_option o []) e ∙ nil-last (streams_of ls)
 
-pub streams_more : (ls : List Link) (l : Link) → streams_of (ls ++ l ∷ []) ≡ streams_of ls ++ cons_option (own_of l.stream) []
-streams_more ls l = filter_map-append (λ (x : Link). own_of x.stream) ls (l ∷ [])
+pub streams_more : (ls : List Link) (l : Link) → streams_of (ls ++ l ∷ []) ≡ streams_of ls ++ cons_option (own_stream_of l.stream) []
+streams_more ls l = filter_map-append (λ (x : Link). own_stream_of x.stream) ls (l ∷ [])

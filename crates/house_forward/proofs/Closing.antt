@@ -1,4 +1,4 @@
--- Why a stream of the house is closed.
+-- Why a stream of the forwarder is closed.
 use Rattle.std.proofs.Common.{◌≡◌, ◌∙◌, refl, sym, ap, subst, ◌⊎◌, inl, inr, ℕ, Bool, true, false, List, [], ◌∷◌, ◌++◌, length, Option, Some, None}
 use Rattle.std.specs.Prelude.{◌≢◌, ◌==◌, ◌&&◌, ◌||◌, not, nat_lt, if◌then◌else◌, find, is_some}
 use Rattle.std.proofs.lemmas.Bool.{both_ways, and_parts, eqb-true}
@@ -12,12 +12,12 @@ use Rattle.socks_dialog.specs.Socks.{Dialog}
 use Rattle.socks_dialog.specs.declared.outcome.Outcome.{Outcome}
 use Rattle.socks_dialog.specs.declared.outcome.Outcome.TheVariants.{Wants, Connects, Breaks}
 use Rattle.socks_dialog.proofs.Dialogs.{socks-parse}
-use Rattle.house_relay.specs.Acts.{Act, Reads, Ends, Takes, Fails, Confirms, Refuses, Delivers, ReceivesEof, ReceivesClose, SendsData, SendsAdjust, SendsEof, SendsClose, Other}
-use Rattle.house_relay.specs.Acts.{answer, read, outcome_in, has_ended, received_close, sent_close}
+use Rattle.house_relay.specs.Acts.{RelayAct, Reads, Ends, Takes, Fails, Confirms, Refuses, Delivers, ReceivesEof, ReceivesClose, SendsData, SendsAdjust, SendsEof, SendsClose, Other}
+use Rattle.house_relay.specs.Acts.{answer, read, outcome_in, socket_has_ended, received_close, sent_close}
 use Rattle.house_relay.specs.ChannelState.{in_live, over_if, takes_in, receives_close, has_no_more}
 use Rattle.house_relay.specs.Next.{sends_of, sends_offered, sends_live, chunk}
-use Rattle.house_relay.specs.Relay.{LineStands, IsDialing, stream_of, delivers, is_broken, is_done, answered_in, received_in}
-use Rattle.house_relay.specs.Steps.{fresh_relay, made_as, confirmed_in, refused_in, connected, failing, no_channel_left_of, ComesOf, DialsIn, IsToDial, IsAskedFor}
+use Rattle.house_relay.specs.Relay.{LineStands, IsDialing, socket_stream_of, delivers, is_broken, is_done, answered_in, received_in}
+use Rattle.house_relay.specs.Steps.{fresh_relay, made_as, confirmed_in, refused_in, connected, failing, no_channel_left_of, ComesOf, DialsIn, IsToDial, IsOpenAskedFor}
 use Rattle.house_relay.specs.declared.line.Live.{Live as LiveState}
 use Rattle.house_relay.specs.declared.line.ChannelState.{ChannelState}
 use Rattle.house_relay.specs.declared.line.ChannelState.TheVariants.{Dialing, Asked, Opened, Offered, Live, Over}
@@ -27,20 +27,20 @@ use Rattle.house_relay.specs.declared.relay.Outgoing.TheVariants as outgoing
 use Rattle.house_relay.specs.declared.relay.Socket.{Socket}
 use Rattle.house_relay.specs.declared.relay.Socket.TheVariants as socket
 use Rattle.house_relay.proofs.Whole.{keeps}
-use Rattle.house_forward.specs.Closing.{ClosesHaveCause, has_failed, IsClosed, IsRefused, HasBroken, IsThrough, IsServed, IsStream, HasNoChannel}
+use Rattle.house_forward.specs.Closing.{ClosesHaveCause, socket_has_failed, IsClosed, IsRefused, HasBroken, IsThrough, IsServed, IsStream, HasNoChannel}
 use Rattle.house_forward.specs.Forwardings.{has_listener}
 use Rattle.house_forward.specs.Going.{act_of_sending}
 use Rattle.house_forward.specs.Heard.{received_of, act_received}
-use Rattle.house_forward.specs.Links.{IsJoined, IsJoinedAt, IsDialed, HasNoChannelLeft, after_sending, relay_after}
-use Rattle.house_forward.specs.RelayTraces.{Life, Trace, GoesBy, Reaches, first_trace}
-use Rattle.house_forward.specs.RelayTraces.{has_stream, is_stream, unmade, are_full, are_dialogs_full, own_after, act_of, made_life}
+use Rattle.house_forward.specs.Links.{IsRelayJoined, IsJoinedAt, IsDialed, HasNoChannelLeft, after_sending, relay_after}
+use Rattle.house_forward.specs.RelayTraces.{Life, Trace, RelayGoesBy, TraceReaches, first_trace}
+use Rattle.house_forward.specs.RelayTraces.{has_stream, is_stream, unmade, are_full, are_dialogs_full, link_own_after, relay_act_of, made_life}
 use Rattle.house_forward.specs.Numbers.{number_of}
-use Rattle.house_forward.specs.Opening.{IsBefore}
+use Rattle.house_forward.specs.Opening.{IsCallBefore}
 use Rattle.house_forward.specs.declared.forwarding.Forwarding.{Forwarding}
 use Rattle.house_forward.specs.declared.link.LinkStep.{LinkStep}
 use Rattle.house_forward.specs.declared.link.LinkStep.TheVariants as step
-use Rattle.house_forward.specs.declared.rules.Kind.{Kind}
-use Rattle.house_forward.specs.declared.rules.Kind.TheVariants.{Local, Remote, Dynamic}
+use Rattle.house_forward.specs.declared.rules.ForwardingKind.{ForwardingKind}
+use Rattle.house_forward.specs.declared.rules.ForwardingKind.TheVariants.{Local, Remote, Dynamic}
 use Rattle.house_forward.proofs.Directing.{its-after}
 use Rattle.house_forward.proofs.Keeping.{is-reading, stays-heard, stays-after}
 use Rattle.house_forward.proofs.Settling.{data-same, line-step}
@@ -48,7 +48,7 @@ use Rattle.house_forward.proofs.Sound.{Each, All, Sound, KeptSound, Both, with-s
 
 -- ---- what stays as more happens
 
-failed-more : (act : Act) (acts : List Act) → has_failed acts ≡ true → has_failed (act ∷ acts) ≡ true
+failed-more : (act : RelayAct) (acts : List RelayAct) → socket_has_failed acts ≡ true → socket_has_failed (act ∷ acts) ≡ true
 failed-more (Reads bytes) acts e = e
 failed-more Ends acts e = e
 failed-more (Takes bytes) acts e = e
@@ -64,7 +64,7 @@ failed-more SendsEof acts e = e
 failed-more SendsClose acts e = e
 failed-more Other acts e = e
 
-heard-more : (act : Act) (acts : List Act) → received_close acts ≡ true → received_close (act ∷ acts) ≡ true
+heard-more : (act : RelayAct) (acts : List RelayAct) → received_close acts ≡ true → received_close (act ∷ acts) ≡ true
 heard-more (Reads bytes) acts e = e
 heard-more Ends acts e = e
 heard-more (Takes bytes) acts e = e
@@ -80,7 +80,7 @@ heard-more SendsEof acts e = e
 heard-more SendsClose acts e = e
 heard-more Other acts e = e
 
-said-more : (act : Act) (acts : List Act) → sent_close acts ≡ true → sent_close (act ∷ acts) ≡ true
+said-more : (act : RelayAct) (acts : List RelayAct) → sent_close acts ≡ true → sent_close (act ∷ acts) ≡ true
 said-more (Reads bytes) acts e = e
 said-more Ends acts e = e
 said-more (Takes bytes) acts e = e
@@ -96,27 +96,27 @@ said-more SendsEof acts e = e
 said-more SendsClose acts e = refl
 said-more Other acts e = e
 
-closed-more : (act : Act) (acts : List Act) → IsClosed acts → IsClosed (act ∷ acts)
+closed-more : (act : RelayAct) (acts : List RelayAct) → IsClosed acts → IsClosed (act ∷ acts)
 closed-more act acts h = record { heard = heard-more act acts h.heard; said = said-more act acts h.said }
 
--- bytes behind a dialog change nothing of what it came to
+-- bytes after a dialog change nothing of its outcome
 outcome-more : (bytes piece : List ℕ) → outcome_in bytes ≢ Wants → outcome_in (bytes ++ piece) ≡ outcome_in bytes
 unfolding outcome_in
 outcome-more bytes piece ne = ap (λ (d : Dialog). d.outcome) (socks-parse.stays bytes piece ne)
 
 -- ---- why a channel is over, where its socket isn't broken
 
-abbrev OverBy : Bool → List Act → Type 0
+abbrev OverBy : Bool → List RelayAct → Type 0
 OverBy dials acts = IsClosed acts ⊎ (IsRefused acts ⊎ HasBroken dials acts)
 
-over-more : (dials : Bool) (act : Act) (acts : List Act) → answer (act ∷ acts) ≡ answer acts → read (act ∷ acts) ≡ read acts
+over-more : (dials : Bool) (act : RelayAct) (acts : List RelayAct) → answer (act ∷ acts) ≡ answer acts → read (act ∷ acts) ≡ read acts
     → OverBy dials acts → OverBy dials (act ∷ acts)
 over-more dials act acts e f (inl h) = inl (closed-more act acts h)
 over-more dials act acts e f (inr (inl h)) = inr (inl (h.0, e ∙ h.1))
 over-more dials act acts e f (inr (inr h)) =
     inr (inr (record { dialed = h.dialed; reply = h.reply; breaks = ap outcome_in f ∙ h.breaks }))
 
-over-reads : (dials : Bool) (bytes : List ℕ) (acts : List Act) → OverBy dials acts → OverBy dials (Reads bytes ∷ acts)
+over-reads : (dials : Bool) (bytes : List ℕ) (acts : List RelayAct) → OverBy dials acts → OverBy dials (Reads bytes ∷ acts)
 over-reads dials bytes acts (inl h) = inl (closed-more (Reads bytes) acts h)
 over-reads dials bytes acts (inr (inl h)) = inr (inl (h.0, h.1))
 over-reads dials bytes acts (inr (inr h)) =
@@ -125,7 +125,7 @@ over-reads dials bytes acts (inr (inr h)) =
     clash : Breaks h.reply ≡ Wants → ⊥
     clash e = cc
 
-abbrev OverRight : ChannelState → Socket → Bool → List Act → Type 0
+abbrev OverRight : ChannelState → Socket → Bool → List RelayAct → Type 0
 OverRight (Dialing dialog) s dials acts = Unit {0}
 OverRight (Asked host port version) s dials acts = Unit {0}
 OverRight (Opened version) s dials acts = Unit {0}
@@ -133,7 +133,7 @@ OverRight (Offered remote window maximum) s dials acts = Unit {0}
 OverRight (Live live) s dials acts = Unit {0}
 OverRight Over s dials acts = is_broken s ≡ false → OverBy dials acts
 
-right-more : (line : ChannelState) (s : Socket) (dials : Bool) (act : Act) (acts : List Act) → answer (act ∷ acts) ≡ answer acts
+right-more : (line : ChannelState) (s : Socket) (dials : Bool) (act : RelayAct) (acts : List RelayAct) → answer (act ∷ acts) ≡ answer acts
     → read (act ∷ acts) ≡ read acts → OverRight line s dials acts → OverRight line s dials (act ∷ acts)
 right-more (Dialing dialog) s dials act acts e f h = tt
 right-more (Asked host port version) s dials act acts e f h = tt
@@ -142,7 +142,7 @@ right-more (Offered remote window maximum) s dials act acts e f h = tt
 right-more (Live live) s dials act acts e f h = tt
 right-more Over s dials act acts e f h = λ whole. over-more dials act acts e f (h whole)
 
-right-reads : (line : ChannelState) (s : Socket) (dials : Bool) (bytes : List ℕ) (acts : List Act) → OverRight line s dials acts
+right-reads : (line : ChannelState) (s : Socket) (dials : Bool) (bytes : List ℕ) (acts : List RelayAct) → OverRight line s dials acts
     → OverRight line s dials (Reads bytes ∷ acts)
 right-reads (Dialing dialog) s dials bytes acts h = tt
 right-reads (Asked host port version) s dials bytes acts h = tt
@@ -152,7 +152,7 @@ right-reads (Live live) s dials bytes acts h = tt
 right-reads Over s dials bytes acts h = λ whole. over-reads dials bytes acts (h whole)
 
 -- where another socket is no less broken
-right-socket : (line : ChannelState) (s s' : Socket) (dials : Bool) (acts : List Act) → (is_broken s' ≡ false → is_broken s ≡ false)
+right-socket : (line : ChannelState) (s s' : Socket) (dials : Bool) (acts : List RelayAct) → (is_broken s' ≡ false → is_broken s ≡ false)
     → OverRight line s dials acts → OverRight line s' dials acts
 right-socket (Dialing dialog) s s' dials acts f h = tt
 right-socket (Asked host port version) s s' dials acts f h = tt
@@ -161,13 +161,13 @@ right-socket (Offered remote window maximum) s s' dials acts f h = tt
 right-socket (Live live) s s' dials acts f h = tt
 right-socket Over s s' dials acts f h = λ whole. h (f whole)
 
--- ---- what is said
+-- ---- what is sent
 
 if-either : {X : Type 0} (P : X → Type 0) (b : Bool) (x y : X) → P x → P y → P (if b then x else y)
 if-either P true x y p q = p
 if-either P false x y p q = q
 
--- what is said in a channel that is confirmed
+-- what is sent in a channel that is confirmed
 pub live-says : (P : Option Outgoing → Type 0) (r : Relay) (live : LiveState) → P None → P (Some outgoing.Close) → P (Some outgoing.Failure)
     → ((n : ℕ) → P (Some (outgoing.Adjust n))) → ((n : ℕ) → P (Some (outgoing.Data n))) → P (Some outgoing.Eof) → P (sends_live r live)
 live-says P r live none close failure adjust data-of eof =
@@ -182,12 +182,12 @@ live-says P r live none close failure adjust data-of eof =
 abbrev with-line : ChannelState → Relay → Relay
 with-line line r = record r { line = line }
 
-over-said : (b : Bool) (live : LiveState) (s : Socket) (dials : Bool) (acts : List Act) → b ≡ received_close acts
+over-said : (b : Bool) (live : LiveState) (s : Socket) (dials : Bool) (acts : List RelayAct) → b ≡ received_close acts
     → OverRight (over_if b live) s dials (SendsClose ∷ acts)
 over-said true live s dials acts e = λ whole. inl (record { heard = sym e; said = refl })
 over-said false live s dials acts e = tt
 
-says-offer : (s : Socket) (remote window maximum : ℕ) (r : Relay) (dials : Bool) (acts : List Act) → is_some (sends_offered s) ≡ true
+says-offer : (s : Socket) (remote window maximum : ℕ) (r : Relay) (dials : Bool) (acts : List RelayAct) → is_some (sends_offered s) ≡ true
     → OverRight (after_sending (sends_offered s) (with-line (Offered remote window maximum) r)).line s dials
     (act_of_sending (sends_offered s) (with-line (Offered remote window maximum) r) ∷ acts)
 says-offer (socket.Open t) remote window maximum r dials acts e = tt
@@ -197,7 +197,7 @@ says-offer (socket.Failed t) remote window maximum r dials acts e = λ whole. cc
 says-offer (socket.NoChannelLeft t) remote window maximum r dials acts e = λ whole. cc
 says-offer socket.Closed remote window maximum r dials acts e = λ whole. cc
 
-says-right : (line : ChannelState) (r : Relay) (dials : Bool) (acts : List Act) → is_some (sends_of (with-line line r)) ≡ true
+says-right : (line : ChannelState) (r : Relay) (dials : Bool) (acts : List RelayAct) → is_some (sends_of (with-line line r)) ≡ true
     → LineStands line dials acts
     → OverRight (after_sending (sends_of (with-line line r)) (with-line line r)).line r.socket dials
     (act_of_sending (sends_of (with-line line r)) (with-line line r) ∷ acts)
@@ -211,14 +211,14 @@ says-right (Live live) r dials acts e stands =
     (with-line (Live live) r) live tt (over-said live.close_received _ r.socket dials acts stands.close_received) tt (λ n. tt) (λ n. tt) tt
 says-right Over r dials acts e stands = cc
 
--- ---- what is heard
+-- ---- what is received
 
-over-heard : (b : Bool) (live : LiveState) (s : Socket) (dials : Bool) (acts : List Act) → b ≡ sent_close acts
+over-heard : (b : Bool) (live : LiveState) (s : Socket) (dials : Bool) (acts : List RelayAct) → b ≡ sent_close acts
     → OverRight (over_if b live) s dials (ReceivesClose ∷ acts)
 over-heard true live s dials acts e = λ whole. inl (record { heard = refl; said = sym e })
 over-heard false live s dials acts e = tt
 
-receives-live : (f : LiveState → LiveState) (act : ChannelState → Act) (line : ChannelState) (s : Socket) (dials : Bool) (acts : List Act) → act Over ≡ Other
+receives-live : (f : LiveState → LiveState) (act : ChannelState → RelayAct) (line : ChannelState) (s : Socket) (dials : Bool) (acts : List RelayAct) → act Over ≡ Other
     → OverRight line s dials acts → OverRight (in_live (λ live. Live (f live)) line) s dials (act line ∷ acts)
 receives-live f act (Dialing dialog) s dials acts e h = tt
 receives-live f act (Asked host port version) s dials acts e h = tt
@@ -226,9 +226,9 @@ receives-live f act (Opened version) s dials acts e h = tt
 receives-live f act (Offered remote window maximum) s dials acts e h = tt
 receives-live f act (Live live) s dials acts e h = tt
 receives-live f act Over s dials acts e h =
-    subst (λ (a : Act). is_broken s ≡ false → OverBy dials (a ∷ acts)) (sym e) (λ whole. over-more dials Other acts refl refl (h whole))
+    subst (λ (a : RelayAct). is_broken s ≡ false → OverBy dials (a ∷ acts)) (sym e) (λ whole. over-more dials Other acts refl refl (h whole))
 
-receives-answer : (line : ChannelState) (remote window maximum : ℕ) (r : Relay) (dials : Bool) (acts : List Act) → OverRight line r.socket dials acts
+receives-answer : (line : ChannelState) (remote window maximum : ℕ) (r : Relay) (dials : Bool) (acts : List RelayAct) → OverRight line r.socket dials acts
     → OverRight (confirmed_in line remote window maximum (with-line line r)).line r.socket dials (answered_in line Confirms ∷ acts)
 receives-answer (Dialing dialog) remote window maximum r dials acts h = tt
 receives-answer (Asked host port version) remote window maximum r dials acts h = tt
@@ -237,7 +237,7 @@ receives-answer (Offered theirs room most) remote window maximum r dials acts h 
 receives-answer (Live live) remote window maximum r dials acts h = tt
 receives-answer Over remote window maximum r dials acts h = λ whole. over-more dials Other acts refl refl (h whole)
 
-receives-refusal : (line : ChannelState) (reason : ℕ) (r : Relay) (dials : Bool) (acts : List Act) → OverRight line r.socket dials acts
+receives-refusal : (line : ChannelState) (reason : ℕ) (r : Relay) (dials : Bool) (acts : List RelayAct) → OverRight line r.socket dials acts
     → OverRight (refused_in line reason (with-line line r)).line r.socket dials (answered_in line (Refuses reason) ∷ acts)
 receives-refusal (Dialing dialog) reason r dials acts h = tt
 receives-refusal (Asked host port version) reason r dials acts h = tt
@@ -246,7 +246,7 @@ receives-refusal (Offered theirs room most) reason r dials acts h = tt
 receives-refusal (Live live) reason r dials acts h = tt
 receives-refusal Over reason r dials acts h = λ whole. over-more dials Other acts refl refl (h whole)
 
-receives-data : (line : ChannelState) (bytes : List ℕ) (r : Relay) (dials : Bool) (acts : List Act) → OverRight line r.socket dials acts
+receives-data : (line : ChannelState) (bytes : List ℕ) (r : Relay) (dials : Bool) (acts : List RelayAct) → OverRight line r.socket dials acts
     → OverRight line r.socket dials ((if delivers (with-line line r) then Delivers bytes else Other) ∷ acts)
 receives-data (Dialing dialog) bytes r dials acts h = tt
 receives-data (Asked host port version) bytes r dials acts h = tt
@@ -255,7 +255,7 @@ receives-data (Offered theirs room most) bytes r dials acts h = tt
 receives-data (Live live) bytes r dials acts h = tt
 receives-data Over bytes r dials acts h = λ whole. over-more dials Other acts refl refl (h whole)
 
-receives-end : (line : ChannelState) (s : Socket) (dials : Bool) (acts : List Act) → LineStands line dials acts → OverRight line s dials acts
+receives-end : (line : ChannelState) (s : Socket) (dials : Bool) (acts : List RelayAct) → LineStands line dials acts → OverRight line s dials acts
     → OverRight (in_live receives_close line) s dials (received_in line ReceivesClose ∷ acts)
 receives-end (Dialing dialog) s dials acts stands h = tt
 receives-end (Asked host port version) s dials acts stands h = tt
@@ -264,11 +264,11 @@ receives-end (Offered remote window maximum) s dials acts stands h = tt
 receives-end (Live live) s dials acts stands h = over-heard live.close_sent _ s dials acts stands.close_sent
 receives-end Over s dials acts stands h = λ whole. over-more dials Other acts refl refl (h whole)
 
-receives-other : (line : ChannelState) (s : Socket) (dials : Bool) (acts : List Act) → OverRight line s dials acts
+receives-other : (line : ChannelState) (s : Socket) (dials : Bool) (acts : List RelayAct) → OverRight line s dials acts
     → OverRight line s dials (Other ∷ acts)
 receives-other line s dials acts h = right-more line s dials Other acts refl refl h
 
-receives-right : (m : Message) (r : Relay) (dials : Bool) (acts : List Act) → LineStands r.line dials acts
+receives-right : (m : Message) (r : Relay) (dials : Bool) (acts : List RelayAct) → LineStands r.line dials acts
     → OverRight r.line r.socket dials acts → OverRight (received_of m r).line r.socket dials (act_received m r ∷ acts)
 receives-right (message.Transport number rest) r dials acts s h = receives-other r.line r.socket dials acts h
 receives-right (message.GlobalRequest name want rest what) r dials acts s h = receives-other r.line r.socket dials acts h
@@ -292,7 +292,7 @@ receives-right (message.Request recipient kind want rest) r dials acts s h =
 receives-right (message.Success recipient) r dials acts s h = receives-other r.line r.socket dials acts h
 receives-right (message.Failure recipient) r dials acts s h = receives-other r.line r.socket dials acts h
 
-takes-right : (bytes : List ℕ) (line : ChannelState) (s : Socket) (dials : Bool) (acts : List Act) → OverRight line s dials acts
+takes-right : (bytes : List ℕ) (line : ChannelState) (s : Socket) (dials : Bool) (acts : List RelayAct) → OverRight line s dials acts
     → OverRight (takes_in (length bytes) line) s dials (Takes bytes ∷ acts)
 takes-right bytes (Dialing dialog) s dials acts h = tt
 takes-right bytes (Asked host port version) s dials acts h = tt
@@ -303,15 +303,15 @@ takes-right bytes Over s dials acts h = λ whole. over-more dials (Takes bytes) 
 
 -- ---- why a socket is broken
 
-abbrev Cause : List HouseCall → Option OwnStream → List Act → Socket → Type 0
+abbrev Cause : List HouseCall → Option OwnStream → List RelayAct → Socket → Type 0
 Cause calls own acts socket.Unmade = Unit {0}
 Cause calls own acts (socket.Connecting t) = Unit {0}
 Cause calls own acts (socket.Open t) = Unit {0}
-Cause calls own acts (socket.Failed t) = has_failed acts ≡ true
+Cause calls own acts (socket.Failed t) = socket_has_failed acts ≡ true
 Cause calls own acts (socket.NoChannelLeft t) = HasNoChannel calls own
 Cause calls own acts socket.Closed = Unit {0}
 
-cause-more : (calls : List HouseCall) (own : Option OwnStream) (act : Act) (acts : List Act) (s : Socket) → Cause calls own acts s
+cause-more : (calls : List HouseCall) (own : Option OwnStream) (act : RelayAct) (acts : List RelayAct) (s : Socket) → Cause calls own acts s
     → Cause calls own (act ∷ acts) s
 cause-more calls own act acts socket.Unmade h = tt
 cause-more calls own act acts (socket.Connecting t) h = tt
@@ -320,7 +320,7 @@ cause-more calls own act acts (socket.Failed t) h = failed-more act acts h
 cause-more calls own act acts (socket.NoChannelLeft t) h = h
 cause-more calls own act acts socket.Closed h = tt
 
-none-after : (calls : List HouseCall) (s : LinkStep) (own : Option OwnStream) → HasNoChannel calls own → HasNoChannel calls (own_after s own)
+none-after : (calls : List HouseCall) (s : LinkStep) (own : Option OwnStream) → HasNoChannel calls own → HasNoChannel calls (link_own_after s own)
 none-after calls s own (inl h) = inl (record {
   listener = h.listener;
   stream = h.stream;
@@ -338,8 +338,8 @@ none-after calls s own (inr h) = inr (record {
   cause = h.cause;
 })
 
-cause-own : (calls : List HouseCall) (s : LinkStep) (own : Option OwnStream) (act : Act) (acts : List Act) (k : Socket) → Cause calls own acts k
-    → Cause calls (own_after s own) (act ∷ acts) k
+cause-own : (calls : List HouseCall) (s : LinkStep) (own : Option OwnStream) (act : RelayAct) (acts : List RelayAct) (k : Socket) → Cause calls own acts k
+    → Cause calls (link_own_after s own) (act ∷ acts) k
 cause-own calls s own act acts socket.Unmade h = tt
 cause-own calls s own act acts (socket.Connecting t) h = tt
 cause-own calls s own act acts (socket.Open t) h = tt
@@ -347,7 +347,7 @@ cause-own calls s own act acts (socket.Failed t) h = failed-more act acts h
 cause-own calls s own act acts (socket.NoChannelLeft t) h = none-after calls s own h
 cause-own calls s own act acts socket.Closed h = tt
 
-cause-connected : (calls : List HouseCall) (own : Option OwnStream) (acts : List Act) (k : Socket) → Cause calls own acts k
+cause-connected : (calls : List HouseCall) (own : Option OwnStream) (acts : List RelayAct) (k : Socket) → Cause calls own acts k
     → Cause calls own acts (connected k)
 cause-connected calls own acts socket.Unmade h = tt
 cause-connected calls own acts (socket.Connecting t) h = tt
@@ -356,7 +356,7 @@ cause-connected calls own acts (socket.Failed t) h = h
 cause-connected calls own acts (socket.NoChannelLeft t) h = h
 cause-connected calls own acts socket.Closed h = tt
 
-cause-failing : (calls : List HouseCall) (own : Option OwnStream) (acts : List Act) (k : Socket) → has_failed acts ≡ true
+cause-failing : (calls : List HouseCall) (own : Option OwnStream) (acts : List RelayAct) (k : Socket) → socket_has_failed acts ≡ true
     → Cause calls own acts (failing k)
 cause-failing calls own acts socket.Unmade h = tt
 cause-failing calls own acts (socket.Connecting t) h = h
@@ -365,15 +365,15 @@ cause-failing calls own acts (socket.Failed t) h = h
 cause-failing calls own acts (socket.NoChannelLeft t) h = h
 cause-failing calls own acts socket.Closed h = tt
 
-cause-step : (calls : List HouseCall) (s : LinkStep) (own : Option OwnStream) (acts : List Act) (r : Relay) → Cause calls own acts r.socket
-    → Cause calls (own_after s own) (act_of s ∷ acts) (relay_after s r).socket
+cause-step : (calls : List HouseCall) (s : LinkStep) (own : Option OwnStream) (acts : List RelayAct) (r : Relay) → Cause calls own acts r.socket
+    → Cause calls (link_own_after s own) (relay_act_of s ∷ acts) (relay_after s r).socket
 cause-step calls (step.Pause b) own acts r h = cause-own calls (step.Pause b) own Other acts r.socket h
 cause-step calls step.Finish own acts r h = cause-own calls step.Finish own Other acts r.socket h
 cause-step calls step.End own acts r h = cause-own calls step.End own Ends acts r.socket h
 cause-step calls step.Close own acts r h = tt
 cause-step calls step.Writable own acts r h =
-    cause-connected calls (own_after step.Writable own) (Other ∷ acts) r.socket (cause-own calls step.Writable own Other acts r.socket h)
-cause-step calls step.Failed own acts r h = cause-failing calls (own_after step.Failed own) (Fails ∷ acts) r.socket refl
+    cause-connected calls (link_own_after step.Writable own) (Other ∷ acts) r.socket (cause-own calls step.Writable own Other acts r.socket h)
+cause-step calls step.Failed own acts r h = cause-failing calls (link_own_after step.Failed own) (Fails ∷ acts) r.socket refl
 
 whole-connected : (s : Socket) → is_broken (connected s) ≡ false → is_broken s ≡ false
 whole-connected socket.Unmade e = refl
@@ -399,7 +399,7 @@ whole-step step.Close r e = cc
 whole-step step.Writable r e = whole-connected r.socket e
 whole-step step.Failed r e = whole-failing r.socket e
 
-act-answer : (s : LinkStep) (acts : List Act) → answer (act_of s ∷ acts) ≡ answer acts
+act-answer : (s : LinkStep) (acts : List RelayAct) → answer (relay_act_of s ∷ acts) ≡ answer acts
 act-answer (step.Pause b) acts = refl
 act-answer step.Finish acts = refl
 act-answer step.End acts = refl
@@ -407,7 +407,7 @@ act-answer step.Close acts = refl
 act-answer step.Writable acts = refl
 act-answer step.Failed acts = refl
 
-act-read : (s : LinkStep) (acts : List Act) → read (act_of s ∷ acts) ≡ read acts
+act-read : (s : LinkStep) (acts : List RelayAct) → read (relay_act_of s ∷ acts) ≡ read acts
 act-read (step.Pause b) acts = refl
 act-read step.Finish acts = refl
 act-read step.End acts = refl
@@ -422,22 +422,22 @@ record Caused (calls : List HouseCall) (l : Life) : Type 0 where
   over : OverRight l.relay.line l.relay.socket l.dials l.acts
 
 -- where its socket stays
-caused-on : (calls : List HouseCall) (so : Relay → Relay → Type 0) (act : Act) (a b : Life) → GoesBy so act a b
+caused-on : (calls : List HouseCall) (so : Relay → Relay → Type 0) (act : RelayAct) (a b : Life) → RelayGoesBy so act a b
     → b.relay.socket ≡ a.relay.socket → OverRight b.relay.line a.relay.socket a.dials (act ∷ a.acts)
     → Cause calls a.own a.acts a.relay.socket → Caused calls b
 caused-on calls so act a b h same over broken = record {
   broken = subst (λ (s : Socket). Cause calls b.own b.acts s) (sym same)
-      (subst (λ (acts : List Act). Cause calls b.own acts a.relay.socket) (sym h.acts)
+      (subst (λ (acts : List RelayAct). Cause calls b.own acts a.relay.socket) (sym h.acts)
       (subst (λ (own : Option OwnStream). Cause calls own (act ∷ a.acts) a.relay.socket) (sym h.own)
       (cause-more calls a.own act a.acts a.relay.socket broken)));
   over = subst (λ (s : Socket). OverRight b.relay.line s b.dials b.acts) (sym same)
-      (subst (λ (acts : List Act). OverRight b.relay.line a.relay.socket b.dials acts) (sym h.acts)
+      (subst (λ (acts : List RelayAct). OverRight b.relay.line a.relay.socket b.dials acts) (sym h.acts)
       (subst (λ (d : Bool). OverRight b.relay.line a.relay.socket d (act ∷ a.acts)) (sym h.dials) over));
 }
 
 -- ---- its socket gives bytes
 
-dialing-right : (line : ChannelState) (s : Socket) (dials : Bool) (acts : List Act) → IsToDial line → OverRight line s dials acts
+dialing-right : (line : ChannelState) (s : Socket) (dials : Bool) (acts : List RelayAct) → IsToDial line → OverRight line s dials acts
 dialing-right (Dialing dialog) s dials acts h = tt
 dialing-right (Asked host port version) s dials acts h = absurd h
 dialing-right (Opened version) s dials acts h = absurd h
@@ -445,7 +445,7 @@ dialing-right (Offered remote window maximum) s dials acts h = absurd h
 dialing-right (Live live) s dials acts h = absurd h
 dialing-right Over s dials acts h = absurd h
 
-asked-right : (host : List ℕ) (port : ℕ) (line : ChannelState) (s : Socket) (dials : Bool) (acts : List Act) → IsAskedFor host port line
+asked-right : (host : List ℕ) (port : ℕ) (line : ChannelState) (s : Socket) (dials : Bool) (acts : List RelayAct) → IsOpenAskedFor host port line
     → OverRight line s dials acts
 asked-right host port (Dialing dialog) s dials acts h = absurd h
 asked-right host port (Asked host' port' version) s dials acts h = tt
@@ -454,7 +454,7 @@ asked-right host port (Offered remote window maximum) s dials acts h = absurd h
 asked-right host port (Live live) s dials acts h = absurd h
 asked-right host port Over s dials acts h = absurd h
 
-no_channel_left-broken : (s : Socket) (n : ℕ) → stream_of s ≡ Some n → is_broken (no_channel_left_of s) ≡ true
+no_channel_left-broken : (s : Socket) (n : ℕ) → socket_stream_of s ≡ Some n → is_broken (no_channel_left_of s) ≡ true
 no_channel_left-broken (socket.Connecting t) n e = refl
 no_channel_left-broken (socket.Open t) n e = refl
 no_channel_left-broken socket.Unmade n e = cc
@@ -462,7 +462,7 @@ no_channel_left-broken (socket.Failed t) n e = refl
 no_channel_left-broken (socket.NoChannelLeft t) n e = refl
 no_channel_left-broken socket.Closed n e = cc
 
-no_channel_left-cause : (calls : List HouseCall) (own : Option OwnStream) (acts : List Act) (s : Socket) → HasNoChannel calls own
+no_channel_left-cause : (calls : List HouseCall) (own : Option OwnStream) (acts : List RelayAct) (s : Socket) → HasNoChannel calls own
     → Cause calls own acts (no_channel_left_of s)
 no_channel_left-cause calls own acts (socket.Connecting t) h = h
 no_channel_left-cause calls own acts (socket.Open t) h = h
@@ -471,8 +471,8 @@ no_channel_left-cause calls own acts (socket.Failed t) h = h
 no_channel_left-cause calls own acts (socket.NoChannelLeft t) h = h
 no_channel_left-cause calls own acts socket.Closed h = tt
 
-streamed : (t : ℕ) (own : Option OwnStream) (s : Socket) → is_stream t own ≡ true → stream_of s ≡ number_of own
-    → (n : ℕ) × (stream_of s ≡ Some n)
+streamed : (t : ℕ) (own : Option OwnStream) (s : Socket) → is_stream t own ≡ true → socket_stream_of s ≡ number_of own
+    → (n : ℕ) × (socket_stream_of s ≡ Some n)
 streamed t None s is e = cc
 streamed t (Some own) s is e = (own.number, e)
 
@@ -480,8 +480,8 @@ its-stream : (t : ℕ) (own : Option OwnStream) → is_stream t own ≡ true →
 its-stream t None is = tt
 its-stream t (Some own) is = eqb-true own.number t is
 
--- what a dialog comes to
-comes-right : (calls : List HouseCall) (t : ℕ) (bytes : List ℕ) (old : Trace) → IsBefore calls (Turns (Got t bytes)) old → (a b : Life)
+-- the outcome of a dialog
+comes-right : (calls : List HouseCall) (t : ℕ) (bytes : List ℕ) (old : Trace) → IsCallBefore calls (Turns (Got t bytes)) old → (a b : Life)
     → Sound a → Caused calls a → has_stream t a ≡ true → (o : Outcome) (free : Bool) → free ≡ not (are_full old.relay_traces)
     → outcome_in (read a.acts ++ bytes) ≡ o → ComesOf o free a.relay b.relay → a.dials ≡ true
     → Cause calls a.own (Reads bytes ∷ a.acts) b.relay.socket × OverRight b.relay.line b.relay.socket a.dials (Reads bytes ∷ a.acts)
@@ -527,7 +527,7 @@ same-gets calls bytes a b p e f = (
       (right-reads a.relay.line a.relay.socket a.dials bytes a.acts p.over)),
 )
 
-gets-right : (calls : List HouseCall) (t : ℕ) (bytes : List ℕ) (old : Trace) → IsBefore calls (Turns (Got t bytes)) old → (a b : Life)
+gets-right : (calls : List HouseCall) (t : ℕ) (bytes : List ℕ) (old : Trace) → IsCallBefore calls (Turns (Got t bytes)) old → (a b : Life)
     → Sound a → Caused calls a → has_stream t a ≡ true → (line : ChannelState) → a.relay.line ≡ line
     → DialsIn line (not (are_full old.relay_traces)) bytes a.relay b.relay
     → Cause calls a.own (Reads bytes ∷ a.acts) b.relay.socket × OverRight b.relay.line b.relay.socket a.dials (Reads bytes ∷ a.acts)
@@ -567,15 +567,15 @@ dialed-caused calls joins t r false none h = record {
   over = subst (λ (x : Relay). OverRight x.line x.socket (joined_life joins t r).dials []) (sym h) tt;
 }
 
-joined-at : (calls : List HouseCall) (joins t : ℕ) (r : Relay) (f : Forwarding) (kind : Kind) (dialogs_full : Bool)
+joined-at : (calls : List HouseCall) (joins t : ℕ) (r : Relay) (f : Forwarding) (kind : ForwardingKind) (dialogs_full : Bool)
     → (dialogs_full ≡ true → HasNoChannel calls (Some (new_stream t))) → IsJoinedAt kind dialogs_full f t r → Caused calls (joined_life joins t r)
 joined-at calls joins t r f Local dialogs_full none h = asked-caused calls joins t r f.connect_host f.connect_port h
 joined-at calls joins t r f Remote dialogs_full none h = asked-caused calls joins t r f.connect_host f.connect_port h
 joined-at calls joins t r f Dynamic dialogs_full none h = dialed-caused calls joins t r dialogs_full none h
 
-joined-caused : (calls : List HouseCall) (joins l t : ℕ) (trace : Trace) → IsBefore calls (Turns (Joined l t)) trace
+joined-caused : (calls : List HouseCall) (joins l t : ℕ) (trace : Trace) → IsCallBefore calls (Turns (Joined l t)) trace
     → (full dialogs_full : Bool) (o : Option Forwarding) → are_full trace.relay_traces ≡ full → are_dialogs_full trace.relay_traces ≡ dialogs_full
-    → find (has_listener l) trace.forwarding_state.all ≡ o → (r : Relay) → IsJoined full dialogs_full o t r → Caused calls (joined_life joins t r)
+    → find (has_listener l) trace.forwarding_state.all ≡ o → (r : Relay) → IsRelayJoined full dialogs_full o t r → Caused calls (joined_life joins t r)
 joined-caused calls joins l t trace before true dialogs_full o e f g r h = no_channel_left-caused calls joins t r h
     (inl (record { listener = l; stream = t; trace = trace; joined = before; its = refl; cause = inl e }))
 joined-caused calls joins l t trace before false dialogs_full None e f g r h = no_channel_left-caused calls joins t r h
@@ -585,7 +585,7 @@ joined-caused calls joins l t trace before false dialogs_full (Some x) e f g r h
 
 -- ---- all steps
 
-made-cause : (calls : List HouseCall) (number : Option ℕ) (own : Option OwnStream) (acts : List Act) → Cause calls own acts (made_as number)
+made-cause : (calls : List HouseCall) (number : Option ℕ) (own : Option OwnStream) (acts : List RelayAct) → Cause calls own acts (made_as number)
 made-cause calls None own acts = tt
 made-cause calls (Some t) own acts = tt
 
@@ -597,7 +597,7 @@ unmade-whole (socket.Failed t) e = cc
 unmade-whole (socket.NoChannelLeft t) e = cc
 unmade-whole socket.Closed e = cc
 
-caused : (calls : List HouseCall) → KeptSound (IsBefore calls) (Caused calls)
+caused : (calls : List HouseCall) → KeptSound (IsCallBefore calls) (Caused calls)
 caused calls = record {
   says = λ bytes a b s p is h. caused-on calls _ _ a b h.1
       (ap (λ (r : Relay). r.socket) h.1.relay.0 ∙ (stays-after (sends_of a.relay) a.relay).socket_is)
@@ -612,9 +612,9 @@ caused calls = record {
   gets = λ t bytes old now a b s s' p is h. (
       let its = gets-right calls t bytes old now a b s p is a.relay.line refl h.relay.0 in
       record {
-        broken = subst (λ (acts : List Act). Cause calls b.own acts b.relay.socket) (sym h.acts)
+        broken = subst (λ (acts : List RelayAct). Cause calls b.own acts b.relay.socket) (sym h.acts)
             (subst (λ (own : Option OwnStream). Cause calls own (Reads bytes ∷ a.acts) b.relay.socket) (sym h.own) its.0);
-        over = subst (λ (acts : List Act). OverRight b.relay.line b.relay.socket b.dials acts) (sym h.acts)
+        over = subst (λ (acts : List RelayAct). OverRight b.relay.line b.relay.socket b.dials acts) (sym h.acts)
             (subst (λ (d : Bool). OverRight b.relay.line b.relay.socket d (Reads bytes ∷ a.acts)) (sym h.dials) its.1);
       }
       );
@@ -624,9 +624,9 @@ caused calls = record {
       p.broken;
   steps = λ s t call old now causes a sounds p is. record {
     broken = cause-step calls s a.own a.acts a.relay p.broken;
-    over = subst (λ (line : ChannelState). OverRight line (relay_after s a.relay).socket a.dials (act_of s ∷ a.acts)) (sym (line-step s a.relay))
-        (right-socket a.relay.line a.relay.socket (relay_after s a.relay).socket a.dials (act_of s ∷ a.acts) (whole-step s a.relay)
-        (right-more a.relay.line a.relay.socket a.dials (act_of s) a.acts (act-answer s a.acts) (act-read s a.acts) p.over));
+    over = subst (λ (line : ChannelState). OverRight line (relay_after s a.relay).socket a.dials (relay_act_of s ∷ a.acts)) (sym (line-step s a.relay))
+        (right-socket a.relay.line a.relay.socket (relay_after s a.relay).socket a.dials (relay_act_of s ∷ a.acts) (whole-step s a.relay)
+        (right-more a.relay.line a.relay.socket a.dials (relay_act_of s) a.acts (act-answer s a.acts) (act-read s a.acts) p.over));
   };
   makes = λ host port number old now a s p is. record {
     broken = made-cause calls number (made_life number a).own (Other ∷ a.acts);
@@ -638,20 +638,20 @@ caused calls = record {
   offers = λ f number remote window maximum small. record { broken = tt; over = tt };
 }
 
-all-caused : (calls : List HouseCall) (trace : Trace) → Reaches first_trace calls trace → All (Both (Caused calls)) trace
+all-caused : (calls : List HouseCall) (trace : Trace) → TraceReaches first_trace calls trace → All (Both (Caused calls)) trace
 all-caused calls trace h =
-    all-reach (IsBefore calls) (Both (Caused calls)) (with-sound (IsBefore calls) (Caused calls) (caused calls)) calls first_trace trace
+    all-reach (IsCallBefore calls) (Both (Caused calls)) (with-sound (IsCallBefore calls) (Caused calls) (caused calls)) calls first_trace trace
     (λ before call behind mid e r. record { before = before; behind = behind; are = e; reached = r }) h
     (record { relay_traces = tt; past = tt })
 
 -- ---- one is closed
 
-through-over : (dials : Bool) (acts : List Act) → OverBy dials acts → IsThrough dials acts
+through-over : (dials : Bool) (acts : List RelayAct) → OverBy dials acts → IsThrough dials acts
 through-over dials acts (inl h) = inl h
 through-over dials acts (inr (inl h)) = inr (inl h)
 through-over dials acts (inr (inr h)) = inr (inr (inl h))
 
-through : (line : ChannelState) (s : Socket) (dials : Bool) (acts : List Act) (ended : Bool) → ended ≡ has_ended acts → LineStands line dials acts
+through : (line : ChannelState) (s : Socket) (dials : Bool) (acts : List RelayAct) (ended : Bool) → ended ≡ socket_has_ended acts → LineStands line dials acts
     → OverRight line s dials acts → is_broken s ≡ false → has_no_more ended line ≡ true → IsThrough dials acts
 through (Dialing dialog) s dials acts ended e stands right whole no-more =
     inr (inr (inr (record { dialed = stands.socks; wants = stands.wants; ended = sym e ∙ no-more })))
@@ -662,9 +662,9 @@ through (Live live) s dials acts ended e stands right whole no-more = cc
 through Over s dials acts ended e stands right whole no-more = through-over dials acts (right whole)
 
 abbrev Reason : List HouseCall → Life → Type 0
-Reason calls l = (has_failed l.acts ≡ true) ⊎ (IsServed l.dials l.acts ⊎ HasNoChannel calls l.own)
+Reason calls l = (socket_has_failed l.acts ≡ true) ⊎ (IsServed l.dials l.acts ⊎ HasNoChannel calls l.own)
 
-broken-reason : (calls : List HouseCall) (l : Life) (n : ℕ) (s : Socket) → stream_of s ≡ Some n → Cause calls l.own l.acts s
+broken-reason : (calls : List HouseCall) (l : Life) (n : ℕ) (s : Socket) → socket_stream_of s ≡ Some n → Cause calls l.own l.acts s
     → is_broken s ≡ true → Reason calls l
 broken-reason calls l n socket.Unmade e h is = cc
 broken-reason calls l n (socket.Connecting t) e h is = cc

@@ -7,52 +7,53 @@ use Rattle.mux_outside.specs.declared.order.Order.TheVariants as order
 use Rattle.mux_outside.specs.declared.start_ask.StartAsk.{StartAsk}
 use Rattle.house_forward.specs.Forwardings.{ComesIf, ComesUnless, EndsLeave, Opens, is_new, after_close, comes_of_ends, standing, opens_of, closes_of, ListensFirst}
 use Rattle.house_forward.specs.Links.{ConnectsFirst}
-use Rattle.house_forward.specs.Rules.{is_refused_alone, AreEnds}
+use Rattle.house_forward.specs.Rules.{AreEnds, is_ruled_out}
 use Rattle.house_forward.specs.declared.asks.Asked.{Asked}
 use Rattle.house_forward.specs.declared.asks.Asked.TheVariants.{Now}
 use Rattle.house_forward.specs.declared.asks.Outcome.TheVariants.{Refused}
 use Rattle.house_forward.specs.declared.forwarding.Forwarding.{Forwarding}
 use Rattle.house_forward.specs.declared.link.Link.{Link}
 use Rattle.house_forward.specs.declared.rules.Ends.{Ends}
+use Rattle.house_forward.specs.declared.rules.ListenRules.{ListenRules}
 
 -- ---- asks
 
-refused-if : (b gateway opening : Bool) (ask : StartAsk) (serial : ℕ) (fs : List Forwarding) → false ≡ not b
-    → ComesIf b gateway opening ask serial fs fs (Now Refused)
-refused-if true gateway opening ask serial fs e = (refl, refl)
-refused-if false gateway opening ask serial fs e = cc
+refused-if : (b : Bool) (rules : ListenRules) (opening : Bool) (ask : StartAsk) (serial : ℕ) (fs : List Forwarding) → false ≡ not b
+    → ComesIf b rules opening ask serial fs fs (Now Refused)
+refused-if true rules opening ask serial fs e = (refl, refl)
+refused-if false rules opening ask serial fs e = cc
 
-ends-if : (b gateway opening : Bool) (ask : StartAsk) (serial : ℕ) (fs new : List Forwarding) → true ≡ not b
-    → (ends : Ends) → AreEnds gateway ask ends → (asked : Asked) → asked ≡ comes_of_ends opening serial ends fs
-    → EndsLeave opening serial ends fs new → ComesIf b gateway opening ask serial fs new asked
-ends-if true gateway opening ask serial fs new e ends are asked same leaves = cc
-ends-if false gateway opening ask serial fs new e ends are asked same leaves = (ends, are, same, leaves)
+ends-if : (b : Bool) (rules : ListenRules) (opening : Bool) (ask : StartAsk) (serial : ℕ) (fs new : List Forwarding) → true ≡ not b
+    → (ends : Ends) → AreEnds rules ask ends → (asked : Asked) → asked ≡ comes_of_ends opening serial ends fs
+    → EndsLeave opening serial ends fs new → ComesIf b rules opening ask serial fs new asked
+ends-if true rules opening ask serial fs new e ends are asked same leaves = cc
+ends-if false rules opening ask serial fs new e ends are asked same leaves = (ends, are, same, leaves)
 
-unless : (away gateway opening : Bool) (ask : StartAsk) (serial : ℕ) (fs new : List Forwarding) (asked : Asked) → away ≡ false
-    → ComesIf (is_refused_alone ask) gateway opening ask serial fs new asked → ComesUnless away gateway opening ask serial fs new asked
-unless true gateway opening ask serial fs new asked e h = cc
-unless false gateway opening ask serial fs new asked e h = h
+unless : (away : Bool) (rules : ListenRules) (opening : Bool) (ask : StartAsk) (serial : ℕ) (fs new : List Forwarding) (asked : Asked) → away ≡ false
+    → ComesIf (is_ruled_out rules ask) rules opening ask serial fs new asked → ComesUnless away rules opening ask serial fs new asked
+unless true rules opening ask serial fs new asked e h = cc
+unless false rules opening ask serial fs new asked e h = h
 
 -- the client has an open ask with its id, or as many wait as may
-pub turned-away : (away gateway opening : Bool) (ask : StartAsk) (serial : ℕ) (fs : List Forwarding) → away ≡ true
-    → ComesUnless away gateway opening ask serial fs fs (Now Refused)
-turned-away true gateway opening ask serial fs e = (refl, refl)
-turned-away false gateway opening ask serial fs e = cc
+pub turned-away : (away : Bool) (rules : ListenRules) (opening : Bool) (ask : StartAsk) (serial : ℕ) (fs : List Forwarding) → away ≡ true
+    → ComesUnless away rules opening ask serial fs fs (Now Refused)
+turned-away true rules opening ask serial fs e = (refl, refl)
+turned-away false rules opening ask serial fs e = cc
 
 -- it is refused whatever stands
-pub refused-alone : (away gateway opening : Bool) (ask : StartAsk) (serial : ℕ) (fs : List Forwarding) → away ≡ false
-    → false ≡ not (is_refused_alone ask) → ComesUnless away gateway opening ask serial fs fs (Now Refused)
-refused-alone away gateway opening ask serial fs e alone =
-    unless away gateway opening ask serial fs fs (Now Refused) e (refused-if (is_refused_alone ask) gateway opening ask serial fs alone)
+pub refused-alone : (away : Bool) (rules : ListenRules) (opening : Bool) (ask : StartAsk) (serial : ℕ) (fs : List Forwarding) → away ≡ false
+    → false ≡ not (is_ruled_out rules ask) → ComesUnless away rules opening ask serial fs fs (Now Refused)
+refused-alone away rules opening ask serial fs e alone =
+    unless away rules opening ask serial fs fs (Now Refused) e (refused-if (is_ruled_out rules ask) rules opening ask serial fs alone)
 
 -- its two ends are looked at
-pub by-ends : (away gateway opening : Bool) (ask : StartAsk) (serial : ℕ) (fs new : List Forwarding) → away ≡ false
-    → true ≡ not (is_refused_alone ask) → (ends : Ends) → AreEnds gateway ask ends → (asked : Asked)
+pub by-ends : (away : Bool) (rules : ListenRules) (opening : Bool) (ask : StartAsk) (serial : ℕ) (fs new : List Forwarding) → away ≡ false
+    → true ≡ not (is_ruled_out rules ask) → (ends : Ends) → AreEnds rules ask ends → (asked : Asked)
     → asked ≡ comes_of_ends opening serial ends fs → EndsLeave opening serial ends fs new
-    → ComesUnless away gateway opening ask serial fs new asked
-by-ends away gateway opening ask serial fs new e alone ends are asked same leaves =
-    unless away gateway opening ask serial fs new asked e
-    (ends-if (is_refused_alone ask) gateway opening ask serial fs new alone ends are asked same leaves)
+    → ComesUnless away rules opening ask serial fs new asked
+by-ends away rules opening ask serial fs new e alone ends are asked same leaves =
+    unless away rules opening ask serial fs new asked e
+    (ends-if (is_ruled_out rules ask) rules opening ask serial fs new alone ends are asked same leaves)
 
 pub opens-there : (opening : Bool) (serial : ℕ) (ends : Ends) (fs : List Forwarding) (asked : Asked) → opening ≡ true
     → asked ≡ opens_of serial ends fs (standing ends fs) → asked ≡ comes_of_ends opening serial ends fs

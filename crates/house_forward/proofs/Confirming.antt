@@ -1,4 +1,4 @@
--- The answers that the house says to the server's OPENs.
+-- The answers that the forwarder sends to the server's OPENs.
 use Rattle.std.proofs.Common.{◌≡◌, ◌∙◌, refl, sym, ap, subst, ◌⊎◌, inl, inr, ℕ, Bool, true, false, List, [], ◌∷◌, ◌++◌, append_assoc, Option, Some, None}
 use Rattle.std.specs.Prelude.{◌||◌, not, find, is_some}
 use Rattle.std.proofs.lemmas.Bool.{both_ways, eqb-true}
@@ -9,10 +9,10 @@ use Rattle.mux_outside.specs.declared.order.Order.TheVariants as order
 use Rattle.mux_outside.specs.declared.own_streams.OwnStream.{OwnStream}
 use Rattle.socks_dialog.specs.declared.outcome.Outcome.{Outcome}
 use Rattle.socks_dialog.specs.declared.outcome.Outcome.TheVariants.{Wants, Connects, Breaks}
-use Rattle.house_relay.specs.Acts.{Act, outcome_in}
+use Rattle.house_relay.specs.Acts.{RelayAct, outcome_in}
 use Rattle.house_relay.specs.Next.{sends_of, sends_offered}
-use Rattle.house_relay.specs.Relay.{LineStands, IsDialing, stream_of, is_broken, is_done}
-use Rattle.house_relay.specs.Steps.{made_as, connected, failing, ComesOf, DialsIn, IsToDial, IsAskedFor}
+use Rattle.house_relay.specs.Relay.{LineStands, IsDialing, socket_stream_of, is_broken, is_done}
+use Rattle.house_relay.specs.Steps.{made_as, connected, failing, ComesOf, DialsIn, IsToDial, IsOpenAskedFor}
 use Rattle.house_relay.specs.declared.line.Live.{Live as LiveState}
 use Rattle.house_relay.specs.declared.line.ChannelState.{ChannelState}
 use Rattle.house_relay.specs.declared.line.ChannelState.TheVariants.{Dialing, Asked, Opened, Offered, Live, Over}
@@ -23,18 +23,18 @@ use Rattle.house_relay.specs.declared.relay.Socket.{Socket}
 use Rattle.house_relay.specs.declared.relay.Socket.TheVariants as socket
 use Rattle.house_forward.specs.Closing.{IsStream}
 use Rattle.house_forward.specs.Confirming.{ConfirmsConnected, RefusesUnconnected, is_confirmation, is_failure, HasHappened, HasNoNumber, HasFailedSince, IsConfirmationOf, IsFailureOf}
-use Rattle.house_forward.specs.Connects.{Place}
+use Rattle.house_forward.specs.Connects.{ConnectPlace}
 use Rattle.house_forward.specs.Forwardings.{has_request}
-use Rattle.house_forward.specs.Links.{IsJoined, IsJoinedAt, after_sending, relay_after}
-use Rattle.house_forward.specs.RelayTraces.{Life, Trace, GoesBy, Reaches, Follows, SendsBy, first_trace}
+use Rattle.house_forward.specs.Links.{IsRelayJoined, IsJoinedAt, after_sending, relay_after}
+use Rattle.house_forward.specs.RelayTraces.{Life, Trace, RelayGoesBy, TraceReaches, Follows, SendsBy, first_trace}
 use Rattle.house_forward.specs.RelayTraces.{has_stream, is_stream, are_full}
 use Rattle.house_forward.specs.Numbers.{open_streams, number_of}
-use Rattle.house_forward.specs.Said.{framed, sent_by, confirmed, not_connected, payload_if}
+use Rattle.house_forward.specs.Said.{framed, relay_sent_by, confirmed, not_connected, payload_if}
 use Rattle.house_forward.specs.declared.forwarding.Forwarding.{Forwarding}
 use Rattle.house_forward.specs.declared.link.LinkStep.{LinkStep}
 use Rattle.house_forward.specs.declared.link.LinkStep.TheVariants as step
-use Rattle.house_forward.specs.declared.rules.Kind.{Kind}
-use Rattle.house_forward.specs.declared.rules.Kind.TheVariants.{Local, Remote, Dynamic}
+use Rattle.house_forward.specs.declared.rules.ForwardingKind.{ForwardingKind}
+use Rattle.house_forward.specs.declared.rules.ForwardingKind.TheVariants.{Local, Remote, Dynamic}
 use Rattle.house_forward.proofs.Closing.{live-says}
 use Rattle.house_forward.proofs.Differing.{Apart}
 use Rattle.house_forward.proofs.Keeping.{is-reading, stays-heard, stays-after}
@@ -88,7 +88,7 @@ dialing-none (Offered remote window maximum) h = absurd h
 dialing-none (Live live) h = refl
 dialing-none Over h = refl
 
-asked-none : (host : List ℕ) (port : ℕ) (line : ChannelState) → IsAskedFor host port line → offer line ≡ false
+asked-none : (host : List ℕ) (port : ℕ) (line : ChannelState) → IsOpenAskedFor host port line → offer line ≡ false
 asked-none host port (Dialing dialog) h = refl
 asked-none host port (Asked host' port' version) h = refl
 asked-none host port (Opened version) h = refl
@@ -124,25 +124,25 @@ gets-socket (Offered remote window maximum) free bytes a b e s d h = h.1
 gets-socket (Live live) free bytes a b e s d h = h.1
 gets-socket Over free bytes a b e s d h = h.1
 
--- ---- what the calls so far tell of a socket
+-- ---- what the calls so far record of a socket
 
-record Made (calls : List HouseCall) (to : Place) (t : ℕ) : Type 0 where
+record Made (calls : List HouseCall) (to : ConnectPlace) (t : ℕ) : Type 0 where
   before : List HouseCall
   behind : List HouseCall
   are : calls ≡ before ++ Marks (HouseOrder (order.Connect to.0 to.1) (Some t)) ∷ behind
 
-made-of : (calls : List HouseCall) (to : Place) (t : ℕ) (happening : Happening) → HasHappened calls to t happening → Made calls to t
+made-of : (calls : List HouseCall) (to : ConnectPlace) (t : ℕ) (happening : Happening) → HasHappened calls to t happening → Made calls to t
 made-of calls to t happening h =
     record { before = h.before; behind = h.between ++ Turns happening ∷ h.behind; are = h.are }
 
-made-more : (calls : List HouseCall) (call : HouseCall) (to : Place) (t : ℕ) → Made calls to t → Made (calls ++ call ∷ []) to t
+made-more : (calls : List HouseCall) (call : HouseCall) (to : ConnectPlace) (t : ℕ) → Made calls to t → Made (calls ++ call ∷ []) to t
 made-more calls call to t h = record {
   before = h.before;
   behind = h.behind ++ call ∷ [];
   are = ap (λ (cs : List HouseCall). cs ++ call ∷ []) h.are ∙ append_assoc h.before (_ ∷ h.behind) (call ∷ []);
 }
 
-happened-more : (calls : List HouseCall) (call : HouseCall) (to : Place) (t : ℕ) (happening : Happening) → HasHappened calls to t happening
+happened-more : (calls : List HouseCall) (call : HouseCall) (to : ConnectPlace) (t : ℕ) (happening : Happening) → HasHappened calls to t happening
     → HasHappened (calls ++ call ∷ []) to t happening
 happened-more calls call to t happening h = record {
   before = h.before;
@@ -154,7 +154,7 @@ happened-more calls call to t happening h = record {
       (append_assoc h.between (Turns happening ∷ h.behind) (call ∷ []));
 }
 
-happens : (calls : List HouseCall) (to : Place) (t : ℕ) (happening : Happening) → Made calls to t
+happens : (calls : List HouseCall) (to : ConnectPlace) (t : ℕ) (happening : Happening) → Made calls to t
     → HasHappened (calls ++ Turns happening ∷ []) to t happening
 happens calls to t happening h = record {
   before = h.before;
@@ -164,7 +164,7 @@ happens calls to t happening h = record {
       ∙ append_assoc h.before (Marks (HouseOrder (order.Connect to.0 to.1) (Some t)) ∷ h.behind) (Turns happening ∷ []);
 }
 
-none-more : (calls : List HouseCall) (call : HouseCall) (to : Place) → HasNoNumber calls to → HasNoNumber (calls ++ call ∷ []) to
+none-more : (calls : List HouseCall) (call : HouseCall) (to : ConnectPlace) → HasNoNumber calls to → HasNoNumber (calls ++ call ∷ []) to
 none-more calls call to h = record {
   before = h.before;
   behind = h.behind ++ call ∷ [];
@@ -172,10 +172,10 @@ none-more calls call to h = record {
       ∙ append_assoc h.before (Marks (HouseOrder (order.Connect to.0 to.1) None) ∷ h.behind) (call ∷ []);
 }
 
-abbrev Lost : List HouseCall → Place → Type 0
+abbrev Lost : List HouseCall → ConnectPlace → Type 0
 Lost calls to = HasNoNumber calls to ⊎ ((t : ℕ) × HasHappened calls to t (Failed t))
 
-abbrev Shut : ChannelState → List HouseCall → Place → Type 0
+abbrev Shut : ChannelState → List HouseCall → ConnectPlace → Type 0
 Shut (Dialing dialog) calls to = Unit {0}
 Shut (Asked host port version) calls to = Unit {0}
 Shut (Opened version) calls to = Unit {0}
@@ -183,7 +183,7 @@ Shut (Offered remote window maximum) calls to = Lost calls to
 Shut (Live live) calls to = Unit {0}
 Shut Over calls to = Unit {0}
 
-abbrev At : List HouseCall → Place → ChannelState → Socket → Type 0
+abbrev At : List HouseCall → ConnectPlace → ChannelState → Socket → Type 0
 At calls to line socket.Unmade = Unit {0}
 At calls to line (socket.Connecting t) = Made calls to t
 At calls to line (socket.Open t) = HasHappened calls to t (Writable t)
@@ -191,18 +191,18 @@ At calls to line (socket.Failed t) = HasHappened calls to t (Failed t)
 At calls to line (socket.NoChannelLeft t) = ⊥
 At calls to line socket.Closed = Shut line calls to
 
-abbrev WiredTo : Option Place → List HouseCall → Bool → ChannelState → Socket → Type 0
+abbrev WiredTo : Option ConnectPlace → List HouseCall → Bool → ChannelState → Socket → Type 0
 WiredTo None calls dials line s = offer line ≡ false
 WiredTo (Some to) calls dials line s = (dials ≡ false) × At calls to line s
 
 abbrev Wired : List HouseCall → Life → Type 0
 Wired calls l = WiredTo l.to calls l.dials l.relay.line l.relay.socket
 
-lost-more : (calls : List HouseCall) (call : HouseCall) (to : Place) → Lost calls to → Lost (calls ++ call ∷ []) to
+lost-more : (calls : List HouseCall) (call : HouseCall) (to : ConnectPlace) → Lost calls to → Lost (calls ++ call ∷ []) to
 lost-more calls call to (inl h) = inl (none-more calls call to h)
 lost-more calls call to (inr h) = inr (h.0, happened-more calls call to h.0 (Failed h.0) h.1)
 
-shut-more : (calls : List HouseCall) (call : HouseCall) (to : Place) (line : ChannelState) → Shut line calls to → Shut line (calls ++ call ∷ []) to
+shut-more : (calls : List HouseCall) (call : HouseCall) (to : ConnectPlace) (line : ChannelState) → Shut line calls to → Shut line (calls ++ call ∷ []) to
 shut-more calls call to (Dialing dialog) h = tt
 shut-more calls call to (Asked host port version) h = tt
 shut-more calls call to (Opened version) h = tt
@@ -210,7 +210,7 @@ shut-more calls call to (Offered remote window maximum) h = lost-more calls call
 shut-more calls call to (Live live) h = tt
 shut-more calls call to Over h = tt
 
-at-more : (calls : List HouseCall) (call : HouseCall) (to : Place) (line : ChannelState) (s : Socket) → At calls to line s
+at-more : (calls : List HouseCall) (call : HouseCall) (to : ConnectPlace) (line : ChannelState) (s : Socket) → At calls to line s
     → At (calls ++ call ∷ []) to line s
 at-more calls call to line socket.Unmade h = tt
 at-more calls call to line (socket.Connecting t) h = made-more calls call to t h
@@ -219,12 +219,12 @@ at-more calls call to line (socket.Failed t) h = happened-more calls call to t (
 at-more calls call to line (socket.NoChannelLeft t) h = absurd h
 at-more calls call to line socket.Closed h = shut-more calls call to line h
 
-wired-more : (calls : List HouseCall) (call : HouseCall) (o : Option Place) (dials : Bool) (line : ChannelState) (s : Socket)
+wired-more : (calls : List HouseCall) (call : HouseCall) (o : Option ConnectPlace) (dials : Bool) (line : ChannelState) (s : Socket)
     → WiredTo o calls dials line s → WiredTo o (calls ++ call ∷ []) dials line s
 wired-more calls call None dials line s h = h
 wired-more calls call (Some to) dials line s h = (h.0, at-more calls call to line s h.1)
 
-shut-none : (calls : List HouseCall) (to : Place) (line : ChannelState) → offer line ≡ false → Shut line calls to
+shut-none : (calls : List HouseCall) (to : ConnectPlace) (line : ChannelState) → offer line ≡ false → Shut line calls to
 shut-none calls to (Dialing dialog) e = tt
 shut-none calls to (Asked host port version) e = tt
 shut-none calls to (Opened version) e = tt
@@ -232,11 +232,11 @@ shut-none calls to (Offered remote window maximum) e = cc
 shut-none calls to (Live live) e = tt
 shut-none calls to Over e = tt
 
-shut-sets : (calls : List HouseCall) (to : Place) (old new : ChannelState) → Sets old new → Shut old calls to → Shut new calls to
+shut-sets : (calls : List HouseCall) (to : ConnectPlace) (old new : ChannelState) → Sets old new → Shut old calls to → Shut new calls to
 shut-sets calls to old new (inl e) h = shut-none calls to new e
 shut-sets calls to old new (inr e) h = subst (λ (line : ChannelState). Shut line calls to) (sym e) h
 
-at-sets : (calls : List HouseCall) (to : Place) (old new : ChannelState) (s : Socket) → Sets old new → At calls to old s → At calls to new s
+at-sets : (calls : List HouseCall) (to : ConnectPlace) (old new : ChannelState) (s : Socket) → Sets old new → At calls to old s → At calls to new s
 at-sets calls to old new socket.Unmade e h = tt
 at-sets calls to old new (socket.Connecting t) e h = h
 at-sets calls to old new (socket.Open t) e h = h
@@ -248,22 +248,22 @@ none-sets : (old new : ChannelState) → Sets old new → offer old ≡ false �
 none-sets old new (inl e) h = e
 none-sets old new (inr e) h = ap offer e ∙ h
 
-wired-sets : (calls : List HouseCall) (o : Option Place) (dials : Bool) (old new : ChannelState) (s : Socket) → Sets old new
+wired-sets : (calls : List HouseCall) (o : Option ConnectPlace) (dials : Bool) (old new : ChannelState) (s : Socket) → Sets old new
     → WiredTo o calls dials old s → WiredTo o calls dials new s
 wired-sets calls None dials old new s e h = none-sets old new e h
 wired-sets calls (Some to) dials old new s e h = (h.0, at-sets calls to old new s e h.1)
 
 -- ---- all steps
 
-wired-on : (calls : List HouseCall) (so : Relay → Relay → Type 0) (act : Act) (a b : Life) → GoesBy so act a b
+wired-on : (calls : List HouseCall) (so : Relay → Relay → Type 0) (act : RelayAct) (a b : Life) → RelayGoesBy so act a b
     → Sets a.relay.line b.relay.line → b.relay.socket ≡ a.relay.socket → Wired calls a → Wired calls b
 wired-on calls so act a b h sets same p =
-    subst (λ (o : Option Place). WiredTo o calls b.dials b.relay.line b.relay.socket) (sym h.to)
+    subst (λ (o : Option ConnectPlace). WiredTo o calls b.dials b.relay.line b.relay.socket) (sym h.to)
     (subst (λ (d : Bool). WiredTo a.to calls d b.relay.line b.relay.socket) (sym h.dials)
     (subst (λ (s : Socket). WiredTo a.to calls a.dials b.relay.line s) (sym same)
     (wired-sets calls a.to a.dials a.relay.line b.relay.line a.relay.socket sets p)))
 
-gets-wired : (calls : List HouseCall) (free : Bool) (bytes : List ℕ) (o : Option Place) (a b : Life) → Sound a
+gets-wired : (calls : List HouseCall) (free : Bool) (bytes : List ℕ) (o : Option ConnectPlace) (a b : Life) → Sound a
     → DialsIn a.relay.line free bytes a.relay b.relay → WiredTo o calls a.dials a.relay.line a.relay.socket
     → WiredTo o calls a.dials b.relay.line b.relay.socket
 gets-wired calls free bytes None a b s h p =
@@ -286,13 +286,13 @@ no-stream : (t : ℕ) (own : Option OwnStream) → is_stream t own ≡ true → 
 no-stream t None is e = cc
 no-stream t (Some own) is e = cc
 
-turned : (calls : List HouseCall) (call : HouseCall) (to : Place) (t n : ℕ) (so : ℕ → Happening) → call ≡ Turns (so t) → n ≡ t → Made calls to n
+turned : (calls : List HouseCall) (call : HouseCall) (to : ConnectPlace) (t n : ℕ) (so : ℕ → Happening) → call ≡ Turns (so t) → n ≡ t → Made calls to n
     → HasHappened (calls ++ call ∷ []) to n (so n)
 turned calls call to t n so e f h =
     subst (λ (c : HouseCall). HasHappened (calls ++ c ∷ []) to n (so n)) (ap (λ (k : ℕ). Turns (so k)) f ∙ sym e) (happens calls to n (so n) h)
 
-writable-at : (calls : List HouseCall) (call : HouseCall) (to : Place) (t : ℕ) (own : Option OwnStream) (line : ChannelState) (s : Socket)
-    → call ≡ Turns (Writable t) → is_stream t own ≡ true → stream_of s ≡ number_of own → At calls to line s
+writable-at : (calls : List HouseCall) (call : HouseCall) (to : ConnectPlace) (t : ℕ) (own : Option OwnStream) (line : ChannelState) (s : Socket)
+    → call ≡ Turns (Writable t) → is_stream t own ≡ true → socket_stream_of s ≡ number_of own → At calls to line s
     → At (calls ++ call ∷ []) to line (connected s)
 writable-at calls call to t own line socket.Unmade e is same h = tt
 writable-at calls call to t own line (socket.Connecting n) e is same h =
@@ -302,8 +302,8 @@ writable-at calls call to t own line (socket.Failed n) e is same h = at-more cal
 writable-at calls call to t own line (socket.NoChannelLeft n) e is same h = absurd h
 writable-at calls call to t own line socket.Closed e is same h = shut-more calls call to line h
 
-failed-at : (calls : List HouseCall) (call : HouseCall) (to : Place) (t : ℕ) (own : Option OwnStream) (line : ChannelState) (s : Socket)
-    → call ≡ Turns (Failed t) → is_stream t own ≡ true → stream_of s ≡ number_of own → At calls to line s
+failed-at : (calls : List HouseCall) (call : HouseCall) (to : ConnectPlace) (t : ℕ) (own : Option OwnStream) (line : ChannelState) (s : Socket)
+    → call ≡ Turns (Failed t) → is_stream t own ≡ true → socket_stream_of s ≡ number_of own → At calls to line s
     → At (calls ++ call ∷ []) to line (failing s)
 failed-at calls call to t own line socket.Unmade e is same h = tt
 failed-at calls call to t own line (socket.Connecting n) e is same h =
@@ -314,8 +314,8 @@ failed-at calls call to t own line (socket.Failed n) e is same h = at-more calls
 failed-at calls call to t own line (socket.NoChannelLeft n) e is same h = absurd h
 failed-at calls call to t own line socket.Closed e is same h = shut-more calls call to line h
 
-broken-lost : (calls : List HouseCall) (call : HouseCall) (to : Place) (t : ℕ) (own : Option OwnStream) (line : ChannelState) (s : Socket)
-    → is_broken s ≡ true → is_stream t own ≡ true → stream_of s ≡ number_of own → At calls to line s → Lost (calls ++ call ∷ []) to
+broken-lost : (calls : List HouseCall) (call : HouseCall) (to : ConnectPlace) (t : ℕ) (own : Option OwnStream) (line : ChannelState) (s : Socket)
+    → is_broken s ≡ true → is_stream t own ≡ true → socket_stream_of s ≡ number_of own → At calls to line s → Lost (calls ++ call ∷ []) to
 broken-lost calls call to t own line socket.Unmade e is same h = cc
 broken-lost calls call to t own line (socket.Connecting n) e is same h = cc
 broken-lost calls call to t own line (socket.Open n) e is same h = cc
@@ -330,8 +330,8 @@ offered-broken r remote window maximum h = by (is_broken r.socket) h
     by true h = refl
     by false h = cc
 
-shut-at : (calls : List HouseCall) (call : HouseCall) (to : Place) (t : ℕ) (own : Option OwnStream) (line : ChannelState) (r : Relay)
-    → is_done (with-line line r) ≡ true → is_stream t own ≡ true → stream_of r.socket ≡ number_of own → At calls to line r.socket
+shut-at : (calls : List HouseCall) (call : HouseCall) (to : ConnectPlace) (t : ℕ) (own : Option OwnStream) (line : ChannelState) (r : Relay)
+    → is_done (with-line line r) ≡ true → is_stream t own ≡ true → socket_stream_of r.socket ≡ number_of own → At calls to line r.socket
     → Shut line (calls ++ call ∷ []) to
 shut-at calls call to t own (Dialing dialog) r done is same h = tt
 shut-at calls call to t own (Asked host port version) r done is same h = tt
@@ -341,7 +341,7 @@ shut-at calls call to t own (Offered remote window maximum) r done is same h =
 shut-at calls call to t own (Live live) r done is same h = tt
 shut-at calls call to t own Over r done is same h = tt
 
-step-at : (calls : List HouseCall) (call : HouseCall) (old : Trace) (to : Place) (s : LinkStep) (t : ℕ) (a : Life) → Orders call s t → Sound a
+step-at : (calls : List HouseCall) (call : HouseCall) (old : Trace) (to : ConnectPlace) (s : LinkStep) (t : ℕ) (a : Life) → Orders call s t → Sound a
     → Apart (open_streams old.relay_traces) → MayStep s old a → has_stream t a ≡ true → At calls to a.relay.line a.relay.socket
     → At (calls ++ call ∷ []) to a.relay.line (relay_after s a.relay).socket
 step-at calls call old to (step.Pause b) t a ord sa apart may is h = at-more calls call to a.relay.line a.relay.socket h
@@ -354,14 +354,14 @@ step-at calls call old to step.Writable t a ord sa apart may is h =
 step-at calls call old to step.Failed t a ord sa apart may is h =
     failed-at calls call to t a.own a.relay.line a.relay.socket ord is sa.stream h
 
-step-wired : (calls : List HouseCall) (call : HouseCall) (old : Trace) (o : Option Place) (s : LinkStep) (t : ℕ) (a : Life) → Orders call s t
+step-wired : (calls : List HouseCall) (call : HouseCall) (old : Trace) (o : Option ConnectPlace) (s : LinkStep) (t : ℕ) (a : Life) → Orders call s t
     → Sound a → Apart (open_streams old.relay_traces) → MayStep s old a → has_stream t a ≡ true
     → WiredTo o calls a.dials a.relay.line a.relay.socket
     → WiredTo o (calls ++ call ∷ []) a.dials a.relay.line (relay_after s a.relay).socket
 step-wired calls call old None s t a ord sa apart may is h = h
 step-wired calls call old (Some to) s t a ord sa apart may is h = (h.0, step-at calls call old to s t a ord sa apart may is h.1)
 
-shut-lost : (calls : List HouseCall) (to : Place) (line : ChannelState) → Lost calls to → Shut line calls to
+shut-lost : (calls : List HouseCall) (to : ConnectPlace) (line : ChannelState) → Lost calls to → Shut line calls to
 shut-lost calls to (Dialing dialog) h = tt
 shut-lost calls to (Asked host port version) h = tt
 shut-lost calls to (Opened version) h = tt
@@ -369,29 +369,29 @@ shut-lost calls to (Offered remote window maximum) h = h
 shut-lost calls to (Live live) h = tt
 shut-lost calls to Over h = tt
 
-made-at : (calls : List HouseCall) (number : Option ℕ) (to : Place) (line : ChannelState)
+made-at : (calls : List HouseCall) (number : Option ℕ) (to : ConnectPlace) (line : ChannelState)
     → At (calls ++ Marks (HouseOrder (order.Connect to.0 to.1) number) ∷ []) to line (made_as number)
 made-at calls None to line = shut-lost _ to line (inl (record { before = calls; behind = []; are = refl }))
 made-at calls (Some t) to line = record { before = calls; behind = []; are = refl }
 
-makes-wired : (calls : List HouseCall) (to : Place) (number : Option ℕ) (o : Option Place) (dials : Bool) (line : ChannelState) (s : Socket) → o ≡ Some to
+makes-wired : (calls : List HouseCall) (to : ConnectPlace) (number : Option ℕ) (o : Option ConnectPlace) (dials : Bool) (line : ChannelState) (s : Socket) → o ≡ Some to
     → WiredTo o calls dials line s
     → WiredTo o (calls ++ Marks (HouseOrder (order.Connect to.0 to.1) number) ∷ []) dials line (made_as number)
 makes-wired calls to number None dials line s e h = cc
 makes-wired calls to number (Some there) dials line s e h =
-    subst (λ (p : Place). WiredTo (Some p) (calls ++ Marks (HouseOrder (order.Connect to.0 to.1) number) ∷ []) dials line (made_as number))
+    subst (λ (p : ConnectPlace). WiredTo (Some p) (calls ++ Marks (HouseOrder (order.Connect to.0 to.1) number) ∷ []) dials line (made_as number))
     (the to there (sym e)) (h.0, made-at calls number to line)
   where
-    the : (x y : Place) → Some x ≡ Some y → x ≡ y
+    the : (x y : ConnectPlace) → Some x ≡ Some y → x ≡ y
     the x y e = cc
 
-joined-at : (kind : Kind) (dialogs_full : Bool) (f : Forwarding) (t : ℕ) (r : Relay) → IsJoinedAt kind dialogs_full f t r → offer r.line ≡ false
+joined-at : (kind : ForwardingKind) (dialogs_full : Bool) (f : Forwarding) (t : ℕ) (r : Relay) → IsJoinedAt kind dialogs_full f t r → offer r.line ≡ false
 joined-at Local dialogs_full f t r h = ap (λ (x : Relay). offer x.line) h
 joined-at Remote dialogs_full f t r h = ap (λ (x : Relay). offer x.line) h
 joined-at Dynamic true f t r h = ap (λ (x : Relay). offer x.line) h
 joined-at Dynamic false f t r h = ap (λ (x : Relay). offer x.line) h
 
-joined-none : (full dialogs_full : Bool) (o : Option Forwarding) (t : ℕ) (r : Relay) → IsJoined full dialogs_full o t r → offer r.line ≡ false
+joined-none : (full dialogs_full : Bool) (o : Option Forwarding) (t : ℕ) (r : Relay) → IsRelayJoined full dialogs_full o t r → offer r.line ≡ false
 joined-none true dialogs_full o t r h = ap (λ (x : Relay). offer x.line) h
 joined-none false dialogs_full None t r h = ap (λ (x : Relay). offer x.line) h
 joined-none false dialogs_full (Some f) t r h = joined-at f.kind dialogs_full f t r h
@@ -408,7 +408,7 @@ wired before call old apart = record {
       (inl (ap (λ (r : Relay). offer r.line) h.1.relay.0 ∙ said a.relay.line a.relay is))
       (ap (λ (r : Relay). r.socket) h.1.relay.0 ∙ (stays-after (sends_of a.relay) a.relay).socket_is) p);
   gets = λ t bytes e a b s s' p is h. wired-more before call b.to b.dials b.relay.line b.relay.socket
-      (subst (λ (o : Option Place). WiredTo o before b.dials b.relay.line b.relay.socket) (sym h.to)
+      (subst (λ (o : Option ConnectPlace). WiredTo o before b.dials b.relay.line b.relay.socket) (sym h.to)
       (subst (λ (d : Bool). WiredTo a.to before d b.relay.line b.relay.socket) (sym h.dials)
       (gets-wired before (not (are_full old.relay_traces)) bytes a.to a b s h.relay.0 p)));
   takes = λ t bytes e a b s p is h. wired-more before call b.to b.dials b.relay.line b.relay.socket (wired-on before _ _ a b h
@@ -423,22 +423,22 @@ wired before call old apart = record {
   joins = λ l t e r h. joined-none _ _ _ t r h;
 }
 
--- ---- what is said
+-- ---- what is sent
 
 record Confirmed (remote window maximum : ℕ) (r : Relay) : Type 0 where
   line : r.line ≡ Offered remote window maximum
   stream : ℕ
   socket_is : r.socket ≡ socket.Open stream
-  words : sent_by r ≡ confirmed remote r.number
+  words : relay_sent_by r ≡ confirmed remote r.number
 
 record Denied (remote window maximum : ℕ) (r : Relay) : Type 0 where
   line : r.line ≡ Offered remote window maximum
   broken : is_broken r.socket ≡ true
-  words : sent_by r ≡ not_connected remote
+  words : relay_sent_by r ≡ not_connected remote
 
 record Neither (r : Relay) : Type 0 where
-  confirms_none : is_confirmation (framed (sent_by r)) ≡ false
-  fails_none : is_failure (framed (sent_by r)) ≡ false
+  confirms_none : is_confirmation (framed (relay_sent_by r)) ≡ false
+  fails_none : is_failure (framed (relay_sent_by r)) ≡ false
 
 abbrev Answers : Relay → Type 0
 Answers r = Neither r ⊎ (((remote : ℕ) × (window : ℕ) × (maximum : ℕ) × Confirmed remote window maximum r)
@@ -474,7 +474,7 @@ answers (Live live) r e =
     inl (record { confirms_none = none.0; fails_none = none.1 })
 answers Over r e = cc
 
--- the one that says it
+-- the one that sends it
 record Speaker (calls : List HouseCall) (relay_traces : List Life) (bytes : List ℕ) : Type 0 where
   before : List Life
   life : Life
@@ -482,7 +482,7 @@ record Speaker (calls : List HouseCall) (relay_traces : List Life) (bytes : List
   were : relay_traces ≡ before ++ life ∷ behind
   sounds : Sound life
   wired_so : Wired calls life
-  says : bytes ≡ framed (sent_by life.relay)
+  says : bytes ≡ framed (relay_sent_by life.relay)
   answers_so : Answers life.relay
 
 speaker : (calls : List HouseCall) (b : Bool) (o : Option Forwarding) (bytes : List ℕ) (old new : Trace) → SendsBy b o bytes old new
@@ -504,11 +504,11 @@ speaker calls true None bytes old new h s p =
     })
 
 record There (calls : List HouseCall) (l : Life) : Type 0 where
-  to : Place
+  to : ConnectPlace
   is : l.to ≡ Some to
   at : At calls to l.relay.line l.relay.socket
 
-there : (calls : List HouseCall) (o : Option Place) (l : Life) → l.to ≡ o → offer l.relay.line ≡ true
+there : (calls : List HouseCall) (o : Option ConnectPlace) (l : Life) → l.to ≡ o → offer l.relay.line ≡ true
     → WiredTo o calls l.dials l.relay.line l.relay.socket → There calls l
 there calls None l e is h = absurd (both_ways (offer l.relay.line) h is)
 there calls (Some to) l e is h = record { to = to; is = e; at = h.1 }
@@ -543,12 +543,12 @@ confirmation calls relay_traces bytes is x (inr (inl c)) =
         there = where_to.is;
       };
       says = x.says ∙ ap framed c.3.words;
-      its = number-its c.3.stream x.life.own (sym (ap stream_of c.3.socket_is) ∙ x.sounds.stream);
+      its = number-its c.3.stream x.life.own (sym (ap socket_stream_of c.3.socket_is) ∙ x.sounds.stream);
       writable = subst (λ (s : Socket). At calls where_to.to x.life.relay.line s) c.3.socket_is where_to.at;
     }
 
-lost-since : (calls : List HouseCall) (l : Life) (to : Place) (remote window maximum : ℕ) (s : Socket) → is_broken s ≡ true
-    → stream_of s ≡ number_of l.own → At calls to (Offered remote window maximum) s → HasNoNumber calls to ⊎ HasFailedSince calls l to
+lost-since : (calls : List HouseCall) (l : Life) (to : ConnectPlace) (remote window maximum : ℕ) (s : Socket) → is_broken s ≡ true
+    → socket_stream_of s ≡ number_of l.own → At calls to (Offered remote window maximum) s → HasNoNumber calls to ⊎ HasFailedSince calls l to
 lost-since calls l to remote window maximum socket.Unmade e same h = cc
 lost-since calls l to remote window maximum (socket.Connecting n) e same h = cc
 lost-since calls l to remote window maximum (socket.Open n) e same h = cc
@@ -584,7 +584,7 @@ failure calls relay_traces bytes is x (inr (inr d)) =
           (subst (λ (line : ChannelState). At calls where_to.to line x.life.relay.socket) d.3.line where_to.at);
     }
 
-speaks : (calls : List HouseCall) (trace next : Trace) (bytes : List ℕ) → Reaches first_trace calls trace
+speaks : (calls : List HouseCall) (trace next : Trace) (bytes : List ℕ) → TraceReaches first_trace calls trace
     → Follows (Marks (HouseSaid bytes)) trace next
     → ((is_confirmation bytes ≡ false) × (is_failure bytes ≡ false)) ⊎ Speaker calls trace.relay_traces bytes
 speaks calls trace next bytes reached h =

@@ -1,4 +1,4 @@
--- One Connect for each OPEN that is taken.
+-- One Connect for each OPEN that is accepted.
 use Rattle.std.proofs.Common.{◌≡◌, ◌∙◌, refl, sym, ap, ℕ, Bool, true, false, List, [], ◌∷◌, ◌++◌, append_assoc, Option, Some, None}
 use Rattle.std.specs.Prelude.{not, map, if◌then◌else◌, find}
 use Rattle.std.specs.List.{list_any, cons_option}
@@ -13,20 +13,20 @@ use Rattle.mux_outside.specs.declared.house_mark.HouseMark.TheVariants.{HouseIn,
 use Rattle.mux_outside.specs.declared.order.Order.{Order}
 use Rattle.mux_outside.specs.declared.order.Order.TheVariants as order
 use Rattle.mux_outside.specs.declared.own_streams.OwnStream.{OwnStream}
-use Rattle.house_relay.specs.Acts.{Act, Reads, Takes}
+use Rattle.house_relay.specs.Acts.{RelayAct, Reads, Takes}
 use Rattle.house_relay.specs.ChannelState.{counts}
 use Rattle.house_relay.specs.Next.{sends_of}
-use Rattle.house_relay.specs.Relay.{stream_of}
-use Rattle.house_relay.specs.Steps.{is_closed, is_gone, connected, failing}
+use Rattle.house_relay.specs.Relay.{socket_stream_of}
+use Rattle.house_relay.specs.Steps.{is_socket_closed, is_gone, connected, failing}
 use Rattle.house_relay.specs.declared.relay.Relay.{Relay}
 use Rattle.house_relay.specs.declared.relay.Socket.{Socket}
 use Rattle.house_relay.specs.declared.relay.Socket.TheVariants as socket
-use Rattle.house_forward.specs.Connects.{Place, OneConnectEach, still_to_connect, connect_of, connect_marked, connect_in, connects_in, taken_call, taken_in, place_of}
+use Rattle.house_forward.specs.Connects.{ConnectPlace, OneConnectEach, still_to_connect, places_connected_by, connect_marked, connect_in, connects_in, taken_call, taken_in, place_of}
 use Rattle.house_forward.specs.Forwardings.{has_request, has_listener}
 use Rattle.house_forward.specs.Going.{GetsOn, TakesOn}
 use Rattle.house_forward.specs.Links.{relay_after}
-use Rattle.house_forward.specs.RelayTraces.{Life, Trace, GoesBy, Speaks, Listens, StepsBy, MakesOne, Reaches, Follows, SendsBy, MarksIn, OrdersIn, TurnsTo, first_trace, with_received}
-use Rattle.house_forward.specs.RelayTraces.{has_channel, has_stream, is_stream, has_words, is_unmade, unmade, are_full, stepped, made_life, kept_in}
+use Rattle.house_forward.specs.RelayTraces.{Life, Trace, RelayGoesBy, Speaks, Listens, StepsBy, MakesOne, TraceReaches, Follows, SendsBy, MarksIn, OrdersIn, TurnsTo, first_trace, with_received}
+use Rattle.house_forward.specs.RelayTraces.{has_channel, has_stream, is_stream, has_words, is_socket_unmade, unmade, are_full, stepped, made_life, kept_in}
 use Rattle.house_forward.specs.Numbers.{number_of}
 use Rattle.house_forward.specs.declared.forwarding.Forwarding.{Forwarding}
 use Rattle.house_forward.specs.declared.link.LinkStep.{LinkStep}
@@ -38,11 +38,11 @@ use Rattle.house_forward.proofs.Picking.{pick-none, pick-push, pick-kept, pick-s
 use Rattle.house_forward.proofs.Sound.{Each, All, Sound, offered_life, joined_life, step_of, each-one, sound-says, sound-receives, sound-gets, stepped-sound, follow-sound}
 
 -- where one is to be connected, if that isn't ordered yet
-abbrev due : Life → Option Place
-due l = if is_unmade l then l.to else None
+abbrev due : Life → Option ConnectPlace
+due l = if is_socket_unmade l then l.to else None
 
 -- one with a stream has a socket
-pub streamed : (s : Socket) (t : ℕ) → stream_of s ≡ Some t → unmade s ≡ false
+pub streamed : (s : Socket) (t : ℕ) → socket_stream_of s ≡ Some t → unmade s ≡ false
 streamed (socket.Connecting stream) t e = refl
 streamed (socket.Open stream) t e = refl
 streamed socket.Unmade t e = cc
@@ -50,17 +50,17 @@ streamed (socket.Failed stream) t e = refl
 streamed (socket.NoChannelLeft stream) t e = refl
 streamed socket.Closed t e = refl
 
-pub owned : (t : ℕ) (own : Option OwnStream) (s : Socket) → is_stream t own ≡ true → stream_of s ≡ number_of own → unmade s ≡ false
+pub owned : (t : ℕ) (own : Option OwnStream) (s : Socket) → is_stream t own ≡ true → socket_stream_of s ≡ number_of own → unmade s ≡ false
 owned t None s is e = cc
 owned t (Some own) s is e = streamed s own.number e
 
-not-due : (l : Life) → is_unmade l ≡ false → due l ≡ None
+not-due : (l : Life) → is_socket_unmade l ≡ false → due l ≡ None
 not-due l e = ap (λ (b : Bool). if b then l.to else None) e
 
 gone-due : (l : Life) → Sound l → is_gone l.relay ≡ true → due l ≡ None
-gone-due l s e = not-due l (closed l.relay.socket (and_parts (is_closed l.relay.socket) (not (counts l.relay.line)) e).0)
+gone-due l s e = not-due l (closed l.relay.socket (and_parts (is_socket_closed l.relay.socket) (not (counts l.relay.line)) e).0)
   where
-    closed : (s : Socket) → is_closed s ≡ true → unmade s ≡ false
+    closed : (s : Socket) → is_socket_closed s ≡ true → unmade s ≡ false
     closed (socket.Connecting t) e = refl
     closed (socket.Open t) e = refl
     closed socket.Unmade e = cc
@@ -69,10 +69,10 @@ gone-due l s e = not-due l (closed l.relay.socket (and_parts (is_closed l.relay.
     closed socket.Closed e = refl
 
 -- where its socket and its end stay
-due-same : (so : Relay → Relay → Type 0) (act : Act) (a b : Life) → GoesBy so act a b → b.relay.socket ≡ a.relay.socket
+due-same : (so : Relay → Relay → Type 0) (act : RelayAct) (a b : Life) → RelayGoesBy so act a b → b.relay.socket ≡ a.relay.socket
     → due b ≡ due a
 due-same so act a b h e =
-    ap (λ (s : Socket). if unmade s then b.to else None) e ∙ ap (λ (to : Option Place). if is_unmade a then to else None) h.to
+    ap (λ (s : Socket). if unmade s then b.to else None) e ∙ ap (λ (to : Option ConnectPlace). if is_socket_unmade a then to else None) h.to
 
 due-says : (bytes : List ℕ) (a b : Life) → Speaks bytes a b → due b ≡ due a
 due-says bytes a b h = due-same _ _ a b h.1
@@ -81,11 +81,11 @@ due-says bytes a b h = due-same _ _ a b h.1
 due-receives : (m : Message) (a b : Life) → Listens m a b → due b ≡ due a
 due-receives m a b h = due-same _ _ a b h (ap (λ (r : Relay). r.socket) h.relay.0 ∙ (stays-heard m a.relay).socket_is)
 
-due-takes : (bytes : List ℕ) (a b : Life) → GoesBy (TakesOn bytes) (Takes bytes) a b → due b ≡ due a
+due-takes : (bytes : List ℕ) (a b : Life) → RelayGoesBy (TakesOn bytes) (Takes bytes) a b → due b ≡ due a
 due-takes bytes a b h = due-same _ _ a b h (ap (λ (r : Relay). r.socket) h.relay.0)
 
 due-gets : (free : Bool) (bytes : List ℕ) (t : ℕ) (a b : Life) → Sound a → has_stream t a ≡ true
-    → GoesBy (GetsOn free bytes) (Reads bytes) a b → due b ≡ due a
+    → RelayGoesBy (GetsOn free bytes) (Reads bytes) a b → due b ≡ due a
 due-gets free bytes t a b s is h =
     let s' = sound-gets free bytes a b s h in
     not-due b (owned t b.own b.relay.socket (ap (is_stream t) h.own ∙ is) s'.stream)
@@ -126,13 +126,13 @@ steps-due s t ls all = pick-stepped due Sound s t (due-step s t) ls all
 kept-due : (ls : List Life) → Each Sound ls → still_to_connect (kept_in ls) ≡ still_to_connect ls
 kept-due ls all = pick-kept due Sound gone-due ls all
 
--- ---- what is heard
+-- ---- what is received
 
--- these were taken, and of them these are still to be connected
-abbrev Owes : List Place → List Life → List Place → Type 0
+-- these were accepted, and of them these are still to be connected
+abbrev Owes : List ConnectPlace → List Life → List ConnectPlace → Type 0
 Owes connects ls taken = taken ≡ connects ++ still_to_connect ls
 
-applies : (connects : List Place) → Applies (Owes connects)
+applies : (connects : List ConnectPlace) → Applies (Owes connects)
 applies connects = record {
   receives = λ n m old new taken sounds h one. h ∙ ap (λ ps. connects ++ ps)
       (sym (kept-due new (each-one Sound (has_channel n) (Listens m) old new (λ a b s is goes. sound-receives m a b s goes) one sounds)
@@ -161,10 +161,10 @@ due-steps-by o k t old new h s =
     ∙ steps-due k t old.relay_traces s.relay_traces
 
 -- none is to be connected of those in front
-none-due : (ls : List Life) → list_any is_unmade ls ≡ false → still_to_connect ls ≡ []
+none-due : (ls : List Life) → list_any is_socket_unmade ls ≡ false → still_to_connect ls ≡ []
 none-due [] e = refl
 none-due (l ∷ ls) e =
-    let both = or_parts (is_unmade l) (list_any is_unmade ls) e in
+    let both = or_parts (is_socket_unmade l) (list_any is_socket_unmade ls) e in
     ap (λ o. cons_option o (still_to_connect ls)) (not-due l both.0) ∙ none-due ls both.1
 
 made-due : (number : Option ℕ) (l : Life) → due (made_life number l) ≡ None
@@ -204,7 +204,7 @@ due-marks (HouseAsked client id opening ask reply) old new h s = sym (ap (λ (c 
 due-marks (HouseAnswer client id reply) old new h s = sym (ap (λ (c : Trace). still_to_connect c.relay_traces) h.2)
 due-marks (HouseOrder o number) old new h s = due-orders o number old new h s
 
-due-joined : (joins t : ℕ) (r : Relay) → stream_of r.socket ≡ Some t → due (joined_life joins t r) ≡ None
+due-joined : (joins t : ℕ) (r : Relay) → socket_stream_of r.socket ≡ Some t → due (joined_life joins t r) ≡ None
 due-joined joins t r e = not-due (joined_life joins t r) (streamed r.socket t e)
 
 due-turns : (happening : Happening) (joins : ℕ) (fs : List Forwarding) (old new : List Life) → TurnsTo happening joins fs old new → Each Sound old
@@ -220,13 +220,13 @@ due-turns (Writable t) joins fs old new h s = ap still_to_connect h ∙ steps-du
 due-turns (Failed t) joins fs old new h s = ap still_to_connect h ∙ steps-due step.Failed t old s
 
 -- more connects, and no more taken
-connected-more : (connects more : List Place) (old new : List Life) (taken : List Place)
+connected-more : (connects more : List ConnectPlace) (old new : List Life) (taken : List ConnectPlace)
     → still_to_connect old ≡ more ++ still_to_connect new → Owes connects old taken → Owes (connects ++ more) new (taken ++ [])
 connected-more connects more old new taken e h =
     append-nil taken ∙ h ∙ ap (λ ps. connects ++ ps) e ∙ sym (append_assoc connects more (still_to_connect new))
 
-due-follow : (call : HouseCall) (old new : Trace) (h : Follows call old new) (connects taken : List Place) → All Sound old
-    → Owes connects old.relay_traces taken → Owes (connects ++ connect_of call) new.relay_traces (taken ++ taken_call call old new h)
+due-follow : (call : HouseCall) (old new : Trace) (h : Follows call old new) (connects taken : List ConnectPlace) → All Sound old
+    → Owes connects old.relay_traces taken → Owes (connects ++ places_connected_by call) new.relay_traces (taken ++ taken_call call old new h)
 due-follow (Begins starts) old new h connects taken s owes =
     connected-more connects [] old.relay_traces new.relay_traces taken (sym (ap (λ (c : Trace). still_to_connect c.relay_traces) h.2)) owes
 due-follow (Marks mark) old new h connects taken s owes =
@@ -240,18 +240,18 @@ due-follow (Turns happening) old new h connects taken s owes =
 due-follow (TakesBytes t bytes) old new h connects taken s owes =
     connected-more connects [] old.relay_traces new.relay_traces taken
     (sym (ap (λ (c : Trace). still_to_connect c.relay_traces) h.2
-    ∙ most-picks due Sound (has_stream t) (GoesBy (TakesOn bytes) (Takes bytes)) old.relay_traces h.0 (λ a b x is goes. due-takes bytes a b goes) s.relay_traces h.1)) owes
+    ∙ most-picks due Sound (has_stream t) (RelayGoesBy (TakesOn bytes) (Takes bytes)) old.relay_traces h.0 (λ a b x is goes. due-takes bytes a b goes) s.relay_traces h.1)) owes
 
-due-reach : (calls : List HouseCall) (old new : Trace) (h : Reaches old calls new) (connects taken : List Place) → All Sound old
+due-reach : (calls : List HouseCall) (old new : Trace) (h : TraceReaches old calls new) (connects taken : List ConnectPlace) → All Sound old
     → Owes connects old.relay_traces taken → Owes (connects ++ connects_in calls) new.relay_traces (taken ++ taken_in calls old new h)
 due-reach [] old new h connects taken s owes =
     connected-more connects [] old.relay_traces new.relay_traces taken (sym (ap (λ (c : Trace). still_to_connect c.relay_traces) h)) owes
 due-reach (call ∷ calls) old new h connects taken s owes =
     let one = due-follow call old h.0 h.1 connects taken s owes in
-    let rest = due-reach calls h.0 new h.2 (connects ++ connect_of call) (taken ++ taken_call call old h.0 h.1)
+    let rest = due-reach calls h.0 new h.2 (connects ++ places_connected_by call) (taken ++ taken_call call old h.0 h.1)
     (follow-sound call old h.0 h.1 s) one in
     sym (append_assoc taken (taken_call call old h.0 h.1) (taken_in calls h.0 new h.2)) ∙ rest
-    ∙ ap (λ ps. ps ++ still_to_connect new.relay_traces) (append_assoc connects (connect_of call) (connects_in calls))
+    ∙ ap (λ ps. ps ++ still_to_connect new.relay_traces) (append_assoc connects (places_connected_by call) (connects_in calls))
 
 pub one-connect-each : OneConnectEach
 one-connect-each calls trace h =

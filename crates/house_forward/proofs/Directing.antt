@@ -1,11 +1,11 @@
--- To where the OPENs are that the house says.
+-- Where the OPENs that the forwarder sends connect.
 use Rattle.std.proofs.Common.{◌≡◌, ◌∙◌, refl, sym, ap, subst, ◌⊎◌, inl, inr, ℕ, Bool, true, false, List, ◌∷◌, ◌++◌, Option, Some, None}
 use Rattle.std.specs.Prelude.{not, find, IfSome}
 use Rattle.std.proofs.lemmas.Bool.{both_ways}
 use Rattle.mux_outside.specs.HouseCalls.{HouseCall, Turns, Joined}
 use Rattle.mux_outside.specs.OwnStreams.{new_stream}
 use Rattle.mux_outside.specs.declared.own_streams.OwnStream.{OwnStream}
-use Rattle.house_relay.specs.Acts.{Act}
+use Rattle.house_relay.specs.Acts.{RelayAct}
 use Rattle.house_relay.specs.Relay.{LineStands}
 use Rattle.house_relay.specs.Steps.{fresh_relay, DialsIn}
 use Rattle.house_relay.specs.declared.line.ChannelState.{ChannelState}
@@ -13,16 +13,16 @@ use Rattle.house_relay.specs.declared.line.ChannelState.TheVariants.{Dialing, As
 use Rattle.house_relay.specs.declared.relay.Relay.{Relay}
 use Rattle.house_relay.specs.declared.relay.Socket.TheVariants as socket
 use Rattle.house_forward.specs.Forwardings.{has_request, has_listener}
-use Rattle.house_forward.specs.Links.{IsJoined, IsJoinedAt, IsDialed as DialsFor, HasNoChannelLeft}
-use Rattle.house_forward.specs.RelayTraces.{Life, Trace, GoesBy, Reaches, SendsBy, first_trace}
-use Rattle.house_forward.specs.RelayTraces.{is_stream, is_unmade, unmade, are_full, are_dialogs_full, own_after, made_life}
-use Rattle.house_forward.specs.Opening.{OpensGoRight, is_open, may_open, IsBefore, IsJoinedFor, IsPlain, ConnectsTo, IsDynamic, IsDialed, IsOpenOf}
-use Rattle.house_forward.specs.Said.{framed, sent_by}
+use Rattle.house_forward.specs.Links.{IsRelayJoined, IsJoinedAt, IsDialed as DialsFor, HasNoChannelLeft}
+use Rattle.house_forward.specs.RelayTraces.{Life, Trace, RelayGoesBy, TraceReaches, SendsBy, first_trace}
+use Rattle.house_forward.specs.RelayTraces.{is_stream, is_socket_unmade, unmade, are_full, are_dialogs_full, link_own_after, made_life}
+use Rattle.house_forward.specs.Opening.{OpensGoRight, is_open, may_open, IsCallBefore, IsJoinedFor, IsPlainKind, ConnectsTo, IsDynamic, IsDialed, IsOpenOf}
+use Rattle.house_forward.specs.Said.{framed, relay_sent_by}
 use Rattle.house_forward.specs.declared.forwarding.Forwarding.{Forwarding}
 use Rattle.house_forward.specs.declared.link.LinkStep.{LinkStep}
 use Rattle.house_forward.specs.declared.link.LinkStep.TheVariants as step
-use Rattle.house_forward.specs.declared.rules.Kind.{Kind}
-use Rattle.house_forward.specs.declared.rules.Kind.TheVariants.{Local, Remote, Dynamic}
+use Rattle.house_forward.specs.declared.rules.ForwardingKind.{ForwardingKind}
+use Rattle.house_forward.specs.declared.rules.ForwardingKind.TheVariants.{Local, Remote, Dynamic}
 use Rattle.house_forward.proofs.Connecting.{streamed, owned, step-made}
 use Rattle.house_forward.proofs.Fresh.{joined}
 use Rattle.house_forward.proofs.Keeping.{stays-heard}
@@ -30,7 +30,7 @@ use Rattle.house_forward.proofs.Opening.{Settles, may-later, SendsOpen, spoken}
 use Rattle.house_forward.proofs.Settling.{settles-receives, settles-takes, line-step}
 use Rattle.house_forward.proofs.Sound.{Each, All, Sound, KeptSound, Both, with-sound, all-reach, each-back, joined_life, step_of}
 
--- ---- where an OPEN is to be said, it is for what was joined
+-- ---- where an OPEN is to be sent, it is for what was joined
 
 abbrev pub RightFor : List HouseCall → Option OwnStream → Option ℕ → List ℕ → ℕ → Option ℕ → Type 0
 RightFor calls own nth host port None = IsJoinedFor calls own nth (ConnectsTo host port)
@@ -46,7 +46,7 @@ Right calls own nth Over = Unit {0}
 
 pub record Aimed (calls : List HouseCall) (l : Life) : Type 0 where
   pub right : Right calls l.own l.joined l.relay.line
-  pub unmade_none : is_unmade l ≡ true → may_open l.relay.line ≡ false
+  pub unmade_none : is_socket_unmade l ≡ true → may_open l.relay.line ≡ false
 
 none-right : (calls : List HouseCall) (own : Option OwnStream) (nth : Option ℕ) (line : ChannelState) → may_open line ≡ false → Right calls own nth line
 none-right calls own nth (Dialing dialog) e = cc
@@ -66,7 +66,7 @@ settles-none old new (inl e) h = e
 settles-none old new (inr e) h = ap may_open e ∙ h
 
 -- its channel settles or stays, and so does all else
-aimed-on : (calls : List HouseCall) (so : Relay → Relay → Type 0) (act : Act) (a b : Life) → GoesBy so act a b
+aimed-on : (calls : List HouseCall) (so : Relay → Relay → Type 0) (act : RelayAct) (a b : Life) → RelayGoesBy so act a b
     → Settles a.relay.line b.relay.line → b.relay.socket ≡ a.relay.socket → Aimed calls a → Aimed calls b
 aimed-on calls so act a b h settles same p = record {
   right = subst (λ (own : Option OwnStream). Right calls own b.joined b.relay.line) (sym h.own)
@@ -75,7 +75,7 @@ aimed-on calls so act a b h settles same p = record {
   unmade_none = λ e. settles-none a.relay.line b.relay.line settles (p.unmade_none (ap unmade (sym same) ∙ e));
 }
 
-pub its-after : (s : LinkStep) (own : Option OwnStream) (n : ℕ) → IfSome own (λ o. o.number ≡ n) → IfSome (own_after s own) (λ o. o.number ≡ n)
+pub its-after : (s : LinkStep) (own : Option OwnStream) (n : ℕ) → IfSome own (λ o. o.number ≡ n) → IfSome (link_own_after s own) (λ o. o.number ≡ n)
 its-after s None n h = tt
 its-after (step.Pause b) (Some own) n h = h
 its-after step.Finish (Some own) n h = h
@@ -85,7 +85,7 @@ its-after step.Writable (Some own) n h = h
 its-after step.Failed (Some own) n h = h
 
 joined-after : (calls : List HouseCall) (s : LinkStep) (own : Option OwnStream) (nth : Option ℕ) (so : Forwarding → Type 0) → IsJoinedFor calls own nth so
-    → IsJoinedFor calls (own_after s own) nth so
+    → IsJoinedFor calls (link_own_after s own) nth so
 joined-after calls s own nth so h = record {
   listener = h.listener;
   stream = h.stream;
@@ -99,12 +99,12 @@ joined-after calls s own nth so h = record {
 }
 
 asked-after : (calls : List HouseCall) (s : LinkStep) (own : Option OwnStream) (nth : Option ℕ) (host : List ℕ) (port : ℕ) (version : Option ℕ)
-    → RightFor calls own nth host port version → RightFor calls (own_after s own) nth host port version
+    → RightFor calls own nth host port version → RightFor calls (link_own_after s own) nth host port version
 asked-after calls s own nth host port None h = joined-after calls s own nth (ConnectsTo host port) h
 asked-after calls s own nth host port (Some version) h = joined-after calls s own nth IsDynamic h
 
 right-after : (calls : List HouseCall) (s : LinkStep) (own : Option OwnStream) (nth : Option ℕ) (line : ChannelState) → Right calls own nth line
-    → Right calls (own_after s own) nth line
+    → Right calls (link_own_after s own) nth line
 right-after calls s own nth (Dialing dialog) h = joined-after calls s own nth IsDynamic h
 right-after calls s own nth (Asked host port version) h = asked-after calls s own nth host port version h
 right-after calls s own nth (Opened version) h = tt
@@ -115,12 +115,12 @@ right-after calls s own nth Over h = tt
 -- ---- its socket gives bytes
 
 asked-dialed : (calls : List HouseCall) (own : Option OwnStream) (nth : Option ℕ) (host : List ℕ) (port : ℕ) (version : Option ℕ) (dials : Bool)
-    (acts : List Act) → LineStands (Asked host port version) dials acts → dials ≡ true → IsJoinedFor calls own nth IsDynamic
+    (acts : List RelayAct) → LineStands (Asked host port version) dials acts → dials ≡ true → IsJoinedFor calls own nth IsDynamic
     → RightFor calls own nth host port version
 asked-dialed calls own nth host port None dials acts stands e h = absurd (both_ways dials stands.waits e)
 asked-dialed calls own nth host port (Some version) dials acts stands e h = h
 
-dialed-right : (calls : List HouseCall) (own : Option OwnStream) (nth : Option ℕ) (line : ChannelState) (dials : Bool) (acts : List Act)
+dialed-right : (calls : List HouseCall) (own : Option OwnStream) (nth : Option ℕ) (line : ChannelState) (dials : Bool) (acts : List RelayAct)
     → LineStands line dials acts → dials ≡ true → IsJoinedFor calls own nth IsDynamic → Right calls own nth line
 dialed-right calls own nth (Dialing dialog) dials acts stands e h = h
 dialed-right calls own nth (Asked host port version) dials acts stands e h = asked-dialed calls own nth host port version dials acts stands e h
@@ -149,7 +149,7 @@ no_channel_left-right calls joins t r h = none-right calls (Some (new_stream t))
 record JoinedThere (calls : List HouseCall) (joins l t : ℕ) (f : Forwarding) : Type 0 where
   trace : Trace
   which : joins ≡ trace.joins
-  joined : IsBefore calls (Turns (Joined l t)) trace
+  joined : IsCallBefore calls (Turns (Joined l t)) trace
   found : find (has_listener l) trace.forwarding_state.all ≡ Some f
 
 joined-for : (calls : List HouseCall) (joins l t : ℕ) (f : Forwarding) (so : Forwarding → Type 0) → JoinedThere calls joins l t f → so f
@@ -166,7 +166,7 @@ joined-for calls joins l t f so h right = record {
   right = right;
 }
 
-plain-right : (calls : List HouseCall) (joins l t : ℕ) (f : Forwarding) (r : Relay) → JoinedThere calls joins l t f → IsPlain f.kind
+plain-right : (calls : List HouseCall) (joins l t : ℕ) (f : Forwarding) (r : Relay) → JoinedThere calls joins l t f → IsPlainKind f.kind
     → r ≡ fresh_relay r.number (Asked f.connect_host f.connect_port None) (socket.Open t) → Right calls (Some (new_stream t)) (Some joins) r.line
 plain-right calls joins l t f r there plain e =
     subst (Right calls (Some (new_stream t)) (Some joins)) (sym (ap (λ (x : Relay). x.line) e))
@@ -178,14 +178,14 @@ dynamic-right calls joins l t f true r there dynamic h = no_channel_left-right c
 dynamic-right calls joins l t f false r there dynamic h =
     subst (Right calls (Some (new_stream t)) (Some joins)) (sym (ap (λ (x : Relay). x.line) h)) (joined-for calls joins l t f IsDynamic there dynamic)
 
-joined-at : (calls : List HouseCall) (joins l t : ℕ) (f : Forwarding) (kind : Kind) (dialogs_full : Bool) (r : Relay) → JoinedThere calls joins l t f
+joined-at : (calls : List HouseCall) (joins l t : ℕ) (f : Forwarding) (kind : ForwardingKind) (dialogs_full : Bool) (r : Relay) → JoinedThere calls joins l t f
     → f.kind ≡ kind → IsJoinedAt kind dialogs_full f t r → Right calls (Some (new_stream t)) (Some joins) r.line
-joined-at calls joins l t f Local dialogs_full r there e h = plain-right calls joins l t f r there (subst IsPlain (sym e) tt) h
-joined-at calls joins l t f Remote dialogs_full r there e h = plain-right calls joins l t f r there (subst IsPlain (sym e) tt) h
+joined-at calls joins l t f Local dialogs_full r there e h = plain-right calls joins l t f r there (subst IsPlainKind (sym e) tt) h
+joined-at calls joins l t f Remote dialogs_full r there e h = plain-right calls joins l t f r there (subst IsPlainKind (sym e) tt) h
 joined-at calls joins l t f Dynamic dialogs_full r there e h = dynamic-right calls joins l t f dialogs_full r there e h
 
 joined-right : (calls : List HouseCall) (l t : ℕ) (full dialogs_full : Bool) (o : Option Forwarding) (trace : Trace) (r : Relay)
-    → IsBefore calls (Turns (Joined l t)) trace → find (has_listener l) trace.forwarding_state.all ≡ o → IsJoined full dialogs_full o t r
+    → IsCallBefore calls (Turns (Joined l t)) trace → find (has_listener l) trace.forwarding_state.all ≡ o → IsRelayJoined full dialogs_full o t r
     → Right calls (Some (new_stream t)) (Some trace.joins) r.line
 joined-right calls l t true dialogs_full o trace r before e h = no_channel_left-right calls trace.joins t r h
 joined-right calls l t false dialogs_full None trace r before e h = no_channel_left-right calls trace.joins t r h
@@ -194,14 +194,14 @@ joined-right calls l t false dialogs_full (Some f) trace r before e h =
 
 -- ---- all steps
 
-not-unmade : (l : Life) → is_unmade l ≡ false → is_unmade l ≡ true → may_open l.relay.line ≡ false
-not-unmade l e f = absurd (both_ways (is_unmade l) e f)
+not-unmade : (l : Life) → is_socket_unmade l ≡ false → is_socket_unmade l ≡ true → may_open l.relay.line ≡ false
+not-unmade l e f = absurd (both_ways (is_socket_unmade l) e f)
 
-made-none : (number : Option ℕ) (a : Life) → is_unmade (made_life number a) ≡ false
+made-none : (number : Option ℕ) (a : Life) → is_socket_unmade (made_life number a) ≡ false
 made-none None a = refl
 made-none (Some t) a = refl
 
-aimed : (calls : List HouseCall) → KeptSound (IsBefore calls) (Aimed calls)
+aimed : (calls : List HouseCall) → KeptSound (IsCallBefore calls) (Aimed calls)
 aimed calls = record {
   says = λ bytes a b s p is h. (
       let none = ap (λ (r : Relay). may_open r.line) h.1.relay.0 ∙ (spoken a.relay is).settled in
@@ -217,7 +217,7 @@ aimed calls = record {
   };
   takes = λ t bytes a b s p is h. aimed-on calls _ _ a b h (settles-takes may_open may-later bytes a b h) (ap (λ (r : Relay). r.socket) h.relay.0) p;
   steps = λ s t call old now causes a sounds p is. record {
-    right = subst (Right calls (own_after s a.own) a.joined) (sym (line-step s a.relay)) (right-after calls s a.own a.joined a.relay.line p.right);
+    right = subst (Right calls (link_own_after s a.own) a.joined) (sym (line-step s a.relay)) (right-after calls s a.own a.joined a.relay.line p.right);
     unmade_none = not-unmade (step_of s a) (step-made s a.relay (owned t a.own a.relay.socket is sounds.stream));
   };
   makes = λ host port number old now a s p is. record {
@@ -232,13 +232,13 @@ aimed calls = record {
   offers = λ f number remote window maximum small. record { right = tt; unmade_none = λ e. refl };
 }
 
-pub all-aimed : (calls : List HouseCall) (trace : Trace) → Reaches first_trace calls trace → All (Both (Aimed calls)) trace
+pub all-aimed : (calls : List HouseCall) (trace : Trace) → TraceReaches first_trace calls trace → All (Both (Aimed calls)) trace
 all-aimed calls trace h =
-    all-reach (IsBefore calls) (Both (Aimed calls)) (with-sound (IsBefore calls) (Aimed calls) (aimed calls)) calls first_trace trace
+    all-reach (IsCallBefore calls) (Both (Aimed calls)) (with-sound (IsCallBefore calls) (Aimed calls) (aimed calls)) calls first_trace trace
     (λ before call behind mid e r. record { before = before; behind = behind; are = e; reached = r }) h
     (record { relay_traces = tt; past = tt })
 
--- ---- what is said
+-- ---- what is sent
 
 goes-to : (calls : List HouseCall) (l : Life) (host : List ℕ) (port : ℕ) (version : Option ℕ) → LineStands (Asked host port version) l.dials l.acts
     → RightFor calls l.own l.joined host port version → IsJoinedFor calls l.own l.joined (ConnectsTo host port) ⊎ IsDialed calls l host port
@@ -246,12 +246,12 @@ goes-to calls l host port None stands h = inl h
 goes-to calls l host port (Some version) stands h = inr (record { joined = h; asks = stands.waits.2 })
 
 says-right : (calls : List HouseCall) (relay_traces before : List Life) (l : Life) (behind : List Life) (bytes : List ℕ)
-    → relay_traces ≡ before ++ l ∷ behind → Both (Aimed calls) l → is_open bytes ≡ true → bytes ≡ framed (sent_by l.relay)
-    → (is_open (framed (sent_by l.relay)) ≡ false)
+    → relay_traces ≡ before ++ l ∷ behind → Both (Aimed calls) l → is_open bytes ≡ true → bytes ≡ framed (relay_sent_by l.relay)
+    → (is_open (framed (relay_sent_by l.relay)) ≡ false)
     ⊎ ((host : List ℕ) × (port : ℕ) × (version : Option ℕ) × SendsOpen host port version l.relay)
     → IsOpenOf calls relay_traces bytes
 says-right calls relay_traces before l behind bytes were p is e (inl none) =
-    absurd (both_ways (is_open (framed (sent_by l.relay))) none (ap is_open (sym e) ∙ is))
+    absurd (both_ways (is_open (framed (relay_sent_by l.relay))) none (ap is_open (sym e) ∙ is))
 says-right calls relay_traces before l behind bytes were p is e (inr x) = record {
   before = before;
   life = l;

@@ -1,4 +1,5 @@
--- What the calls leave of the forwardings, the requests and the asks is what happened.
+-- What the calls leave of the forwardings, of clients' requests and of those to the server is what
+-- happened.
 use Rattle.std.proofs.Common.{◌≡◌, ◌∙◌, refl, sym, ap, subst, ℕ, Bool, true, false, List, [], ◌∷◌, ◌++◌, append_assoc, append-nil, Option, Some, None, inl, inr}
 use Rattle.std.specs.Prelude.{find, if◌then◌else◌, Result, Ok, Err}
 use Rattle.ssh_fields.specs.Fields.{take_u32}
@@ -20,11 +21,11 @@ use Rattle.mux_outside.specs.declared.house_mark.HouseMark.{HouseMark}
 use Rattle.mux_outside.specs.declared.house_mark.HouseMark.TheVariants.{HouseIn, HouseSaid, HouseTook, HouseAsked, HouseAnswer, HouseOrder}
 use Rattle.mux_outside.specs.declared.order.Order.{Order}
 use Rattle.mux_outside.specs.declared.order.Order.TheVariants as order
-use Rattle.house_forward.specs.ForwarderEvents.{ForwarderEvent, Does, Leave, recorded, recorded_if, recorded_by, recorded_in, stage_next, IsSentAs, AreMarked, ordered_by, HappenBy, Happen, EachHappens}
+use Rattle.house_forward.specs.ForwarderEvents.{ForwarderEvent, Does, Leave, recorded, recorded_if, events_recorded_by, recorded_in, stage_next, IsSentAs, AreMarked, ordered_by, HappenBy, Happen, EachHappens}
 use Rattle.house_forward.specs.ForwarderEvents.{Begins, Asks, Answers, Greets, Requests, Replies, Listens, Unlistens}
 use Rattle.house_forward.specs.ForwardingState.{ForwardingState, reply_received}
 use Rattle.house_forward.specs.Forwardings.{has_request, served_at}
-use Rattle.house_forward.specs.RelayTraces.{Trace, first_trace, OnForwardingState, SendsBy, ReceivesAt, OpensFor, ReceivesOpen, ReceivesMessage, ReceivesReading, ReceivesFrame, ReceivesFrames, OrdersIn, MarksIn, Follows, Reaches, is_grant, with_received, cut_off}
+use Rattle.house_forward.specs.RelayTraces.{Trace, first_trace, OnForwardingState, SendsBy, RelayReceivesAt, OpensFor, ReceivesOpen, ReceivesMessage, ReceivesReading, ReceivesFrame, RelaysReceiveFrames, OrdersIn, MarksIn, Follows, TraceReaches, is_grant, with_received, cut_off}
 use Rattle.house_forward.specs.declared.forwarding.Forwarding.{Forwarding}
 use Rattle.house_forward.specs.declared.forwarder_state.Stage.{Stage}
 use Rattle.house_forward.specs.declared.forwarder_state.Stage.TheVariants.{Control, Proxy}
@@ -43,7 +44,7 @@ same forwarder_events old new left e = subst (Leave forwarder_events) (sym e) le
 abbrev pub Goes : (List ForwarderEvent → Type 0) → List ForwarderEvent → ForwardingState → Type 0
 Goes so forwarder_events forwarding_state = (more : List ForwarderEvent) × so more × Leave (more ++ forwarder_events) forwarding_state
 
--- ---- what is heard
+-- ---- what is received
 
 record Heard (more forwarder_events : List ForwarderEvent) (stage : Stage) (new : Trace) : Type 0 where
   left : Leave (more ++ forwarder_events) new.forwarding_state
@@ -55,7 +56,7 @@ nothing forwarder_events old new left e = record {
   stage_is = ap (λ (c : Trace). c.stage) e;
 }
 
-receives-at : (n : ℕ) (m : Message) (forwarder_events : List ForwarderEvent) (old new : Trace) → Leave forwarder_events old.forwarding_state → ReceivesAt n m old new
+receives-at : (n : ℕ) (m : Message) (forwarder_events : List ForwarderEvent) (old new : Trace) → Leave forwarder_events old.forwarding_state → RelayReceivesAt n m old new
     → Heard [] forwarder_events old.stage new
 receives-at n m forwarder_events old new left (inl h) = record {
   left = same forwarder_events old new left (ap (λ (c : Trace). c.forwarding_state) h.2);
@@ -135,25 +136,25 @@ grants false forwarder_events old to new left e forwarding_state stage h = recor
 }
 
 receives-frame : (stage : Stage) (content : List ℕ) (forwarder_events : List ForwarderEvent) (old new : Trace) → old.stage ≡ stage
-    → Leave forwarder_events old.forwarding_state → ReceivesFrame stage content old new → Heard (recorded_by stage content) forwarder_events (stage_next stage content) new
+    → Leave forwarder_events old.forwarding_state → ReceivesFrame stage content old new → Heard (events_recorded_by stage content) forwarder_events (stage_next stage content) new
 receives-frame Control content forwarder_events old new e left h =
     grants (is_grant (take_u32 content)) forwarder_events old
     (record old { stage = Proxy; framer = switched framing.Proxy old.framer }) new left e refl refl h
 receives-frame Proxy content forwarder_events old new e left h =
-    subst (λ (s : Stage). Heard (recorded_by Proxy content) forwarder_events s new) e (receives-reading (reading content) forwarder_events old new left h)
+    subst (λ (s : Stage). Heard (events_recorded_by Proxy content) forwarder_events s new) e (receives-reading (reading content) forwarder_events old new left h)
 
 receives-frames : (contents : List (List ℕ)) (stage : Stage) (forwarder_events : List ForwarderEvent) (old new : Trace) → old.stage ≡ stage
-    → Leave forwarder_events old.forwarding_state → ReceivesFrames contents old new → Leave (recorded_in stage contents ++ forwarder_events) new.forwarding_state
+    → Leave forwarder_events old.forwarding_state → RelaysReceiveFrames contents old new → Leave (recorded_in stage contents ++ forwarder_events) new.forwarding_state
 receives-frames [] stage forwarder_events old new e left h = same forwarder_events old new left (ap (λ (c : Trace). c.forwarding_state) h.1)
 receives-frames (content ∷ more) stage forwarder_events old new e left h =
     let middle = h.2.0 in
     let frame : ReceivesFrame stage content (cut_off (Frame content h.0) old) middle =
     subst (λ (s : Stage). ReceivesFrame s content (cut_off (Frame content h.0) old) middle) e h.2.1 in
     let first = receives-frame stage content forwarder_events (cut_off (Frame content h.0) old) middle e left frame in
-    let rest = receives-frames more (stage_next stage content) (recorded_by stage content ++ forwarder_events) middle new first.stage_is
+    let rest = receives-frames more (stage_next stage content) (events_recorded_by stage content ++ forwarder_events) middle new first.stage_is
     first.left h.2.2 in
     subst (λ (ds : List ForwarderEvent). Leave ds new.forwarding_state)
-    (sym (append_assoc (recorded_in (stage_next stage content) more) (recorded_by stage content) forwarder_events)) rest
+    (sym (append_assoc (recorded_in (stage_next stage content) more) (events_recorded_by stage content) forwarder_events)) rest
 
 -- ---- by a call
 
@@ -200,7 +201,7 @@ happens (Takes t bytes) forwarder_events old new left h = ([], refl, same forwar
 
 -- ---- by all of them
 
-happen : (calls : List HouseCall) (forwarder_events : List ForwarderEvent) (old new : Trace) → Leave forwarder_events old.forwarding_state → Reaches old calls new
+happen : (calls : List HouseCall) (forwarder_events : List ForwarderEvent) (old new : Trace) → Leave forwarder_events old.forwarding_state → TraceReaches old calls new
     → Goes (λ more. Happen old calls more new) forwarder_events new.forwarding_state
 happen [] forwarder_events old new left h = ([], (h, refl), same forwarder_events old new left (ap (λ (c : Trace). c.forwarding_state) h))
 happen (call ∷ calls) forwarder_events old new left h =

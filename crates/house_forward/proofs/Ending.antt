@@ -3,12 +3,12 @@ use Rattle.std.proofs.Common.{◌≡◌, ◌∙◌, refl, sym, ap, subst, ℕ, B
 use Rattle.std.specs.List.{Contains}
 use Rattle.std.proofs.lemmas.Bool.{and_from, eq-eqb}
 use Rattle.mux_outside.specs.declared.house.HouseReply.TheVariants as given
-use Rattle.house_forward.specs.Asks.{settled, settle_one, settled_at, is_about, same, waiting_for}
-use Rattle.house_forward.specs.Causes.{gateway_in, AreOne, IsFor, ServesAt, WaitsToClose, EachUnlisten, EachCancel, EachCancelReply, come_to, cancelled}
+use Rattle.house_forward.specs.Asks.{settled, settle_one, ask_settled_at, is_ask_about, same, waiting_for}
+use Rattle.house_forward.specs.Causes.{rules_in, AreOne, IsFor, ServesAt, WaitsToClose, EachUnlisten, EachCancel, EachCancelReply, come_to, cancelled}
 use Rattle.house_forward.specs.ForwarderEvents.{ForwarderEvent}
 use Rattle.house_forward.specs.ForwarderEvents.{Asks}
 use Rattle.house_forward.specs.ForwardingState.{ForwardingState}
-use Rattle.house_forward.specs.Forwardings.{has_request, requests_at, request_at, listener_at, cancels_at, first_of, replied_asks}
+use Rattle.house_forward.specs.Forwardings.{has_request, requests_at, forwarding_request_at, listener_at, cancels_at, first_of, replied_asks}
 use Rattle.house_forward.specs.Rules.{listens_here}
 use Rattle.house_forward.specs.declared.asks.Outcome.{Outcome}
 use Rattle.house_forward.specs.declared.asks.Outcome.TheVariants.{Done}
@@ -43,8 +43,8 @@ waits-to-close home serials forwarder_events ws n w here c h is = record {
   earlier = h.earlier;
   were = h.were ∙ ap (λ (b : Bool). h.later ++ Asks w.client w.id b h.ask given.Later ∷ h.earlier) c.closes;
   open_yet = h.open_yet;
-  is_for = subst (λ (m : ℕ). IsFor (gateway_in h.earlier) false h.ask (home m)) c.of_it
-      (subst (λ (b : Bool). IsFor (gateway_in h.earlier) b h.ask (home w.forwarding)) c.closes h.is_for);
+  is_for = subst (λ (m : ℕ). IsFor (rules_in h.earlier) false h.ask (home m)) c.of_it
+      (subst (λ (b : Bool). IsFor (rules_in h.earlier) b h.ask (home w.forwarding)) c.closes h.is_for);
   waits = subst (Contains ws) (is-waiting-for n w c ∙ ap (λ (m : ℕ). waiting_for w.client w.id false m) (sym is)) (in-contains w ws here);
 }
 
@@ -57,17 +57,17 @@ one-waits a f ws forwarder_events one h = record {
   earlier = h.earlier;
   were = h.were;
   open_yet = h.open_yet;
-  is_for = one-is-for (gateway_in h.earlier) false h.ask a f one h.is_for;
+  is_for = one-is-for (rules_in h.earlier) false h.ask a f one h.is_for;
   waits = subst (λ (m : ℕ). Contains ws (waiting_for h.client h.id false m)) one.serial h.waits;
 }
 
 -- ---- a listener
 
-is-its : (n : ℕ) (w : Waiting) → IsCloser n w → is_about n false w ≡ true
+is-its : (n : ℕ) (w : Waiting) → IsCloser n w → is_ask_about n false w ≡ true
 is-its n w c = and_from _ _ (eq-eqb w.forwarding n c.of_it) (ap (λ b. same b false) c.closes)
 
 settled-one : (n at : ℕ) (o : Outcome) (w : Waiting) → IsCloser n w → settle_one n false at o w ≡ come_to at o w
-settled-one n at o w c = rw (is-its n w c) (ap (λ (x : Option (ℕ × Outcome)). record w { outcome = settled_at at o x }) c.open_yet)
+settled-one n at o w c = rw (is-its n w c) (ap (λ (x : Option (ℕ × Outcome)). record w { outcome = ask_settled_at at o x }) c.open_yet)
 
 -- it has this outcome
 comes-to : (n at : ℕ) (o : Outcome) (w : Waiting) (ws : List Waiting) → In w ws → IsCloser n w
@@ -104,7 +104,7 @@ each-unlisten l forwarder_events old new left h =
 -- ---- a cancel
 
 cancels-by : (s : Stage) (a f : Forwarding) (closing : Bool) (forwarder_events : List ForwarderEvent) → AreOne a f → requests_at s closing ≡ true
-    → request_at s f.serial ≡ Cancel f.serial → StageFits s a forwarder_events → ServesAt s f forwarder_events × (closing ≡ true)
+    → forwarding_request_at s f.serial ≡ Cancel f.serial → StageFits s a forwarder_events → ServesAt s f forwarder_events × (closing ≡ true)
 cancels-by (ToListen host) a f closing forwarder_events one e r h = cc
 cancels-by Ordered a f closing forwarder_events one e r h = cc
 cancels-by (Listening l) a f closing forwarder_events one e r h = cc

@@ -7,11 +7,11 @@ use Rattle.std.proofs.lemmas.List.{get_or_default}
 use Rattle.std.proofs.lemmas.List.Quantifiers.{position-Some}
 use Rattle.std.proofs.lemmas.List.Sums.{position_or_len_is}
 use Rattle.mux_outside.specs.OwnStreams.{is_one, is_finished}
-use Rattle.house_relay.specs.Relay.{stream_of}
-use Rattle.house_forward.specs.Links.{streams_of, are_distinct, has_number, numbered, is_number, is_of, finishes}
+use Rattle.house_relay.specs.Relay.{socket_stream_of}
+use Rattle.house_forward.specs.Links.{streams_of, are_distinct, has_number, numbered, is_link_number, is_of, finishes}
 use Rattle.house_forward.specs.declared.link.Link.{Link}
-use Rattle.house_forward.specs.declared.link.Stream.{Stream}
-use Rattle.house_forward.specs.declared.link.Stream.TheVariants.{Offered, Awaited, Made, Gone}
+use Rattle.house_forward.specs.declared.link.LinkStream.{LinkStream}
+use Rattle.house_forward.specs.declared.link.LinkStream.TheVariants.{Offered, Awaited, Made, Gone}
 use Rattle.house_forward.proofs.Changes.{one-there, first-is}
 use Rattle.house_forward.proofs.Lists.{none-passes, none-found}
 use Rattle.house_forward.proofs.Streams.{has-stream, differs-in, rest-distinct, alone, one_of_links, finished_of_links}
@@ -56,7 +56,7 @@ has-there ls i t x d l at n = first-of (has_number t) ls i x l (subst (λ (z : L
     (before-in ls i t x d l (sym at) n)
 
 not-of : (t : ℕ) (l : Link) → has_number t l ≡ false → is_of t l ≡ false
-not-of t l e = and_left (has_number t l) (is_number t (stream_of l.relay.socket)) e
+not-of t l e = and_left (has_number t l) (is_link_number t (socket_stream_of l.relay.socket)) e
 
 -- it is that of its relay too
 pub of-there : (ls : List Link) (i t : ℕ) (x : Link) → position (has_number t) ls ≡ Some i → x ≡ get_or ls i x
@@ -76,7 +76,7 @@ pub of-none : (ls : List Link) (i t : ℕ) (x : Link) → are_distinct (streams_
 of-none ls i t x d e at isnt = none-of (position (is_of t) ls) (λ k there.
     let first = position-Some (is_of t) ls k x there in
     let z : Link = get_or ls k x in
-    let has : has_number t z ≡ true = (and_parts (has_number t z) (is_number t (stream_of z.relay.socket)) first.1).0 in
+    let has : has_number t z ≡ true = (and_parts (has_number t z) (is_link_number t (socket_stream_of z.relay.socket)) first.1).0 in
     let same : i ≡ k = same-place i k (position (has_number t) ls) e
     (has-there ls k t z d first.0 (get_or_default ls k x z first.0) has) in
     both_ways (is_of t x) isnt (subst (λ (y : Link). is_of t y ≡ true) (sym at)
@@ -108,7 +108,7 @@ owned-if ls t (Some i) e = sym (owned-there ls i t e)
 pub owned : (ls : List Link) (t : ℕ) → is_some (position (has_number t) ls) ≡ is_one t (streams_of ls)
 owned ls t = owned-if ls t (position (has_number t) ls) refl
 
-not-finished : (s : Stream) (t : ℕ) → numbered t s ≡ false → finishes t s ≡ false
+not-finished : (s : LinkStream) (t : ℕ) → numbered t s ≡ false → finishes t s ≡ false
 not-finished (Offered host port) t e = refl
 not-finished Awaited t e = refl
 not-finished (Made own) t e = and_left _ own.finished e

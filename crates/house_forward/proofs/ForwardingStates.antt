@@ -9,10 +9,10 @@ use Rattle.mux_outside.specs.Streams.{among}
 use Rattle.mux_outside.specs.declared.house.HouseReply.{HouseReply}
 use Rattle.house_forward.specs.Asks.{answer_of, after_answer, settled, counted}
 use Rattle.house_forward.specs.ForwardingState.{ForwardingState, forwarding_state_of, Answers, greeting_sent, request_sent, reply_received, OrdersListener, MakesListener, EndsListener, OrdersBy, ForwardingsGo, ChangesList}
-use Rattle.house_forward.specs.Forwardings.{is_first_to_listen, is_ordered_first, ListensFor, has_request, request_of, after_sending}
+use Rattle.house_forward.specs.Forwardings.{is_first_to_listen, is_ordered_first, ListensFor, has_request, forwarding_request_of, after_sending}
 use Rattle.house_forward.specs.Forwardings.{next_of, to_listen, OrderedAt, MadeAt, has_listener, made_refused, ordered_asks, ordered_done, serial_of}
 use Rattle.house_forward.specs.Forwardings.{first_of, replied_all, replied_asks, replied_done, replied_refused}
-use Rattle.house_forward.specs.RelayTraces.{Held, ForwardingStateGoes, GoesFurther, SendsIn, held, held_of}
+use Rattle.house_forward.specs.RelayTraces.{Held, ForwardingStateGoes, GoesFurther, RelaySendsIn, held, forwarder_held_of}
 use Rattle.house_forward.specs.Said.{framed, request_payload}
 use Rattle.house_forward.specs.declared.asks.Asks.{Asks}
 use Rattle.house_forward.specs.declared.asks.Outcome.TheVariants.{Done}
@@ -24,6 +24,7 @@ use Rattle.house_forward.specs.declared.forwardings.ListenerOrder.TheVariants.{L
 use Rattle.house_forward.specs.declared.forwardings.ForwardingWant.TheVariants as want
 use Rattle.house_forward.specs.declared.forwarder_state.Stage.{Stage}
 use Rattle.house_forward.specs.declared.relays.Relays.{Relays}
+use Rattle.house_forward.specs.declared.rules.ListenRules.{ListenRules}
 use Rattle.mux_outside.specs.declared.greeting.TheConstants.{GREETING}
 use Rattle.house_forward.specs.declared.two_texts.TwoTexts.{TwoTexts}
 use Rattle.house_forward.proofs.Traces.{greets, requests}
@@ -32,11 +33,11 @@ use Rattle.house_forward.proofs.Lists.{none-passes, none-found}
 use Rattle.house_forward.proofs.Placed.{listens-first as listens-there}
 
 -- two are the same whose parts are
-pub same-forwarding_states : (a b : ForwardingState) → a.gateway ≡ b.gateway → a.greeted ≡ b.greeted → a.all ≡ b.all → a.serials ≡ b.serials
+pub same-forwarding_states : (a b : ForwardingState) → a.rules ≡ b.rules → a.greeted ≡ b.greeted → a.all ≡ b.all → a.serials ≡ b.serials
     → a.refused ≡ b.refused → a.requests ≡ b.requests → a.waiting ≡ b.waiting → a.done ≡ b.done → a ≡ b
-same-forwarding_states a b gateway greeted all serials refused requests waiting done =
+same-forwarding_states a b rules greeted all serials refused requests waiting done =
     let x : ForwardingState = record {
-      gateway = a.gateway;
+      rules = a.rules;
       greeted = a.greeted;
       all = a.all;
       serials = a.serials;
@@ -45,11 +46,11 @@ same-forwarding_states a b gateway greeted all serials refused requests waiting 
       waiting = a.waiting;
       done = a.done;
     } in
-    ap (λ g. record x { gateway = g }) gateway
-    ∙ ap (λ g. record x { gateway = b.gateway; greeted = g }) greeted
-    ∙ ap (λ fs. record x { gateway = b.gateway; greeted = b.greeted; all = fs }) all
-    ∙ ap (λ n. record x { gateway = b.gateway; greeted = b.greeted; all = b.all; serials = n }) serials
-    ∙ ap (λ o. record x { gateway = b.gateway; greeted = b.greeted; all = b.all; serials = b.serials; refused = o }) refused
+    ap (λ g. record x { rules = g }) rules
+    ∙ ap (λ g. record x { rules = b.rules; greeted = g }) greeted
+    ∙ ap (λ fs. record x { rules = b.rules; greeted = b.greeted; all = fs }) all
+    ∙ ap (λ n. record x { rules = b.rules; greeted = b.greeted; all = b.all; serials = n }) serials
+    ∙ ap (λ o. record x { rules = b.rules; greeted = b.greeted; all = b.all; serials = b.serials; refused = o }) refused
     ∙ ap (λ rs. record b { requests = rs; waiting = a.waiting; done = a.done }) requests
     ∙ ap (λ ws. record b { waiting = ws; done = a.done }) waiting
     ∙ ap (λ n. record b { done = n }) done
@@ -62,11 +63,11 @@ pub ends-listener : (l serial : ℕ) (fs : Forwardings) (asks : Asks) (fs' : For
     → fs'.all.items ≡ filter (λ f. not (has_listener l f)) fs.all.items → ChangesList fs fs'
     → asks'.waiting.items ≡ settled serial false asks.done Done asks.waiting.items → asks'.done ≡ counted asks.done
     → ForwardingsGo (EndsListener l) fs asks fs' asks'
-ends-listener l serial fs asks fs' asks' next all others waiting done gateway greeted =
-    let old = forwarding_state_of gateway greeted fs asks in record {
+ends-listener l serial fs asks fs' asks' next all others waiting done rules greeted =
+    let old = forwarding_state_of rules greeted fs asks in record {
       serial = serial;
       next = next;
-      others = same-forwarding_states (forwarding_state_of gateway greeted fs' asks') (record old {
+      others = same-forwarding_states (forwarding_state_of rules greeted fs' asks') (record old {
         all = filter (λ f. not (has_listener l f)) old.all;
         waiting = settled serial false old.done Done old.waiting;
         done = counted old.done;
@@ -81,17 +82,17 @@ orders-at : (o : Option ℕ) (texts : TwoTexts) (port : ℕ) (fs : Forwardings) 
     → next_of asks.waiting.items fs.all.items ≡ Some want.Listen → ListensFor (ListensAt texts port) (find to_listen fs.all.items)
     → IfSome o (λ i. OrderedAt i fs.all.items fs'.all.items) → ChangesList fs fs'
     → ForwardingsGo (OrdersListener texts.one port) fs asks fs' asks
-orders-at None texts port fs asks fs' e next there ordered others gateway greeted =
+orders-at None texts port fs asks fs' e next there ordered others rules greeted =
     let none = none-found to_listen fs.all.items (none-passes to_listen fs.all.items e) in
     absurd (false≢true (ap is_first_to_listen (sym none) ∙ listens-first asks.waiting.items fs.all.items next))
-orders-at (Some i) texts port fs asks fs' e next there ordered others gateway greeted =
-    let old = forwarding_state_of gateway greeted fs asks in record {
+orders-at (Some i) texts port fs asks fs' e next there ordered others rules greeted =
+    let old = forwarding_state_of rules greeted fs asks in record {
       place = i;
       first = e;
       next = next;
       there = listens-there texts port (find to_listen fs.all.items) there;
       ordered = ordered;
-      others = same-forwarding_states (forwarding_state_of gateway greeted fs' asks) (record old { all = fs'.all.items }) refl refl refl others.serials others.refused
+      others = same-forwarding_states (forwarding_state_of rules greeted fs' asks) (record old { all = fs'.all.items }) refl refl refl others.serials others.refused
           (ap (λ q. q.items) others.requests) refl refl;
     }
 
@@ -141,23 +142,23 @@ pub receives-reply : (success : Bool) (port : Option ℕ) (fs : Forwardings) (as
     → asks'.waiting.items ≡ replied_asks success port (first_of fs.requests.items) fs.all.items asks.done asks.waiting.items
     → asks'.done ≡ replied_done success port (first_of fs.requests.items) fs.all.items asks.done
     → ForwardingsGo (λ old new. new ≡ reply_received success port old) fs asks fs' asks'
-receives-reply success port fs asks fs' asks' all serials refused requests waiting done gateway greeted =
-    same-forwarding_states (forwarding_state_of gateway greeted fs' asks') (reply_received success port (forwarding_state_of gateway greeted fs asks))
+receives-reply success port fs asks fs' asks' all serials refused requests waiting done rules greeted =
+    same-forwarding_states (forwarding_state_of rules greeted fs' asks') (reply_received success port (forwarding_state_of rules greeted fs asks))
     refl refl all serials refused requests waiting done
 
 -- ---- asks
 
 -- a request gets its answer
 pub gives-answer : (client id : ℕ) (reply : HouseReply) (o : Option (ℕ × ℕ × HouseReply)) (relays : Relays) (framer : FramerState) (stage : Stage)
-    (gateway greeted : Bool) (fs : Forwardings) (asks asks' : Asks) → o ≡ Some (client, id, reply) → o ≡ answer_of asks.waiting.items
+    (rules : ListenRules) (greeted : Bool) (fs : Forwardings) (asks asks' : Asks) → o ≡ Some (client, id, reply) → o ≡ answer_of asks.waiting.items
     → asks'.waiting.items ≡ after_answer o asks.waiting.items → asks'.done ≡ asks.done
-    → ForwardingStateGoes (Answers client id reply) (held_of relays framer stage gateway greeted fs asks) (held_of relays framer stage gateway greeted fs asks')
-gives-answer client id reply o relays framer stage gateway greeted fs asks asks' e is waiting done =
-    let old = forwarding_state_of gateway greeted fs asks in (
+    → ForwardingStateGoes (Answers client id reply) (forwarder_held_of relays framer stage rules greeted fs asks) (forwarder_held_of relays framer stage rules greeted fs asks')
+gives-answer client id reply o relays framer stage rules greeted fs asks asks' e is waiting done =
+    let old = forwarding_state_of rules greeted fs asks in (
       refl,
       record {
         answer = sym is ∙ e;
-        others = same-forwarding_states (forwarding_state_of gateway greeted fs asks') (record old { waiting = after_answer (Some (client, id, reply)) old.waiting })
+        others = same-forwarding_states (forwarding_state_of rules greeted fs asks') (record old { waiting = after_answer (Some (client, id, reply)) old.waiting })
             refl refl refl refl refl refl (waiting ∙ ap (λ (a : Option (ℕ × ℕ × HouseReply)). after_answer a asks.waiting.items) e) done;
       },
     )
@@ -165,31 +166,31 @@ gives-answer client id reply o relays framer stage gateway greeted fs asks asks'
 -- ---- what is sent
 
 requests-by : (o : Option Forwarding) (said : Option ForwardingRequest) (r : ForwardingRequest) (bytes : List ℕ) (relays : Relays) (framer : FramerState) (stage : Stage)
-    (gateway greeted : Bool) (fs fs' : Forwardings) (asks : Asks) → find has_request fs.all.items ≡ o → greeted ≡ true → said ≡ Some r
-    → is_some said ≡ is_some o → IfSome o (λ f. said ≡ Some (request_of f)) → IfSome o (λ f. bytes ≡ framed (request_payload f))
+    (rules : ListenRules) (greeted : Bool) (fs fs' : Forwardings) (asks : Asks) → find has_request fs.all.items ≡ o → greeted ≡ true → said ≡ Some r
+    → is_some said ≡ is_some o → IfSome o (λ f. said ≡ Some (forwarding_request_of f)) → IfSome o (λ f. bytes ≡ framed (request_payload f))
     → fs'.all.items ≡ after_sending r fs.all.items → fs'.requests.items ≡ fs.requests.items ++ r ∷ []
     → fs'.serials ≡ fs.serials → fs'.refused ≡ fs.refused
-    → GoesFurther (SendsIn bytes) (held_of relays framer stage gateway greeted fs asks) (held_of relays framer stage gateway greeted fs' asks)
-requests-by None said r bytes relays framer stage gateway greeted fs fs' asks e first is exact which spelled all more serials refused = cc
-requests-by (Some f) said r bytes relays framer stage gateway greeted fs fs' asks e first is exact which spelled all more serials refused =
-    let old = held_of relays framer stage gateway greeted fs asks in
-    let same : r ≡ request_of f = cc in
-    let forwarding_state = same-forwarding_states (forwarding_state_of gateway greeted fs' asks) (request_sent f (forwarding_state_of gateway greeted fs asks)) refl refl
+    → GoesFurther (RelaySendsIn bytes) (forwarder_held_of relays framer stage rules greeted fs asks) (forwarder_held_of relays framer stage rules greeted fs' asks)
+requests-by None said r bytes relays framer stage rules greeted fs fs' asks e first is exact which spelled all more serials refused = cc
+requests-by (Some f) said r bytes relays framer stage rules greeted fs fs' asks e first is exact which spelled all more serials refused =
+    let old = forwarder_held_of relays framer stage rules greeted fs asks in
+    let same : r ≡ forwarding_request_of f = cc in
+    let forwarding_state = same-forwarding_states (forwarding_state_of rules greeted fs' asks) (request_sent f (forwarding_state_of rules greeted fs asks)) refl refl
     (all ∙ ap (λ (q : ForwardingRequest). after_sending q fs.all.items) same) serials refused
     (more ∙ ap (λ (q : ForwardingRequest). fs.requests.items ++ q ∷ []) same) refl refl in
-    subst (λ (d : ForwardingState). GoesFurther (SendsIn bytes) old (held relays.all.items framer stage d)) (sym forwarding_state)
-    (subst (λ (b : List ℕ). GoesFurther (SendsIn b) old (record old { forwarding_state = request_sent f old.forwarding_state })) (sym spelled) (requests f old first e))
+    subst (λ (d : ForwardingState). GoesFurther (RelaySendsIn bytes) old (held relays.all.items framer stage d)) (sym forwarding_state)
+    (subst (λ (b : List ℕ). GoesFurther (RelaySendsIn b) old (record old { forwarding_state = request_sent f old.forwarding_state })) (sym spelled) (requests f old first e))
 
 -- the first request is sent
 pub requests-one : (said : Option ForwardingRequest) (r : ForwardingRequest) (bytes : List ℕ) (relays : Relays) (framer : FramerState) (stage : Stage)
-    (gateway greeted : Bool) (fs fs' : Forwardings) (asks : Asks) → greeted ≡ true → said ≡ Some r
-    → is_some said ≡ is_some (find has_request fs.all.items) → IfSome (find has_request fs.all.items) (λ f. said ≡ Some (request_of f))
+    (rules : ListenRules) (greeted : Bool) (fs fs' : Forwardings) (asks : Asks) → greeted ≡ true → said ≡ Some r
+    → is_some said ≡ is_some (find has_request fs.all.items) → IfSome (find has_request fs.all.items) (λ f. said ≡ Some (forwarding_request_of f))
     → IfSome (find has_request fs.all.items) (λ f. bytes ≡ framed (request_payload f))
     → fs'.all.items ≡ after_sending r fs.all.items → fs'.requests.items ≡ fs.requests.items ++ r ∷ []
     → fs'.serials ≡ fs.serials → fs'.refused ≡ fs.refused
-    → GoesFurther (SendsIn bytes) (held_of relays framer stage gateway greeted fs asks) (held_of relays framer stage gateway greeted fs' asks)
-requests-one said r bytes relays framer stage gateway greeted fs fs' asks first is exact which spelled all more serials refused =
-    requests-by (find has_request fs.all.items) said r bytes relays framer stage gateway greeted fs fs' asks refl first is exact which spelled all more
+    → GoesFurther (RelaySendsIn bytes) (forwarder_held_of relays framer stage rules greeted fs asks) (forwarder_held_of relays framer stage rules greeted fs' asks)
+requests-one said r bytes relays framer stage rules greeted fs fs' asks first is exact which spelled all more serials refused =
+    requests-by (find has_request fs.all.items) said r bytes relays framer stage rules greeted fs fs' asks refl first is exact which spelled all more
     serials refused
 
 -- there is none
@@ -199,6 +200,6 @@ no-request (Some f) said is e = cc
 
 -- it greets
 pub greets-first : (bytes : List ℕ) (h : Held) → bytes ≡ GREETING.now → h.forwarding_state.greeted ≡ false
-    → GoesFurther (SendsIn bytes) h (record h { forwarding_state = greeting_sent h.forwarding_state })
+    → GoesFurther (RelaySendsIn bytes) h (record h { forwarding_state = greeting_sent h.forwarding_state })
 greets-first bytes h e none =
-    subst (λ (b : List ℕ). GoesFurther (SendsIn b) h (record h { forwarding_state = greeting_sent h.forwarding_state })) (sym e) (greets h none)
+    subst (λ (b : List ℕ). GoesFurther (RelaySendsIn b) h (record h { forwarding_state = greeting_sent h.forwarding_state })) (sym e) (greets h none)

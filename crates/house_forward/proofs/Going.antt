@@ -7,26 +7,26 @@ use Rattle.mux_outside.specs.declared.order.Order.{Order}
 use Rattle.house_relay.specs.Steps.{made_as}
 use Rattle.house_relay.specs.declared.relay.Relay.{Relay}
 use Rattle.house_relay.specs.declared.relay.Outgoing.{Outgoing}
-use Rattle.house_forward.specs.Going.{GoesAt, LeavesAt, AwaitsAt, MakesAt, Obeys, swept}
+use Rattle.house_forward.specs.Going.{RelayGoesAt, LeavesAt, AwaitsAt, MakesAt, Obeys, swept}
 use Rattle.house_forward.specs.Links.{streams_of, has_order, IsOrderOf, made_stream, obeyed}
 use Rattle.house_forward.specs.Said.{framed, payload_of, payload_if}
 use Rattle.house_forward.specs.declared.link.Link.{Link}
-use Rattle.house_forward.specs.declared.link.Stream.{Stream}
-use Rattle.house_forward.specs.declared.link.Stream.TheVariants.{Awaited}
+use Rattle.house_forward.specs.declared.link.LinkStream.{LinkStream}
+use Rattle.house_forward.specs.declared.link.LinkStream.TheVariants.{Awaited}
 
 pub goes-at : (o : Option ℕ) (i : ℕ) (so : Relay → Relay → Type 0) (ls : List Link) (x : Link) (r : Relay) → o ≡ Some i
-    → x ≡ get_or ls i x → so x.relay r → GoesAt o so ls (set ls i (record x { relay = r }))
+    → x ≡ get_or ls i x → so x.relay r → RelayGoesAt o so ls (set ls i (record x { relay = r }))
 goes-at o i so ls x r e at goes = rw e (x, r, at, goes, refl)
 
 same-link : (x y : Link) → y.stream ≡ x.stream → y ≡ record x { relay = y.relay }
-same-link x y e = ap (λ (s : Stream). record y { stream = s }) e
+same-link x y e = ap (λ (s : LinkStream). record y { stream = s }) e
 
 pub went-at : (i : ℕ) (so : Relay → Relay → Type 0) (ls : List Link) (x y : Link) → x ≡ get_or ls i x → y.stream ≡ x.stream
-    → so x.relay y.relay → GoesAt (Some i) so ls (set ls i y)
+    → so x.relay y.relay → RelayGoesAt (Some i) so ls (set ls i y)
 went-at i so ls x y at same goes = (x, y.relay, at, goes, ap (λ (z : Link). set ls i z) (same-link x y same))
 
 pub leaves : (o : Option ℕ) (i : ℕ) (so : Relay → Relay → Type 0) (old now new : List Link) → o ≡ Some i
-    → GoesAt (Some i) so old now → new ≡ swept now → LeavesAt o so old new
+    → RelayGoesAt (Some i) so old now → new ≡ swept now → LeavesAt o so old new
 leaves o i so old now new e goes same = rw e (now, goes, same)
 
 pub said-one : (r : Relay) (o : Option Outgoing) (bytes : List ℕ) → is_some o ≡ true
@@ -57,8 +57,8 @@ pub awaits-at : (o : Option ℕ) (i : ℕ) (ls : List Link) (x y : Link) → o �
     → y ≡ record x { stream = Awaited } → AwaitsAt o ls (set ls i y)
 awaits-at o i ls x y e at is = rw e (x, at, ap (λ (z : Link). set ls i z) is)
 
-link-of : (y : Link) (r : Relay) (s : Stream) → y.relay ≡ r → y.stream ≡ s → y ≡ record { relay = r; stream = s }
-link-of y r s e f = ap (λ (z : Relay). record y { relay = z }) e ∙ ap (λ (z : Stream). record y { relay = r; stream = z }) f
+link-of : (y : Link) (r : Relay) (s : LinkStream) → y.relay ≡ r → y.stream ≡ s → y ≡ record { relay = r; stream = s }
+link-of y r s e f = ap (λ (z : Relay). record y { relay = z }) e ∙ ap (λ (z : LinkStream). record y { relay = r; stream = z }) f
 
 pub makes-at : (o : Option ℕ) (i : ℕ) (number : Option ℕ) (ls : List Link) (x y : Link) → o ≡ Some i → x ≡ get_or ls i x
     → y.stream ≡ made_stream number → y.relay ≡ record x.relay { socket = made_as number }

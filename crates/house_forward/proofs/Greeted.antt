@@ -1,4 +1,4 @@
--- The house greeted first, whatever its calls were.
+-- The forwarder greeted first, whatever its calls were.
 use Rattle.std.proofs.Common.{◌≡◌, ◌∙◌, refl, sym, ap, subst, ℕ, Bool, true, false, List, [], ◌∷◌, ◌++◌, Option, Some, None}
 use Rattle.std.proofs.Common.{append-nil, append_assoc}
 use Rattle.mux_outside.specs.Greeting.{GreetsFirst}
@@ -31,7 +31,7 @@ said-more [] more = refl
 said-more (call ∷ calls) more =
     ap (λ (s : List (List ℕ)). sent_on call ++ s) (said-more calls more) ∙ sym (append_assoc (sent_on call) (sent_in calls) (sent_in more))
 
--- nothing more is said
+-- nothing more is sent
 pub greeted-on : (old new : Bool) (calls more : List HouseCall) → new ≡ old → sent_in more ≡ [] → HasGreeted old (sent_in calls)
     → HasGreeted new (sent_in (calls ++ more))
 greeted-on old new calls more same none h =
@@ -45,7 +45,7 @@ says-first false (one ∷ said) bytes first h = cc
 says-first true [] bytes first h = absurd h
 says-first true (one ∷ said) bytes first h = h
 
--- this is said
+-- this is sent
 pub greeted-said : (old new : Bool) (calls : List HouseCall) (bytes : List ℕ) → new ≡ true → (old ≡ false → bytes ≡ GREETING.now)
     → HasGreeted old (sent_in calls) → HasGreeted new (sent_in (calls ++ Marks (HouseSaid bytes) ∷ []))
 greeted-said old new calls bytes so first h =

@@ -1,4 +1,4 @@
--- The greeting is said once and first.
+-- The greeting is sent once and first.
 use Rattle.std.proofs.Common.{◌≡◌, ◌∙◌, refl, sym, ap, subst, ℕ, Bool, true, false, List, [], ◌∷◌, ◌++◌, Option, Some, None, inl, inr}
 use Rattle.std.specs.Prelude.{◌⊎◌, find, Result, Ok, Err}
 use Rattle.std.specs.List.{All}
@@ -13,12 +13,12 @@ use Rattle.mux_outside.specs.declared.house_mark.HouseMark.{HouseMark}
 use Rattle.mux_outside.specs.declared.house_mark.HouseMark.TheVariants.{HouseIn, HouseSaid, HouseTook, HouseAsked, HouseAnswer, HouseOrder}
 use Rattle.mux_outside.specs.declared.order.Order.{Order}
 use Rattle.mux_outside.specs.declared.order.Order.TheVariants as order
-use Rattle.house_forward.specs.ForwarderEvents.{ForwarderEvent, Does, Leave, HappenBy, recorded, recorded_by, recorded_in, recorded_if, stage_next, ordered_by, AreMarked}
+use Rattle.house_forward.specs.ForwarderEvents.{ForwarderEvent, Does, Leave, HappenBy, recorded, events_recorded_by, recorded_in, recorded_if, stage_next, ordered_by, AreMarked}
 use Rattle.house_forward.specs.ForwarderEvents.{Begins, Asks, Answers, Greets, Requests, Replies, Listens, Unlistens}
 use Rattle.house_forward.specs.ForwardingState.{ForwardingState}
 use Rattle.house_forward.specs.Forwardings.{has_request}
 use Rattle.house_forward.specs.Greeting.{IsFrame, GreetsOnce, sent_in, sent_on, sent_at, EachGreets}
-use Rattle.house_forward.specs.RelayTraces.{Trace, first_trace, Follows, Reaches, SendsBy, SendsIn}
+use Rattle.house_forward.specs.RelayTraces.{Trace, first_trace, Follows, TraceReaches, SendsBy, RelaySendsIn}
 use Rattle.house_forward.specs.declared.forwarding.Forwarding.{Forwarding}
 use Rattle.house_forward.specs.declared.forwarder_state.Stage.{Stage}
 use Rattle.house_forward.specs.declared.forwarder_state.Stage.TheVariants.{Control, Proxy}
@@ -95,7 +95,7 @@ silent-in (Replies success port ∷ a) forwarder_events h = silent-in a forwarde
 silent-in (Listens host port number ∷ a) forwarder_events h = silent-in a forwarder_events h.1
 silent-in (Unlistens l ∷ a) forwarder_events h = silent-in a forwarder_events h.1
 
--- ---- what is heard greets not
+-- ---- what is received greets not
 
 recorded-silent : (m : Said) → Silent (recorded m)
 recorded-silent (Plain (grammar.Transport number rest)) = tt
@@ -109,14 +109,14 @@ if-silent : (r : Result Said Bad) → Silent (recorded_if r)
 if-silent (Ok m) = recorded-silent m
 if-silent (Err bad) = tt
 
-by-silent : (s : Stage) (content : List ℕ) → Silent (recorded_by s content)
+by-silent : (s : Stage) (content : List ℕ) → Silent (events_recorded_by s content)
 by-silent Control content = tt
 by-silent Proxy content = if-silent (reading content)
 
 in-silent : (s : Stage) (contents : List (List ℕ)) → Silent (recorded_in s contents)
 in-silent s [] = tt
 in-silent s (content ∷ more) =
-    silent-both (recorded_in (stage_next s content) more) (recorded_by s content) (in-silent (stage_next s content) more) (by-silent s content)
+    silent-both (recorded_in (stage_next s content) more) (events_recorded_by s content) (in-silent (stage_next s content) more) (by-silent s content)
 
 order-silent : (o : Order) (number : Option ℕ) → Silent (ordered_by o number)
 order-silent (order.Listen host port) number = (refl, tt)
@@ -130,7 +130,7 @@ order-silent (order.Close t) number = tt
 is-silent : (a b : List ForwarderEvent) → a ≡ b → Silent b → Silent a
 is-silent a b e h = subst Silent (sym e) h
 
--- a call by which nothing is said
+-- a call by which nothing is sent
 mark-silent : (mark : HouseMark) (more : List ForwarderEvent) → sent_at mark ≡ [] → AreMarked mark more → Silent more
 mark-silent HouseIn more e h = is-silent more [] h tt
 mark-silent (HouseSaid bytes) more e h = cc
@@ -154,7 +154,7 @@ same-greeting call forwarder_events old new e left h =
     ∙ silent-in went.0 forwarder_events (call-silent call old new went.0 e went.1)
     ∙ sym (known-greeting forwarder_events old.forwarding_state left)
 
--- ---- what is said
+-- ---- what is sent
 
 record Speaks (bytes : List ℕ) (new : Trace) : Type 0 where
   frame : IsFrame bytes
@@ -169,12 +169,12 @@ speaks None bytes old new e h = record {
   greeted = ap (λ (c : Trace). c.forwarding_state.greeted) h.2 ∙ e;
 }
 
-says-frame : (bytes : List ℕ) (old new : Trace) → old.forwarding_state.greeted ≡ true → SendsIn bytes old new → Speaks bytes new
+says-frame : (bytes : List ℕ) (old new : Trace) → old.forwarding_state.greeted ≡ true → RelaySendsIn bytes old new → Speaks bytes new
 says-frame bytes old new e h =
     speaks (find has_request old.forwarding_state.all) bytes old new e
     (subst (λ (b : Bool). SendsBy b (find has_request old.forwarding_state.all) bytes old new) e h)
 
-says-greeting : (bytes : List ℕ) (old new : Trace) → old.forwarding_state.greeted ≡ false → SendsIn bytes old new
+says-greeting : (bytes : List ℕ) (old new : Trace) → old.forwarding_state.greeted ≡ false → RelaySendsIn bytes old new
     → (bytes ≡ GREETING.now) × (new.forwarding_state.greeted ≡ true)
 says-greeting bytes old new e h =
     let greets : SendsBy false (find has_request old.forwarding_state.all) bytes old new =
@@ -194,9 +194,9 @@ is-said (Receives bytes) = inl refl
 is-said (Turns happening) = inl refl
 is-said (Takes t bytes) = inl refl
 
--- behind the greeting
+-- after the greeting
 frames : (calls : List HouseCall) (forwarder_events : List ForwarderEvent) (old new : Trace) → Leave forwarder_events old.forwarding_state → old.forwarding_state.greeted ≡ true
-    → Reaches old calls new → All IsFrame (sent_in calls)
+    → TraceReaches old calls new → All IsFrame (sent_in calls)
 frames [] forwarder_events old new left e h = All-nil IsFrame
 frames (call ∷ calls) forwarder_events old new left e h =
     let went = happens call forwarder_events old h.0 left h.1 in
@@ -211,7 +211,7 @@ frames (call ∷ calls) forwarder_events old new left e h =
     ]
 
 first : (calls : List HouseCall) (forwarder_events : List ForwarderEvent) (old new : Trace) → Leave forwarder_events old.forwarding_state → old.forwarding_state.greeted ≡ false
-    → Reaches old calls new → GreetsOnce (sent_in calls)
+    → TraceReaches old calls new → GreetsOnce (sent_in calls)
 first [] forwarder_events old new left e h = tt
 first (call ∷ calls) forwarder_events old new left e h =
     let went = happens call forwarder_events old h.0 left h.1 in

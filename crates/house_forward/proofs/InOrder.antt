@@ -7,7 +7,7 @@ use Rattle.std.proofs.lemmas.List.Quantifiers.{position-Some}
 use Rattle.std.proofs.lemmas.List.Sums.{sum_by-cons, sum_by-set, sum_by-remove}
 use Rattle.mux_outside.specs.Streams.{among, without}
 use Rattle.house_forward.specs.Asks.{owes_opening}
-use Rattle.house_forward.specs.Due.{forwarding_due, stage_due}
+use Rattle.house_forward.specs.Due.{forwarding_due, listener_due}
 use Rattle.house_forward.specs.Forwardings.{listener_of, listener_at, listeners_of, listens, to_listen, waits_at, is_in_order, has_listener, is_listener, changed, stage_after, next_of, next_at, is_ordered_first, is_to_listen, is_first, asks_at, cancels_at, is_asked, is_cancelled, serial_of, want_in, pends, is_pending, is_first_to_listen}
 use Rattle.house_forward.specs.declared.asks.Waiting.{Waiting}
 use Rattle.house_forward.specs.declared.forwarding.Change.{Change}
@@ -218,7 +218,7 @@ sum-filter p (f ∷ fs) =
     let two = sum_by-cons forwarding_due f fs in
     omega (arith, one, two, sum-filter p fs)
 
-due-of : (s : Stage) (l : ℕ) → listener_at s ≡ Some l → 1 ≤ stage_due s
+due-of : (s : Stage) (l : ℕ) → listener_at s ≡ Some l → 1 ≤ listener_due s
 due-of (ToListen host) l e = cc
 due-of Ordered l e = cc
 due-of (Listening k) l e = omega arith
@@ -412,7 +412,7 @@ waits-serial fs i x e at =
     let first = position-Some to_listen fs i x e in
     ap serial_of (found-first to_listen fs i x first.0 first.1 first.2) ∙ ap (λ (f : Forwarding). f.serial) (sym at)
 
-waits-two : (s : Stage) → waits_at s ≡ true → stage_due s ≡ 2
+waits-two : (s : Stage) → waits_at s ≡ true → listener_due s ≡ 2
 waits-two (ToListen host) e = refl
 waits-two Ordered e = refl
 waits-two (Listening l) e = cc
@@ -437,7 +437,7 @@ made fs i l g x e o is =
       due =
           let one = sum_by-set forwarding_due fs i g x first.0 in
           let two = waits-two (get_or fs i x).stage first.1 in
-          let three = ap stage_due is in
+          let three = ap listener_due is in
           omega (arith, one, two, three);
     }
 
@@ -523,7 +523,7 @@ orders fs i x g e at o same =
       due =
           let one = sum_by-set forwarding_due fs i g x first.0 in
           let two = waits-two (get_or fs i x).stage first.1 in
-          let three : stage_due g.stage ≡ 2 = ap stage_due is in
+          let three : listener_due g.stage ≡ 2 = ap listener_due is in
           omega (arith, one, two, three);
     }
 

@@ -4,25 +4,25 @@ use Rattle.house_relay.specs.Steps.{fresh_relay, fresh_dialing}
 use Rattle.house_relay.specs.declared.line.ChannelState.TheVariants.{Over}
 use Rattle.house_relay.specs.declared.relay.Relay.{Relay}
 use Rattle.house_relay.specs.declared.relay.Socket.TheVariants as socket
-use Rattle.house_forward.specs.Links.{IsJoined, IsJoinedAt, IsDialed, HasNoChannelLeft}
+use Rattle.house_forward.specs.Links.{IsRelayJoined, IsJoinedAt, IsDialed, HasNoChannelLeft}
 use Rattle.house_forward.specs.declared.forwarding.Forwarding.{Forwarding}
 
 is-no_channel_left : (n t : ℕ) (r : Relay) → r ≡ fresh_relay n Over (socket.NoChannelLeft t) → HasNoChannelLeft t r
 is-no_channel_left n t r e = rw e refl
 
 pub joined-full : (full dialogs_full : Bool) (f : Option Forwarding) (n t : ℕ) (r : Relay) → full ≡ true
-    → r ≡ fresh_relay n Over (socket.NoChannelLeft t) → IsJoined full dialogs_full f t r
+    → r ≡ fresh_relay n Over (socket.NoChannelLeft t) → IsRelayJoined full dialogs_full f t r
 joined-full true dialogs_full f n t r e is = is-no_channel_left n t r is
 joined-full false dialogs_full f n t r e is = cc
 
 pub joined-none : (full dialogs_full : Bool) (f : Option Forwarding) (n t : ℕ) (r : Relay) → full ≡ false → None ≡ f
-    → r ≡ fresh_relay n Over (socket.NoChannelLeft t) → IsJoined full dialogs_full f t r
+    → r ≡ fresh_relay n Over (socket.NoChannelLeft t) → IsRelayJoined full dialogs_full f t r
 joined-none true dialogs_full f n t r e none is = cc
 joined-none false dialogs_full None n t r e none is = is-no_channel_left n t r is
 joined-none false dialogs_full (Some f) n t r e none is = cc
 
 pub joined-one : (full dialogs_full : Bool) (f : Option Forwarding) (g : Forwarding) (t : ℕ) (r : Relay) → full ≡ false → Some g ≡ f
-    → IsJoinedAt g.kind dialogs_full g t r → IsJoined full dialogs_full f t r
+    → IsJoinedAt g.kind dialogs_full g t r → IsRelayJoined full dialogs_full f t r
 joined-one true dialogs_full f g t r e one is = cc
 joined-one false dialogs_full f g t r e one is = rw (sym one) is
 

@@ -6,11 +6,11 @@ use Rattle.conn_messages.specs.declared.message.Message.TheVariants as message
 use Rattle.socks_dialog.specs.State.{State}
 use Rattle.socks_dialog.specs.declared.outcome.Outcome.{Outcome}
 use Rattle.socks_dialog.specs.declared.outcome.Outcome.TheVariants.{Wants, Connects, Breaks}
-use Rattle.house_relay.specs.Acts.{Act, Confirms, Refuses, Delivers, ReceivesEof, ReceivesClose, Other, taken, outcome_in, before_in}
-use Rattle.house_relay.specs.Dialing.{IsReading}
+use Rattle.house_relay.specs.Acts.{RelayAct, Confirms, Refuses, Delivers, ReceivesEof, ReceivesClose, Other, taken, outcome_in, before_in}
+use Rattle.house_relay.specs.Dialing.{IsDialogReading}
 use Rattle.house_relay.specs.ChannelState.{owed_in, in_live, receives_room, receives_close, receives_request, takes_in, takes_more, closes, answers, sends, ends, grants, over_if}
-use Rattle.house_relay.specs.Relay.{Stands, LineStands, IsDialing, stream_of, delivers, answered_in, received_in, sent_act}
-use Rattle.house_relay.specs.Steps.{sent_of, connected, failing, sent_open, sent_confirmation, room_received, eof_received, close_received, request_received, confirmed_in, refused_in, data_received, no_channel_left_of, IsToDial, IsAskedFor, ComesOf, DialsIn, Dials}
+use Rattle.house_relay.specs.Relay.{RelayRepresents, LineStands, IsDialing, socket_stream_of, delivers, answered_in, received_in, sent_act}
+use Rattle.house_relay.specs.Steps.{sent_of, connected, failing, sent_open, sent_confirmation, room_received, eof_received, close_received, request_received, confirmed_in, refused_in, data_received, no_channel_left_of, IsToDial, IsOpenAskedFor, ComesOf, DialsIn, Dials}
 use Rattle.house_relay.specs.declared.line.Live.{Live as LiveState}
 use Rattle.house_relay.specs.declared.line.ChannelState.{ChannelState}
 use Rattle.house_relay.specs.declared.line.ChannelState.TheVariants.{Dialing, Asked, Opened, Offered, Live, Over}
@@ -107,7 +107,7 @@ stays-heard (message.Success recipient) r = stays r
 stays-heard (message.Failure recipient) r = stays r
 
 -- nothing is accepted by that
-answered-none : (line : ChannelState) (act : Act) (acts : List Act) → taken (act ∷ acts) ≡ taken acts
+answered-none : (line : ChannelState) (act : RelayAct) (acts : List RelayAct) → taken (act ∷ acts) ≡ taken acts
     → taken (answered_in line act ∷ acts) ≡ taken acts
 answered-none (Dialing dialog) act acts e = refl
 answered-none (Asked host port version) act acts e = refl
@@ -116,7 +116,7 @@ answered-none (Offered remote window maximum) act acts e = refl
 answered-none (Live live) act acts e = refl
 answered-none Over act acts e = refl
 
-heard-none : (line : ChannelState) (act : Act) (acts : List Act) → taken (act ∷ acts) ≡ taken acts
+heard-none : (line : ChannelState) (act : RelayAct) (acts : List RelayAct) → taken (act ∷ acts) ≡ taken acts
     → taken (received_in line act ∷ acts) ≡ taken acts
 heard-none (Dialing dialog) act acts e = refl
 heard-none (Asked host port version) act acts e = refl
@@ -125,11 +125,11 @@ heard-none (Offered remote window maximum) act acts e = refl
 heard-none (Live live) act acts e = e
 heard-none Over act acts e = refl
 
-data-none : (b : Bool) (bytes : List ℕ) (acts : List Act) → taken ((if b then Delivers bytes else Other) ∷ acts) ≡ taken acts
+data-none : (b : Bool) (bytes : List ℕ) (acts : List RelayAct) → taken ((if b then Delivers bytes else Other) ∷ acts) ≡ taken acts
 data-none true bytes acts = refl
 data-none false bytes acts = refl
 
-pub none-heard : (m : Message) (r : Relay) (acts : List Act) → taken (act_received m r ∷ acts) ≡ taken acts
+pub none-heard : (m : Message) (r : Relay) (acts : List RelayAct) → taken (act_received m r ∷ acts) ≡ taken acts
 none-heard (message.Transport number rest) r acts = refl
 none-heard (message.GlobalRequest name want rest what) r acts = refl
 none-heard (message.RequestSuccess rest) r acts = refl
@@ -199,7 +199,7 @@ pub stays-after : (o : Option Outgoing) (r : Relay) → Stays r (after_sending o
 stays-after None r = stays r
 stays-after (Some s) r = stays-said s r
 
-none-said : (s : Outgoing) (r : Relay) (acts : List Act) → taken (sent_act s r ∷ acts) ≡ taken acts
+none-said : (s : Outgoing) (r : Relay) (acts : List RelayAct) → taken (sent_act s r ∷ acts) ≡ taken acts
 none-said outgoing.Open r acts = refl
 none-said outgoing.Confirmation r acts = refl
 none-said outgoing.OpenFailure r acts = refl
@@ -209,7 +209,7 @@ none-said (outgoing.Data n) r acts = refl
 none-said outgoing.Eof r acts = refl
 none-said (outgoing.Adjust n) r acts = refl
 
-pub none-after : (o : Option Outgoing) (r : Relay) (acts : List Act) → taken (act_of_sending o r ∷ acts) ≡ taken acts
+pub none-after : (o : Option Outgoing) (r : Relay) (acts : List RelayAct) → taken (act_of_sending o r ∷ acts) ≡ taken acts
 none-after None r acts = refl
 none-after (Some s) r acts = none-said s r acts
 
@@ -217,10 +217,10 @@ none-after (Some s) r acts = none-said s r acts
 
 -- its stream stays, and no more is owed
 pub record KeepsStream (old new : Relay) : Type 0 where
-  pub stream_is : stream_of new.socket ≡ stream_of old.socket
+  pub stream_is : socket_stream_of new.socket ≡ socket_stream_of old.socket
   pub owes : owed_in new.line ≤ owed_in old.line
 
-no_channel_left-stream : (s : Socket) → stream_of (no_channel_left_of s) ≡ stream_of s
+no_channel_left-stream : (s : Socket) → socket_stream_of (no_channel_left_of s) ≡ socket_stream_of s
 no_channel_left-stream (socket.Connecting stream) = refl
 no_channel_left-stream (socket.Open stream) = refl
 no_channel_left-stream socket.Unmade = refl
@@ -236,7 +236,7 @@ dial-owes (Offered remote window maximum) h = absurd h
 dial-owes (Live live) h = absurd h
 dial-owes Over h = absurd h
 
-ask-owes : (host : List ℕ) (port : ℕ) (line : ChannelState) → IsAskedFor host port line → owed_in line ≡ 0
+ask-owes : (host : List ℕ) (port : ℕ) (line : ChannelState) → IsOpenAskedFor host port line → owed_in line ≡ 0
 ask-owes host port (Dialing dialog) h = absurd h
 ask-owes host port (Asked host' port' version) h = refl
 ask-owes host port (Opened version) h = absurd h
@@ -247,24 +247,24 @@ ask-owes host port Over h = absurd h
 comes-keeps : (o : Outcome) (free : Bool) (old new : Relay) → ComesOf o free old new → KeepsStream old new
 comes-keeps Wants free old new h =
     let none = dial-owes new.line h.0 in
-    record { stream_is = ap stream_of h.1; owes = omega (arith, none) }
+    record { stream_is = ap socket_stream_of h.1; owes = omega (arith, none) }
 comes-keeps (Connects host port) true old new h =
     let none = ask-owes host port new.line h.0 in
-    record { stream_is = ap stream_of h.1; owes = omega (arith, none) }
+    record { stream_is = ap socket_stream_of h.1; owes = omega (arith, none) }
 comes-keeps (Connects host port) false old new h =
     let none : owed_in new.line ≡ 0 = ap owed_in h.0 in
-    record { stream_is = ap stream_of h.1 ∙ no_channel_left-stream old.socket; owes = omega (arith, none) }
+    record { stream_is = ap socket_stream_of h.1 ∙ no_channel_left-stream old.socket; owes = omega (arith, none) }
 comes-keeps (Breaks reply) free old new h =
     let none : owed_in new.line ≡ 0 = ap owed_in h.0 in
-    record { stream_is = ap stream_of h.1; owes = omega (arith, none) }
+    record { stream_is = ap socket_stream_of h.1; owes = omega (arith, none) }
 
 same-keeps : (old new : Relay) → new.line ≡ old.line → new.socket ≡ old.socket → KeepsStream old new
 same-keeps old new line socket =
     let same : owed_in new.line ≡ owed_in old.line = ap owed_in line in
-    record { stream_is = ap stream_of socket; owes = omega (arith, same) }
+    record { stream_is = ap socket_stream_of socket; owes = omega (arith, same) }
 
 dials-keeps : (line : ChannelState) (free : Bool) (bytes : List ℕ) (old new : Relay)
-    → ((dialog : State) → line ≡ Dialing dialog → IsReading dialog) → DialsIn line free bytes old new → KeepsStream old new
+    → ((dialog : State) → line ≡ Dialing dialog → IsDialogReading dialog) → DialsIn line free bytes old new → KeepsStream old new
 dials-keeps (Dialing dialog) free bytes old new reads h =
     comes-keeps (outcome_in (dialog.bytes ++ bytes)) free old new (h (reads dialog refl))
 dials-keeps (Asked host port version) free bytes old new reads h = same-keeps old new h.0 h.1
@@ -274,8 +274,8 @@ dials-keeps (Live live) free bytes old new reads h = same-keeps old new h.0 h.1
 dials-keeps Over free bytes old new reads h = same-keeps old new h.0 h.1
 
 -- a dialog that stands has given all replies, and wants more bytes
-pub is-reading : (dials : Bool) (acts : List Act) (r : Relay) → Stands dials acts r → (dialog : State) → r.line ≡ Dialing dialog
-    → IsReading dialog
+pub is-reading : (dials : Bool) (acts : List RelayAct) (r : Relay) → RelayRepresents dials acts r → (dialog : State) → r.line ≡ Dialing dialog
+    → IsDialogReading dialog
 is-reading dials acts r s dialog e =
     let d : IsDialing dialog dials acts = subst (λ (l : ChannelState). LineStands l dials acts) e s.line in
     record {
@@ -283,7 +283,7 @@ is-reading dials acts r s dialog e =
       wants = ap outcome_in d.bytes ∙ d.wants;
     }
 
-pub keeps-stream : (dials free : Bool) (acts : List Act) (bytes : List ℕ) (old new : Relay) → Stands dials acts old
+pub keeps-stream : (dials free : Bool) (acts : List RelayAct) (bytes : List ℕ) (old new : Relay) → RelayRepresents dials acts old
     → Dials free bytes old new → KeepsStream old new
 keeps-stream dials free acts bytes old new s h = dials-keeps old.line free bytes old new (is-reading dials acts old s) h
 
@@ -302,7 +302,7 @@ owed-takes n Over = omega arith
 
 -- ---- steps
 
-pub connected-stream : (s : Socket) → stream_of (connected s) ≡ stream_of s
+pub connected-stream : (s : Socket) → socket_stream_of (connected s) ≡ socket_stream_of s
 connected-stream (socket.Connecting stream) = refl
 connected-stream (socket.Open stream) = refl
 connected-stream socket.Unmade = refl
@@ -310,7 +310,7 @@ connected-stream (socket.Failed stream) = refl
 connected-stream (socket.NoChannelLeft stream) = refl
 connected-stream socket.Closed = refl
 
-pub failing-stream : (s : Socket) → stream_of (failing s) ≡ stream_of s
+pub failing-stream : (s : Socket) → socket_stream_of (failing s) ≡ socket_stream_of s
 failing-stream (socket.Connecting stream) = refl
 failing-stream (socket.Open stream) = refl
 failing-stream socket.Unmade = refl

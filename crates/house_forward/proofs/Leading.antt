@@ -25,11 +25,11 @@ use Rattle.mux_outside.specs.HouseCalls.{Receives as ReceivesBytes}
 use Rattle.mux_outside.specs.Streams.{among}
 use Rattle.house_forward.specs.ForwardingState.{ForwardingState, forwarding_state_of, reply_received, ForwardingsGo, OrdersListener, MakesListener, GetsListener}
 use Rattle.house_forward.specs.Forwardings.{has_request, listeners_of, served_at}
-use Rattle.house_forward.specs.Going.{LeavesAt, ReceivesOn, SendsOn, MakesAt}
+use Rattle.house_forward.specs.Going.{LeavesAt, RelayReceivesOn, RelaySendsOn, MakesAt}
 use Rattle.house_forward.specs.Links.{Offers, has_sending, is_awaited}
-use Rattle.house_forward.specs.RelayTraces.{Trace, Held, IsTrace, GoesFurther, LinksGo, HouseGoes, ForwardingStateGoes, GetsNumber, held, held_of, Follows, with_received, cut_off, SendsIn}
-use Rattle.house_forward.specs.Said.{framed, sent_by}
-use Rattle.house_forward.specs.RelayTraces.{ReceivesAt, OpensFor, ReceivesReply, ReceivesMessage, ReceivesReading, ReceivesFrame, ReceivesFrames, ReceivesNext, is_grant, port_in}
+use Rattle.house_forward.specs.RelayTraces.{Trace, Held, IsTrace, GoesFurther, LinksGo, HouseGoes, ForwardingStateGoes, GetsNumber, held, forwarder_held_of, Follows, with_received, cut_off, RelaySendsIn}
+use Rattle.house_forward.specs.Said.{framed, relay_sent_by}
+use Rattle.house_forward.specs.RelayTraces.{RelayReceivesAt, OpensFor, ReceivesReply, ReceivesMessage, ReceivesReading, ReceivesFrame, RelaysReceiveFrames, ReceivesNext, is_grant, port_in}
 use Rattle.house_forward.specs.declared.asks.Asks.{Asks}
 use Rattle.house_forward.specs.declared.forwarding.Forwarding.{Forwarding}
 use Rattle.house_forward.specs.declared.forwardings.Forwardings.{Forwardings}
@@ -39,6 +39,7 @@ use Rattle.house_forward.specs.declared.link.Link.{Link}
 use Rattle.house_forward.specs.declared.ordering.Ordering.{Ordering}
 use Rattle.house_forward.specs.declared.ordering.Ordering.TheVariants as ordering
 use Rattle.house_forward.specs.declared.relays.Relays.{Relays}
+use Rattle.house_forward.specs.declared.rules.ListenRules.{ListenRules}
 use Rattle.house_forward.proofs.Traces.{of-same, receives, offers, says, makes, forwarding_state-goes, forwarding_state-becomes}
 
 -- what goes on in one way does so in another that it gives
@@ -63,7 +64,7 @@ links-stay P links same framer stage forwarding_state = stays P (held links fram
 -- where the links alone go on
 pub links-house : (P : Trace → Trace → Type 0) (relays relays' : Relays) (fs : Forwardings) (asks : Asks)
     → LinksGo P relays.all.items relays'.all.items → HouseGoes P relays fs asks relays' fs asks
-links-house P relays relays' fs asks goes framer stage gateway greeted = goes framer stage (forwarding_state_of gateway greeted fs asks)
+links-house P relays relays' fs asks goes framer stage rules greeted = goes framer stage (forwarding_state_of rules greeted fs asks)
 
 -- ---- a payload
 
@@ -79,11 +80,11 @@ no-message reading bad relays fs asks e =
 pub a-message : (reading : Result Said Bad) (m : Message) (relays : Relays) (fs : Forwardings) (asks : Asks)
     (relays' : Relays) (fs' : Forwardings) (asks' : Asks) → reading ≡ Ok (message_of m)
     → HouseGoes (ReceivesMessage m) relays fs asks relays' fs' asks' → HouseGoes (ReceivesReading reading) relays fs asks relays' fs' asks'
-a-message reading m relays fs asks relays' fs' asks' e goes framer stage gateway greeted =
-    let old = held_of relays framer stage gateway greeted fs asks in
-    let new = held_of relays' framer stage gateway greeted fs' asks' in
+a-message reading m relays fs asks relays' fs' asks' e goes framer stage rules greeted =
+    let old = forwarder_held_of relays framer stage rules greeted fs asks in
+    let new = forwarder_held_of relays' framer stage rules greeted fs' asks' in
     subst (λ (r : Result Said Bad). GoesFurther (ReceivesReading r) old new) (sym e)
-    (further (ReceivesMessage m) (ReceivesReading (Ok (message_of m))) old new (λ a b h. (m, refl, h)) (goes framer stage gateway greeted))
+    (further (ReceivesMessage m) (ReceivesReading (Ok (message_of m))) old new (λ a b h. (m, refl, h)) (goes framer stage rules greeted))
 
 -- an OPEN for a forwarding
 an-open : (address : List ℕ) (port remote window maximum : ℕ) (o : Option Forwarding) (old new : List Link) (framer : FramerState)
@@ -115,17 +116,17 @@ a-forwarded reading m kind rest address remote window maximum port what o relays
     a-message reading m relays fs asks relays' fs asks e
     (subst (λ (x : Message). HouseGoes (ReceivesMessage x) relays fs asks relays' fs asks) (sym is)
     (subst (λ (w : Opening). HouseGoes (ReceivesMessage (message.Open kind remote window maximum rest w)) relays fs asks relays' fs asks) (sym forwarded)
-    (λ framer stage gateway greeted.
-    an-open address.now port remote window maximum o relays.all.items relays'.all.items framer stage (forwarding_state_of gateway greeted fs asks) found none some)))
+    (λ framer stage rules greeted.
+    an-open address.now port remote window maximum o relays.all.items relays'.all.items framer stage (forwarding_state_of rules greeted fs asks) found none some)))
 
 -- a reply of the server
 replies : (success : Bool) (port : Option ℕ) (relays : Relays) (fs : Forwardings) (asks : Asks) (fs' : Forwardings) (asks' : Asks)
     → ForwardingsGo (λ old new. new ≡ reply_received success port old) fs asks fs' asks'
     → HouseGoes (ReceivesReply success port) relays fs asks relays fs' asks'
-replies success port relays fs asks fs' asks' goes framer stage gateway greeted =
-    forwarding_state-becomes (reply_received success port) (held_of relays framer stage gateway greeted fs asks)
-    (held_of relays framer stage gateway greeted fs' asks')
-    (ap (λ (d : ForwardingState). held relays.all.items framer stage d) (goes gateway greeted))
+replies success port relays fs asks fs' asks' goes framer stage rules greeted =
+    forwarding_state-becomes (reply_received success port) (forwarder_held_of relays framer stage rules greeted fs asks)
+    (forwarder_held_of relays framer stage rules greeted fs' asks')
+    (ap (λ (d : ForwardingState). held relays.all.items framer stage d) (goes rules greeted))
 
 -- the port that a success carries
 pub port-read : (o : Option ℕ) (bytes rest : List ℕ) → IfSome o (λ n. take_u32 bytes ≡ Some (n, rest))
@@ -196,42 +197,42 @@ its-channel m n (inr (inr (inr (inr (inr (inr (inr (inr (inr e))))))))) = ap (λ
 its : (n r : ℕ) → Some r ≡ Some n → n ≡ r
 its n r e = cc
 
-pub in-channel : (m : Message) (n : ℕ) → channel_of m ≡ Some n → (a b : Trace) → ReceivesAt n m a b → ReceivesMessage m a b
+pub in-channel : (m : Message) (n : ℕ) → channel_of m ≡ Some n → (a b : Trace) → RelayReceivesAt n m a b → ReceivesMessage m a b
 in-channel (message.Transport number rest) n e a b h = cc
 in-channel (message.GlobalRequest name want rest what) n e a b h = cc
 in-channel (message.RequestSuccess rest) n e a b h = cc
 in-channel message.RequestFailure n e a b h = cc
 in-channel (message.Open kind sender window maximum rest what) n e a b h = cc
 in-channel (message.Confirmation recipient sender window maximum rest) n e a b h =
-    subst (λ (k : ℕ). ReceivesAt k (message.Confirmation recipient sender window maximum rest) a b) (its n recipient e) h
+    subst (λ (k : ℕ). RelayReceivesAt k (message.Confirmation recipient sender window maximum rest) a b) (its n recipient e) h
 in-channel (message.OpenFailure recipient reason text language) n e a b h =
-    subst (λ (k : ℕ). ReceivesAt k (message.OpenFailure recipient reason text language) a b) (its n recipient e) h
+    subst (λ (k : ℕ). RelayReceivesAt k (message.OpenFailure recipient reason text language) a b) (its n recipient e) h
 in-channel (message.Adjust recipient add) n e a b h =
-    subst (λ (k : ℕ). ReceivesAt k (message.Adjust recipient add) a b) (its n recipient e) h
+    subst (λ (k : ℕ). RelayReceivesAt k (message.Adjust recipient add) a b) (its n recipient e) h
 in-channel (message.Data recipient bytes) n e a b h =
-    subst (λ (k : ℕ). ReceivesAt k (message.Data recipient bytes) a b) (its n recipient e) h
+    subst (λ (k : ℕ). RelayReceivesAt k (message.Data recipient bytes) a b) (its n recipient e) h
 in-channel (message.Extended recipient code bytes) n e a b h =
-    subst (λ (k : ℕ). ReceivesAt k (message.Extended recipient code bytes) a b) (its n recipient e) h
+    subst (λ (k : ℕ). RelayReceivesAt k (message.Extended recipient code bytes) a b) (its n recipient e) h
 in-channel (message.Eof recipient) n e a b h =
-    subst (λ (k : ℕ). ReceivesAt k (message.Eof recipient) a b) (its n recipient e) h
+    subst (λ (k : ℕ). RelayReceivesAt k (message.Eof recipient) a b) (its n recipient e) h
 in-channel (message.Close recipient) n e a b h =
-    subst (λ (k : ℕ). ReceivesAt k (message.Close recipient) a b) (its n recipient e) h
+    subst (λ (k : ℕ). RelayReceivesAt k (message.Close recipient) a b) (its n recipient e) h
 in-channel (message.Request recipient kind want rest) n e a b h =
-    subst (λ (k : ℕ). ReceivesAt k (message.Request recipient kind want rest) a b) (its n recipient e) h
+    subst (λ (k : ℕ). RelayReceivesAt k (message.Request recipient kind want rest) a b) (its n recipient e) h
 in-channel (message.Success recipient) n e a b h =
-    subst (λ (k : ℕ). ReceivesAt k (message.Success recipient) a b) (its n recipient e) h
+    subst (λ (k : ℕ). RelayReceivesAt k (message.Success recipient) a b) (its n recipient e) h
 in-channel (message.Failure recipient) n e a b h =
-    subst (λ (k : ℕ). ReceivesAt k (message.Failure recipient) a b) (its n recipient e) h
+    subst (λ (k : ℕ). RelayReceivesAt k (message.Failure recipient) a b) (its n recipient e) h
 
 -- a message in a channel
 pub a-channel-message : (reading : Result Said Bad) (m : Message) (n : ℕ) (relays relays' : Relays) (fs : Forwardings) (asks : Asks)
     → reading ≡ Ok (message_of m) → channel_of m ≡ Some n
-    → LeavesAt (position (λ l. l.relay.number == n) relays.all.items) (ReceivesOn m) relays.all.items relays'.all.items
+    → LeavesAt (position (λ l. l.relay.number == n) relays.all.items) (RelayReceivesOn m) relays.all.items relays'.all.items
     → HouseGoes (ReceivesReading reading) relays fs asks relays' fs asks
 a-channel-message reading m n relays relays' fs asks e in-it goes =
     a-message reading m relays fs asks relays' fs asks e
     (links-house (ReceivesMessage m) relays relays' fs asks
-    (links-further (ReceivesAt n m) (ReceivesMessage m) relays.all.items relays'.all.items (in-channel m n in-it)
+    (links-further (RelayReceivesAt n m) (ReceivesMessage m) relays.all.items relays'.all.items (in-channel m n in-it)
     (receives n m relays.all.items relays'.all.items goes)))
 
 -- ---- a frame
@@ -316,15 +317,15 @@ grants-frame current content links framer after stage forwarding_state control i
 
 -- a payload
 pub proxy-frame : (current : Option (List ℕ)) (content : List ℕ) (relays : Relays) (fs : Forwardings) (asks : Asks)
-    (relays' : Relays) (fs' : Forwardings) (asks' : Asks) (framer : FramerState) (stage : Stage) (gateway greeted : Bool)
+    (relays' : Relays) (fs' : Forwardings) (asks' : Asks) (framer : FramerState) (stage : Stage) (rules : ListenRules) (greeted : Bool)
     → stage ≡ Proxy → current ≡ Some content → HouseGoes (ReceivesReading (reading content)) relays fs asks relays' fs' asks'
-    → IfSome current (λ x. GoesFurther (ReceivesFrame stage x) (held_of relays framer stage gateway greeted fs asks)
-    (held_of relays' framer stage gateway greeted fs' asks'))
-proxy-frame current content relays fs asks relays' fs' asks' framer stage gateway greeted proxy is goes =
-    subst (λ (o : Option (List ℕ)). IfSome o (λ x. GoesFurther (ReceivesFrame stage x) (held_of relays framer stage gateway greeted fs asks)
-    (held_of relays' framer stage gateway greeted fs' asks'))) (sym is)
-    (subst (λ (s : Stage). GoesFurther (ReceivesFrame s content) (held_of relays framer s gateway greeted fs asks)
-    (held_of relays' framer s gateway greeted fs' asks')) (sym proxy) (goes framer Proxy gateway greeted))
+    → IfSome current (λ x. GoesFurther (ReceivesFrame stage x) (forwarder_held_of relays framer stage rules greeted fs asks)
+    (forwarder_held_of relays' framer stage rules greeted fs' asks'))
+proxy-frame current content relays fs asks relays' fs' asks' framer stage rules greeted proxy is goes =
+    subst (λ (o : Option (List ℕ)). IfSome o (λ x. GoesFurther (ReceivesFrame stage x) (forwarder_held_of relays framer stage rules greeted fs asks)
+    (forwarder_held_of relays' framer stage rules greeted fs' asks'))) (sym is)
+    (subst (λ (s : Stage). GoesFurther (ReceivesFrame s content) (forwarder_held_of relays framer s rules greeted fs asks)
+    (forwarder_held_of relays' framer s rules greeted fs' asks')) (sym proxy) (goes framer Proxy rules greeted))
 
 -- as it is cut
 pub next-receives : (answer : Next) (links : List Link) (framer cut : FramerState) (stage : Stage) (forwarding_state : ForwardingState) (new : Held)
@@ -342,8 +343,8 @@ next-receives answer links framer cut stage forwarding_state new is one same goe
 abbrev pub LeadsOn : Held → Held → Type 0
 LeadsOn old now = (most : ℕ) (trace : Trace) → IsTrace most trace old
     → (middle : Trace) × IsTrace most middle now
-    × ((contents : List (List ℕ)) (last : Trace) → ReceivesFrames contents middle last
-    → (more : List (List ℕ)) × ReceivesFrames more trace last)
+    × ((contents : List (List ℕ)) (last : Trace) → RelaysReceiveFrames contents middle last
+    → (more : List (List ℕ)) × RelaysReceiveFrames more trace last)
 
 pub leads-first : (h : Held) → LeadsOn h h
 leads-first h most trace is = (trace, is, λ contents last more. (contents, more))
@@ -378,9 +379,9 @@ one-is false e = cc
 pub says-one : {E : Type 0} (o : Result Bool E) (bytes : List ℕ) (old new : List Link) (framer : FramerState) (stage : Stage) (forwarding_state : ForwardingState)
     → forwarding_state.greeted ≡ true → find has_request forwarding_state.all ≡ None
     → OnOk o (sends_nothing o ≡ not (list_any has_sending old))
-    → OnOk o (IfSome (find has_sending old) (λ l. bytes ≡ framed (sent_by l.relay)))
-    → OnOk o (LeavesAt (position has_sending old) SendsOn old new)
-    → IfOk o (λ said. said ≡ true → GoesFurther (SendsIn bytes) (held old framer stage forwarding_state) (held new framer stage forwarding_state))
+    → OnOk o (IfSome (find has_sending old) (λ l. bytes ≡ framed (relay_sent_by l.relay)))
+    → OnOk o (LeavesAt (position has_sending old) RelaySendsOn old new)
+    → IfOk o (λ said. said ≡ true → GoesFurther (RelaySendsIn bytes) (held old framer stage forwarding_state) (held new framer stage forwarding_state))
 says-one (Ok true) bytes old new framer stage forwarding_state greeted none is spelled goes =
     λ yes. says bytes old new framer stage forwarding_state greeted none (one-is (list_any has_sending old) is) spelled goes
 says-one (Ok false) bytes old new framer stage forwarding_state greeted none is spelled goes = λ yes. absurd (false≢true yes)
@@ -396,9 +397,9 @@ relays-alone P old links f g s t d e framer stage forwarding_state goes =
     (subst (λ (x : Stage). GoesFurther P old (held links f x e)) (sym stage)
     (subst (λ (x : ForwardingState). GoesFurther P old (held links f s x)) (sym forwarding_state) goes))
 
-pub same-forwarding_state : (gateway gateway' greeted greeted' : Bool) (fs fs' : Forwardings) (asks asks' : Asks) → gateway' ≡ gateway → greeted' ≡ greeted
-    → fs' ≡ fs → asks' ≡ asks → forwarding_state_of gateway' greeted' fs' asks' ≡ forwarding_state_of gateway greeted fs asks
-same-forwarding_state gateway gateway' greeted greeted' fs fs' asks asks' e f g h = rw (e, f, g, h) refl
+pub same-forwarding_state : (rules rules' : ListenRules) (greeted greeted' : Bool) (fs fs' : Forwardings) (asks asks' : Asks) → rules' ≡ rules → greeted' ≡ greeted
+    → fs' ≡ fs → asks' ≡ asks → forwarding_state_of rules' greeted' fs' asks' ≡ forwarding_state_of rules greeted fs asks
+same-forwarding_state rules rules' greeted greeted' fs fs' asks asks' e f g h = rw (e, f, g, h) refl
 
 -- ---- what is made
 
@@ -435,10 +436,10 @@ made-so o number old new is others goes =
     subst (λ (x : Option Ordering). GetsNumber x number old new) (sym c.2) (made-number c.0 c.1 number old new others goes)
 
 -- what goes on of the forwardings does so of the forwarder
-pub forwarding_state-by : (so : ForwardingState → ForwardingState → Type 0) (relays : Relays) (framer : FramerState) (stage : Stage) (gateway greeted : Bool)
+pub forwarding_state-by : (so : ForwardingState → ForwardingState → Type 0) (relays : Relays) (framer : FramerState) (stage : Stage) (rules : ListenRules) (greeted : Bool)
     (fs : Forwardings) (asks : Asks) (fs' : Forwardings) (asks' : Asks) → ForwardingsGo so fs asks fs' asks'
-    → ForwardingStateGoes so (held_of relays framer stage gateway greeted fs asks) (held_of relays framer stage gateway greeted fs' asks')
-forwarding_state-by so relays framer stage gateway greeted fs asks fs' asks' goes = (refl, goes gateway greeted)
+    → ForwardingStateGoes so (forwarder_held_of relays framer stage rules greeted fs asks) (forwarder_held_of relays framer stage rules greeted fs' asks')
+forwarding_state-by so relays framer stage rules greeted fs asks fs' asks' goes = (refl, goes rules greeted)
 
 -- no other listener has this number
 abbrev pub IsFresh : Option ℕ → ForwardingState → Type 0

@@ -6,11 +6,13 @@ use Rattle.std.proofs.lemmas.List.{length-map, map-append}
 use Rattle.std.proofs.lemmas.List.Edits.{length-remove}
 use Rattle.std.proofs.lemmas.List.Quantifiers.{position-Some}
 use Rattle.mux_outside.specs.Streams.{among, without}
-use Rattle.house_forward.specs.Asks.{settled, settle_one, settled_at, is_about, refused, counted}
+use Rattle.mux_outside.specs.declared.start_ask.StartAsk.{StartAsk}
+use Rattle.house_forward.specs.Rules.{AreEnds, first_rules}
+use Rattle.house_forward.specs.Asks.{settled, settle_one, ask_settled_at, is_ask_about, refused, counted}
 use Rattle.house_forward.specs.ForwardingState.{ForwardingState, reply_received, ForwardingsGo, OrdersListener, MakesListener, EndsListener}
 use Rattle.house_forward.specs.Due.{forwarding_due}
 use Rattle.house_forward.specs.Forwardings.{listeners_of, listeners_made, to_listen, is_in_order, has_listener, changed, is_asked, is_cancelled, MadeAt, ordered_asks, serial_of, after_close, after_sending, Opens}
-use Rattle.house_forward.specs.Forwardings.{opened_asks, live_in, replied_asks, replied_all, first_of}
+use Rattle.house_forward.specs.Forwardings.{Standing, StartsAt, StartsIf, opened_asks, live_outcome_in, replied_asks, replied_all, first_of}
 use Rattle.house_forward.specs.Known.{open_ask, open_asks}
 use Rattle.house_forward.specs.declared.asks.Asked.{Asked}
 use Rattle.house_forward.specs.declared.asks.Asked.TheVariants.{Now, Later}
@@ -26,6 +28,7 @@ use Rattle.house_forward.specs.declared.forwarding.ForwardingRequest.TheVariants
 use Rattle.house_forward.specs.declared.forwarding.Stage.TheVariants.{Ordered, Listening}
 use Rattle.house_forward.specs.declared.forwardings.Forwardings.{Forwardings}
 use Rattle.house_forward.specs.declared.rules.Ends.{Ends}
+use Rattle.house_forward.specs.declared.rules.ListenRules.{ListenRules}
 use Rattle.house_forward.proofs.InOrder.{first_listens, listeners_more, IsOrdered, orders, made, fails, unlistens, listeners-without, changed-listeners, asked-there, cancelled-there}
 use Rattle.house_forward.proofs.Replying.{HoldsOnReply, on-reply}
 
@@ -40,7 +43,7 @@ pub settled-open : (serial : ℕ) (opening : Bool) (at : ℕ) (outcome : Outcome
 settled-open serial opening at outcome [] = refl
 settled-open serial opening at outcome (w ∷ ws) =
     ap (λ a. a ∷ open_asks (settled serial opening at outcome ws))
-    (open-if (is_about serial opening w) w (settled_at at outcome w.outcome))
+    (open-if (is_ask_about serial opening w) w (ask_settled_at at outcome w.outcome))
     ∙ ap (λ rest. open_ask w ∷ rest) (settled-open serial opening at outcome ws)
 
 pub settled-count : (serial : ℕ) (opening : Bool) (at : ℕ) (outcome : Outcome) (ws : List Waiting)
@@ -77,7 +80,7 @@ replied-asks : (success : Bool) (port : Option ℕ) (r : Option ForwardingReques
     → SameAsks ws (replied_asks success port r fs at ws)
 replied-asks true port None fs at ws = same-asks ws
 replied-asks false port None fs at ws = same-asks ws
-replied-asks true port (Some (Listen serial)) fs at ws = opens (live_in port (find (is_asked serial) fs)) serial at ws
+replied-asks true port (Some (Listen serial)) fs at ws = opens (live_outcome_in port (find (is_asked serial) fs)) serial at ws
 replied-asks false port (Some (Listen serial)) fs at ws = refuses serial at ws
 replied-asks true port (Some (Cancel serial)) fs at ws = settles serial false at Done ws
 replied-asks false port (Some (Cancel serial)) fs at ws = settles serial false at Refused ws
@@ -174,7 +177,7 @@ pub record RepliedMore (fs : Forwardings) (asks : Asks) (fs' : Forwardings) (ask
 pub replied-more : (success : Bool) (port : Option ℕ) (fs : Forwardings) (asks : Asks) (fs' : Forwardings) (asks' : Asks)
     → ForwardingsGo (λ old new. new ≡ reply_received success port old) fs asks fs' asks' → RepliedMore fs asks fs' asks'
 replied-more success port fs asks fs' asks' goes =
-    let e = goes false false in
+    let e = goes first_rules false in
     let r = first_of fs.requests.items in
     let all : fs'.all.items ≡ replied_all success port r fs.all.items = ap (λ (d : ForwardingState). d.all) e in
     let waiting : asks'.waiting.items ≡ replied_asks success port r fs.all.items asks.done asks.waiting.items = ap (λ (d : ForwardingState). d.waiting) e in
@@ -240,3 +243,9 @@ made-more number old new h order =
       same = subst (SameAsks old.waiting) (sym waiting)
           (made-asks number (serial_of (find to_listen old.all)) old.done old.waiting);
     }
+
+-- a request of the start that isn't ruled out starts at its two ends
+pub starts-at-ends : (b : Bool) (rules : ListenRules) (ask : StartAsk) (i : ℕ) (old new : Standing) (ends : Ends) → true ≡ not b
+    → AreEnds rules ask ends → StartsAt ends i old new → StartsIf b rules ask i old new
+starts-at-ends true rules ask i old new ends e are at = absurd (cc)
+starts-at-ends false rules ask i old new ends e are at = (ends, are, at)

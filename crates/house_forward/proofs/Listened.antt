@@ -8,7 +8,8 @@ use Rattle.house_forward.specs.Causes.{ListenersAreTheirs, EachListenerIsNew, li
 use Rattle.house_forward.specs.ForwarderEvents.{ForwarderEvent, Does, Leave}
 use Rattle.house_forward.specs.ForwarderEvents.{Begins, Asks, Answers, Greets, Requests, Replies, Listens, Unlistens}
 use Rattle.house_forward.specs.ForwardingState.{ForwardingState, GetsListener, standing_at}
-use Rattle.house_forward.specs.Forwardings.{changed, request_of, first_of, to_listen, is_in_order, listeners_of, has_listener}
+use Rattle.house_forward.specs.Forwardings.{changed, forwarding_request_of, first_of, to_listen, is_in_order, listeners_of, has_listener}
+use Rattle.house_forward.specs.Rules.{rules_of}
 use Rattle.house_forward.specs.declared.forwarding.Change.{Change}
 use Rattle.house_forward.specs.declared.forwarding.Change.TheVariants as change
 use Rattle.house_forward.specs.declared.forwarding.Forwarding.{Forwarding}
@@ -86,15 +87,15 @@ after-listen host port number forwarder_events old new h k =
 
 after : (forwarder_event : ForwarderEvent) (forwarder_events : List ForwarderEvent) (old new : ForwardingState) → Does forwarder_event old new → Have forwarder_events old.all → Have (forwarder_event ∷ forwarder_events) new.all
 after (Begins starts) forwarder_events old new d h = have forwarder_events (Begins starts ∷ forwarder_events) old.all new.all refl
-    (on-starts Stays on-ask-stays starts.gateway starts.asks (length starts.asks) (standing_at old) (standing_at new) (omega arith) d.begins) h
+    (on-starts Stays on-ask-stays (rules_of starts) starts.asks (length starts.asks) (standing_at old) (standing_at new) (omega arith) d.begins) h
 after (Asks client id opening ask answer) forwarder_events old new d h = have forwarder_events (Asks client id opening ask answer ∷ forwarder_events) old.all new.all refl
-    (on-ask Stays on-ask-stays (turns_away client id old.waiting) old.gateway opening ask old.serials old.all new.all d.came_to d.comes) h
+    (on-ask Stays on-ask-stays (turns_away client id old.waiting) old.rules opening ask old.serials old.all new.all d.came_to d.comes) h
 after (Answers client id answer) forwarder_events old new d h = have forwarder_events (Answers client id answer ∷ forwarder_events) old.all new.all refl
     (stays-all old.all new.all (ap (λ (x : ForwardingState). x.all) d.others)) h
 after Greets forwarder_events old new d h = have forwarder_events (Greets ∷ forwarder_events) old.all new.all refl
     (stays-all old.all new.all (ap (λ (x : ForwardingState). x.all) d.1)) h
 after (Requests f) forwarder_events old new d h = have forwarder_events (Requests f ∷ forwarder_events) old.all new.all refl
-    (subst (Stays old.all) (sym (ap (λ (x : ForwardingState). x.all) d.2)) (on-outgoing Stays on-reply-stays (request_of f) old.all)) h
+    (subst (Stays old.all) (sym (ap (λ (x : ForwardingState). x.all) d.2)) (on-outgoing Stays on-reply-stays (forwarding_request_of f) old.all)) h
 after (Replies success port) forwarder_events old new d h = have forwarder_events (Replies success port ∷ forwarder_events) old.all new.all refl
     (subst (Stays old.all) (sym (ap (λ (x : ForwardingState). x.all) d)) (on-reply Stays on-reply-stays success port (first_of old.requests) old.all)) h
 after (Listens host port number) forwarder_events old new d h = after-listen host port number forwarder_events old new d h

@@ -8,7 +8,8 @@ use Rattle.house_forward.specs.Asks.{turns_away}
 use Rattle.house_forward.specs.ForwarderEvents.{ForwarderEvent, Does, Leave}
 use Rattle.house_forward.specs.ForwarderEvents.{Begins, Asks, Answers, Greets, Requests, Replies, Listens, Unlistens}
 use Rattle.house_forward.specs.ForwardingState.{ForwardingState, GetsListener, standing_at}
-use Rattle.house_forward.specs.Forwardings.{is_numbered, changed, request_of, first_of, MadeAt, listener_of, listeners_of, has_listener}
+use Rattle.house_forward.specs.Forwardings.{is_numbered, changed, forwarding_request_of, first_of, MadeAt, listener_of, listeners_of, has_listener}
+use Rattle.house_forward.specs.Rules.{rules_of}
 use Rattle.house_forward.specs.declared.forwarding.Change.{Change}
 use Rattle.house_forward.specs.declared.forwarding.Change.TheVariants as change
 use Rattle.house_forward.specs.declared.forwarding.Forwarding.{Forwarding}
@@ -136,13 +137,13 @@ one-listened host port number old new h one =
 
 after : (forwarder_event : ForwarderEvent) (old new : ForwardingState) → Does forwarder_event old new → OneEach old.all → OneEach new.all
 after (Begins starts) old new d one =
-    kept old.all new.all (on-starts From on-ask-from starts.gateway starts.asks (length starts.asks) (standing_at old) (standing_at new) (omega arith) d.begins) one
+    kept old.all new.all (on-starts From on-ask-from (rules_of starts) starts.asks (length starts.asks) (standing_at old) (standing_at new) (omega arith) d.begins) one
 after (Asks client id opening ask answer) old new d one =
-    kept old.all new.all (on-ask From on-ask-from (turns_away client id old.waiting) old.gateway opening ask old.serials old.all new.all d.came_to d.comes) one
+    kept old.all new.all (on-ask From on-ask-from (turns_away client id old.waiting) old.rules opening ask old.serials old.all new.all d.came_to d.comes) one
 after (Answers client id answer) old new d one = subst OneEach (sym (ap (λ (x : ForwardingState). x.all) d.others)) one
 after Greets old new d one = subst OneEach (sym (ap (λ (x : ForwardingState). x.all) d.1)) one
 after (Requests f) old new d one =
-    kept old.all new.all (subst (From old.all) (sym (ap (λ (x : ForwardingState). x.all) d.2)) (on-outgoing From on-reply-from (request_of f) old.all)) one
+    kept old.all new.all (subst (From old.all) (sym (ap (λ (x : ForwardingState). x.all) d.2)) (on-outgoing From on-reply-from (forwarding_request_of f) old.all)) one
 after (Replies success port) old new d one =
     kept old.all new.all (subst (From old.all) (sym (ap (λ (x : ForwardingState). x.all) d)) (on-reply From on-reply-from success port (first_of old.requests) old.all)) one
 after (Listens host port number) old new d one = one-listened host port number old new d one

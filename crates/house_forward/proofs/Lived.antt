@@ -1,50 +1,50 @@
--- What the relays' own laws give of all relays of the house.
+-- What the relays' own laws give of all relays of the forwarder.
 use Rattle.std.proofs.Common.{◌≡◌, ◌∙◌, refl, sym, ap, subst, arith, ℕ, ◌+◌, ◌-◌, ◌≤◌, Bool, true, false, length, length-append, length-drop, List, [], ◌∷◌, ◌++◌, Option}
 use Rattle.std.specs.Prelude.{not, is_some, IfSome}
 use Rattle.std.specs.List.{All, list_any}
 use Rattle.std.proofs.lemmas.Bool.{and_parts, or_parts, eq-eqb, not-true}
 use Rattle.std.proofs.lemmas.List.Elements.{All-nil, All-cons, All-append, All-weaker}
 use Rattle.mux_outside.specs.declared.own_streams.OwnStream.{OwnStream}
-use Rattle.house_relay.specs.Acts.{Act, Relays, adjusted, delivered, replies, taken, to_take}
+use Rattle.house_relay.specs.Acts.{RelayAct, Relays, adjusted, delivered, replies, taken, to_take}
 use Rattle.house_relay.specs.Next.{sends_of, orders_of}
-use Rattle.house_relay.specs.Relay.{Stands, Keeps, SilentIn, IsResting, stream_of}
+use Rattle.house_relay.specs.Relay.{RelayRepresents, RelayKeeps, SilentIn, IsResting, socket_stream_of}
 use Rattle.house_relay.specs.declared.TheConstants.{WINDOW}
 use Rattle.house_relay.specs.declared.relay.Relay.{Relay}
 use Rattle.house_relay.proofs.Resting.{silent, rests}
 use Rattle.house_relay.proofs.Whole.{relays, keeps}
 use Rattle.house_forward.specs.Laws.{EachRelays, EachKeeps, EachIsBounded, EachRests, IsBounded, KeepsWindow, Rests}
-use Rattle.house_forward.specs.Links.{own_of, is_number, order_in, has_order, has_sending}
+use Rattle.house_forward.specs.Links.{own_stream_of, is_link_number, order_in, has_order, has_sending}
 use Rattle.house_forward.specs.RelayTraces.{Life, IsLife, AreRelayTraces, IsSocketOf}
 use Rattle.house_forward.specs.declared.link.Link.{Link}
-use Rattle.house_forward.specs.declared.link.Stream.{Stream}
-use Rattle.house_forward.specs.declared.link.Stream.TheVariants.{Offered, Awaited, Made, Gone}
+use Rattle.house_forward.specs.declared.link.LinkStream.{LinkStream}
+use Rattle.house_forward.specs.declared.link.LinkStream.TheVariants.{Offered, Awaited, Made, Gone}
 use Rattle.house_forward.proofs.Resting.{none-of, no-order}
 
 -- ---- all of them
 
--- each stands for what happened in it
+-- each represents what happened in it
 stands-in : (most : ℕ) (relay_traces : List Life) (links : List Link) → AreRelayTraces most relay_traces links
-    → All (λ (l : Life). Stands l.dials l.acts l.relay) relay_traces
-stands-in most [] [] are = All-nil (λ (l : Life). Stands l.dials l.acts l.relay)
+    → All (λ (l : Life). RelayRepresents l.dials l.acts l.relay) relay_traces
+stands-in most [] [] are = All-nil (λ (l : Life). RelayRepresents l.dials l.acts l.relay)
 stands-in most [] (link ∷ links) are = absurd are
 stands-in most (life ∷ relay_traces) [] are = absurd are
 stands-in most (life ∷ relay_traces) (link ∷ links) are =
-    All-cons (λ (l : Life). Stands l.dials l.acts l.relay) life relay_traces
-    (subst (λ (r : Relay). Stands life.dials life.acts r) (sym are.0.relay_is) are.0.stands)
+    All-cons (λ (l : Life). RelayRepresents l.dials l.acts l.relay) life relay_traces
+    (subst (λ (r : Relay). RelayRepresents life.dials life.acts r) (sym are.0.relay_is) are.0.stands)
     (stands-in most relay_traces links are.1)
 
 pub each-relays : EachRelays
 each-relays calls h lived =
-    All-weaker (λ (l : Life). Stands l.dials l.acts l.relay) (λ (l : Life). Relays l.dials l.acts)
+    All-weaker (λ (l : Life). RelayRepresents l.dials l.acts l.relay) (λ (l : Life). Relays l.dials l.acts)
     (λ l stands. relays l.dials l.acts l.relay stands) (lived.trace.relay_traces ++ lived.trace.past)
-    (All-append (λ (l : Life). Stands l.dials l.acts l.relay) lived.trace.relay_traces lived.trace.past
+    (All-append (λ (l : Life). RelayRepresents l.dials l.acts l.relay) lived.trace.relay_traces lived.trace.past
     (stands-in _ lived.trace.relay_traces h.links lived.is.relay_traces) lived.is.past)
 
 pub each-keeps : EachKeeps
 each-keeps calls h lived =
-    All-weaker (λ (l : Life). Stands l.dials l.acts l.relay) (λ (l : Life). Keeps l.dials l.acts l.relay)
+    All-weaker (λ (l : Life). RelayRepresents l.dials l.acts l.relay) (λ (l : Life). RelayKeeps l.dials l.acts l.relay)
     (λ l stands. keeps l.dials l.acts l.relay stands) (lived.trace.relay_traces ++ lived.trace.past)
-    (All-append (λ (l : Life). Stands l.dials l.acts l.relay) lived.trace.relay_traces lived.trace.past
+    (All-append (λ (l : Life). RelayRepresents l.dials l.acts l.relay) lived.trace.relay_traces lived.trace.past
     (stands-in _ lived.trace.relay_traces h.links lived.is.relay_traces) lived.is.past)
 
 -- ---- what waits
@@ -53,7 +53,7 @@ bound-by : (window replied came took room : ℕ) → room ≤ took - replied →
     → (replied + came) - took ≤ window + (replied - took)
 bound-by window replied came took room granted kept = omega arith
 
-bounded : (dials : Bool) (acts : List Act) (r : Relay) → Stands dials acts r → KeepsWindow acts
+bounded : (dials : Bool) (acts : List RelayAct) (r : Relay) → RelayRepresents dials acts r → KeepsWindow acts
     → length r.queue.waiting ≤ WINDOW + (length (replies dials acts) - taken acts)
 bounded dials acts r stands kept =
     let size : length r.queue.waiting ≡ (length (replies dials acts) + length (delivered acts)) - taken acts =
@@ -66,21 +66,21 @@ bounded dials acts r stands kept =
 
 pub each-is-bounded : EachIsBounded
 each-is-bounded calls h lived =
-    All-weaker (λ (l : Life). Stands l.dials l.acts l.relay) IsBounded
+    All-weaker (λ (l : Life). RelayRepresents l.dials l.acts l.relay) IsBounded
     (λ l stands. bounded l.dials l.acts l.relay stands) (lived.trace.relay_traces ++ lived.trace.past)
-    (All-append (λ (l : Life). Stands l.dials l.acts l.relay) lived.trace.relay_traces lived.trace.past
+    (All-append (λ (l : Life). RelayRepresents l.dials l.acts l.relay) lived.trace.relay_traces lived.trace.past
     (stands-in _ lived.trace.relay_traces h.links lived.is.relay_traces) lived.is.past)
 
 -- ---- at rest
 
-stream-rests : (s : Stream) (r : Relay) → IsSocketOf s r → is_some (order_in s r) ≡ false
-    → IfSome (own_of s) (λ own. IsResting r own)
+stream-rests : (s : LinkStream) (r : Relay) → IsSocketOf s r → is_some (order_in s r) ≡ false
+    → IfSome (own_stream_of s) (λ own. IsResting r own)
 stream-rests (Offered host port) r is order = tt
 stream-rests Awaited r is order = tt
 stream-rests (Made own) r is order =
-    let its : is_number own.number (stream_of r.socket) ≡ true =
-    ap (is_number own.number) is.0 ∙ eq-eqb own.number own.number refl in
-    rests r own is.0 (no-order (is_number own.number (stream_of r.socket)) (orders_of r own) its order)
+    let its : is_link_number own.number (socket_stream_of r.socket) ≡ true =
+    ap (is_link_number own.number) is.0 ∙ eq-eqb own.number own.number refl in
+    rests r own is.0 (no-order (is_link_number own.number (socket_stream_of r.socket)) (orders_of r own) its order)
 stream-rests Gone r is order = tt
 
 life-rests : (most : ℕ) (life : Life) (link : Link) → IsLife most life link → has_sending link ≡ false

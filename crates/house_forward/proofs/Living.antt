@@ -5,29 +5,29 @@ use Rattle.std.proofs.lemmas.Bool.{and_left, and_parts, false≢true}
 use Rattle.conn_messages.specs.declared.message.Message.{Message}
 use Rattle.mux_outside.specs.declared.own_streams.OwnStream.{OwnStream}
 use Rattle.mux_outside.specs.declared.piece.TheConstants.{LONGEST_PIECE}
-use Rattle.house_relay.specs.Acts.{Act, Reads, Takes, taken}
+use Rattle.house_relay.specs.Acts.{RelayAct, Reads, Takes, taken}
 use Rattle.house_relay.specs.ChannelState.{owed_in, counts}
 use Rattle.house_relay.specs.Next.{sends_of}
-use Rattle.house_relay.specs.Relay.{GoesOn, MayRead, stream_of}
-use Rattle.house_relay.specs.Steps.{is_closed, is_gone, made_as, taken_of}
+use Rattle.house_relay.specs.Relay.{RelayGoesOn, RelayMayRead, socket_stream_of}
+use Rattle.house_relay.specs.Steps.{is_socket_closed, is_gone, made_as, relay_taken_of}
 use Rattle.house_relay.specs.declared.relay.Relay.{Relay}
 use Rattle.house_relay.specs.declared.relay.Socket.{Socket}
 use Rattle.house_relay.specs.declared.relay.Socket.TheVariants as socket
-use Rattle.house_forward.specs.Going.{Gets, GetsOn, TakesOf, TakesOn, SendsOn, ReceivesOn, act_of_sending}
+use Rattle.house_forward.specs.Going.{Gets, GetsOn, TakesOf, TakesOn, RelaySendsOn, RelayReceivesOn, act_of_sending}
 use Rattle.house_forward.specs.Heard.{act_received}
-use Rattle.house_forward.specs.Links.{own_of, numbered, is_number, has_number, is_of, is_without, is_left, is_offered, is_awaited, awaits, offers, made_stream, relay_after, stream_after, link_after}
-use Rattle.house_forward.specs.RelayTraces.{Life, GoesBy, IsLife, IsSocketOf, IsEndOf, is_stream, has_stream, own_after, own_made, act_of, stepped, made_life, is_unmade, unmade}
+use Rattle.house_forward.specs.Links.{own_stream_of, numbered, is_link_number, has_number, is_of, is_without, is_left, is_offered, is_awaited, awaits, offers, made_stream, relay_after, stream_after, link_after}
+use Rattle.house_forward.specs.RelayTraces.{Life, RelayGoesBy, IsLife, IsSocketOf, IsEndOf, is_stream, has_stream, link_own_after, own_made, relay_act_of, stepped, made_life, is_socket_unmade, unmade}
 use Rattle.house_forward.specs.declared.link.Link.{Link}
 use Rattle.house_forward.specs.declared.link.LinkStep.{LinkStep}
 use Rattle.house_forward.specs.declared.link.LinkStep.TheVariants.{Pause, Finish, End, Close, Writable, Failed as Fail}
-use Rattle.house_forward.specs.declared.link.Stream.{Stream}
-use Rattle.house_forward.specs.declared.link.Stream.TheVariants.{Offered, Awaited, Made, Gone}
+use Rattle.house_forward.specs.declared.link.LinkStream.{LinkStream}
+use Rattle.house_forward.specs.declared.link.LinkStream.TheVariants.{Offered, Awaited, Made, Gone}
 use Rattle.house_forward.proofs.Keeping.{Stays, stays-heard, none-heard, stays-after, none-after, keeps-stream, owed-takes, connected-stream, failing-stream}
 use Rattle.house_forward.proofs.Standing.{goes-other, goes-after}
 
 -- ---- what is known of a life by its link
 
-pub stream-in : (t : ℕ) (s : Stream) → is_stream t (own_of s) ≡ numbered t s
+pub stream-in : (t : ℕ) (s : LinkStream) → is_stream t (own_stream_of s) ≡ numbered t s
 stream-in t (Offered host port) = refl
 stream-in t Awaited = refl
 stream-in t (Made own) = refl
@@ -40,10 +40,10 @@ and-same : (b : Bool) → b ≡ (b && b)
 and-same true = refl
 and-same false = refl
 
-of-in : (t : ℕ) (s : Stream) (r : Relay) → IsSocketOf s r → numbered t s ≡ (numbered t s && is_number t (stream_of r.socket))
+of-in : (t : ℕ) (s : LinkStream) (r : Relay) → IsSocketOf s r → numbered t s ≡ (numbered t s && is_link_number t (socket_stream_of r.socket))
 of-in t (Offered host port) r h = refl
 of-in t Awaited r h = refl
-of-in t (Made own) r h = and-same (own.number == t) ∙ ap (λ o. (own.number == t) && is_number t o) (sym h.0)
+of-in t (Made own) r h = and-same (own.number == t) ∙ ap (λ o. (own.number == t) && is_link_number t o) (sym h.0)
 of-in t Gone r h = refl
 
 pub is-of : (t most : ℕ) (life : Life) (link : Link) → IsLife most life link → has_stream t life ≡ is_of t link
@@ -53,7 +53,7 @@ pub has-channel : (n most : ℕ) (life : Life) (link : Link) → IsLife most lif
     → (life.relay.number == n) ≡ (link.relay.number == n)
 has-channel n most life link is = ap (λ (r : Relay). r.number == n) is.relay_is
 
-not-closed : (s : Socket) (t : ℕ) → stream_of s ≡ Some t → is_closed s ≡ false
+not-closed : (s : Socket) (t : ℕ) → socket_stream_of s ≡ Some t → is_socket_closed s ≡ false
 not-closed (socket.Connecting stream) t e = refl
 not-closed (socket.Open stream) t e = refl
 not-closed socket.Unmade t e = refl
@@ -61,10 +61,10 @@ not-closed (socket.Failed stream) t e = refl
 not-closed (socket.NoChannelLeft stream) t e = refl
 not-closed socket.Closed t e = cc
 
-left-in : (s : Stream) (r : Relay) → IsSocketOf s r → is_gone r ≡ (is_without s && is_gone r)
-left-in (Offered host port) r h = and_left (is_closed r.socket) (not (counts r.line)) (ap is_closed h.0)
-left-in Awaited r h = and_left (is_closed r.socket) (not (counts r.line)) (ap is_closed h.0)
-left-in (Made own) r h = and_left (is_closed r.socket) (not (counts r.line)) (not-closed r.socket own.number h.0)
+left-in : (s : LinkStream) (r : Relay) → IsSocketOf s r → is_gone r ≡ (is_without s && is_gone r)
+left-in (Offered host port) r h = and_left (is_socket_closed r.socket) (not (counts r.line)) (ap is_socket_closed h.0)
+left-in Awaited r h = and_left (is_socket_closed r.socket) (not (counts r.line)) (ap is_socket_closed h.0)
+left-in (Made own) r h = and_left (is_socket_closed r.socket) (not (counts r.line)) (not-closed r.socket own.number h.0)
 left-in Gone r h = refl
 
 -- nothing is left of both
@@ -73,21 +73,21 @@ is-gone most life link is = ap is_gone is.relay_is ∙ left-in link.stream link.
 
 -- ---- it goes on
 
-socket-same : (s : Stream) (old new : Relay) → new.socket ≡ old.socket → new.ended ≡ old.ended → IsSocketOf s old
+socket-same : (s : LinkStream) (old new : Relay) → new.socket ≡ old.socket → new.ended ≡ old.ended → IsSocketOf s old
     → IsSocketOf s new
 socket-same (Offered host port) old new e f h = (e ∙ h.0, f ∙ h.1)
 socket-same Awaited old new e f h = (e ∙ h.0, f ∙ h.1)
-socket-same (Made own) old new e f h = (ap stream_of e ∙ h.0, f ∙ h.1)
+socket-same (Made own) old new e f h = (ap socket_stream_of e ∙ h.0, f ∙ h.1)
 socket-same Gone old new e f h = e ∙ h
 
 -- a life goes on as its link does
-pub record Onward (so : Relay → Relay → Type 0) (act : Relay → Act) (most : ℕ) (life : Life) (link : Link) : Type 0 where
+pub record Onward (so : Relay → Relay → Type 0) (act : Relay → RelayAct) (most : ℕ) (life : Life) (link : Link) : Type 0 where
   pub next : Life
-  pub goes : GoesBy so (act life.relay) life next
+  pub goes : RelayGoesBy so (act life.relay) life next
   pub is : IsLife most next link
 
-onward : (so : Relay → Relay → Type 0) (act : Relay → Act) (least most : ℕ) (life : Life) (link : Link) (r : Relay)
-    → IsLife least life link → so link.relay r → GoesOn link.relay r (act link.relay) → IsSocketOf link.stream r
+onward : (so : Relay → Relay → Type 0) (act : Relay → RelayAct) (least most : ℕ) (life : Life) (link : Link) (r : Relay)
+    → IsLife least life link → so link.relay r → RelayGoesOn link.relay r (act link.relay) → IsSocketOf link.stream r
     → owed_in r.line ≤ taken (act link.relay ∷ life.acts) → taken (act link.relay ∷ life.acts) ≤ most
     → Onward so act most life (record link { relay = r })
 onward so act least most life link r is goes on socket owed few = record {
@@ -111,9 +111,9 @@ onward so act least most life link r is goes on socket owed few = record {
   };
 }
 
--- where its socket stays and nothing is taken
-onward-same : (so : Relay → Relay → Type 0) (act : Relay → Act) (most : ℕ) (life : Life) (link : Link) (r : Relay)
-    → IsLife most life link → so link.relay r → GoesOn link.relay r (act link.relay) → Stays link.relay r
+-- where its socket stays and nothing is written to it
+onward-same : (so : Relay → Relay → Type 0) (act : Relay → RelayAct) (most : ℕ) (life : Life) (link : Link) (r : Relay)
+    → IsLife most life link → so link.relay r → RelayGoesOn link.relay r (act link.relay) → Stays link.relay r
     → taken (act link.relay ∷ life.acts) ≡ taken life.acts → Onward so act most life (record link { relay = r })
 onward-same so act most life link r is goes on stays none =
     let owed = is.owed in
@@ -123,16 +123,16 @@ onward-same so act most life link r is goes on stays none =
     (socket-same link.stream link.relay r stays.socket_is stays.ended_is is.socket)
     (omega (arith, owed, less, none)) (omega (arith, few, none))
 
-pub receives : (m : Message) (most : ℕ) (life : Life) (link : Link) (r : Relay) → IsLife most life link → ReceivesOn m link.relay r
-    → Onward (ReceivesOn m) (act_received m) most life (record link { relay = r })
+pub receives : (m : Message) (most : ℕ) (life : Life) (link : Link) (r : Relay) → IsLife most life link → RelayReceivesOn m link.relay r
+    → Onward (RelayReceivesOn m) (act_received m) most life (record link { relay = r })
 receives m most life link r is h =
-    onward-same (ReceivesOn m) (act_received m) most life link r is h h.1
+    onward-same (RelayReceivesOn m) (act_received m) most life link r is h h.1
     (subst (λ (z : Relay). Stays link.relay z) (sym h.0) (stays-heard m link.relay)) (none-heard m link.relay life.acts)
 
-pub says : (most : ℕ) (life : Life) (link : Link) (r : Relay) → IsLife most life link → SendsOn link.relay r
-    → Onward SendsOn (λ (z : Relay). act_of_sending (sends_of z) z) most life (record link { relay = r })
+pub says : (most : ℕ) (life : Life) (link : Link) (r : Relay) → IsLife most life link → RelaySendsOn link.relay r
+    → Onward RelaySendsOn (λ (z : Relay). act_of_sending (sends_of z) z) most life (record link { relay = r })
 says most life link r is h =
-    onward-same SendsOn (λ (z : Relay). act_of_sending (sends_of z) z) most life link r is h h.1
+    onward-same RelaySendsOn (λ (z : Relay). act_of_sending (sends_of z) z) most life link r is h h.1
     (subst (λ (z : Relay). Stays link.relay z) (sym h.0) (stays-after (sends_of link.relay) link.relay))
     (none-after (sends_of link.relay) link.relay life.acts)
 
@@ -151,32 +151,32 @@ loud own t is e = second own.paused own.ended (rest (own.number == t) (own.pause
     second true b e = cc
     second false b e = e
 
-socket-kept : (t : ℕ) (s : Stream) (old new : Relay) → numbered t s ≡ true → stream_of new.socket ≡ stream_of old.socket
+socket-kept : (t : ℕ) (s : LinkStream) (old new : Relay) → numbered t s ≡ true → socket_stream_of new.socket ≡ socket_stream_of old.socket
     → new.ended ≡ old.ended → IsSocketOf s old → IsSocketOf s new
 socket-kept t (Offered host port) old new n e f h = cc
 socket-kept t Awaited old new n e f h = cc
 socket-kept t (Made own) old new n e f h = (e ∙ h.0, f ∙ h.1)
 socket-kept t Gone old new n e f h = cc
 
-unended : (t : ℕ) (s : Stream) (r : Relay) → numbered t s ≡ true → IsSocketOf s r
-    → ((own : OwnStream) → own_of s ≡ Some own → own.ended ≡ false) → r.ended ≡ false
+unended : (t : ℕ) (s : LinkStream) (r : Relay) → numbered t s ≡ true → IsSocketOf s r
+    → ((own : OwnStream) → own_stream_of s ≡ Some own → own.ended ≡ false) → r.ended ≡ false
 unended t (Offered host port) r n h f = h.1
 unended t Awaited r n h f = h.1
 unended t (Made own) r n h f = h.1 ∙ f own refl
 unended t Gone r n h f = cc
 
 pub gets : (free : Bool) (bytes : List ℕ) (t most : ℕ) (life : Life) (link : Link) (r : Relay) → IsLife most life link
-    → is_of t link ≡ true → ((own : OwnStream) → own_of link.stream ≡ Some own → own.ended ≡ false)
+    → is_of t link ≡ true → ((own : OwnStream) → own_stream_of link.stream ≡ Some own → own.ended ≡ false)
     → link.relay.held.waiting ≡ [] → length bytes ≤ LONGEST_PIECE → Gets free bytes link.relay r
     → Onward (GetsOn free bytes) (λ (z : Relay). Reads bytes) most life (record link { relay = r })
 gets free bytes t most life link r is of going rests short h =
-    let n = (and_parts (has_number t link) (is_number t (stream_of link.relay.socket)) of).0 in
+    let n = (and_parts (has_number t link) (is_link_number t (socket_stream_of link.relay.socket)) of).0 in
     let none = ap length rests in
-    let may : MayRead bytes link.relay = record {
+    let may : RelayMayRead bytes link.relay = record {
       unended = unended t link.stream link.relay n is.socket going;
       room = omega (arith, none, short);
     } in
-    let on : GoesOn link.relay r (Reads bytes) = h.1 may in
+    let on : RelayGoesOn link.relay r (Reads bytes) = h.1 may in
     let keeps = keeps-stream life.dials free life.acts bytes link.relay r is.stands h.0 in
     let ended : r.ended ≡ link.relay.ended = (on life.dials life.acts is.stands).ends ∙ sym is.stands.ends in
     let owed = is.owed in
@@ -185,7 +185,7 @@ gets free bytes t most life link r is of going rests short h =
     (socket-kept t link.stream link.relay r n keeps.stream_is ended is.socket)
     (omega (arith, owed, less)) is.few
 
--- ---- what its socket takes
+-- ---- what is written to its socket
 
 pub takes : (bytes : List ℕ) (least : ℕ) (life : Life) (link : Link) (r : Relay) → length bytes + least < 2 ^ 64 → IsLife least life link
     → TakesOf bytes link.relay r → Onward (TakesOn bytes) (λ (z : Relay). Takes bytes) (length bytes + least) life (record link { relay = r })
@@ -195,14 +195,14 @@ takes bytes least life link r small is h =
     let few = is.few in
     let both = h (omega (arith, owed, few, small)) in
     let more = owed-takes n link.relay.line in
-    let line : owed_in r.line ≡ owed_in (taken_of n link.relay).line = ap (λ (z : Relay). owed_in z.line) both.0 in
+    let line : owed_in r.line ≡ owed_in (relay_taken_of n link.relay).line = ap (λ (z : Relay). owed_in z.line) both.0 in
     onward (TakesOn bytes) (λ (z : Relay). Takes bytes) least (n + least) life link r is both both.1
     (socket-same link.stream link.relay r (ap (λ (z : Relay). z.socket) both.0) (ap (λ (z : Relay). z.ended) both.0) is.socket)
     (omega (arith, owed, more, line)) (omega (arith, few))
 
 -- ---- steps
 
-own-after : (step : LinkStep) (s : Stream) → own_after step (own_of s) ≡ own_of (stream_after step s)
+own-after : (step : LinkStep) (s : LinkStream) → link_own_after step (own_stream_of s) ≡ own_stream_of (stream_after step s)
 own-after step (Offered host port) = refl
 own-after step Awaited = refl
 own-after (Pause b) (Made own) = refl
@@ -222,7 +222,7 @@ socket-made Close own r h = refl
 socket-made Writable own r h = (connected-stream r.socket ∙ h.0, h.1)
 socket-made Fail own r h = (failing-stream r.socket ∙ h.0, h.1)
 
-socket-after : (t : ℕ) (step : LinkStep) (s : Stream) (r : Relay) → numbered t s ≡ true → IsSocketOf s r
+socket-after : (t : ℕ) (step : LinkStep) (s : LinkStream) (r : Relay) → numbered t s ≡ true → IsSocketOf s r
     → IsSocketOf (stream_after step s) (relay_after step r)
 socket-after t step (Offered host port) r n h = cc
 socket-after t step Awaited r n h = cc
@@ -237,7 +237,7 @@ end-made Close own to = tt
 end-made Writable own to = tt
 end-made Fail own to = tt
 
-end-after : (t : ℕ) (step : LinkStep) (s : Stream) (to : Option (List ℕ × ℕ)) → numbered t s ≡ true
+end-after : (t : ℕ) (step : LinkStep) (s : LinkStream) (to : Option (List ℕ × ℕ)) → numbered t s ≡ true
     → IsEndOf (stream_after step s) to
 end-after t step (Offered host port) to n = cc
 end-after t step Awaited to n = cc
@@ -252,7 +252,7 @@ owed-after Close r = refl
 owed-after Writable r = refl
 owed-after Fail r = refl
 
-none-after-step : (step : LinkStep) (acts : List Act) → taken (act_of step ∷ acts) ≡ taken acts
+none-after-step : (step : LinkStep) (acts : List RelayAct) → taken (relay_act_of step ∷ acts) ≡ taken acts
 none-after-step (Pause b) acts = refl
 none-after-step Finish acts = refl
 none-after-step End acts = refl
@@ -262,7 +262,7 @@ none-after-step Fail acts = refl
 
 steps-if : (b : Bool) (step : LinkStep) (t most : ℕ) (life : Life) (link : Link) → has_number t link ≡ b → IsLife most life link
     → IsLife most
-    (if b then record life { relay = relay_after step life.relay; own = own_after step life.own; acts = act_of step ∷ life.acts } else life)
+    (if b then record life { relay = relay_after step life.relay; own = link_own_after step life.own; acts = relay_act_of step ∷ life.acts } else life)
     (if b then record link { relay = relay_after step link.relay; stream = stream_after step link.stream } else link)
 steps-if true step t most life link n is =
     let owed = is.owed in
@@ -271,7 +271,7 @@ steps-if true step t most life link n is =
     let none = none-after-step step life.acts in
     record {
       relay_is = ap (relay_after step) is.relay_is;
-      own_is = ap (own_after step) is.own_is ∙ own-after step link.stream;
+      own_is = ap (link_own_after step) is.own_is ∙ own-after step link.stream;
       socket = socket-after t step link.stream link.relay n is.socket;
       end = end-after t step link.stream life.to n;
       stands = goes-after step link.relay life.dials life.acts is.stands;
@@ -284,13 +284,13 @@ pub steps : (step : LinkStep) (t most : ℕ) (life : Life) (link : Link) → IsL
     → IsLife most (stepped step t life) (link_after step t link)
 steps step t most life link is =
     subst (λ (b : Bool). IsLife most
-    (if b then record life { relay = relay_after step life.relay; own = own_after step life.own; acts = act_of step ∷ life.acts } else life)
+    (if b then record life { relay = relay_after step life.relay; own = link_own_after step life.own; acts = relay_act_of step ∷ life.acts } else life)
     (link_after step t link))
     (sym (has-number t most life link is)) (steps-if (has_number t link) step t most life link refl is)
 
 -- ---- its socket is made
 
-not-unmade : (s : Socket) (t : ℕ) → stream_of s ≡ Some t → unmade s ≡ false
+not-unmade : (s : Socket) (t : ℕ) → socket_stream_of s ≡ Some t → unmade s ≡ false
 not-unmade (socket.Connecting stream) t e = refl
 not-unmade (socket.Open stream) t e = refl
 not-unmade socket.Unmade t e = cc
@@ -298,7 +298,7 @@ not-unmade (socket.Failed stream) t e = refl
 not-unmade (socket.NoChannelLeft stream) t e = refl
 not-unmade socket.Closed t e = refl
 
-unmade-in : (s : Stream) (r : Relay) (to : Option (List ℕ × ℕ)) → IsSocketOf s r → IsEndOf s to
+unmade-in : (s : LinkStream) (r : Relay) (to : Option (List ℕ × ℕ)) → IsSocketOf s r → IsEndOf s to
     → unmade r.socket ≡ offers s
 unmade-in (Offered host port) r to h end = ap unmade h.0
 unmade-in Awaited r to h end = absurd end
@@ -306,11 +306,11 @@ unmade-in (Made own) r to h end = not-unmade r.socket own.number h.0
 unmade-in Gone r to h end = ap unmade h
 
 -- its socket is to be made where it is to be connected
-pub is-unmade : (most : ℕ) (life : Life) (link : Link) → IsLife most life link → is_unmade life ≡ is_offered link
+pub is-unmade : (most : ℕ) (life : Life) (link : Link) → IsLife most life link → is_socket_unmade life ≡ is_offered link
 is-unmade most life link is =
     ap (λ (r : Relay). unmade r.socket) is.relay_is ∙ unmade-in link.stream link.relay life.to is.socket is.end
 
-none-awaits : (s : Stream) (to : Option (List ℕ × ℕ)) → IsEndOf s to → awaits s ≡ false
+none-awaits : (s : LinkStream) (to : Option (List ℕ × ℕ)) → IsEndOf s to → awaits s ≡ false
 none-awaits (Offered host port) to end = refl
 none-awaits Awaited to end = absurd end
 none-awaits (Made own) to end = refl
@@ -320,11 +320,11 @@ none-awaits Gone to end = refl
 pub not-awaited : (most : ℕ) (life : Life) (link : Link) → IsLife most life link → is_awaited link ≡ false
 not-awaited most life link is = none-awaits link.stream life.to is.end
 
-own-made : (number : Option ℕ) → own_made number ≡ own_of (made_stream number)
+own-made : (number : Option ℕ) → own_made number ≡ own_stream_of (made_stream number)
 own-made None = refl
 own-made (Some t) = refl
 
-unended-in : (s : Stream) (r : Relay) → offers s ≡ true → IsSocketOf s r → r.ended ≡ false
+unended-in : (s : LinkStream) (r : Relay) → offers s ≡ true → IsSocketOf s r → r.ended ≡ false
 unended-in (Offered host port) r e h = h.1
 unended-in Awaited r e h = absurd (false≢true e)
 unended-in (Made own) r e h = absurd (false≢true e)

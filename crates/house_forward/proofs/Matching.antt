@@ -7,12 +7,12 @@ use Rattle.std.proofs.lemmas.List.{get_or_default}
 use Rattle.std.proofs.lemmas.List.Elements.{All-nil, All-push}
 use Rattle.std.proofs.lemmas.List.Quantifiers.{position-Some}
 use Rattle.house_relay.specs.ChannelState.{counts}
-use Rattle.house_relay.specs.Relay.{Stands}
+use Rattle.house_relay.specs.Relay.{RelayRepresents}
 use Rattle.house_relay.specs.Steps.{is_gone}
 use Rattle.house_relay.specs.declared.relay.Relay.{Relay}
 use Rattle.house_forward.specs.Going.{swept, without_at}
 use Rattle.house_forward.specs.Links.{is_left, link_after, is_full, has_full_dialogs, is_channel, is_dialog, is_awaited, dials}
-use Rattle.house_forward.specs.RelayTraces.{Life, One, IsLife, AreRelayTraces, kept_in, left_in, stepped, are_full, are_dialogs_full}
+use Rattle.house_forward.specs.RelayTraces.{Life, One, IsLife, AreRelayTraces, kept_in, first_life_in, stepped, are_full, are_dialogs_full}
 use Rattle.house_forward.specs.declared.link.Link.{Link}
 use Rattle.house_forward.specs.declared.link.LinkStep.{LinkStep}
 use Rattle.house_forward.proofs.Lists.{none-passes}
@@ -237,7 +237,7 @@ kept-none (l ∷ relay_traces) e =
     let both = or_parts (is_gone l.relay) (list_any (λ (m : Life). is_gone m.relay) relay_traces) e in
     rw both.0 (ap (λ ls. l ∷ ls) (kept-none relay_traces both.1))
 
-left-none : (relay_traces : List Life) → list_any (λ (l : Life). is_gone l.relay) relay_traces ≡ false → left_in relay_traces ≡ []
+left-none : (relay_traces : List Life) → list_any (λ (l : Life). is_gone l.relay) relay_traces ≡ false → first_life_in relay_traces ≡ []
 left-none [] e = refl
 left-none (l ∷ relay_traces) e =
     let both = or_parts (is_gone l.relay) (list_any (λ (m : Life). is_gone m.relay) relay_traces) e in
@@ -251,7 +251,7 @@ kept-one (l ∷ before) life behind e is =
     rw both.0 (ap (λ ls. l ∷ ls) (kept-one before life behind both.1 is))
 
 left-one : (before : List Life) (life : Life) (behind : List Life) → list_any (λ (l : Life). is_gone l.relay) before ≡ false
-    → is_gone life.relay ≡ true → left_in (before ++ life ∷ behind) ≡ life ∷ []
+    → is_gone life.relay ≡ true → first_life_in (before ++ life ∷ behind) ≡ life ∷ []
 left-one [] life behind e is = rw is refl
 left-one (l ∷ before) life behind e is =
     let both = or_parts (is_gone l.relay) (list_any (λ (m : Life). is_gone m.relay) before) e in
@@ -260,7 +260,7 @@ left-one (l ∷ before) life behind e is =
 -- what is left, and what is forgotten
 pub record Sweeps (most : ℕ) (relay_traces : List Life) (new : List Link) : Type 0 where
   pub are : AreRelayTraces most (kept_in relay_traces) new
-  pub past : All (λ l. Stands l.dials l.acts l.relay) (left_in relay_traces)
+  pub past : All (λ l. RelayRepresents l.dials l.acts l.relay) (first_life_in relay_traces)
 
 sweeps-at : (most : ℕ) (relay_traces : List Life) (links : List Link) (o : Option ℕ) → position is_left links ≡ o
     → AreRelayTraces most relay_traces links → Sweeps most relay_traces (without_at o links)
@@ -268,8 +268,8 @@ sweeps-at most relay_traces links None e are =
     let none = none-relay_traces most (λ (l : Life). is_gone l.relay) is_left (is-gone most) relay_traces links are (none-passes is_left links e) in
     record {
       are = subst (λ (ls : List Life). AreRelayTraces most ls links) (sym (kept-none relay_traces none)) are;
-      past = subst (λ (ls : List Life). All (λ (l : Life). Stands l.dials l.acts l.relay) ls) (sym (left-none relay_traces none))
-          (All-nil (λ (l : Life). Stands l.dials l.acts l.relay));
+      past = subst (λ (ls : List Life). All (λ (l : Life). RelayRepresents l.dials l.acts l.relay) ls) (sym (left-none relay_traces none))
+          (All-nil (λ (l : Life). RelayRepresents l.dials l.acts l.relay));
     }
 sweeps-at most relay_traces links (Some i) e are =
     let x = (there is_left links i e).0 in
@@ -281,10 +281,10 @@ sweeps-at most relay_traces links (Some i) e are =
       are = subst (λ (ls : List Life). AreRelayTraces most ls (remove links i))
           (sym (ap kept_in s.were ∙ kept-one s.first s.life s.last none gone))
           (both-append most s.first s.last (take i links) (drop (suc i) links) s.front s.back);
-      past = subst (λ (ls : List Life). All (λ (l : Life). Stands l.dials l.acts l.relay) ls)
-          (sym (ap left_in s.were ∙ left-one s.first s.life s.last none gone))
-          (All-push (λ (l : Life). Stands l.dials l.acts l.relay) [] s.life (All-nil (λ (l : Life). Stands l.dials l.acts l.relay))
-          (subst (λ (r : Relay). Stands s.life.dials s.life.acts r) (sym s.is.relay_is) s.is.stands));
+      past = subst (λ (ls : List Life). All (λ (l : Life). RelayRepresents l.dials l.acts l.relay) ls)
+          (sym (ap first_life_in s.were ∙ left-one s.first s.life s.last none gone))
+          (All-push (λ (l : Life). RelayRepresents l.dials l.acts l.relay) [] s.life (All-nil (λ (l : Life). RelayRepresents l.dials l.acts l.relay))
+          (subst (λ (r : Relay). RelayRepresents s.life.dials s.life.acts r) (sym s.is.relay_is) s.is.stands));
     }
 
 pub sweeps : (most : ℕ) (relay_traces : List Life) (links : List Link) → AreRelayTraces most relay_traces links → Sweeps most relay_traces (swept links)

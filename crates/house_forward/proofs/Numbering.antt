@@ -7,6 +7,7 @@ use Rattle.std.proofs.lemmas.List.{append-nil}
 use Rattle.mux_outside.specs.House.{Known, OpenAsk, with_number}
 use Rattle.mux_outside.specs.declared.order.Order.{Order}
 use Rattle.mux_outside.specs.declared.own_streams.OwnStream.{OwnStream}
+use Rattle.house_forward.specs.Rules.{first_rules}
 use Rattle.house_forward.specs.ForwardingState.{ForwardingState, forwarding_state_of, ForwardingsGo, OrdersListener}
 use Rattle.house_forward.specs.Due.{forwarding_due}
 use Rattle.house_forward.specs.Forwardings.{listeners_of, listeners_made, to_listen, is_in_order, is_ordered_first}
@@ -39,9 +40,9 @@ pub record ListenKnown (fs : Forwardings) (asks : Asks) (fs' : Forwardings) (ask
 pub listen-known : (host : List ℕ) (port : ℕ) (fs : Forwardings) (asks : Asks) (fs' : Forwardings) (asks' : Asks)
     → ForwardingsGo (OrdersListener host port) fs asks fs' asks' → is_in_order fs.all.items ≡ true → ListenKnown fs asks fs' asks'
 listen-known host port fs asks fs' asks' goes order =
-    let old = forwarding_state_of true true fs asks in
-    let new = forwarding_state_of true true fs' asks' in
-    let h = goes true true in
+    let old = forwarding_state_of first_rules true fs asks in
+    let new = forwarding_state_of first_rules true fs' asks' in
+    let h = goes first_rules true in
     let m = ordered-more host port old new h order in record {
       listeners = m.listeners;
       first = m.first;

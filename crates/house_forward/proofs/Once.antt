@@ -1,4 +1,4 @@
--- Of each socket that was joined one OPEN is said at most.
+-- Of each socket that was joined one OPEN is sent at most.
 use Rattle.std.proofs.Common.{◌≡◌, ◌≢◌, ◌∙◌, refl, sym, ap, subst, inl, inr, arith, ℕ, zero, suc, ◌+◌, ◌<◌, ◌≤◌, Bool, true, false, cond, List, [], ◌∷◌, ◌++◌, append_assoc, length, length-append, get_or, map, filter, Option, Some, None}
 use Rattle.std.specs.Prelude.{◌==◌, not, nat_le, if◌then◌else◌, find, Result, Ok, Err}
 use Rattle.std.specs.List.{All, AllPairs}
@@ -27,8 +27,8 @@ use Rattle.house_relay.specs.declared.line.ChannelState.{ChannelState}
 use Rattle.house_relay.specs.declared.line.ChannelState.TheVariants.{Dialing, Asked, Opened, Offered, Live, Over}
 use Rattle.house_forward.specs.Forwardings.{has_request, served_at}
 use Rattle.house_forward.specs.Going.{TakesOn}
-use Rattle.house_forward.specs.RelayTraces.{Life, Trace, GoesBy, One, OneAtMost, Speaks, Listens, StepsBy, MakesOne, Reaches, Follows, SendsBy, MarksIn, OrdersIn, TurnsTo, first_trace, with_received}
-use Rattle.house_forward.specs.RelayTraces.{ReceivesAt, ReceivesOpen, OpensFor, ReceivesMessage, ReceivesReading, ReceivesFrame, ReceivesFrames, cut_off, is_grant}
+use Rattle.house_forward.specs.RelayTraces.{Life, Trace, RelayGoesBy, One, OneAtMost, Speaks, Listens, StepsBy, MakesOne, TraceReaches, Follows, SendsBy, MarksIn, OrdersIn, TurnsTo, first_trace, with_received}
+use Rattle.house_forward.specs.RelayTraces.{RelayReceivesAt, ReceivesOpen, OpensFor, ReceivesMessage, ReceivesReading, ReceivesFrame, RelaysReceiveFrames, cut_off, is_grant}
 use Rattle.house_forward.specs.RelayTraces.{joins_after, has_channel, has_stream, has_words, are_full, stepped, made_life, kept_in}
 use Rattle.house_forward.specs.Opening.{EachIsRecorded, EachWasJoined, OneOpenEach, IsOneJoined, IsJoinedFor, is_open, may_open, opens_by, opens_in, joins_by, joins_by_turn, joins_in, opener_by, opener_marked, opener_of, openers_in, openers_left}
 use Rattle.house_forward.specs.declared.forwarding.Forwarding.{Forwarding}
@@ -89,7 +89,7 @@ differ (o ∷ os) are most (suc i) zero d l k = absurd (omega arith)
 differ (o ∷ os) are most (suc i) (suc j) d l k =
     differ os (All-tail IsSome o os are) (rest-most o os most) i j d (omega arith) (omega arith)
 
--- ---- of the relays for which an OPEN is to be said
+-- ---- of the relays for which an OPEN is to be sent
 
 abbrev weigh : ℕ → Life → ℕ
 weigh n l = cond (may_open l.relay.line) (hit n l.joined) 0
@@ -256,7 +256,7 @@ marks-total n (HouseOrder o number) old new h = let all = orders-total n o numbe
 
 -- ---- how many were joined
 
-joins-at : (n : ℕ) (m : Message) (old new : Trace) → ReceivesAt n m old new → new.joins ≡ old.joins
+joins-at : (n : ℕ) (m : Message) (old new : Trace) → RelayReceivesAt n m old new → new.joins ≡ old.joins
 joins-at n m old new (inl h) = ap (λ (c : Trace). c.joins) h.2
 joins-at n m old new (inr h) = ap (λ (c : Trace). c.joins) h.1
 
@@ -304,7 +304,7 @@ joins-frame Control content old new h =
     ap (λ (c : Trace). c.joins) h ∙ either-joins (is_grant (take_u32 content)) _ old refl
 joins-frame Proxy content old new h = joins-reading (reading content) old new h
 
-joins-frames : (contents : List (List ℕ)) (old new : Trace) → ReceivesFrames contents old new → new.joins ≡ old.joins
+joins-frames : (contents : List (List ℕ)) (old new : Trace) → RelaysReceiveFrames contents old new → new.joins ≡ old.joins
 joins-frames [] old new h = ap (λ (c : Trace). c.joins) h.1
 joins-frames (content ∷ more) old new h =
     joins-frames more h.2.0 new h.2.2 ∙ joins-frame old.stage content (cut_off (Frame content h.0) old) h.2.0 h.2.1
@@ -346,7 +346,7 @@ joins-follow (ReceivesBytes bytes) old new h = let its = joins-frames h.0 (with_
 joins-follow (Turns happening) old new h = joins-turn happening old new h.0 h.2
 joins-follow (TakesBytes t bytes) old new h = let its = ap (λ (c : Trace). c.joins) h.2 in omega (arith, its)
 
-joins-reach : (calls : List HouseCall) (old new : Trace) → Reaches old calls new → new.joins ≡ joins_in calls + old.joins
+joins-reach : (calls : List HouseCall) (old new : Trace) → TraceReaches old calls new → new.joins ≡ joins_in calls + old.joins
 joins-reach [] old new h = let its = ap (λ (c : Trace). c.joins) h in omega (arith, its)
 joins-reach (call ∷ calls) old new h =
     let first = joins-follow call old h.0 h.1 in
@@ -444,13 +444,13 @@ follow-total n (Turns happening) old new h s =
     let joins = ap (λ (c : Trace). room n c.joins) h.2 in
     omega (arith, all, are, joins)
 follow-total n (TakesBytes t bytes) old new h s =
-    let less = total-most n (has_stream t) (GoesBy (TakesOn bytes) (Takes bytes)) old.relay_traces h.0
+    let less = total-most n (has_stream t) (RelayGoesBy (TakesOn bytes) (Takes bytes)) old.relay_traces h.0
     (λ a b goes. weighs-less n a b goes.joined (takes-one bytes a b goes)) h.1 in
     let are = ap (λ (c : Trace). total n c.relay_traces) h.2 in
     let same = ap (λ (c : Trace). room n c.joins) h.2 in
     omega (arith, less, are, same)
 
-reach-total : (n : ℕ) (calls : List HouseCall) (old new : Trace) (h : Reaches old calls new) → OfAll Sound old
+reach-total : (n : ℕ) (calls : List HouseCall) (old new : Trace) (h : TraceReaches old calls new) → OfAll Sound old
     → times n (openers_in calls old new h) + total n new.relay_traces + room n old.joins ≤ room n new.joins + total n old.relay_traces
 reach-total n [] old new h s =
     let all = ap (λ (c : Trace). total n c.relay_traces) h in
@@ -462,7 +462,7 @@ reach-total n (call ∷ calls) old new h s =
     let both = times-append n (opener_of call old h.0 h.1) (openers_in calls h.0 new h.2) in
     omega (arith, first, rest, both)
 
-once : (n : ℕ) (calls : List HouseCall) (trace : Trace) (h : Reaches first_trace calls trace)
+once : (n : ℕ) (calls : List HouseCall) (trace : Trace) (h : TraceReaches first_trace calls trace)
     → times n (openers_in calls first_trace trace h ++ openers_left trace.relay_traces) ≤ 1
 once n calls trace h =
     let all = reach-total n calls first_trace trace h (record { relay_traces = tt; past = tt }) in
@@ -471,7 +471,7 @@ once n calls trace h =
     let most = room-most n trace.joins in
     omega (arith, all, both, same, most)
 
--- ---- each is told
+-- ---- each is recorded
 
 recorded-if : (b : Bool) (o : Option ℕ) → length (cond b (o ∷ []) []) ≡ cond {A = ℕ} b 1 0
 recorded-if true o = refl
@@ -499,7 +499,7 @@ follow-recorded (ReceivesBytes bytes) old new h = refl
 follow-recorded (Turns happening) old new h = refl
 follow-recorded (TakesBytes t bytes) old new h = refl
 
-reach-recorded : (calls : List HouseCall) (old new : Trace) (h : Reaches old calls new) → length (openers_in calls old new h) ≡ opens_in calls
+reach-recorded : (calls : List HouseCall) (old new : Trace) (h : TraceReaches old calls new) → length (openers_in calls old new h) ≡ opens_in calls
 reach-recorded [] old new h = refl
 reach-recorded (call ∷ calls) old new h =
     let first = follow-recorded call old h.0 h.1 in
@@ -548,7 +548,7 @@ joined-more calls more socket h =
     let both = joins-append calls more in
     record { number = h.number; is = h.is; joined = omega (arith, l, both) }
 
--- one that says its OPEN was to
+-- one that sends its OPEN was to
 said-opens : (l : Life) (bytes : List ℕ) → has_words l ≡ true → is_open bytes ≡ true → (opening bytes ≤ one l) → may_open l.relay.line ≡ true
 said-opens l bytes words is most = by (may_open l.relay.line) refl
   where
@@ -592,7 +592,7 @@ follow-joined before (ReceivesBytes bytes) old new h p = All-nil (IsOneJoined be
 follow-joined before (Turns happening) old new h p = All-nil (IsOneJoined before)
 follow-joined before (TakesBytes t bytes) old new h p = All-nil (IsOneJoined before)
 
-reach-joined : (before calls : List HouseCall) (old new : Trace) → Reaches first_trace before old → (h : Reaches old calls new)
+reach-joined : (before calls : List HouseCall) (old new : Trace) → TraceReaches first_trace before old → (h : TraceReaches old calls new)
     → All (IsOneJoined (before ++ calls)) (openers_in calls old new h)
 reach-joined before [] old new r h = All-nil (IsOneJoined (before ++ []))
 reach-joined before (call ∷ calls) old new r h =

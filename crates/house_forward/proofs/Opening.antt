@@ -1,4 +1,4 @@
--- The OPENs that the house says.
+-- The OPENs that the forwarder sends.
 use Rattle.std.proofs.Common.{◌≡◌, ◌∙◌, refl, ap, ◌⊎◌, inl, inr, arith, ℕ, ◌+◌, ◌≤◌, Bool, true, false, cond, List, [], ◌∷◌, ◌++◌, length, map, filter, Option, Some, None}
 use Rattle.std.specs.Prelude.{not, if◌then◌else◌, find, is_some}
 use Rattle.conn_messages.specs.declared.message.Message.{Message}
@@ -21,10 +21,10 @@ use Rattle.house_relay.specs.declared.relay.Outgoing.TheVariants as outgoing
 use Rattle.house_forward.specs.Forwardings.{has_request}
 use Rattle.house_forward.specs.Going.{GetsOn, TakesOn}
 use Rattle.house_forward.specs.Links.{after_sending}
-use Rattle.house_forward.specs.RelayTraces.{Life, Trace, GoesBy, One, OneAtMost, Speaks, Listens, StepsBy, MakesOne, Reaches, Follows, SendsBy, MarksIn, OrdersIn, TurnsTo, first_trace, with_received}
+use Rattle.house_forward.specs.RelayTraces.{Life, Trace, RelayGoesBy, One, OneAtMost, Speaks, Listens, StepsBy, MakesOne, TraceReaches, Follows, SendsBy, MarksIn, OrdersIn, TurnsTo, first_trace, with_received}
 use Rattle.house_forward.specs.RelayTraces.{has_channel, has_stream, has_words, are_full, stepped, made_life, kept_in}
 use Rattle.house_forward.specs.Opening.{OneOpenAtMost, is_open, opens_by, opens_by_mark, opens_in, joins_by, joins_by_turn, joins_in, may_open, still_to_open}
-use Rattle.house_forward.specs.Said.{framed, sent_by, direct, payload_of, payload_if}
+use Rattle.house_forward.specs.Said.{framed, relay_sent_by, direct, payload_of, payload_if}
 use Rattle.house_forward.specs.declared.forwarding.Forwarding.{Forwarding}
 use Rattle.house_forward.specs.declared.link.LinkStep.{LinkStep}
 use Rattle.house_forward.specs.declared.link.LinkStep.TheVariants as step
@@ -32,7 +32,7 @@ use Rattle.house_forward.proofs.Frames.{Applies, frames}
 use Rattle.house_forward.proofs.Settling.{SettlesBy, FailsLater, settles-receives, settles-takes, settled-said, with-line, line-step}
 use Rattle.house_forward.proofs.Sound.{All, Sound, follow-sound, offered_life, joined_life, step_of}
 
--- ---- where an OPEN is to be said, as the channel goes on
+-- ---- where an OPEN is to be sent, as the channel goes on
 
 abbrev opens : ChannelState → ℕ
 opens line = cond (may_open line) 1 0
@@ -62,12 +62,12 @@ gets-line (Offered remote window maximum) free bytes old new e h = let same = ap
 gets-line (Live live) free bytes old new e h = let same = ap opens (h.0 ∙ e) in omega (arith, same)
 gets-line Over free bytes old new e h = let same = ap opens (h.0 ∙ e) in omega (arith, same)
 
--- ---- what is said
+-- ---- what is sent
 
 abbrev pub opening : List ℕ → ℕ
 opening bytes = if is_open bytes then 1 else 0
 
--- in a channel that is confirmed, or offered, no OPEN is said
+-- in a channel that is confirmed, or offered, no OPEN is sent
 live-none : (s : Outgoing) (live : LiveState) (r : Relay) → is_open (framed (payload_of (with-line (Live live) r) s)) ≡ false
 live-none outgoing.Open live r = refl
 live-none outgoing.Confirmation live r = refl
@@ -100,14 +100,14 @@ offered-said (outgoing.Data n) remote window maximum r = refl
 offered-said outgoing.Eof remote window maximum r = refl
 offered-said (outgoing.Adjust n) remote window maximum r = refl
 
--- what is said in a channel in which an OPEN is to be said is that OPEN, and it is none in another
+-- what is sent in a channel in which an OPEN is to be sent is that OPEN, and it is none in another
 pub record SendsOpen (host : List ℕ) (port : ℕ) (version : Option ℕ) (r : Relay) : Type 0 where
   pub asked : r.line ≡ Asked host port version
-  pub words : sent_by r ≡ direct r.number host port
+  pub words : relay_sent_by r ≡ direct r.number host port
 
 pub record Spoken (r : Relay) : Type 0 where
   pub settled : may_open (after_sending (sends_of r) r).line ≡ false
-  pub either : (is_open (framed (sent_by r)) ≡ false)
+  pub either : (is_open (framed (relay_sent_by r)) ≡ false)
       ⊎ ((host : List ℕ) × (port : ℕ) × (version : Option ℕ) × SendsOpen host port version r)
 
 live-spoken : (live : LiveState) (r : Relay) (o : Option Outgoing) → is_some o ≡ true
@@ -199,28 +199,28 @@ count-stepped s t (l ∷ ls) =
 pub receives-one : (m : Message) (a b : Life) → Listens m a b → one b ≤ one a
 receives-one m a b h = settled-most a.relay.line b.relay.line (settles-receives may_open may-later m a b h)
 
-pub takes-one : (bytes : List ℕ) (a b : Life) → GoesBy (TakesOn bytes) (Takes bytes) a b → one b ≤ one a
+pub takes-one : (bytes : List ℕ) (a b : Life) → RelayGoesBy (TakesOn bytes) (Takes bytes) a b → one b ≤ one a
 takes-one bytes a b h = settled-most a.relay.line b.relay.line (settles-takes may_open may-later bytes a b h)
 
-pub gets-one : (free : Bool) (bytes : List ℕ) (a b : Life) → GoesBy (GetsOn free bytes) (Reads bytes) a b → one b ≤ one a
+pub gets-one : (free : Bool) (bytes : List ℕ) (a b : Life) → RelayGoesBy (GetsOn free bytes) (Reads bytes) a b → one b ≤ one a
 gets-one free bytes a b h = gets-line a.relay.line free bytes a.relay b.relay refl h.relay.0
 
-says-after : (r : Relay) → Spoken r → opening (framed (sent_by r)) + opens (after_sending (sends_of r) r).line ≤ opens r.line
+says-after : (r : Relay) → Spoken r → opening (framed (relay_sent_by r)) + opens (after_sending (sends_of r) r).line ≤ opens r.line
 says-after r h = by h.either
   where
     none : opens (after_sending (sends_of r) r).line ≡ 0
     none = ap {B = ℕ} (λ (b : Bool). cond b 1 0) h.settled
 
-    by : (is_open (framed (sent_by r)) ≡ false)
+    by : (is_open (framed (relay_sent_by r)) ≡ false)
         ⊎ ((host : List ℕ) × (port : ℕ) × (version : Option ℕ) × SendsOpen host port version r)
-        → opening (framed (sent_by r)) + opens (after_sending (sends_of r) r).line ≤ opens r.line
+        → opening (framed (relay_sent_by r)) + opens (after_sending (sends_of r) r).line ≤ opens r.line
     by (inl e) =
         let no = ap {B = ℕ} (λ (b : Bool). cond b 1 0) e in
         let its = none in
         omega (arith, no, its)
     by (inr x) =
         let asked = ap opens x.3.asked in
-        let most = one-most (is_open (framed (sent_by r))) in
+        let most = one-most (is_open (framed (relay_sent_by r))) in
         let its = none in
         omega (arith, asked, most, its)
 
@@ -327,11 +327,11 @@ follow-count (Turns happening) old new h s =
     let are = ap (λ (c : Trace). count c.relay_traces) h.2 in
     omega (arith, all, are)
 follow-count (TakesBytes t bytes) old new h s =
-    let less = count-most (has_stream t) (GoesBy (TakesOn bytes) (Takes bytes)) old.relay_traces h.0 (λ a b is goes. takes-one bytes a b goes) h.1 in
+    let less = count-most (has_stream t) (RelayGoesBy (TakesOn bytes) (Takes bytes)) old.relay_traces h.0 (λ a b is goes. takes-one bytes a b goes) h.1 in
     let are = ap (λ (c : Trace). count c.relay_traces) h.2 in
     omega (arith, less, are)
 
-reach-count : (calls : List HouseCall) (old new : Trace) → Reaches old calls new → All Sound old
+reach-count : (calls : List HouseCall) (old new : Trace) → TraceReaches old calls new → All Sound old
     → opens_in calls + count new.relay_traces ≤ joins_in calls + count old.relay_traces
 reach-count [] old new h s = let all = same-count old new (ap (λ (c : Trace). c.relay_traces) h) in omega (arith, all)
 reach-count (call ∷ calls) old new h s =

@@ -15,10 +15,10 @@ use Rattle.mux_outside.specs.declared.house_mark.HouseMark.TheVariants.{HouseIn,
 use Rattle.mux_outside.specs.declared.order.Order.{Order}
 use Rattle.mux_outside.specs.declared.order.Order.TheVariants as order
 use Rattle.mux_outside.specs.declared.own_streams.OwnStream.{OwnStream}
-use Rattle.house_relay.specs.Acts.{Act, Reads, Takes}
+use Rattle.house_relay.specs.Acts.{RelayAct, Reads, Takes}
 use Rattle.house_relay.specs.Next.{sends_of}
-use Rattle.house_relay.specs.Relay.{stream_of}
-use Rattle.house_relay.specs.Steps.{is_closed, is_gone, sent_of, confirmed_in, refused_in, data_received}
+use Rattle.house_relay.specs.Relay.{socket_stream_of}
+use Rattle.house_relay.specs.Steps.{is_socket_closed, is_gone, sent_of, confirmed_in, refused_in, data_received}
 use Rattle.house_relay.specs.Relay.{delivers}
 use Rattle.house_relay.specs.ChannelState.{counts}
 use Rattle.house_relay.specs.declared.line.ChannelState.{ChannelState}
@@ -32,9 +32,9 @@ use Rattle.house_forward.specs.Forwardings.{has_request}
 use Rattle.house_forward.specs.Going.{GetsOn, TakesOn}
 use Rattle.house_forward.specs.Heard.{received_of}
 use Rattle.house_forward.specs.Links.{after_sending, relay_after}
-use Rattle.house_forward.specs.RelayTraces.{Life, Trace, GoesBy, Speaks, Listens, StepsBy, MakesOne, Reaches, Follows, SendsBy, MarksIn, OrdersIn, TurnsTo, first_trace, with_received}
-use Rattle.house_forward.specs.RelayTraces.{has_channel, has_stream, is_stream, has_words, unmade, are_full, own_after, own_made, stepped, made_life, kept_in}
-use Rattle.house_forward.specs.Numbers.{ChannelsAreSmall, ChannelsDiffer, StreamsAreTheirs, StreamsDiffer, EachIsNew, BringsNew, channels_of, open_streams, number_of, open_after, made_by, closed_by, without_closed}
+use Rattle.house_forward.specs.RelayTraces.{Life, Trace, RelayGoesBy, Speaks, Listens, StepsBy, MakesOne, TraceReaches, Follows, SendsBy, MarksIn, OrdersIn, TurnsTo, first_trace, with_received}
+use Rattle.house_forward.specs.RelayTraces.{has_channel, has_stream, is_stream, has_words, unmade, are_full, link_own_after, own_made, stepped, made_life, kept_in}
+use Rattle.house_forward.specs.Numbers.{ChannelsAreSmall, ChannelsDiffer, StreamsAreTheirs, StreamsDiffer, EachIsNew, BringsNew, relay_channels_of, open_streams, number_of, streams_open_after, made_by, stream_closed_by, without_closed}
 use Rattle.house_forward.specs.declared.forwarding.Forwarding.{Forwarding}
 use Rattle.house_forward.specs.declared.link.LinkStep.{LinkStep}
 use Rattle.house_forward.specs.declared.link.LinkStep.TheVariants as step
@@ -169,42 +169,42 @@ number-step step.Failed r = refl
 abbrev channel : Life → ℕ
 channel l = l.relay.number
 
-gone-apart : (b : Bool) (l : Life) (ls more : List Life) → Apart (channels_of (l ∷ ls)) → Apart (channels_of more)
-    → among (channel l) (channels_of more) ≡ false → Apart (channels_of (if b then ls else l ∷ more))
+gone-apart : (b : Bool) (l : Life) (ls more : List Life) → Apart (relay_channels_of (l ∷ ls)) → Apart (relay_channels_of more)
+    → among (channel l) (relay_channels_of more) ≡ false → Apart (relay_channels_of (if b then ls else l ∷ more))
 gone-apart true l ls more h rest none = h.1
 gone-apart false l ls more h rest none = (none, rest)
 
-gone-among : (n : ℕ) (b : Bool) (l : Life) (ls more : List Life) → among n (channels_of (l ∷ ls)) ≡ false
-    → among n (channels_of more) ≡ false → among n (channels_of (if b then ls else l ∷ more)) ≡ false
-gone-among n true l ls more h rest = (or_parts (channel l == n) (among n (channels_of ls)) h).1
+gone-among : (n : ℕ) (b : Bool) (l : Life) (ls more : List Life) → among n (relay_channels_of (l ∷ ls)) ≡ false
+    → among n (relay_channels_of more) ≡ false → among n (relay_channels_of (if b then ls else l ∷ more)) ≡ false
+gone-among n true l ls more h rest = (or_parts (channel l == n) (among n (relay_channels_of ls)) h).1
 gone-among n false l ls more h rest =
-    or_from (channel l == n) (among n (channels_of more)) (or_parts (channel l == n) (among n (channels_of ls)) h).0 rest
+    or_from (channel l == n) (among n (relay_channels_of more)) (or_parts (channel l == n) (among n (relay_channels_of ls)) h).0 rest
 
-kept-among : (n : ℕ) (ls : List Life) → among n (channels_of ls) ≡ false → among n (channels_of (kept_in ls)) ≡ false
+kept-among : (n : ℕ) (ls : List Life) → among n (relay_channels_of ls) ≡ false → among n (relay_channels_of (kept_in ls)) ≡ false
 kept-among n [] h = refl
 kept-among n (l ∷ ls) h =
     gone-among n (is_gone l.relay) l ls (kept_in ls) h
-    (kept-among n ls (or_parts (channel l == n) (among n (channels_of ls)) h).1)
+    (kept-among n ls (or_parts (channel l == n) (among n (relay_channels_of ls)) h).1)
 
-kept-apart : (ls : List Life) → Apart (channels_of ls) → Apart (channels_of (kept_in ls))
+kept-apart : (ls : List Life) → Apart (relay_channels_of ls) → Apart (relay_channels_of (kept_in ls))
 kept-apart [] h = tt
 kept-apart (l ∷ ls) h =
     gone-apart (is_gone l.relay) l ls (kept_in ls) h (kept-apart ls h.1) (kept-among (channel l) ls h.0)
 
-one-more : (ls : List Life) (l : Life) → list_any (has_channel (channel l)) ls ≡ false → Apart (channels_of ls)
-    → Apart (channels_of (ls ++ l ∷ []))
+one-more : (ls : List Life) (l : Life) → list_any (has_channel (channel l)) ls ≡ false → Apart (relay_channels_of ls)
+    → Apart (relay_channels_of (ls ++ l ∷ []))
 one-more ls l free h =
     subst Apart (sym (map-append channel ls (l ∷ [])))
-    (apart-push (channel l) (channels_of ls) h (any-map (λ (s : ℕ). s == channel l) channel ls ∙ free))
+    (apart-push (channel l) (relay_channels_of ls) h (any-map (λ (s : ℕ). s == channel l) channel ls ∙ free))
 
 stepped-if : (s : LinkStep) (b : Bool) (l : Life) → channel (if b then step_of s l else l) ≡ channel l
 stepped-if s true l = number-step s l.relay
 stepped-if s false l = refl
 
-stepped-same : (s : LinkStep) (t : ℕ) (ls : List Life) → channels_of (map (stepped s t) ls) ≡ channels_of ls
+stepped-same : (s : LinkStep) (t : ℕ) (ls : List Life) → relay_channels_of (map (stepped s t) ls) ≡ relay_channels_of ls
 stepped-same s t [] = refl
 stepped-same s t (l ∷ ls) =
-    ap (λ n. n ∷ channels_of (map (stepped s t) ls)) (stepped-if s (has_stream t l) l) ∙ ap (λ ns. channel l ∷ ns) (stepped-same s t ls)
+    ap (λ n. n ∷ relay_channels_of (map (stepped s t) ls)) (stepped-if s (has_stream t l) l) ∙ ap (λ ns. channel l ∷ ns) (stepped-same s t ls)
 
 says-same : (bytes : List ℕ) (a b : Life) → Speaks bytes a b → channel b ≡ channel a
 says-same bytes a b h = ap (λ (r : Relay). r.number) h.1.relay.0 ∙ number-after (sends_of a.relay) a.relay
@@ -212,16 +212,16 @@ says-same bytes a b h = ap (λ (r : Relay). r.number) h.1.relay.0 ∙ number-aft
 receives-same : (m : Message) (a b : Life) → Listens m a b → channel b ≡ channel a
 receives-same m a b h = ap (λ (r : Relay). r.number) h.relay.0 ∙ number-heard m a.relay
 
-gets-same : (free : Bool) (bytes : List ℕ) (a b : Life) → GoesBy (GetsOn free bytes) (Reads bytes) a b → channel b ≡ channel a
+gets-same : (free : Bool) (bytes : List ℕ) (a b : Life) → RelayGoesBy (GetsOn free bytes) (Reads bytes) a b → channel b ≡ channel a
 gets-same free bytes a b h = h.relay.3
 
-takes-same : (bytes : List ℕ) (a b : Life) → GoesBy (TakesOn bytes) (Takes bytes) a b → channel b ≡ channel a
+takes-same : (bytes : List ℕ) (a b : Life) → RelayGoesBy (TakesOn bytes) (Takes bytes) a b → channel b ≡ channel a
 takes-same bytes a b h = ap (λ (r : Relay). r.number) h.relay.0
 
--- ---- the channels of a course
+-- ---- the channels of a trace
 
 abbrev ChannelsApart : List Life → Type 0
-ChannelsApart ls = Apart (channels_of ls)
+ChannelsApart ls = Apart (relay_channels_of ls)
 
 applies-channels : Applies (λ ls taken. ChannelsApart ls)
 applies-channels = record {
@@ -247,12 +247,12 @@ channels-step o s t old new h a =
 channels-make : (host : List ℕ) (port : ℕ) (number : Option ℕ) (old new : Trace) → MakesOne host port number old new
     → ChannelsApart old.relay_traces → ChannelsApart new.relay_traces
 channels-make host port number old new h a =
-    let out = apart-out (channel h.life) (channels_of h.before) (channels_of h.behind)
-    (subst Apart (ap channels_of h.were ∙ map-append channel h.before (h.life ∷ h.behind)) a) in
+    let out = apart-out (channel h.life) (relay_channels_of h.before) (relay_channels_of h.behind)
+    (subst Apart (ap relay_channels_of h.were ∙ map-append channel h.before (h.life ∷ h.behind)) a) in
     subst (λ (c : Trace). ChannelsApart c.relay_traces) (sym h.are)
     (subst Apart
     (sym (map-append channel (h.before ++ h.behind) (made_life number h.life ∷ []) ∙ ap (λ ns. ns ++ channel h.life ∷ []) (map-append channel h.before h.behind)))
-    (apart-push (channel h.life) (channels_of h.before ++ channels_of h.behind) out.0 out.1))
+    (apart-push (channel h.life) (relay_channels_of h.before ++ relay_channels_of h.behind) out.0 out.1))
 
 channels-order : (o : Order) (number : Option ℕ) (old new : Trace) → OrdersIn o number old new → ChannelsApart old.relay_traces
     → ChannelsApart new.relay_traces
@@ -292,9 +292,9 @@ channels-follow (Turns happening) old new h s a =
     subst (λ (c : Trace). ChannelsApart c.relay_traces) (sym h.2) (channels-turn happening old.joins old.forwarding_state.all old.relay_traces h.0 h.1 a)
 channels-follow (TakesBytes t bytes) old new h s a =
     subst (λ (c : Trace). ChannelsApart c.relay_traces) (sym h.2)
-    (subst Apart (sym (most-maps channel (has_stream t) (GoesBy (TakesOn bytes) (Takes bytes)) old.relay_traces h.0 (takes-same bytes) h.1)) a)
+    (subst Apart (sym (most-maps channel (has_stream t) (RelayGoesBy (TakesOn bytes) (Takes bytes)) old.relay_traces h.0 (takes-same bytes) h.1)) a)
 
-channels-reach : (calls : List HouseCall) (old new : Trace) → Reaches old calls new → All Sound old → ChannelsApart old.relay_traces
+channels-reach : (calls : List HouseCall) (old new : Trace) → TraceReaches old calls new → All Sound old → ChannelsApart old.relay_traces
     → ChannelsApart new.relay_traces
 channels-reach [] old new h s a = subst (λ (c : Trace). ChannelsApart c.relay_traces) (sym h) a
 channels-reach (call ∷ calls) old new h s a =
@@ -302,7 +302,7 @@ channels-reach (call ∷ calls) old new h s a =
 
 pub channels-differ : ChannelsDiffer
 channels-differ calls trace h =
-    pairs (channels_of trace.relay_traces) (channels-reach calls first_trace trace h (record { relay_traces = tt; past = tt }) tt)
+    pairs (relay_channels_of trace.relay_traces) (channels-reach calls first_trace trace h (record { relay_traces = tt; past = tt }) tt)
 
 -- each is uint32
 
@@ -326,7 +326,7 @@ small-kept = record {
   offers = λ f number remote window maximum small. small;
 }
 
-all-small : (ls : List Life) → Each HasSmall ls → AllByRecursion (λ n. n < 2 ^ 32) (channels_of ls)
+all-small : (ls : List Life) → Each HasSmall ls → AllByRecursion (λ n. n < 2 ^ 32) (relay_channels_of ls)
 unfolding HasSmall
 all-small [] h = tt
 all-small (l ∷ ls) h = (h.0, all-small ls h.1)
@@ -336,12 +336,12 @@ channels-small calls trace h =
     let all : All HasSmall trace = all-reach (λ call trace. Unit {0}) HasSmall small-kept calls first_trace trace (λ before call behind mid e r. tt) h (record { relay_traces = tt; past = tt }) in
     all-small trace.relay_traces all.relay_traces
 
--- ---- the streams of a course
+-- ---- the streams of a trace
 
 abbrev stream : Life → Option ℕ
 stream l = number_of l.own
 
-closed-none : (s : Socket) → is_closed s ≡ true → stream_of s ≡ None
+closed-none : (s : Socket) → is_socket_closed s ≡ true → socket_stream_of s ≡ None
 closed-none (socket.Connecting t) e = cc
 closed-none (socket.Open t) e = cc
 closed-none socket.Unmade e = refl
@@ -350,9 +350,9 @@ closed-none (socket.NoChannelLeft t) e = cc
 closed-none socket.Closed e = refl
 
 gone-none : (l : Life) → Sound l → is_gone l.relay ≡ true → stream l ≡ None
-gone-none l s e = sym s.stream ∙ closed-none l.relay.socket (and_parts (is_closed l.relay.socket) (not (counts l.relay.line)) e).0
+gone-none l s e = sym s.stream ∙ closed-none l.relay.socket (and_parts (is_socket_closed l.relay.socket) (not (counts l.relay.line)) e).0
 
-unmade-none : (s : Socket) → unmade s ≡ true → stream_of s ≡ None
+unmade-none : (s : Socket) → unmade s ≡ true → socket_stream_of s ≡ None
 unmade-none (socket.Connecting t) e = cc
 unmade-none (socket.Open t) e = cc
 unmade-none socket.Unmade e = refl
@@ -360,7 +360,7 @@ unmade-none (socket.Failed t) e = cc
 unmade-none (socket.NoChannelLeft t) e = cc
 unmade-none socket.Closed e = refl
 
-goes-same : (so : Relay → Relay → Type 0) (act : Act) (a b : Life) → GoesBy so act a b → stream b ≡ stream a
+goes-same : (so : Relay → Relay → Type 0) (act : RelayAct) (a b : Life) → RelayGoesBy so act a b → stream b ≡ stream a
 goes-same so act a b h = ap number_of h.own
 
 -- which step closes no stream
@@ -372,7 +372,7 @@ leaves step.Close = ⊥
 leaves step.Writable = Unit {0}
 leaves step.Failed = Unit {0}
 
-own-same : (s : LinkStep) → leaves s → (own : Option OwnStream) → number_of (own_after s own) ≡ number_of own
+own-same : (s : LinkStep) → leaves s → (own : Option OwnStream) → number_of (link_own_after s own) ≡ number_of own
 own-same s l None = refl
 own-same (step.Pause b) l (Some own) = refl
 own-same step.Finish l (Some own) = refl
@@ -389,7 +389,7 @@ close-own : (t : ℕ) (b : Bool) (l : Life) (rest : List ℕ) (own : Option OwnS
 close-own t true l rest None e is = cc
 close-own t false l rest None e is = ap (λ (o : Option OwnStream). cons_option (number_of o) (without t rest)) e
 close-own t true l rest (Some own) e is =
-    ap (λ (o : Option OwnStream). cons_option (number_of (own_after step.Close o)) (without t rest)) e
+    ap (λ (o : Option OwnStream). cons_option (number_of (link_own_after step.Close o)) (without t rest)) e
     ∙ ap (λ (b : Bool). cond (not b) (own.number ∷ without t rest) (without t rest)) (sym is)
 close-own t false l rest (Some own) e is =
     ap (λ (o : Option OwnStream). cons_option (number_of o) (without t rest)) e
@@ -415,7 +415,7 @@ applies-streams there = record {
 
 -- what a call leaves of them
 abbrev pub after : HouseCall → List ℕ → List ℕ
-after call there = without_closed (closed_by call) there ++ option_to_list (made_by call)
+after call there = without_closed (stream_closed_by call) there ++ option_to_list (made_by call)
 
 streams-says : (b : Bool) (o : Option Forwarding) (bytes : List ℕ) (old new : Trace) → SendsBy b o bytes old new → All Sound old
     → open_streams new.relay_traces ≡ open_streams old.relay_traces
@@ -492,14 +492,14 @@ streams-follow (Turns happening) old new h s =
     ap (λ (c : Trace). open_streams c.relay_traces) h.2 ∙ streams-turn happening old.joins old.forwarding_state.all old.relay_traces h.0 h.1 s.relay_traces
 streams-follow (TakesBytes t bytes) old new h s =
     more _ _ (ap (λ (c : Trace). open_streams c.relay_traces) h.2
-    ∙ most-picks stream Sound (has_stream t) (GoesBy (TakesOn bytes) (Takes bytes)) old.relay_traces h.0 (λ a b x is goes. goes-same _ _ a b goes) s.relay_traces h.1)
+    ∙ most-picks stream Sound (has_stream t) (RelayGoesBy (TakesOn bytes) (Takes bytes)) old.relay_traces h.0 (λ a b x is goes. goes-same _ _ a b goes) s.relay_traces h.1)
 
-streams-reach : (calls : List HouseCall) (old new : Trace) → Reaches old calls new → All Sound old
-    → open_streams new.relay_traces ≡ open_after (open_streams old.relay_traces) calls
+streams-reach : (calls : List HouseCall) (old new : Trace) → TraceReaches old calls new → All Sound old
+    → open_streams new.relay_traces ≡ streams_open_after (open_streams old.relay_traces) calls
 streams-reach [] old new h s = ap (λ (c : Trace). open_streams c.relay_traces) h
 streams-reach (call ∷ calls) old new h s =
     streams-reach calls h.0 new h.2 (follow-sound call old h.0 h.1 s)
-    ∙ ap (λ there. open_after there calls) (streams-follow call old h.0 h.1 s)
+    ∙ ap (λ there. streams_open_after there calls) (streams-follow call old h.0 h.1 s)
 
 pub streams-are-theirs : StreamsAreTheirs
 streams-are-theirs calls trace h = streams-reach calls first_trace trace h (record { relay_traces = tt; past = tt })
@@ -519,11 +519,11 @@ apart-with : (o closed : Option ℕ) (there : List ℕ) → IfSome o (λ t. amon
 apart-with None closed there new h = subst Apart (sym (append-nil (without_closed closed there))) h
 apart-with (Some t) closed there new h = apart-push t (without_closed closed there) h (among-without closed t there new)
 
-pub apart-after : (calls : List HouseCall) (there : List ℕ) → BringsNew there calls → Apart there → Apart (open_after there calls)
+pub apart-after : (calls : List HouseCall) (there : List ℕ) → BringsNew there calls → Apart there → Apart (streams_open_after there calls)
 apart-after [] there new h = h
 apart-after (call ∷ calls) there new h =
     apart-after calls (after call there) new.1
-    (apart-with (made_by call) (closed_by call) there new.0 (apart-without (closed_by call) there h))
+    (apart-with (made_by call) (stream_closed_by call) there new.0 (apart-without (stream_closed_by call) there h))
 
 -- ---- each has a new number
 
@@ -578,7 +578,7 @@ new-follow (ReceivesBytes bytes) old new h = tt
 new-follow (Turns happening) old new h = new-turn happening old h.0 h.1
 new-follow (TakesBytes t bytes) old new h = tt
 
-new-reach : (calls : List HouseCall) (old new : Trace) → Reaches old calls new → All Sound old → BringsNew (open_streams old.relay_traces) calls
+new-reach : (calls : List HouseCall) (old new : Trace) → TraceReaches old calls new → All Sound old → BringsNew (open_streams old.relay_traces) calls
 new-reach [] old new h s = tt
 new-reach (call ∷ calls) old new h s = (
   new-follow call old h.0 h.1,

@@ -1,4 +1,4 @@
--- What holds of each relay of a course, by the calls so far.
+-- What holds of each relay of a trace, by the calls so far.
 use Rattle.std.proofs.Common.{◌≡◌, ◌∙◌, refl, sym, ap, subst, inl, inr, ℕ, Bool, true, false, List, [], ◌∷◌, ◌++◌, map, append_assoc, Option, Some, None}
 use Rattle.std.specs.Prelude.{◌==◌, not, if◌then◌else◌, find}
 use Rattle.std.specs.List.{list_any, cons_option}
@@ -18,9 +18,9 @@ use Rattle.house_relay.specs.Relay.{is_done}
 use Rattle.house_relay.specs.declared.relay.Relay.{Relay}
 use Rattle.house_forward.specs.Forwardings.{has_request, has_listener}
 use Rattle.house_forward.specs.Going.{GetsOn, TakesOn}
-use Rattle.house_forward.specs.Links.{IsJoined}
-use Rattle.house_forward.specs.RelayTraces.{Life, Trace, GoesBy, One, OneAtMost, MakesOne, IsAllowed, StepsBy, Speaks, Listens, Reaches, Follows, SendsBy, MarksIn, OrdersIn, TurnsTo, first_trace, with_received}
-use Rattle.house_forward.specs.RelayTraces.{has_stream, is_stream, has_channel, has_words, is_unmade, are_full, are_dialogs_full, stepped, made_life}
+use Rattle.house_forward.specs.Links.{IsRelayJoined}
+use Rattle.house_forward.specs.RelayTraces.{Life, Trace, RelayGoesBy, One, OneAtMost, MakesOne, OrderIsAllowed, StepsBy, Speaks, Listens, TraceReaches, Follows, SendsBy, MarksIn, OrdersIn, TurnsTo, first_trace, with_received}
+use Rattle.house_forward.specs.RelayTraces.{has_stream, is_stream, has_channel, has_words, is_socket_unmade, are_full, are_dialogs_full, stepped, made_life}
 use Rattle.house_forward.specs.Numbers.{number_of, open_streams}
 use Rattle.house_forward.specs.declared.forwarding.Forwarding.{Forwarding}
 use Rattle.house_forward.specs.declared.link.LinkStep.{LinkStep}
@@ -114,7 +114,7 @@ Untouched (ReceivesBytes bytes) old a = Unit {0}
 Untouched (Turns happening) old a = UntouchedBy happening old a
 Untouched (TakesBytes t bytes) old a = IsOther t old.relay_traces a
 
--- a call that takes a step of a stream
+-- a call that makes a step of a stream
 abbrev pub Orders : HouseCall → LinkStep → ℕ → Type 0
 Orders call (step.Pause b) t = (o : Order) × (number : Option ℕ) × call ≡ Marks (HouseOrder o number)
 Orders call step.Finish t = (o : Order) × (number : Option ℕ) × call ≡ Marks (HouseOrder o number)
@@ -132,7 +132,7 @@ MayStep step.Close old a = Apart (open_streams old.relay_traces) → is_done a.r
 MayStep step.Writable old a = Unit {0}
 MayStep step.Failed old a = Unit {0}
 
--- of one thing before the call, another behind it
+-- of one thing before the call, another after it
 pub record Passes (call : HouseCall) (old : Trace) (P Q : Life → Type 0) : Type 0 where
   pub stays : (a : Life) → P a → Untouched call old a → Q a
   pub receives : (m : Message) (a b : Life) → Sound a → P a → Listens m a b → P b
@@ -140,15 +140,15 @@ pub record Passes (call : HouseCall) (old : Trace) (P Q : Life → Type 0) : Typ
   pub says : (bytes : List ℕ) → call ≡ Marks (HouseSaid bytes) → (a b : Life) → Sound a → P a → has_words a ≡ true
       → Speaks bytes a b → Q b
   pub gets : (t : ℕ) (bytes : List ℕ) → call ≡ Turns (Got t bytes) → (a b : Life) → Sound a → Sound b → P a
-      → has_stream t a ≡ true → GoesBy (GetsOn (not (are_full old.relay_traces)) bytes) (Reads bytes) a b → Q b
+      → has_stream t a ≡ true → RelayGoesBy (GetsOn (not (are_full old.relay_traces)) bytes) (Reads bytes) a b → Q b
   pub takes : (t : ℕ) (bytes : List ℕ) → call ≡ TakesBytes t bytes → (a b : Life) → Sound a → P a → has_stream t a ≡ true
-      → GoesBy (TakesOn bytes) (Takes bytes) a b → Q b
+      → RelayGoesBy (TakesOn bytes) (Takes bytes) a b → Q b
   pub steps : (s : LinkStep) (t : ℕ) → Orders call s t → (a : Life) → Sound a → MayStep s old a → P a → has_stream t a ≡ true
       → Q (step_of s a)
   pub makes : (host : List ℕ) (port : ℕ) (number : Option ℕ) → call ≡ Marks (HouseOrder (order.Connect host port) number)
-      → (a : Life) → Sound a → P a → is_unmade a ≡ true → a.to ≡ Some (host, port) → Q (made_life number a)
+      → (a : Life) → Sound a → P a → is_socket_unmade a ≡ true → a.to ≡ Some (host, port) → Q (made_life number a)
   pub joins : (l t : ℕ) → call ≡ Turns (Joined l t) → (r : Relay)
-      → IsJoined (are_full old.relay_traces) (are_dialogs_full old.relay_traces) (find (has_listener l) old.forwarding_state.all) t r → Q (joined_life old.joins t r)
+      → IsRelayJoined (are_full old.relay_traces) (are_dialogs_full old.relay_traces) (find (has_listener l) old.forwarding_state.all) t r → Q (joined_life old.joins t r)
 
 both-of : (P Q : Life → Type 0) (ls : List Life) → Each P ls → Each Q ls → Each (λ a. P a × Q a) ls
 both-of P Q [] h k = tt
@@ -216,7 +216,7 @@ done-front t ls all h = each-map _ _ ls (λ a f is apart. absurd (both_ways (has
 own-is : (t : ℕ) (o : Option OwnStream) (own : OwnStream) → o ≡ Some own → t ≡ own.number → is_stream t o ≡ true
 own-is t o own e f = ap (is_stream t) e ∙ eq-eqb own.number t (sym f)
 
-done-each : (t : ℕ) (relay_traces : List Life) → IsAllowed (order.Close t) relay_traces
+done-each : (t : ℕ) (relay_traces : List Life) → OrderIsAllowed (order.Close t) relay_traces
     → Each (λ a. has_stream t a ≡ true → Apart (open_streams relay_traces) → is_done a.relay ≡ true) relay_traces
 done-each t relay_traces h =
     let is = own-is t h.life.own h.own h.is h.right.0 in
@@ -302,7 +302,7 @@ pass-turns (Joined l t) old new P Q k h s all = subst (Each Q) (sym h.more)
     (each-append Q old.relay_traces (joined_life old.joins t h.relay ∷ []) (each-map P Q old.relay_traces (λ a p. k.stays a p tt) all)
     (k.joins l t refl h.relay h.joined, tt))
 pass-turns (Got t bytes) old new P Q k h s all =
-    pass-most P Q t (GoesBy (GetsOn (not (are_full old.relay_traces)) bytes) (Reads bytes)) old.relay_traces new h s all (λ a p other. k.stays a p other)
+    pass-most P Q t (RelayGoesBy (GetsOn (not (are_full old.relay_traces)) bytes) (Reads bytes)) old.relay_traces new h s all (λ a p other. k.stays a p other)
     (λ a b sa p is goes. k.gets t bytes refl a b sa (sound-gets (not (are_full old.relay_traces)) bytes a b sa goes) p is goes)
 pass-turns (End t) old new P Q k h s all = subst (Each Q) (sym h)
     (pass-stepped P Q (λ a. Unit {0}) step.End t old.relay_traces s all (always t (λ a. Unit {0}) old.relay_traces (λ a. tt)) (λ a p. k.stays a p tt)
@@ -336,7 +336,7 @@ pass-follow (Turns happening) old new P Q k h s all =
     subst (λ (c : Trace). Each Q c.relay_traces) (sym h.2) (pass-turns happening old h.0 P Q k h.1 s.relay_traces all)
 pass-follow (TakesBytes t bytes) old new P Q k h s all =
     subst (λ (c : Trace). Each Q c.relay_traces) (sym h.2)
-    (pass-most P Q t (GoesBy (TakesOn bytes) (Takes bytes)) old.relay_traces h.0 h.1 s.relay_traces all (λ a p other. k.stays a p other)
+    (pass-most P Q t (RelayGoesBy (TakesOn bytes) (Takes bytes)) old.relay_traces h.0 h.1 s.relay_traces all (λ a p other. k.stays a p other)
     (λ a b sa p is goes. k.takes t bytes refl a b sa p is goes))
 
 -- ---- from the first call on
@@ -344,7 +344,7 @@ pass-follow (TakesBytes t bytes) old new P Q k h s all =
 pub pass-reach : (P : List HouseCall → Life → Type 0)
     → ((before : List HouseCall) (call : HouseCall) (old : Trace) → Apart (open_streams old.relay_traces)
     → Passes call old (P before) (P (before ++ call ∷ [])))
-    → (calls before : List HouseCall) (old new : Trace) → Apart (open_streams old.relay_traces) → Reaches old calls new → All Sound old → Each (P before) old.relay_traces → Each (P (before ++ calls)) new.relay_traces
+    → (calls before : List HouseCall) (old new : Trace) → Apart (open_streams old.relay_traces) → TraceReaches old calls new → All Sound old → Each (P before) old.relay_traces → Each (P (before ++ calls)) new.relay_traces
 pass-reach P k [] before old new apart h s all =
     subst (λ (cs : List HouseCall). Each (P cs) new.relay_traces) (sym (append-nil before))
     (subst (λ (c : Trace). Each (P before) c.relay_traces) (sym h) all)
@@ -356,9 +356,9 @@ pass-reach P k (call ∷ calls) before old new apart h s all =
     (pass-follow call old h.0 (P before) (P (before ++ call ∷ [])) (k before call old apart) h.1 s all) in
     subst (λ (cs : List HouseCall). Each (P cs) new.relay_traces) (append_assoc before (call ∷ []) calls) rest
 
--- of each relay behind the calls
+-- of each relay after the calls
 pub pass-all : (P : List HouseCall → Life → Type 0)
     → ((before : List HouseCall) (call : HouseCall) (old : Trace) → Apart (open_streams old.relay_traces)
     → Passes call old (P before) (P (before ++ call ∷ [])))
-    → (calls : List HouseCall) (trace : Trace) → Reaches first_trace calls trace → Each (P calls) trace.relay_traces
+    → (calls : List HouseCall) (trace : Trace) → TraceReaches first_trace calls trace → Each (P calls) trace.relay_traces
 pass-all P k calls trace h = pass-reach P k calls [] first_trace trace tt h (record { relay_traces = tt; past = tt }) tt

@@ -11,13 +11,13 @@ use Rattle.std.proofs.lemmas.List.Quantifiers.{position-Some}
 use Rattle.mux_outside.specs.declared.house.HouseReply.{HouseReply}
 use Rattle.mux_outside.specs.declared.start_ask.StartAsk.{StartAsk}
 use Rattle.mux_outside.specs.declared.starts.Starts.{Starts}
-use Rattle.house_forward.specs.Asks.{settled, counted, is_about, owes_opening, has_outcome, is_settled, is_waiting, taken_at, waiting_for, turns_away}
-use Rattle.house_forward.specs.Causes.{IsAtRest, AwaitsReply, EachAwaits, ListenersDiffer}
+use Rattle.house_forward.specs.Asks.{settled, counted, is_ask_about, owes_opening, has_outcome, is_settled, is_waiting, taken_at, waiting_for, turns_away}
+use Rattle.house_forward.specs.Causes.{ForwarderIsAtRest, AwaitsReply, EachAwaits, ListenersDiffer}
 use Rattle.house_forward.specs.ForwarderEvents.{ForwarderEvent, Does, Leave}
 use Rattle.house_forward.specs.ForwarderEvents.{Begins, Asks, Answers, Greets, Requests, Replies, Listens, Unlistens}
-use Rattle.house_forward.specs.ForwardingState.{ForwardingState, empty_forwarding_state, BeginsWith, IsAsked, Answers as IsAnswered, greeting_sent, request_sent, reply_received, GetsListener, EndsListener, standing_at}
-use Rattle.house_forward.specs.Forwardings.{Begins as BeginsAt, StartsIf, Standing, Opens, serials_after, IsAskedFor, is_first, has_request, requests_at, request_of, after_sending, changed, stage_after, closing_after, standing, counts, how_many, listens_at, connects_to, as_first, outcome_of, outcome_at, opens_of, closes_of, comes_of_ends, after_close, is_new, EndsLeave, ComesIf, ComesUnless, asks_after, is_asked, asks_at, is_cancelled, cancels_at, live_in, opened_asks, replied_all, replied_asks, removed_at, first_of, to_listen, MadeAt, ordered_asks, serial_of, is_numbered, next_of, next_at, ends_at, has_listener, is_listener, listener_of, listener_at, listeners_of}
-use Rattle.house_forward.specs.Rules.{is_refused_alone}
+use Rattle.house_forward.specs.ForwardingState.{ForwardingState, empty_forwarding_state, BeginsWith, IsClientAsk, Answers as IsAnswered, greeting_sent, request_sent, reply_received, GetsListener, EndsListener, standing_at}
+use Rattle.house_forward.specs.Forwardings.{Begins as BeginsAt, StartsIf, Standing, Opens, serials_after, IsAskedFor, is_first, has_request, requests_at, forwarding_request_of, after_sending, changed, stage_after, closing_after, standing, counts, how_many, listens_at, connects_to, as_first, forwarding_outcome_of, outcome_at, opens_of, closes_of, comes_of_ends, after_close, is_new, EndsLeave, ComesIf, ComesUnless, waiting_after, is_asked, asks_at, is_cancelled, cancels_at, live_outcome_in, opened_asks, replied_all, replied_asks, removed_at, first_of, to_listen, MadeAt, ordered_asks, serial_of, is_numbered, next_of, next_at, forwarding_ends_at, has_listener, is_listener, listener_of, listener_at, listeners_of}
+use Rattle.house_forward.specs.Rules.{is_ruled_out, rules_of}
 use Rattle.house_forward.specs.declared.asks.Asked.{Asked as Comes}
 use Rattle.house_forward.specs.declared.asks.Asked.TheVariants.{Now, Later}
 use Rattle.house_forward.specs.declared.asks.Outcome.{Outcome}
@@ -33,6 +33,7 @@ use Rattle.house_forward.specs.declared.forwarding.Stage.TheVariants.{ToListen, 
 use Rattle.house_forward.specs.declared.forwardings.ForwardingWant.{ForwardingWant}
 use Rattle.house_forward.specs.declared.forwardings.ForwardingWant.TheVariants as want
 use Rattle.house_forward.specs.declared.rules.Ends.{Ends}
+use Rattle.house_forward.specs.declared.rules.ListenRules.{ListenRules}
 use Rattle.house_forward.specs.declared.rules.TheConstants.{MOST_FORWARDINGS}
 use Rattle.house_forward.proofs.Causing.{placed, all-remove, all-removed, all-taken, in-range, there-is, same-many, one-many, more_than, first-ordered, same-one-found, Closing, next-closing}
 use Rattle.house_forward.proofs.Listeners.{one-each, apart-listeners}
@@ -97,25 +98,25 @@ opens-more false ends serials start rs old new n h o =
 opens-more true ends serials start rs old new n h o =
     subst (λ (fs : List Forwarding). More rs old fs (serials + 1)) (sym o.2) (one-more rs old serials ends start o.0 o.1 n h)
 
-starts-more : (b gateway : Bool) (ask : StartAsk) (i : ℕ) (rs : List ForwardingRequest) (old new : Standing)
-    → is_numbered 0 old.all old.serials ≡ true → All (Awaits rs) old.all → StartsIf b gateway ask i old new
+starts-more : (b : Bool) (rules : ListenRules) (ask : StartAsk) (i : ℕ) (rs : List ForwardingRequest) (old new : Standing)
+    → is_numbered 0 old.all old.serials ≡ true → All (Awaits rs) old.all → StartsIf b rules ask i old new
     → More rs old.all new.all new.serials
-starts-more true gateway ask i rs old new n h s =
+starts-more true rules ask i rs old new n h s =
     subst (λ (t : Standing). More rs old.all t.all t.serials) (sym s) (none-more rs old.all old.serials n h)
-starts-more false gateway ask i rs old new n h s =
+starts-more false rules ask i rs old new n h s =
     subst (λ (m : ℕ). More rs old.all new.all m) (sym s.2.serials)
     (opens-more _ s.0 old.serials (Some i) rs old.all new.all n h s.2.all)
 
-begins-more : (gateway : Bool) (asks : List StartAsk) (i : ℕ) (rs : List ForwardingRequest) (old new : Standing) → i ≤ length asks
-    → is_numbered 0 old.all old.serials ≡ true → All (Awaits rs) old.all → BeginsAt gateway asks i old new
+begins-more : (rules : ListenRules) (asks : List StartAsk) (i : ℕ) (rs : List ForwardingRequest) (old new : Standing) → i ≤ length asks
+    → is_numbered 0 old.all old.serials ≡ true → All (Awaits rs) old.all → BeginsAt rules asks i old new
     → More rs old.all new.all new.serials
-begins-more gateway asks zero rs old new l n h b =
+begins-more rules asks zero rs old new l n h b =
     subst (λ (t : Standing). More rs old.all t.all t.serials) (sym b) (none-more rs old.all old.serials n h)
-begins-more gateway asks (suc i) rs old new l n h b =
-    let first = begins-more gateway asks i rs old b.0 (omega arith) n h b.1 in
+begins-more rules asks (suc i) rs old new l n h b =
+    let first = begins-more rules asks i rs old b.0 (omega arith) n h b.1 in
     let at = in-range asks i (omega arith) in
-    let starts = there-is (λ (ask : StartAsk). StartsIf (is_refused_alone ask) gateway ask i b.0 new) (slice_get asks i) at.0 at.1 b.2 in
-    let last = starts-more (is_refused_alone at.0) gateway at.0 i rs b.0 new first.numbered first.stages starts in
+    let starts = there-is (λ (ask : StartAsk). StartsIf (is_ruled_out rules ask) rules ask i b.0 new) (slice_get asks i) at.0 at.1 b.2 in
+    let last = starts-more (is_ruled_out rules at.0) rules at.0 i rs b.0 new first.numbered first.stages starts in
     record { numbered = last.numbered; stages = last.stages; keeps = λ f k. last.keeps f (first.keeps f k) }
 
 kept-fates : (old new : List Forwarding) → ((f : Forwarding) → In f old → In f new) → Moves old new
@@ -124,7 +125,7 @@ kept-fates old new keeps w h = (h.0, keeps h.0 h.1, h.2, h.3)
 after-start : (starts : Starts) (old new : ForwardingState) → Tracks old → BeginsWith starts old new
     → Tracks new
 after-start starts old new t b =
-    let m = begins-more starts.gateway starts.asks (length starts.asks) old.requests (standing_at old) (standing_at new)
+    let m = begins-more (rules_of starts) starts.asks (length starts.asks) old.requests (standing_at old) (standing_at new)
     (omega arith) t.numbered t.stages b.begins in
     record {
       numbered = m.numbered;
@@ -182,15 +183,15 @@ opens-none rs serials comes ends fs new true k e o =
           (f, in-last f fs, o.1.serial_is ∙ same, first-outcome f.stage f.listen_port o.1.first);
     }))
 
-again : (comes : Comes) (fs : List Forwarding) (f : Forwarding) (o : Option Outcome) → outcome_of f ≡ o → comes ≡ as_first f o → In f fs
+again : (comes : Comes) (fs : List Forwarding) (f : Forwarding) (o : Option Outcome) → forwarding_outcome_of f ≡ o → comes ≡ as_first f o → In f fs
     → (serial : ℕ) → comes ≡ Later serial → Has true serial fs
 again comes fs f None is e h serial later = let same : f.serial ≡ serial = cc in (f, h, same, is)
 again comes fs f (Some o) is e h serial later = cc
 
 opens-some : (rs : List ForwardingRequest) (serials : ℕ) (comes : Comes) (fs new : List Forwarding) (f : Forwarding) (b : Bool) → Asking rs serials fs
-    → In f fs → comes ≡ (if b then as_first f (outcome_of f) else Now Refused) → new ≡ fs
+    → In f fs → comes ≡ (if b then as_first f (forwarding_outcome_of f) else Now Refused) → new ≡ fs
     → AskTracks rs true comes fs new (more_than serials fs new)
-opens-some rs serials comes fs new f true k h e same = stays rs serials true comes fs new k same (again comes fs f (outcome_of f) refl e h)
+opens-some rs serials comes fs new f true k h e same = stays rs serials true comes fs new k same (again comes fs f (forwarding_outcome_of f) refl e h)
 opens-some rs serials comes fs new f false k h e same = stays rs serials true comes fs new k same (never Refused comes true fs e)
 
 opens-by : (rs : List ForwardingRequest) (serials : ℕ) (comes : Comes) (ends : Ends) (fs new : List Forwarding) (o : Option Forwarding)
@@ -245,30 +246,30 @@ comes-by : (opening : Bool) (rs : List ForwardingRequest) (serials : ℕ) (comes
 comes-by true rs serials comes ends fs new k e l = opens-by rs serials comes ends fs new (standing ends fs) refl k e l
 comes-by false rs serials comes ends fs new k e l = closes-by rs serials comes ends fs new (standing ends fs) refl k e l
 
-comes-if : (alone opening gateway : Bool) (ask : StartAsk) (rs : List ForwardingRequest) (serials : ℕ) (comes : Comes) (fs new : List Forwarding)
-    → Asking rs serials fs → ComesIf alone gateway opening ask serials fs new comes
+comes-if : (alone opening : Bool) (rules : ListenRules) (ask : StartAsk) (rs : List ForwardingRequest) (serials : ℕ) (comes : Comes) (fs new : List Forwarding)
+    → Asking rs serials fs → ComesIf alone rules opening ask serials fs new comes
     → AskTracks rs opening comes fs new (more_than serials fs new)
-comes-if true opening gateway ask rs serials comes fs new k c = stays rs serials opening comes fs new k c.1 (never Refused comes opening fs c.0)
-comes-if false opening gateway ask rs serials comes fs new k c = comes-by opening rs serials comes c.0 fs new k c.2 c.3
+comes-if true opening rules ask rs serials comes fs new k c = stays rs serials opening comes fs new k c.1 (never Refused comes opening fs c.0)
+comes-if false opening rules ask rs serials comes fs new k c = comes-by opening rs serials comes c.0 fs new k c.2 c.3
 
-comes-unless : (away opening gateway : Bool) (ask : StartAsk) (rs : List ForwardingRequest) (serials : ℕ) (comes : Comes) (fs new : List Forwarding)
-    → Asking rs serials fs → ComesUnless away gateway opening ask serials fs new comes
+comes-unless : (away opening : Bool) (rules : ListenRules) (ask : StartAsk) (rs : List ForwardingRequest) (serials : ℕ) (comes : Comes) (fs new : List Forwarding)
+    → Asking rs serials fs → ComesUnless away rules opening ask serials fs new comes
     → AskTracks rs opening comes fs new (more_than serials fs new)
-comes-unless true opening gateway ask rs serials comes fs new k c = stays rs serials opening comes fs new k c.1 (never Refused comes opening fs c.0)
-comes-unless false opening gateway ask rs serials comes fs new k c =
-    comes-if (is_refused_alone ask) opening gateway ask rs serials comes fs new k c
+comes-unless true opening rules ask rs serials comes fs new k c = stays rs serials opening comes fs new k c.1 (never Refused comes opening fs c.0)
+comes-unless false opening rules ask rs serials comes fs new k c =
+    comes-if (is_ruled_out rules ask) opening rules ask rs serials comes fs new k c
 
 waits-more : (comes : Comes) (client id : ℕ) (opening : Bool) (all : List Forwarding) (ws : List Waiting)
     → ((serial : ℕ) → comes ≡ Later serial → Has opening serial all) → All (Unsettled (HasFate all)) ws
-    → All (Unsettled (HasFate all)) (asks_after comes client id opening ws)
+    → All (Unsettled (HasFate all)) (waiting_after comes client id opening ws)
 waits-more (Now o) client id opening all ws waits h = h
 waits-more (Later serial) client id opening all ws waits h =
     All-push (Unsettled (HasFate all)) ws (waiting_for client id opening serial) h (λ none. waits serial refl)
 
 after-ask : (client id : ℕ) (opening : Bool) (ask : StartAsk) (answer : HouseReply) (old new : ForwardingState) → Tracks old
-    → IsAsked client id opening ask answer old new → Tracks new
+    → IsClientAsk client id opening ask answer old new → Tracks new
 after-ask client id opening ask answer old new t a =
-    let m = comes-unless (turns_away client id old.waiting) opening old.gateway ask old.requests old.serials a.came_to old.all new.all
+    let m = comes-unless (turns_away client id old.waiting) opening old.rules ask old.requests old.serials a.came_to old.all new.all
     (record { numbered = t.numbered; stages = t.stages }) a.comes in
     record {
       numbered = subst (λ (n : ℕ). is_numbered 0 new.all n ≡ true) (sym (ap (λ (d : ForwardingState). d.serials) a.others)) m.numbered;
@@ -342,9 +343,9 @@ after-request : (f : Forwarding) (old new : ForwardingState) → Tracks old → 
     → Tracks new
 after-request f old new t e =
     let got : Tracks (request_sent f old) = record {
-      numbered = said-numbered (request_of f) old.all old.serials t.numbered;
-      stages = said-stages (request_of f) old.requests old.all t.stages;
-      fates = moved old.all (after_sending (request_of f) old.all) old.waiting (said-moves (request_of f) old.all) t.fates;
+      numbered = said-numbered (forwarding_request_of f) old.all old.serials t.numbered;
+      stages = said-stages (forwarding_request_of f) old.requests old.all t.stages;
+      fates = moved old.all (after_sending (forwarding_request_of f) old.all) old.waiting (said-moves (forwarding_request_of f) old.all) t.fates;
     } in
     subst (λ (d : ForwardingState). Tracks d) (sym e) got
 
@@ -441,7 +442,7 @@ not-asked f serial is e = second-part (f.serial == serial) (asks_at f.stage) (eq
 -- a success makes what is asked for live
 opened : (port : Option ℕ) (serial at : ℕ) (fs : List Forwarding) (ws : List Waiting)
     (o : Option Forwarding) → find (is_asked serial) fs ≡ o → All (Unsettled (HasFate fs)) ws
-    → All (Unsettled (HasFate (map (changed (change.Live port) serial) fs))) (opened_asks (live_in port o) serial at ws)
+    → All (Unsettled (HasFate (map (changed (change.Live port) serial) fs))) (opened_asks (live_outcome_in port o) serial at ws)
 opened port serial at fs ws None e h =
     moved fs (map (changed (change.Live port) serial) fs) ws
     (λ w fate. fate-changed (change.Live port) serial fs w fate
@@ -469,17 +470,17 @@ not-this : (n serial : ℕ) (b : Bool) → ((n == serial) && b) ≡ false → b 
 not-this n serial true e is = first-part (n == serial) e
 not-this n serial false e is = cc
 
-not-cancelled : (f : Forwarding) (serial : ℕ) → outcome_of f ≡ None → is_cancelled serial f ≡ false
+not-cancelled : (f : Forwarding) (serial : ℕ) → forwarding_outcome_of f ≡ None → is_cancelled serial f ≡ false
 not-cancelled f serial none = and-second (f.serial == serial) (cancels_at f.stage) (unserved f.stage f.listen_port none)
 
 stays-uncancelled : (opening : Bool) (f : Forwarding) (w : Waiting) (serial : ℕ) → w.opening ≡ opening → f.serial ≡ w.forwarding
-    → Holds opening f → is_about serial false w ≡ false → is_cancelled serial f ≡ false
+    → Holds opening f → is_ask_about serial false w ≡ false → is_cancelled serial f ≡ false
 stays-uncancelled true f w serial opens is holds other = not-cancelled f serial holds
 stays-uncancelled false f w serial opens is holds other = not-its f.serial serial (cancels_at f.stage)
     (serial-differs f w.forwarding serial is (of-other serial false w opens other))
 
 stay-fate : (opening : Bool) (f : Forwarding) (w : Waiting) (serial : ℕ) → w.opening ≡ opening → f.serial ≡ w.forwarding
-    → f.serial ≡ serial → Holds opening f → is_about serial false w ≡ false
+    → f.serial ≡ serial → Holds opening f → is_ask_about serial false w ≡ false
     → Holds opening (record f { stage = stage_after change.Stay f.listen_port f.stage; closing = false })
 stay-fate true f w serial opens is its holds other = stay-holds f false holds
 stay-fate false f w serial opens is its holds other =
@@ -644,7 +645,7 @@ listener-made host port number old new h =
 
 -- a request to close keeps its forwarding as that gets its listener
 made-fate : (opening : Bool) (l i : ℕ) (f x : Forwarding) (old : List Forwarding) (w : Waiting) → w.opening ≡ opening
-    → i < length old → is_about f.serial true w ≡ false → x.serial ≡ w.forwarding → Holds opening x → x ≡ f
+    → i < length old → is_ask_about f.serial true w ≡ false → x.serial ≡ w.forwarding → Holds opening x → x ≡ f
     → (y : Forwarding) × In y (set old i (record f { stage = Listening l })) × (y.serial ≡ w.forwarding) × Holds opening y
 made-fate true l i f x old w opens inside other is holds same =
     absurd (serial-differs x w.forwarding f.serial is (of-other f.serial true w opens other) (ap (λ (z : Forwarding). z.serial) same))
@@ -713,7 +714,7 @@ has-it l (Cancelling port) n e = cc
 -- one that a request waits for has another listener, or none
 lacks-it : (opening : Bool) (l : ℕ) (all : List Forwarding) (serial : ℕ) (f : Forwarding) (w : Waiting) → w.opening ≡ opening
     → ((k : ℕ) (x y : Forwarding) → In x all → In y all → listener_of x ≡ Some k → listener_of y ≡ Some k → x.serial ≡ y.serial)
-    → Closing (λ x. In x all) serial l → In f all → f.serial ≡ w.forwarding → Holds opening f → is_about serial false w ≡ false
+    → Closing (λ x. In x all) serial l → In f all → f.serial ≡ w.forwarding → Holds opening f → is_ask_about serial false w ≡ false
     → has_listener l f ≡ false
 lacks-it true l all serial f w opens one c here is holds other = elim (cases_Bool (has_listener l f)) [
   | inl has ↦ absurd ((has-it l f.stage f.listen_port has).0 holds)
@@ -799,7 +800,7 @@ owes-if true fs serials l g f w opens n here is there its holds =
     not-its w.forwarding g.serial true (λ same.
     let one : f ≡ g = one-serial fs f g 0 serials n there here (its ∙ same) in
     let none : outcome_at (Listening l) g.listen_port ≡ None =
-    subst (λ (s : Stage). outcome_at s g.listen_port ≡ None) is (subst (λ (x : Forwarding). outcome_of x ≡ None) one holds) in cc)
+    subst (λ (s : Stage). outcome_at s g.listen_port ≡ None) is (subst (λ (x : Forwarding). forwarding_outcome_of x ≡ None) one holds) in cc)
 owes-if false fs serials l g f w opens n here is there its holds = and-second (w.forwarding == g.serial) false refl
 
 owes-one : (fs : List Forwarding) (serials l : ℕ) (g : Forwarding) (w : Waiting) → is_numbered 0 fs serials ≡ true → In g fs
@@ -829,7 +830,7 @@ ends-none true n l P e f = cc
 ends-none false n l P e f = cc
 
 ends-rest : (closing : Bool) (l serial : ℕ) (ws : List Waiting) (next : Option ForwardingWant) → owes_opening serial ws ≡ false
-    → ends_at l closing serial ws next ≡ None → (closing ≡ false) × (next ≡ None)
+    → forwarding_ends_at l closing serial ws next ≡ None → (closing ≡ false) × (next ≡ None)
 ends-rest true l serial ws next owes e = ends-none (owes_opening serial ws) serial l ((true ≡ false) × (next ≡ None)) owes e
 ends-rest false l serial ws next owes e = (refl, e)
 
@@ -887,11 +888,11 @@ awaits-one : (d : ForwardingState) (w : Waiting) (f : Forwarding) → f.serial �
 awaits-one d w f is (inl h) = inl (subst (λ (n : ℕ). Contains d.requests (Listen n)) is (in-contains (Listen f.serial) d.requests h))
 awaits-one d w f is (inr h) = inr (subst (λ (n : ℕ). Contains d.requests (Cancel n)) is (in-contains (Cancel f.serial) d.requests h))
 
-pub fates-at-rest : (d : ForwardingState) → Tracks d → IsAtRest d → All (HasFate d.all) d.waiting
+pub fates-at-rest : (d : ForwardingState) → Tracks d → ForwarderIsAtRest d → All (HasFate d.all) d.waiting
 fates-at-rest d t rest =
     all-fates d.all d.waiting t.fates (not-true (list_any has_outcome d.waiting) rest.answers)
 
-awaits-by : (d : ForwardingState) (w : Waiting) → Tracks d → IsAtRest d → HasFate d.all w → AwaitsReply d.requests w
+awaits-by : (d : ForwardingState) (w : Waiting) → Tracks d → ForwarderIsAtRest d → HasFate d.all w → AwaitsReply d.requests w
 awaits-by d w t rest fate = awaits-one d w fate.0 fate.2 (waits-for w.opening fate.0 d.requests fate.3
     (all-rest d.all d.serials d.requests d.waiting d.all t.numbered (fates-at-rest d t rest) (λ f h. h) t.stages rest.orders
     fate.0 fate.1)

@@ -3,20 +3,20 @@ use Rattle.std.proofs.Common.{◌≤◌, Bool, true, false, List, length, get_or
 use Rattle.std.specs.Prelude.{not}
 use Rattle.std.proofs.lemmas.List.Sums.{sum_by-le}
 use Rattle.house_relay.specs.declared.relay.Relay.{Relay}
-use Rattle.house_forward.specs.Due.{stream_due, link_due, stage_due, forwarding_due, due, most_due, one_if, turns}
+use Rattle.house_forward.specs.Due.{stream_due, link_due, listener_due, forwarding_due, due, most_due, count_if, turns}
 use Rattle.house_forward.specs.declared.asks.Waiting.{Waiting}
 use Rattle.house_forward.specs.declared.forwarding.Forwarding.{Forwarding}
 use Rattle.house_forward.specs.declared.forwarding.Stage.{Stage}
 use Rattle.house_forward.specs.declared.forwarding.Stage.TheVariants.{ToListen, Ordered, Listening, ToRequest, Requested, Live, Cancelling}
 use Rattle.house_forward.specs.declared.link.Link.{Link}
-use Rattle.house_forward.specs.declared.link.Stream.{Stream}
-use Rattle.house_forward.specs.declared.link.Stream.TheVariants.{Offered, Awaited, Made, Gone}
+use Rattle.house_forward.specs.declared.link.LinkStream.{LinkStream}
+use Rattle.house_forward.specs.declared.link.LinkStream.TheVariants.{Offered, Awaited, Made, Gone}
 
-one-most : (b : Bool) → one_if b ≤ 1
+one-most : (b : Bool) → count_if b ≤ 1
 one-most true = omega arith
 one-most false = omega arith
 
-stage-most : (s : Stage) → stage_due s ≤ 2
+stage-most : (s : Stage) → listener_due s ≤ 2
 stage-most (ToListen host) = omega arith
 stage-most Ordered = omega arith
 stage-most (Listening l) = omega arith
@@ -25,7 +25,7 @@ stage-most Requested = omega arith
 stage-most (Live port) = omega arith
 stage-most (Cancelling port) = omega arith
 
-stream-most : (s : Stream) (r : Relay) → stream_due s r ≤ 4
+stream-most : (s : LinkStream) (r : Relay) → stream_due s r ≤ 4
 stream-most (Offered host port) r = omega arith
 stream-most Awaited r = omega arith
 stream-most (Made own) r =

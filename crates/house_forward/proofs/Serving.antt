@@ -6,8 +6,8 @@ use Rattle.std.proofs.lemmas.Bool.{and_parts, or_from, eqb-true}
 use Rattle.std.proofs.lemmas.List.Elements.{All-weaker, All-map}
 use Rattle.mux_outside.specs.declared.house.HouseReply.TheVariants as given
 use Rattle.mux_outside.specs.declared.start_ask.StartAsk.{StartAsk}
-use Rattle.house_forward.specs.Asks.{settled, settle_one, settled_at, refused, is_about, same, counted}
-use Rattle.house_forward.specs.Causes.{answers, gateway_in, closes, AreOne, IsFor, ListensSince, IsGranted, CameBy}
+use Rattle.house_forward.specs.Asks.{settled, settle_one, ask_settled_at, refused, is_ask_about, same, counted}
+use Rattle.house_forward.specs.Causes.{answers, rules_in, closes, AreOne, IsFor, ListensSince, IsGranted, CameBy}
 use Rattle.house_forward.specs.ForwarderEvents.{ForwarderEvent}
 use Rattle.house_forward.specs.ForwarderEvents.{Asks}
 use Rattle.house_forward.specs.Forwardings.{changed, stage_after, closing_after}
@@ -66,7 +66,7 @@ pub record Waits (home : ℕ → Forwarding) (serials : ℕ) (forwarder_events :
   pub earlier : List ForwarderEvent
   pub were : forwarder_events ≡ later ++ Asks w.client w.id w.opening ask given.Later ∷ earlier
   pub open_yet : list_any (answers w.client w.id) later ≡ false
-  pub is_for : IsFor (gateway_in earlier) w.opening ask (home w.forwarding)
+  pub is_for : IsFor (rules_in earlier) w.opening ask (home w.forwarding)
   pub came : CameIf w.outcome (home w.forwarding) w.opening later (Asks w.client w.id w.opening ask given.Later ∷ earlier)
 
 -- ---- one more event
@@ -188,7 +188,7 @@ waits-grown home to serials more forwarder_events w less keeps h =
       earlier = h.earlier;
       were = h.were;
       open_yet = h.open_yet;
-      is_for = subst (λ (a : Forwarding). IsFor (gateway_in h.earlier) w.opening h.ask a) e h.is_for;
+      is_for = subst (λ (a : Forwarding). IsFor (rules_in h.earlier) w.opening h.ask a) e h.is_for;
       came = subst (λ (a : Forwarding). CameIf w.outcome a w.opening h.later
           (Asks w.client w.id w.opening h.ask given.Later ∷ h.earlier)) e h.came;
     }
@@ -301,10 +301,10 @@ turned home serials forwarder_event forwarder_events none w new h (inr s) =
     subst (λ (o : Option (ℕ × Outcome)). Waits home serials (forwarder_event ∷ forwarder_events) (record w { outcome = o })) (sym s.1) got
 
 abbrev next_outcome : Bool → ℕ → Outcome → Option (ℕ × Outcome) → Option (ℕ × Outcome)
-next_outcome b at outcome o = if b then settled_at at outcome o else o
+next_outcome b at outcome o = if b then ask_settled_at at outcome o else o
 
 settles : (serial : ℕ) (opening : Bool) (at : ℕ) (outcome : Outcome) (w : Waiting) (o : Option (ℕ × Outcome)) (b : Bool)
-    → (if b then record (record w { outcome = o }) { outcome = settled_at at outcome o } else record w { outcome = o })
+    → (if b then record (record w { outcome = o }) { outcome = ask_settled_at at outcome o } else record w { outcome = o })
     ≡ record w { outcome = next_outcome b at outcome o }
 settles serial opening at outcome w o true = refl
 settles serial opening at outcome w o false = refl
@@ -323,7 +323,7 @@ same-true false true e = cc
 same-true false false e = refl
 
 about : (home : ℕ → Forwarding) (forwarder_event : ForwarderEvent) (forwarder_events : List ForwarderEvent) (serial : ℕ) (opening : Bool) (outcome : Outcome) (w : Waiting)
-    → CameBy forwarder_event forwarder_events opening (home serial) outcome → is_about serial opening w ≡ true
+    → CameBy forwarder_event forwarder_events opening (home serial) outcome → is_ask_about serial opening w ≡ true
     → CameBy forwarder_event forwarder_events w.opening (home w.forwarding) outcome
 about home forwarder_event forwarder_events serial opening outcome w by e =
     let both = and_parts (w.forwarding == serial) (same w.opening opening) e in
@@ -338,9 +338,9 @@ all-settled home serials forwarder_event forwarder_events none serial opening at
     All-map (Waits home serials (forwarder_event ∷ forwarder_events)) (settle_one serial opening at outcome) ws
     (All-weaker (Waits home serials forwarder_events) (λ (w : Waiting). Waits home serials (forwarder_event ∷ forwarder_events) (settle_one serial opening at outcome w))
     (λ w s. subst (Waits home serials (forwarder_event ∷ forwarder_events))
-    (sym (settles serial opening at outcome w w.outcome (is_about serial opening w)))
-    (turned home serials forwarder_event forwarder_events none w (next_outcome (is_about serial opening w) at outcome w.outcome) s
-    (turns-at forwarder_event forwarder_events w.opening (home w.forwarding) at outcome (is_about serial opening w) w.outcome w.outcome
+    (sym (settles serial opening at outcome w w.outcome (is_ask_about serial opening w)))
+    (turned home serials forwarder_event forwarder_events none w (next_outcome (is_ask_about serial opening w) at outcome w.outcome) s
+    (turns-at forwarder_event forwarder_events w.opening (home w.forwarding) at outcome (is_ask_about serial opening w) w.outcome w.outcome
     (about home forwarder_event forwarder_events serial opening outcome w by) (inl refl)))) ws h)
 
 -- all that asked about it are refused
@@ -349,17 +349,17 @@ refuse-one : (home : ℕ → Forwarding) (serials : ℕ) (forwarder_event : Forw
     → Waits home serials (forwarder_event ∷ forwarder_events) (settle_one serial false (counted at) Refused (settle_one serial true at Refused w))
 refuse-one home serials forwarder_event forwarder_events none serial at w by h =
     let a = home w.forwarding in
-    let first = next_outcome (is_about serial true w) at Refused w.outcome in
-    let last = next_outcome (is_about serial false w) (counted at) Refused first in
-    let one = settles serial true at Refused w w.outcome (is_about serial true w) in
-    let two = settles serial false (counted at) Refused w first (is_about serial false w) in
+    let first = next_outcome (is_ask_about serial true w) at Refused w.outcome in
+    let last = next_outcome (is_ask_about serial false w) (counted at) Refused first in
+    let one = settles serial true at Refused w w.outcome (is_ask_about serial true w) in
+    let two = settles serial false (counted at) Refused w first (is_ask_about serial false w) in
     let e : settle_one serial false (counted at) Refused (settle_one serial true at Refused w) ≡ record w { outcome = last } =
     ap (settle_one serial false (counted at) Refused) one ∙ two in
     subst (Waits home serials (forwarder_event ∷ forwarder_events)) (sym e)
     (turned home serials forwarder_event forwarder_events none w last h
-    (turns-at forwarder_event forwarder_events w.opening a (counted at) Refused (is_about serial false w) w.outcome first
+    (turns-at forwarder_event forwarder_events w.opening a (counted at) Refused (is_ask_about serial false w) w.outcome first
     (about home forwarder_event forwarder_events serial false Refused w (by false))
-    (turns-at forwarder_event forwarder_events w.opening a at Refused (is_about serial true w) w.outcome w.outcome
+    (turns-at forwarder_event forwarder_events w.opening a at Refused (is_ask_about serial true w) w.outcome w.outcome
     (about home forwarder_event forwarder_events serial true Refused w (by true)) (inl refl))))
 
 pub all-refused : (home : ℕ → Forwarding) (serials : ℕ) (forwarder_event : ForwarderEvent) (forwarder_events : List ForwarderEvent) → IsNoAnswer forwarder_event → (serial at : ℕ) (ws : List Waiting)

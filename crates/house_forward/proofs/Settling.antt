@@ -15,7 +15,7 @@ use Rattle.house_relay.specs.declared.relay.Outgoing.TheVariants as outgoing
 use Rattle.house_forward.specs.Going.{TakesOn}
 use Rattle.house_forward.specs.Heard.{received_of}
 use Rattle.house_forward.specs.Links.{relay_after}
-use Rattle.house_forward.specs.RelayTraces.{Life, GoesBy, Listens}
+use Rattle.house_forward.specs.RelayTraces.{Life, RelayGoesBy, Listens}
 use Rattle.house_forward.specs.declared.link.LinkStep.{LinkStep}
 use Rattle.house_forward.specs.declared.link.LinkStep.TheVariants as step
 
@@ -84,7 +84,7 @@ pub settles-receives : (q : ChannelState → Bool) → FailsLater q → (m : Mes
 settles-receives q fails m a b h =
     subst (λ (r : Relay). SettlesBy q a.relay.line r.line) (sym h.relay.0) (settles-heard q fails m a.relay)
 
-pub settles-takes : (q : ChannelState → Bool) → FailsLater q → (bytes : List ℕ) (a b : Life) → GoesBy (TakesOn bytes) (Takes bytes) a b
+pub settles-takes : (q : ChannelState → Bool) → FailsLater q → (bytes : List ℕ) (a b : Life) → RelayGoesBy (TakesOn bytes) (Takes bytes) a b
     → SettlesBy q a.relay.line b.relay.line
 settles-takes q fails bytes a b h =
     subst (λ (r : Relay). SettlesBy q a.relay.line r.line) (sym h.relay.0) (in-live q _ a.relay.line (λ live. fails.live _))

@@ -1,4 +1,4 @@
--- What holds of each relay of a course, by what each step leaves of one.
+-- What holds of each relay of a trace, by what each step leaves of one.
 use Rattle.std.proofs.Common.{◌≡◌, ◌∙◌, refl, sym, ap, subst, inl, inr, ◌<◌, ◌^◌, ℕ, Bool, true, false, List, [], ◌∷◌, ◌++◌, map, Option, Some, None}
 use Rattle.std.specs.Prelude.{not, if◌then◌else◌, find, Result, Ok, Err}
 use Rattle.ssh_fields.specs.Fields.{take_u32}
@@ -19,19 +19,19 @@ use Rattle.mux_outside.specs.declared.house_mark.HouseMark.TheVariants.{HouseIn,
 use Rattle.mux_outside.specs.declared.order.Order.{Order}
 use Rattle.mux_outside.specs.declared.order.Order.TheVariants as order
 use Rattle.mux_outside.specs.declared.own_streams.OwnStream.{OwnStream}
-use Rattle.house_relay.specs.Acts.{Act, Reads, Takes}
+use Rattle.house_relay.specs.Acts.{RelayAct, Reads, Takes}
 use Rattle.house_relay.specs.Next.{sends_of}
-use Rattle.house_relay.specs.Relay.{Stands, GoesOn, stream_of}
+use Rattle.house_relay.specs.Relay.{RelayRepresents, RelayGoesOn, socket_stream_of}
 use Rattle.house_relay.specs.Steps.{fresh_relay, is_gone, made_as}
 use Rattle.house_relay.specs.declared.line.ChannelState.TheVariants.{Offered as OfServer}
 use Rattle.house_relay.specs.declared.relay.Relay.{Relay}
 use Rattle.house_relay.specs.declared.relay.Socket.TheVariants as socket
 use Rattle.house_forward.specs.Forwardings.{has_request, has_listener, served_at}
-use Rattle.house_forward.specs.Going.{GetsOn, TakesOn, SendsOn, ReceivesOn}
-use Rattle.house_forward.specs.Links.{IsJoined, relay_after, dials}
-use Rattle.house_forward.specs.RelayTraces.{Life, Trace, GoesBy, One, OneAtMost, MakesOne, StepsBy, Speaks, Listens, Reaches, Follows}
-use Rattle.house_forward.specs.RelayTraces.{ReceivesAt, ReceivesOpen, OpensFor, ReceivesMessage, ReceivesReading, ReceivesFrame, ReceivesFrames, SendsBy, MarksIn, OrdersIn, TurnsTo, first_trace, is_grant, with_received, cut_off}
-use Rattle.house_forward.specs.RelayTraces.{has_stream, is_stream, has_channel, has_words, is_unmade, are_full, are_dialogs_full, own_after, own_made, act_of, stepped, made_life, kept_in, left_in, with_relay_traces}
+use Rattle.house_forward.specs.Going.{GetsOn, TakesOn, RelaySendsOn, RelayReceivesOn}
+use Rattle.house_forward.specs.Links.{IsRelayJoined, relay_after, dials}
+use Rattle.house_forward.specs.RelayTraces.{Life, Trace, RelayGoesBy, One, OneAtMost, MakesOne, StepsBy, Speaks, Listens, TraceReaches, Follows}
+use Rattle.house_forward.specs.RelayTraces.{RelayReceivesAt, ReceivesOpen, OpensFor, ReceivesMessage, ReceivesReading, ReceivesFrame, RelaysReceiveFrames, SendsBy, MarksIn, OrdersIn, TurnsTo, first_trace, is_grant, with_received, cut_off}
+use Rattle.house_forward.specs.RelayTraces.{has_stream, is_stream, has_channel, has_words, is_socket_unmade, are_full, are_dialogs_full, link_own_after, own_made, relay_act_of, stepped, made_life, kept_in, first_life_in, with_relay_traces}
 use Rattle.house_forward.specs.Numbers.{number_of}
 use Rattle.house_forward.specs.declared.forwarding.Forwarding.{Forwarding}
 use Rattle.house_forward.specs.declared.forwarder_state.Stage.{Stage}
@@ -60,7 +60,7 @@ pub each-back : (P : Life → Type 0) (xs ys : List Life) → Each P (xs ++ ys) 
 each-back P [] ys h = h
 each-back P (x ∷ xs) ys h = each-back P xs ys h.1
 
--- ---- what one is as it begins, and behind a step of its stream
+-- ---- what one is as it begins, and after a step of its stream
 
 abbrev pub joined_life : ℕ → ℕ → Relay → Life
 joined_life joins t r = record {
@@ -85,8 +85,8 @@ offered_life f number remote window maximum = record {
 abbrev pub step_of : LinkStep → Life → Life
 step_of step l = record l {
   relay = relay_after step l.relay;
-  own = own_after step l.own;
-  acts = act_of step ∷ l.acts;
+  own = link_own_after step l.own;
+  acts = relay_act_of step ∷ l.acts;
 }
 
 -- which call takes a step of a stream
@@ -98,20 +98,20 @@ Causes call step.Close t = Unit {0}
 Causes call step.Writable t = call ≡ Turns (Writable t)
 Causes call step.Failed t = call ≡ Turns (Failed t)
 
--- what each step keeps, where this is known of a call and of the course before it
+-- what each step keeps, where this is known of a call and of the trace before it
 pub record Kept (Now : HouseCall → Trace → Type 0) (P : Life → Type 0) : Type 0 where
   pub says : (bytes : List ℕ) (a b : Life) → P a → has_words a ≡ true → Speaks bytes a b → P b
   pub receives : (m : Message) (a b : Life) → P a → Listens m a b → P b
   pub gets : (t : ℕ) (bytes : List ℕ) (old : Trace) → Now (Turns (Got t bytes)) old → (a b : Life) → P a
-      → has_stream t a ≡ true → GoesBy (GetsOn (not (are_full old.relay_traces)) bytes) (Reads bytes) a b → P b
-  pub takes : (t : ℕ) (bytes : List ℕ) (a b : Life) → P a → has_stream t a ≡ true → GoesBy (TakesOn bytes) (Takes bytes) a b → P b
+      → has_stream t a ≡ true → RelayGoesBy (GetsOn (not (are_full old.relay_traces)) bytes) (Reads bytes) a b → P b
+  pub takes : (t : ℕ) (bytes : List ℕ) (a b : Life) → P a → has_stream t a ≡ true → RelayGoesBy (TakesOn bytes) (Takes bytes) a b → P b
   pub steps : (s : LinkStep) (t : ℕ) (call : HouseCall) (old : Trace) → Now call old → Causes call s t → (a : Life) → P a
       → has_stream t a ≡ true → P (step_of s a)
   pub makes : (host : List ℕ) (port : ℕ) (number : Option ℕ) (old : Trace)
-      → Now (Marks (HouseOrder (order.Connect host port) number)) old → (a : Life) → P a → is_unmade a ≡ true
+      → Now (Marks (HouseOrder (order.Connect host port) number)) old → (a : Life) → P a → is_socket_unmade a ≡ true
       → P (made_life number a)
   pub joins : (l t : ℕ) (old : Trace) → Now (Turns (Joined l t)) old → (r : Relay)
-      → IsJoined (are_full old.relay_traces) (are_dialogs_full old.relay_traces) (find (has_listener l) old.forwarding_state.all) t r → r.number < 2 ^ 32
+      → IsRelayJoined (are_full old.relay_traces) (are_dialogs_full old.relay_traces) (find (has_listener l) old.forwarding_state.all) t r → r.number < 2 ^ 32
       → P (joined_life old.joins t r)
   pub offers : (f : Forwarding) (number remote window maximum : ℕ) → number < 2 ^ 32 → P (offered_life f number remote window maximum)
 
@@ -145,9 +145,9 @@ left-if : (P : Life → Type 0) (b : Bool) (l : Life) (more : List Life) → P l
 left-if P true l more p k = (p, tt)
 left-if P false l more p k = k
 
-pub each-left : (P : Life → Type 0) (ls : List Life) → Each P ls → Each P (left_in ls)
+pub each-left : (P : Life → Type 0) (ls : List Life) → Each P ls → Each P (first_life_in ls)
 each-left P [] h = tt
-each-left P (l ∷ ls) h = left-if P (is_gone l.relay) l (left_in ls) h.0 (each-left P ls h.1)
+each-left P (l ∷ ls) h = left-if P (is_gone l.relay) l (first_life_in ls) h.0 (each-left P ls h.1)
 
 stepped-if : (P : Life → Type 0) (s : LinkStep) (b : Bool) (l : Life) → P l → (b ≡ true → P (step_of s l))
     → P (if b then step_of s l else l)
@@ -160,7 +160,7 @@ each-stepped P s t keeps [] h = tt
 each-stepped P s t keeps (l ∷ ls) h =
     (stepped-if P s (has_stream t l) l h.0 (keeps l h.0), each-stepped P s t keeps ls h.1)
 
--- ---- of those of a course
+-- ---- of those of a trace
 
 pub record All (P : Life → Type 0) (trace : Trace) : Type 0 where
   pub relay_traces : Each P trace.relay_traces
@@ -176,10 +176,10 @@ all-left : (P : Life → Type 0) (old new : Trace) (relay_traces : List Life) �
     → All P new
 all-left P old new relay_traces e h all = subst (All P) (sym e) (record {
   relay_traces = each-kept P relay_traces h;
-  past = each-append P old.past (left_in relay_traces) all.past (each-left P relay_traces h);
+  past = each-append P old.past (first_life_in relay_traces) all.past (each-left P relay_traces h);
 })
 
-all-at : (Now : HouseCall → Trace → Type 0) (P : Life → Type 0) → Kept Now P → (n : ℕ) (m : Message) (old new : Trace) → ReceivesAt n m old new → All P old → All P new
+all-at : (Now : HouseCall → Trace → Type 0) (P : Life → Type 0) → Kept Now P → (n : ℕ) (m : Message) (old new : Trace) → RelayReceivesAt n m old new → All P old → All P new
 all-at Now P k n m old new (inl h) all =
     all-left P old new h.0 h.2
     (each-one P (has_channel n) (Listens m) old.relay_traces h.0 (λ a b p is goes. k.receives m a b p goes) h.1 all.relay_traces) all
@@ -236,7 +236,7 @@ all-frame Now P k Control content old new h all = subst (All P) (sym h)
     (granted P (is_grant (take_u32 content)) old _ (record { relay_traces = all.relay_traces; past = all.past }) all)
 all-frame Now P k Proxy content old new h all = all-reading Now P k (reading content) old new h all
 
-all-frames : (Now : HouseCall → Trace → Type 0) (P : Life → Type 0) → Kept Now P → (contents : List (List ℕ)) (old new : Trace) → ReceivesFrames contents old new → All P old
+all-frames : (Now : HouseCall → Trace → Type 0) (P : Life → Type 0) → Kept Now P → (contents : List (List ℕ)) (old new : Trace) → RelaysReceiveFrames contents old new → All P old
     → All P new
 all-frames Now P k [] old new h all = subst (All P) (sym h.1) (record { relay_traces = all.relay_traces; past = all.past })
 all-frames Now P k (content ∷ more) old new h all =
@@ -298,7 +298,7 @@ each-turn : (Now : HouseCall → Trace → Type 0) (P : Life → Type 0) → Kep
 each-turn Now P k (Joined l t) old new now h all = subst (Each P) (sym h.more)
     (each-append P old.relay_traces (joined_life old.joins t h.relay ∷ []) all (k.joins l t old now h.relay h.joined h.small, tt))
 each-turn Now P k (Got t bytes) old new now h all =
-    each-most P (has_stream t) (GoesBy (GetsOn (not (are_full old.relay_traces)) bytes) (Reads bytes)) old.relay_traces new
+    each-most P (has_stream t) (RelayGoesBy (GetsOn (not (are_full old.relay_traces)) bytes) (Reads bytes)) old.relay_traces new
     (λ a b p is goes. k.gets t bytes old now a b p is goes) h all
 each-turn Now P k (End t) old new now h all =
     subst (Each P) (sym h) (each-stepped P step.End t (k.steps step.End t (Turns (End t)) old now refl) old.relay_traces all)
@@ -318,40 +318,40 @@ all-follow Now P k (Turns happening) old new now h all = subst (All P) (sym h.2)
   past = all.past;
 })
 all-follow Now P k (TakesBytes t bytes) old new now h all = subst (All P) (sym h.2) (record {
-  relay_traces = each-most P (has_stream t) (GoesBy (TakesOn bytes) (Takes bytes)) old.relay_traces h.0 (λ a b p is goes. k.takes t bytes a b p is goes) h.1 all.relay_traces;
+  relay_traces = each-most P (has_stream t) (RelayGoesBy (TakesOn bytes) (Takes bytes)) old.relay_traces h.0 (λ a b p is goes. k.takes t bytes a b p is goes) h.1 all.relay_traces;
   past = all.past;
 })
 
 -- what is known of each of the calls
 abbrev pub Known : (HouseCall → Trace → Type 0) → Trace → List HouseCall → Type 0
 Known Now old calls = (before : List HouseCall) (call : HouseCall) (behind : List HouseCall) (trace : Trace)
-    → calls ≡ before ++ call ∷ behind → Reaches old before trace → Now call trace
+    → calls ≡ before ++ call ∷ behind → TraceReaches old before trace → Now call trace
 
 pub all-reach : (Now : HouseCall → Trace → Type 0) (P : Life → Type 0) → Kept Now P → (calls : List HouseCall) (old new : Trace)
-    → Known Now old calls → Reaches old calls new → All P old → All P new
+    → Known Now old calls → TraceReaches old calls new → All P old → All P new
 all-reach Now P k [] old new known h all = all-same P old new h all
 all-reach Now P k (call ∷ calls) old new known h all =
     all-reach Now P k calls h.0 new
     (λ before c behind trace e r. known (call ∷ before) c behind trace (ap (λ cs. call ∷ cs) e) (h.0, h.1, r))
     h.2 (all-follow Now P k call old h.0 (known [] call calls old refl refl) h.1 all)
 
--- ---- each stands for what happened in it, and has its own stream
+-- ---- each represents what happened in it, and has its own stream
 
 pub record Sound (l : Life) : Type 0 where
-  pub stands : Stands l.dials l.acts l.relay
-  pub stream : stream_of l.relay.socket ≡ number_of l.own
+  pub stands : RelayRepresents l.dials l.acts l.relay
+  pub stream : socket_stream_of l.relay.socket ≡ number_of l.own
 
 -- by what a step leaves of its relay and its stream
-went : (so : Relay → Relay → Type 0) (act : Act) (a b : Life) → GoesBy so act a b → Sound a
-    → (GoesOn a.relay b.relay act) → stream_of b.relay.socket ≡ stream_of a.relay.socket → Sound b
+went : (so : Relay → Relay → Type 0) (act : RelayAct) (a b : Life) → RelayGoesBy so act a b → Sound a
+    → (RelayGoesOn a.relay b.relay act) → socket_stream_of b.relay.socket ≡ socket_stream_of a.relay.socket → Sound b
 went so act a b h s on same = record {
-  stands = subst (λ (d : Bool). Stands d b.acts b.relay) (sym h.dials)
-      (subst (λ (acts : List Act). Stands a.dials acts b.relay) (sym h.acts) (on a.dials a.acts s.stands));
+  stands = subst (λ (d : Bool). RelayRepresents d b.acts b.relay) (sym h.dials)
+      (subst (λ (acts : List RelayAct). RelayRepresents a.dials acts b.relay) (sym h.acts) (on a.dials a.acts s.stands));
   stream = same ∙ s.stream ∙ ap number_of (sym h.own);
 }
 
-own-step : (s : LinkStep) (t : ℕ) (r : Relay) (own : Option OwnStream) → is_stream t own ≡ true → stream_of r.socket ≡ number_of own
-    → stream_of (relay_after s r).socket ≡ number_of (own_after s own)
+own-step : (s : LinkStep) (t : ℕ) (r : Relay) (own : Option OwnStream) → is_stream t own ≡ true → socket_stream_of r.socket ≡ number_of own
+    → socket_stream_of (relay_after s r).socket ≡ number_of (link_own_after s own)
 own-step s t r None is e = cc
 own-step (step.Pause b) t r (Some own) is e = e
 own-step step.Finish t r (Some own) is e = e
@@ -360,24 +360,24 @@ own-step step.Close t r (Some own) is e = refl
 own-step step.Writable t r (Some own) is e = connected-stream r.socket ∙ e
 own-step step.Failed t r (Some own) is e = failing-stream r.socket ∙ e
 
-own-make : (number : Option ℕ) → stream_of (made_as number) ≡ number_of (own_made number)
+own-make : (number : Option ℕ) → socket_stream_of (made_as number) ≡ number_of (own_made number)
 own-make None = refl
 own-make (Some t) = refl
 
 pub sound-says : (bytes : List ℕ) (a b : Life) → Sound a → Speaks bytes a b → Sound b
-sound-says bytes a b s h = went SendsOn _ a b h.1 s h.1.relay.1
-    (ap (λ (r : Relay). stream_of r.socket) h.1.relay.0 ∙ ap stream_of (stays-after (sends_of a.relay) a.relay).socket_is)
+sound-says bytes a b s h = went RelaySendsOn _ a b h.1 s h.1.relay.1
+    (ap (λ (r : Relay). socket_stream_of r.socket) h.1.relay.0 ∙ ap socket_stream_of (stays-after (sends_of a.relay) a.relay).socket_is)
 
 pub sound-receives : (m : Message) (a b : Life) → Sound a → Listens m a b → Sound b
-sound-receives m a b s h = went (ReceivesOn m) _ a b h s h.relay.1
-    (ap (λ (r : Relay). stream_of r.socket) h.relay.0 ∙ ap stream_of (stays-heard m a.relay).socket_is)
+sound-receives m a b s h = went (RelayReceivesOn m) _ a b h s h.relay.1
+    (ap (λ (r : Relay). socket_stream_of r.socket) h.relay.0 ∙ ap socket_stream_of (stays-heard m a.relay).socket_is)
 
-pub sound-gets : (free : Bool) (bytes : List ℕ) (a b : Life) → Sound a → GoesBy (GetsOn free bytes) (Reads bytes) a b → Sound b
+pub sound-gets : (free : Bool) (bytes : List ℕ) (a b : Life) → Sound a → RelayGoesBy (GetsOn free bytes) (Reads bytes) a b → Sound b
 sound-gets free bytes a b s h = went (GetsOn free bytes) (Reads bytes) a b h s h.relay.2
     (keeps-stream a.dials free a.acts bytes a.relay b.relay s.stands h.relay.0).stream_is
 
-pub sound-takes : (bytes : List ℕ) (a b : Life) → Sound a → GoesBy (TakesOn bytes) (Takes bytes) a b → Sound b
-sound-takes bytes a b s h = went (TakesOn bytes) (Takes bytes) a b h s h.relay.1 (ap (λ (r : Relay). stream_of r.socket) h.relay.0)
+pub sound-takes : (bytes : List ℕ) (a b : Life) → Sound a → RelayGoesBy (TakesOn bytes) (Takes bytes) a b → Sound b
+sound-takes bytes a b s h = went (TakesOn bytes) (Takes bytes) a b h s h.relay.1 (ap (λ (r : Relay). socket_stream_of r.socket) h.relay.0)
 
 pub sound-steps : (s : LinkStep) (t : ℕ) (a : Life) → Sound a → has_stream t a ≡ true → Sound (step_of s a)
 sound-steps s t a h is = record {
@@ -391,7 +391,7 @@ sound-makes number a h = record {
   stream = own-make number;
 }
 
-pub sound-joins : (full dialogs_full : Bool) (f : Option Forwarding) (joins t : ℕ) (r : Relay) → IsJoined full dialogs_full f t r
+pub sound-joins : (full dialogs_full : Bool) (f : Option Forwarding) (joins t : ℕ) (r : Relay) → IsRelayJoined full dialogs_full f t r
     → Sound (joined_life joins t r)
 sound-joins full dialogs_full f joins t r h =
     let begins = joined full dialogs_full f t r h in record { stands = begins.stands; stream = begins.stream }
@@ -406,15 +406,15 @@ pub record KeptSound (Now : HouseCall → Trace → Type 0) (P : Life → Type 0
   pub says : (bytes : List ℕ) (a b : Life) → Sound a → P a → has_words a ≡ true → Speaks bytes a b → P b
   pub receives : (m : Message) (a b : Life) → Sound a → P a → Listens m a b → P b
   pub gets : (t : ℕ) (bytes : List ℕ) (old : Trace) → Now (Turns (Got t bytes)) old → (a b : Life) → Sound a → Sound b → P a
-      → has_stream t a ≡ true → GoesBy (GetsOn (not (are_full old.relay_traces)) bytes) (Reads bytes) a b → P b
-  pub takes : (t : ℕ) (bytes : List ℕ) (a b : Life) → Sound a → P a → has_stream t a ≡ true → GoesBy (TakesOn bytes) (Takes bytes) a b → P b
+      → has_stream t a ≡ true → RelayGoesBy (GetsOn (not (are_full old.relay_traces)) bytes) (Reads bytes) a b → P b
+  pub takes : (t : ℕ) (bytes : List ℕ) (a b : Life) → Sound a → P a → has_stream t a ≡ true → RelayGoesBy (TakesOn bytes) (Takes bytes) a b → P b
   pub steps : (s : LinkStep) (t : ℕ) (call : HouseCall) (old : Trace) → Now call old → Causes call s t → (a : Life) → Sound a
       → P a → has_stream t a ≡ true → P (step_of s a)
   pub makes : (host : List ℕ) (port : ℕ) (number : Option ℕ) (old : Trace)
-      → Now (Marks (HouseOrder (order.Connect host port) number)) old → (a : Life) → Sound a → P a → is_unmade a ≡ true
+      → Now (Marks (HouseOrder (order.Connect host port) number)) old → (a : Life) → Sound a → P a → is_socket_unmade a ≡ true
       → P (made_life number a)
   pub joins : (l t : ℕ) (old : Trace) → Now (Turns (Joined l t)) old → (r : Relay)
-      → IsJoined (are_full old.relay_traces) (are_dialogs_full old.relay_traces) (find (has_listener l) old.forwarding_state.all) t r → r.number < 2 ^ 32
+      → IsRelayJoined (are_full old.relay_traces) (are_dialogs_full old.relay_traces) (find (has_listener l) old.forwarding_state.all) t r → r.number < 2 ^ 32
       → P (joined_life old.joins t r)
   pub offers : (f : Forwarding) (number remote window maximum : ℕ) → number < 2 ^ 32 → P (offered_life f number remote window maximum)
 
@@ -462,6 +462,6 @@ frame-sound stage content old new h all = all-frame Whenever Sound sound stage c
 pub follow-sound : (call : HouseCall) (old new : Trace) → Follows call old new → All Sound old → All Sound new
 follow-sound call old new h all = all-follow Whenever Sound sound call old new tt h all
 
-pub all-sound : (calls : List HouseCall) (trace : Trace) → Reaches first_trace calls trace → All Sound trace
+pub all-sound : (calls : List HouseCall) (trace : Trace) → TraceReaches first_trace calls trace → All Sound trace
 all-sound calls trace h =
     all-reach Whenever Sound sound calls first_trace trace (λ before call behind mid e r. tt) h (record { relay_traces = tt; past = tt })

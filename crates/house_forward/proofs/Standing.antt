@@ -1,10 +1,10 @@
--- A relay stands for one thing more, where that is nothing that is counted of its channel.
+-- A relay represents one thing more, where that is nothing that is counted of its channel.
 use Rattle.std.proofs.Common.{◌≡◌, ◌∙◌, refl, sym, ap, subst, arith, ℕ, ◌+◌, ◌-◌, ◌≤◌, Bool, true, List, ◌∷◌, ◌++◌, length, slice_index, Option, Some, None}
 use Rattle.std.specs.Prelude.{IsTrue}
 use Rattle.socks_dialog.specs.declared.outcome.Outcome.{Outcome}
 use Rattle.socks_dialog.specs.declared.outcome.Outcome.TheVariants.{Connects}
-use Rattle.house_relay.specs.Acts.{Act, Ends, Fails, Other, read, sent, delivered, took, taken, adjusted, has_ended, received_eof, received_close, sent_eof, sent_close, answer, outcome_in, before_in, replies, replies_if, to_take, behind_if, taken_data}
-use Rattle.house_relay.specs.Relay.{Stands, GoesOn, LineStands, IsLive, NothingYet, WaitsFor, IsSettled, HasAsked}
+use Rattle.house_relay.specs.Acts.{RelayAct, Ends, Fails, Other, read, sent, delivered, took, taken, adjusted, socket_has_ended, received_eof, received_close, sent_eof, sent_close, answer, outcome_in, before_in, replies, replies_if, to_take, behind_if, taken_data}
+use Rattle.house_relay.specs.Relay.{RelayRepresents, RelayGoesOn, LineStands, IsLive, NothingYet, DialogWaitsFor, IsDialogSettled, HasAsked}
 use Rattle.house_relay.specs.declared.line.Live.{Live as LiveState}
 use Rattle.house_relay.specs.declared.line.ChannelState.{ChannelState}
 use Rattle.house_relay.specs.declared.line.ChannelState.TheVariants.{Dialing, Asked, Opened, Offered, Live, Over}
@@ -13,12 +13,12 @@ use Rattle.house_relay.specs.declared.relay.Socket.{Socket}
 use Rattle.house_relay.specs.declared.relay.Socket.TheVariants as socket
 use Rattle.house_relay.specs.Steps.{connected, failing}
 use Rattle.house_forward.specs.Links.{relay_after}
-use Rattle.house_forward.specs.RelayTraces.{act_of}
+use Rattle.house_forward.specs.RelayTraces.{relay_act_of}
 use Rattle.house_forward.specs.declared.link.LinkStep.{LinkStep}
 use Rattle.house_forward.specs.declared.link.LinkStep.TheVariants.{Pause, Finish, End, Close, Writable, Failed as Fail}
 
 -- what is counted of a channel is the same
-record SameIn (old new : List Act) : Type 0 where
+record SameIn (old new : List RelayAct) : Type 0 where
   bytes : read new ≡ read old
   data_sent : sent new ≡ sent old
   data_received : delivered new ≡ delivered old
@@ -31,11 +31,11 @@ record SameIn (old new : List Act) : Type 0 where
   close_sent : sent_close new ≡ sent_close old
   answers : answer new ≡ answer old
 
-replies-same : (dials : Bool) (old new : List Act) → SameIn old new → replies dials new ≡ replies dials old
+replies-same : (dials : Bool) (old new : List RelayAct) → SameIn old new → replies dials new ≡ replies dials old
 replies-same dials old new same =
     ap (λ b. replies_if dials b (answer new)) same.bytes ∙ ap (λ a. replies_if dials (read old) a) same.answers
 
-nothing-same : (dials : Bool) (old new : List Act) → SameIn old new → NothingYet dials old → NothingYet dials new
+nothing-same : (dials : Bool) (old new : List RelayAct) → SameIn old new → NothingYet dials old → NothingYet dials new
 nothing-same dials old new same s =
     let sizes = ap length (replies-same dials old new same) in
     let most : taken old ≤ length (replies dials old) = s.no_take in
@@ -51,17 +51,17 @@ nothing-same dials old new same s =
       none_closed = same.close_received ∙ s.none_closed;
     }
 
-waits-same : (version : Option ℕ) (outcome : Outcome) (dials : Bool) (old new : List Act) → SameIn old new
-    → WaitsFor version outcome dials old → WaitsFor version outcome dials new
+waits-same : (version : Option ℕ) (outcome : Outcome) (dials : Bool) (old new : List RelayAct) → SameIn old new
+    → DialogWaitsFor version outcome dials old → DialogWaitsFor version outcome dials new
 waits-same None outcome dials old new same s = s
 waits-same (Some version) outcome dials old new same s =
     (s.0, s.1 ∙ ap (λ b. slice_index b 0) (sym same.bytes), ap outcome_in same.bytes ∙ s.2)
 
-data-same : (dials : Bool) (old new : List Act) → SameIn old new → taken_data dials new ≡ taken_data dials old
+data-same : (dials : Bool) (old new : List RelayAct) → SameIn old new → taken_data dials new ≡ taken_data dials old
 data-same dials old new same =
     ap (λ n. n - length (replies dials new)) same.takes ∙ ap (λ r. taken old - length r) (replies-same dials old new same)
 
-live-same : (live : LiveState) (dials : Bool) (old new : List Act) → SameIn old new → IsLive live dials old
+live-same : (live : LiveState) (dials : Bool) (old new : List RelayAct) → SameIn old new → IsLive live dials old
     → IsLive live dials new
 live-same live dials old new same s = record {
   eof_sent = s.eof_sent ∙ sym same.eof_sent;
@@ -73,11 +73,11 @@ live-same live dials old new same s = record {
   owed = λ f. ap (λ n. n + live.owed) same.grants ∙ s.owed f ∙ sym (data-same dials old new same);
   most = subst (λ n. n ≤ taken_data dials new) (sym same.grants)
       (subst (λ n. adjusted old ≤ n) (sym (data-same dials old new same)) s.most);
-  settled = subst (IsSettled dials) (sym same.bytes) s.settled;
+  settled = subst (IsDialogSettled dials) (sym same.bytes) s.settled;
   asked = subst (HasAsked dials) (sym same.bytes) s.asked;
 }
 
-line-same : (line : ChannelState) (dials : Bool) (old new : List Act) → SameIn old new → LineStands line dials old
+line-same : (line : ChannelState) (dials : Bool) (old new : List RelayAct) → SameIn old new → LineStands line dials old
     → LineStands line dials new
 line-same (Dialing dialog) dials old new same s = record {
   socks = s.socks;
@@ -104,17 +104,17 @@ line-same (Live live) dials old new same s = live-same live dials old new same s
 line-same Over dials old new same s = record {
   most = subst (λ n. n ≤ taken_data dials new) (sym same.grants)
       (subst (λ n. adjusted old ≤ n) (sym (data-same dials old new same)) s.most);
-  settled = subst (IsSettled dials) (sym same.bytes) s.settled;
+  settled = subst (IsDialogSettled dials) (sym same.bytes) s.settled;
 }
 
-take-same : (dials : Bool) (old new : List Act) → SameIn old new → to_take dials new ≡ to_take dials old
+take-same : (dials : Bool) (old new : List RelayAct) → SameIn old new → to_take dials new ≡ to_take dials old
 take-same dials old new same =
     ap (λ r. r ++ delivered new) (replies-same dials old new same) ∙ ap (λ b. replies dials old ++ b) same.data_received
 
 -- another socket, and its end
-stands-same : (dials : Bool) (old new : List Act) (r : Relay) (s : Socket) (ended : Bool) → SameIn old new
-    → ended ≡ has_ended new → (IsTrue (has_ended old) → IsTrue (has_ended new)) → Stands dials old r
-    → Stands dials new (record r { socket = s; ended = ended })
+stands-same : (dials : Bool) (old new : List RelayAct) (r : Relay) (s : Socket) (ended : Bool) → SameIn old new
+    → ended ≡ socket_has_ended new → (IsTrue (socket_has_ended old) → IsTrue (socket_has_ended new)) → RelayRepresents dials old r
+    → RelayRepresents dials new (record r { socket = s; ended = ended })
 stands-same dials old new r s ended same is more h = record {
   sends = ap (λ b. b ++ r.held.waiting) same.data_sent ∙ h.sends ∙ ap (behind_if dials) (sym same.bytes);
   delivers = ap (λ b. b ++ r.queue.waiting) same.took ∙ h.delivers ∙ sym (take-same dials old new same);
@@ -124,7 +124,7 @@ stands-same dials old new r s ended same is more h = record {
   line = line-same r.line dials old new same h.line;
 }
 
-same-behind : (act : Act) (acts : List Act) → read (act ∷ acts) ≡ read acts → sent (act ∷ acts) ≡ sent acts → delivered (act ∷ acts) ≡ delivered acts → took (act ∷ acts) ≡ took acts → taken (act ∷ acts) ≡ taken acts
+same-behind : (act : RelayAct) (acts : List RelayAct) → read (act ∷ acts) ≡ read acts → sent (act ∷ acts) ≡ sent acts → delivered (act ∷ acts) ≡ delivered acts → took (act ∷ acts) ≡ took acts → taken (act ∷ acts) ≡ taken acts
     → adjusted (act ∷ acts) ≡ adjusted acts → received_eof (act ∷ acts) ≡ received_eof acts → received_close (act ∷ acts) ≡ received_close acts
     → sent_eof (act ∷ acts) ≡ sent_eof acts → sent_close (act ∷ acts) ≡ sent_close acts → answer (act ∷ acts) ≡ answer acts
     → SameIn acts (act ∷ acts)
@@ -142,21 +142,21 @@ same-behind act acts a b c t d e f g h i j = record {
   answers = j;
 }
 
-same-other : (acts : List Act) → SameIn acts (Other ∷ acts)
+same-other : (acts : List RelayAct) → SameIn acts (Other ∷ acts)
 same-other acts = same-behind Other acts refl refl refl refl refl refl refl refl refl refl refl
 
-same-ends : (acts : List Act) → SameIn acts (Ends ∷ acts)
+same-ends : (acts : List RelayAct) → SameIn acts (Ends ∷ acts)
 same-ends acts = same-behind Ends acts refl refl refl refl refl refl refl refl refl refl refl
 
-same-fails : (acts : List Act) → SameIn acts (Fails ∷ acts)
+same-fails : (acts : List RelayAct) → SameIn acts (Fails ∷ acts)
 same-fails acts = same-behind Fails acts refl refl refl refl refl refl refl refl refl refl refl
 
 -- its socket is another
-pub goes-other : (r : Relay) (s : Socket) → GoesOn r (record r { socket = s }) Other
+pub goes-other : (r : Relay) (s : Socket) → RelayGoesOn r (record r { socket = s }) Other
 goes-other r s = λ dials acts h. stands-same dials acts (Other ∷ acts) r s r.ended (same-other acts) h.ends (λ e. e) h
 
 -- a step of its stream
-pub goes-after : (step : LinkStep) (r : Relay) → GoesOn r (relay_after step r) (act_of step)
+pub goes-after : (step : LinkStep) (r : Relay) → RelayGoesOn r (relay_after step r) (relay_act_of step)
 goes-after (Pause b) r = goes-other r r.socket
 goes-after Finish r = goes-other r r.socket
 goes-after End r = λ dials acts h. stands-same dials acts (Ends ∷ acts) r r.socket true (same-ends acts) refl (λ e. refl) h

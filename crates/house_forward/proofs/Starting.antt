@@ -7,12 +7,12 @@ use Rattle.std.proofs.lemmas.List.Quantifiers.{position-Some}
 use Rattle.mux_outside.specs.declared.start_ask.StartAsk.{StartAsk}
 use Rattle.mux_outside.specs.declared.starts.Starts.{Starts}
 use Rattle.house_forward.specs.Asks.{turns_away}
-use Rattle.house_forward.specs.Causes.{AreOne, IsFor, IsAtRest}
+use Rattle.house_forward.specs.Causes.{AreOne, IsFor, ForwarderIsAtRest}
 use Rattle.house_forward.specs.ForwarderEvents.{ForwarderEvent, Does, Leave}
 use Rattle.house_forward.specs.ForwarderEvents.{Begins, Asks, Answers, Greets, Requests, Replies, Listens, Unlistens}
 use Rattle.house_forward.specs.ForwardingState.{ForwardingState, empty_forwarding_state, standing_at}
-use Rattle.house_forward.specs.Forwardings.{first_refused, refused_if, replied_refused, made_refused, start_of, Begins as BeginsAt, StartsIf, Standing, Opens, is_first, has_request, requests_at, request_of, after_sending, changed, stage_after, closing_after, standing, counts, how_many, listens_at, connects_to, opens_of, after_close, is_new, EndsLeave, ComesIf, ComesUnless, is_asked, asks_at, is_cancelled, cancels_at, replied_all, removed_at, first_of, to_listen, is_numbered, has_listener, is_listener, listener_at}
-use Rattle.house_forward.specs.Rules.{AreEnds, is_refused_alone}
+use Rattle.house_forward.specs.Forwardings.{first_refused, ask_refused_if, replied_refused, made_refused, forwarding_start_of, Begins as BeginsAt, StartsIf, Standing, Opens, is_first, has_request, requests_at, forwarding_request_of, after_sending, changed, stage_after, closing_after, standing, counts, how_many, listens_at, connects_to, opens_of, after_close, is_new, EndsLeave, ComesIf, ComesUnless, is_asked, asks_at, is_cancelled, cancels_at, replied_all, removed_at, first_of, to_listen, is_numbered, has_listener, is_listener, listener_at}
+use Rattle.house_forward.specs.Rules.{AreEnds, is_ruled_out, rules_of}
 use Rattle.house_forward.specs.Starting.{HasBegun, WasOrdered, WasRequested, WasRefused, WasServed, IsRecorded, EachStart}
 use Rattle.house_forward.specs.declared.asks.Asked.{Asked as Comes}
 use Rattle.house_forward.specs.declared.asks.Asked.TheVariants.{Now, Later}
@@ -25,6 +25,7 @@ use Rattle.house_forward.specs.declared.forwarding.ForwardingRequest.TheVariants
 use Rattle.house_forward.specs.declared.forwarding.Stage.{Stage}
 use Rattle.house_forward.specs.declared.forwarding.Stage.TheVariants.{ToListen, Ordered, Listening, ToRequest, Requested, Live, Cancelling}
 use Rattle.house_forward.specs.declared.rules.Ends.{Ends}
+use Rattle.house_forward.specs.declared.rules.ListenRules.{ListenRules}
 use Rattle.house_forward.specs.declared.rules.TheConstants.{MOST_FORWARDINGS}
 use Rattle.house_forward.proofs.Causing.{found, placed, request-is, in-range, there-is, itself, is-for, new-is-for, first-ordered}
 use Rattle.house_forward.proofs.Members.{In, in-left, in-last, in-map, in-filter, in-remove, in-set, in-get, found-in}
@@ -38,7 +39,7 @@ pub record Pending (starts : Starts) (ask : StartAsk) (all : List Forwarding) : 
   f : Forwarding
   here : In f all
   first : is_first f.stage ≡ true
-  is_for : IsFor starts.gateway true ask f
+  is_for : IsFor (rules_of starts) true ask f
 
 -- one that was refused, and is recorded, or one before it is
 abbrev pub Fails : Starts → ℕ → StartAsk → Option ℕ → Type 0
@@ -65,13 +66,13 @@ recorded-still : (refused more : Option ℕ) (i : ℕ) → IsRecorded refused i 
 recorded-still None more i recorded = absurd recorded
 recorded-still (Some first) more i recorded = recorded
 
-recorded-if : (comes : Comes) (i j : ℕ) (refused : Option ℕ) → IsRecorded refused j → IsRecorded (refused_if comes i refused) j
+recorded-if : (comes : Comes) (i j : ℕ) (refused : Option ℕ) → IsRecorded refused j → IsRecorded (ask_refused_if comes i refused) j
 recorded-if (Now Done) i j refused recorded = recorded
 recorded-if (Now (Port port)) i j refused recorded = recorded
 recorded-if (Now Refused) i j refused recorded = recorded-still refused (Some i) j recorded
 recorded-if (Later serial) i j refused recorded = recorded
 
-low-if : (comes : Comes) (i : ℕ) (refused : Option ℕ) → IsLow refused i → IsLow (refused_if comes i refused) (suc i)
+low-if : (comes : Comes) (i : ℕ) (refused : Option ℕ) → IsLow refused i → IsLow (ask_refused_if comes i refused) (suc i)
 low-if (Now Done) i refused low = low-more refused i low
 low-if (Now (Port port)) i refused low = low-more refused i low
 low-if (Now Refused) i refused low = low-first refused i low
@@ -103,7 +104,7 @@ same-all starts i ask r old new firsts e fate =
     subst (λ (fs : List Forwarding). One starts i ask r old fs) (sym e) (record { keeps = λ f h. h; firsts = firsts; fate = fate })
 
 room-if : (starts : Starts) (i : ℕ) (ask : StartAsk) (ends : Ends) (old new : Standing) (b : Bool)
-    → ((f : Forwarding) → In f old.all → is_first f.stage ≡ true) → AreEnds starts.gateway ask ends
+    → ((f : Forwarding) → In f old.all → is_first f.stage ≡ true) → AreEnds (rules_of starts) ask ends
     → Opens b ends old.serials (Some i) old.all new.all → (b ≡ false → Fails starts i ask new.refused) → One starts i ask new.refused old.all new.all
 room-if starts i ask ends old new true firsts are o refused =
     subst (λ (fs : List Forwarding). One starts i ask new.refused old.all fs) (sym o.2) (record {
@@ -113,24 +114,24 @@ room-if starts i ask ends old new true firsts are o refused =
         f = o.0;
         here = in-last o.0 old.all;
         first = o.1.first;
-        is_for = new-is-for starts.gateway true ask ends old.serials (Some i) o.0 are o.1;
+        is_for = new-is-for (rules_of starts) true ask ends old.serials (Some i) o.0 are o.1;
       });
     })
 room-if starts i ask ends old new false firsts are o refused = same-all starts i ask new.refused old.all new.all firsts o (inl (refused refl))
 
 connects-if : (starts : Starts) (i : ℕ) (ask : StartAsk) (ends : Ends) (f : Forwarding) (old : Standing) (r : Option ℕ) (b : Bool) → connects_to ends f ≡ b
-    → ((g : Forwarding) → In g old.all → is_first g.stage ≡ true) → AreEnds starts.gateway ask ends → In f old.all
+    → ((g : Forwarding) → In g old.all → is_first g.stage ≡ true) → AreEnds (rules_of starts) ask ends → In f old.all
     → listens_at ends f ≡ true → (b ≡ false → Fails starts i ask r) → Fails starts i ask r ⊎ Pending starts ask old.all
 connects-if starts i ask ends f old r true to firsts are here listens refused =
-    inr (record { f = f; here = here; first = firsts f here; is_for = is-for starts.gateway true ask ends f f are (itself f) listens (λ _. to) })
+    inr (record { f = f; here = here; first = firsts f here; is_for = is-for (rules_of starts) true ask ends f f are (itself f) listens (λ _. to) })
 connects-if starts i ask ends f old r false to firsts are here listens refused = inl (refused refl)
 
 passes-found : (p : Forwarding → Bool) (x : Forwarding) (xs : List Forwarding) → find p xs ≡ Some x → p x ≡ true
 passes-found p x xs e = (found (λ (y : Forwarding). Unit {0}) p xs x e (λ k d lt. tt)).1
 
 opens-by : (starts : Starts) (i : ℕ) (ask : StartAsk) (ends : Ends) (old new : Standing) (o : Option Forwarding) → standing ends old.all ≡ o
-    → BeginsAt starts.gateway starts.asks i (standing_at empty_forwarding_state) old → ((f : Forwarding) → In f old.all → is_first f.stage ≡ true)
-    → AreEnds starts.gateway ask ends → Opens (is_new ends old.all o) ends old.serials (Some i) old.all new.all
+    → BeginsAt (rules_of starts) starts.asks i (standing_at empty_forwarding_state) old → ((f : Forwarding) → In f old.all → is_first f.stage ≡ true)
+    → AreEnds (rules_of starts) ask ends → Opens (is_new ends old.all o) ends old.serials (Some i) old.all new.all
     → (opens_of old.serials ends old.all o ≡ Now Refused → IsRecorded new.refused i) → One starts i ask new.refused old.all new.all
 opens-by starts i ask ends old new None is before firsts are opens recorded =
     room-if starts i ask ends old new (nat_lt (how_many old.all) MOST_FORWARDINGS) firsts are opens (λ full. (
@@ -156,9 +157,9 @@ opens-by starts i ask ends old new (Some f) is before firsts are opens recorded 
       recorded (rw elsewhere refl),
     )))
 
-starts-one : (b : Bool) (starts : Starts) (i : ℕ) (ask : StartAsk) (old new : Standing) → is_refused_alone ask ≡ b
-    → BeginsAt starts.gateway starts.asks i (standing_at empty_forwarding_state) old → ((f : Forwarding) → In f old.all → is_first f.stage ≡ true)
-    → IsLow old.refused i → StartsIf b starts.gateway ask i old new → One starts i ask new.refused old.all new.all
+starts-one : (b : Bool) (starts : Starts) (i : ℕ) (ask : StartAsk) (old new : Standing) → is_ruled_out (rules_of starts) ask ≡ b
+    → BeginsAt (rules_of starts) starts.asks i (standing_at empty_forwarding_state) old → ((f : Forwarding) → In f old.all → is_first f.stage ≡ true)
+    → IsLow old.refused i → StartsIf b (rules_of starts) ask i old new → One starts i ask new.refused old.all new.all
 starts-one true starts i ask old new e before firsts low s =
     same-all starts i ask new.refused old.all new.all firsts (ap (λ (t : Standing). t.all) s)
     (inl (
@@ -167,7 +168,7 @@ starts-one true starts i ask old new e before firsts low s =
     ))
 starts-one false starts i ask old new e before firsts low s =
     opens-by starts i ask s.0 old new (standing s.0 old.all) refl before firsts s.1 s.2.all
-    (λ is. subst (λ (o : Option ℕ). IsRecorded o i) (sym (s.2.refused ∙ ap (λ (c : Comes). refused_if c i old.refused) is))
+    (λ is. subst (λ (o : Option ℕ). IsRecorded o i) (sym (s.2.refused ∙ ap (λ (c : Comes). ask_refused_if c i old.refused) is))
     (recorded-first old.refused i low))
 
 keeps-fate : (starts : Starts) (j : ℕ) (ask : StartAsk) (r more : Option ℕ) (old new : List Forwarding)
@@ -177,43 +178,43 @@ keeps-fate starts j ask r more old new keeps records (inl f) = inl (f.0, records
 keeps-fate starts j ask r more old new keeps records (inr p) = inr (record { f = p.f; here = keeps p.f p.here; first = p.first; is_for = p.is_for })
 
 -- which one is recorded after one more
-records-one : (b gateway : Bool) (ask : StartAsk) (i j : ℕ) (old new : Standing) → StartsIf b gateway ask i old new
+records-one : (b : Bool) (rules : ListenRules) (ask : StartAsk) (i j : ℕ) (old new : Standing) → StartsIf b rules ask i old new
     → IsRecorded old.refused j → IsRecorded new.refused j
-records-one true gateway ask i j old new s recorded =
+records-one true rules ask i j old new s recorded =
     subst (λ (o : Option ℕ). IsRecorded o j) (sym (ap (λ (t : Standing). t.refused) s)) (recorded-still old.refused (Some i) j recorded)
-records-one false gateway ask i j old new s recorded =
+records-one false rules ask i j old new s recorded =
     subst (λ (o : Option ℕ). IsRecorded o j) (sym s.2.refused) (recorded-if _ i j old.refused recorded)
 
-low-one : (b gateway : Bool) (ask : StartAsk) (i : ℕ) (old new : Standing) → StartsIf b gateway ask i old new
+low-one : (b : Bool) (rules : ListenRules) (ask : StartAsk) (i : ℕ) (old new : Standing) → StartsIf b rules ask i old new
     → IsLow old.refused i → IsLow new.refused (suc i)
-low-one true gateway ask i old new s low =
+low-one true rules ask i old new s low =
     subst (λ (o : Option ℕ). IsLow o (suc i)) (sym (ap (λ (t : Standing). t.refused) s)) (low-first old.refused i low)
-low-one false gateway ask i old new s low =
+low-one false rules ask i old new s low =
     subst (λ (o : Option ℕ). IsLow o (suc i)) (sym s.2.refused) (low-if _ i old.refused low)
 
 same-some : (a b : StartAsk) (o : Option StartAsk) → o ≡ Some a → o ≡ Some b → a ≡ b
 same-some a b o e f = let both : Some a ≡ Some b = sym e ∙ f in cc
 
 pub begins : (starts : Starts) (i : ℕ) (now : Standing) → i ≤ length starts.asks
-    → BeginsAt starts.gateway starts.asks i (standing_at empty_forwarding_state) now → StartsOn starts i now
+    → BeginsAt (rules_of starts) starts.asks i (standing_at empty_forwarding_state) now → StartsOn starts i now
 begins starts zero now l b =
     subst (λ (t : Standing). StartsOn starts 0 t) (sym b) (record { firsts = λ f h. absurd h; fates = λ j ask lt is. absurd (omega arith); low = tt })
 begins starts (suc i) now l b =
     let first = begins starts i b.0 (omega arith) b.1 in
     let at = in-range starts.asks i (omega arith) in
-    let s = there-is (λ (ask : StartAsk). StartsIf (is_refused_alone ask) starts.gateway ask i b.0 now) (slice_get starts.asks i) at.0 at.1 b.2 in
-    let one = starts-one (is_refused_alone at.0) starts i at.0 b.0 now refl b.1 first.firsts first.low s in
+    let s = there-is (λ (ask : StartAsk). StartsIf (is_ruled_out (rules_of starts) ask) (rules_of starts) ask i b.0 now) (slice_get starts.asks i) at.0 at.1 b.2 in
+    let one = starts-one (is_ruled_out (rules_of starts) at.0) starts i at.0 b.0 now refl b.1 first.firsts first.low s in
     record {
       firsts = one.firsts;
       fates = λ j ask lt is. elim (cases_lt j i) [
         | inl below ↦ keeps-fate starts j ask b.0.refused now.refused b.0.all now.all one.keeps
-            (records-one (is_refused_alone at.0) starts.gateway at.0 i j b.0 now s) (first.fates j ask below is)
+            (records-one (is_ruled_out (rules_of starts) at.0) (rules_of starts) at.0 i j b.0 now s) (first.fates j ask below is)
         | inr last ↦ (let same : j ≡ i = omega arith in
             let its : at.0 ≡ ask = same-some at.0 ask (slice_get starts.asks i) at.1 (ap (λ k. slice_get starts.asks k) (sym same) ∙ is) in
             subst (λ (k : ℕ). Fails starts k ask now.refused ⊎ Pending starts ask now.all) (sym same)
             (subst (λ (a : StartAsk). Fails starts i a now.refused ⊎ Pending starts a now.all) its one.fate))
       ];
-      low = low-one (is_refused_alone at.0) starts.gateway at.0 i b.0 now s first.low;
+      low = low-one (is_ruled_out (rules_of starts) at.0) (rules_of starts) at.0 i b.0 now s first.low;
     }
 
 -- ---- what happens then
@@ -252,7 +253,7 @@ first-stays c asked (Live port) k e = cc
 first-stays c asked (Cancelling port) k e = cc
 
 pending-if : (starts : Starts) (ask : StartAsk) (c : Change) (f : Forwarding) (b : Bool) (all : List Forwarding) → IsNoRequest c
-    → is_first f.stage ≡ true → IsFor starts.gateway true ask f
+    → is_first f.stage ≡ true → IsFor (rules_of starts) true ask f
     → In (if b then record f { stage = stage_after c f.listen_port f.stage; closing = closing_after c f.closing } else f) all
     → Pending starts ask all
 pending-if starts ask c f true all k first is here = record {
@@ -290,15 +291,15 @@ ends-leave : (opening : Bool) (serial : ℕ) (ends : Ends) (old new : List Forwa
 ends-leave true serial ends old new o = opens-leave _ ends serial None old new o
 ends-leave false serial ends old new o = closes-leave _ old new o
 
-if-leaves : (alone gateway opening : Bool) (ask : StartAsk) (serial : ℕ) (old new : List Forwarding) (comes : Comes)
-    → ComesIf alone gateway opening ask serial old new comes → AskLeaves old new
-if-leaves true gateway opening ask serial old new comes c = inl c.1
-if-leaves false gateway opening ask serial old new comes c = ends-leave opening serial c.0 old new c.3
+if-leaves : (alone : Bool) (rules : ListenRules) (opening : Bool) (ask : StartAsk) (serial : ℕ) (old new : List Forwarding) (comes : Comes)
+    → ComesIf alone rules opening ask serial old new comes → AskLeaves old new
+if-leaves true rules opening ask serial old new comes c = inl c.1
+if-leaves false rules opening ask serial old new comes c = ends-leave opening serial c.0 old new c.3
 
-ask-leaves : (away gateway opening : Bool) (ask : StartAsk) (serial : ℕ) (old new : List Forwarding) (comes : Comes)
-    → ComesUnless away gateway opening ask serial old new comes → AskLeaves old new
-ask-leaves true gateway opening ask serial old new comes c = inl c.1
-ask-leaves false gateway opening ask serial old new comes c = if-leaves (is_refused_alone ask) gateway opening ask serial old new comes c
+ask-leaves : (away : Bool) (rules : ListenRules) (opening : Bool) (ask : StartAsk) (serial : ℕ) (old new : List Forwarding) (comes : Comes)
+    → ComesUnless away rules opening ask serial old new comes → AskLeaves old new
+ask-leaves true rules opening ask serial old new comes c = inl c.1
+ask-leaves false rules opening ask serial old new comes c = if-leaves (is_ruled_out rules ask) rules opening ask serial old new comes c
 
 pending-asked : (starts : Starts) (ask : StartAsk) (old new : List Forwarding) → AskLeaves old new → Pending starts ask old
     → Pending starts ask new
@@ -314,28 +315,28 @@ pushed-by : (b : Bool) (ends : Ends) (serial : ℕ) (start : Option ℕ) (old ne
 pushed-by false ends serial start old new f o here = subst (In f) (sym o) here
 pushed-by true ends serial start old new f o here = subst (In f) (sym o.2) (in-left f old (o.0 ∷ []) here)
 
-pushed-one : (b gateway : Bool) (ask : StartAsk) (i : ℕ) (old new : Standing) (f : Forwarding) → StartsIf b gateway ask i old new
+pushed-one : (b : Bool) (rules : ListenRules) (ask : StartAsk) (i : ℕ) (old new : Standing) (f : Forwarding) → StartsIf b rules ask i old new
     → In f old.all → In f new.all
-pushed-one true gateway ask i old new f s here = subst (λ (t : Standing). In f t.all) (sym s) here
-pushed-one false gateway ask i old new f s here = pushed-by _ s.0 old.serials (Some i) old.all new.all f s.2.all here
+pushed-one true rules ask i old new f s here = subst (λ (t : Standing). In f t.all) (sym s) here
+pushed-one false rules ask i old new f s here = pushed-by _ s.0 old.serials (Some i) old.all new.all f s.2.all here
 
-pushed : (gateway : Bool) (asks : List StartAsk) (i : ℕ) (old new : Standing) (f : Forwarding) → i ≤ length asks
-    → BeginsAt gateway asks i old new → In f old.all → In f new.all
-pushed gateway asks zero old new f l begins here = subst (λ (t : Standing). In f t.all) (sym begins) here
-pushed gateway asks (suc i) old new f l begins here =
-    let first = pushed gateway asks i old begins.0 f (omega arith) begins.1 here in
+pushed : (rules : ListenRules) (asks : List StartAsk) (i : ℕ) (old new : Standing) (f : Forwarding) → i ≤ length asks
+    → BeginsAt rules asks i old new → In f old.all → In f new.all
+pushed rules asks zero old new f l begins here = subst (λ (t : Standing). In f t.all) (sym begins) here
+pushed rules asks (suc i) old new f l begins here =
+    let first = pushed rules asks i old begins.0 f (omega arith) begins.1 here in
     let at = in-range asks i (omega arith) in
-    let s = there-is (λ (ask : StartAsk). StartsIf (is_refused_alone ask) gateway ask i begins.0 new) (slice_get asks i) at.0 at.1 begins.2 in
-    pushed-one (is_refused_alone at.0) gateway at.0 i begins.0 new f s first
+    let s = there-is (λ (ask : StartAsk). StartsIf (is_ruled_out rules ask) rules ask i begins.0 new) (slice_get asks i) at.0 at.1 begins.2 in
+    pushed-one (is_ruled_out rules at.0) rules at.0 i begins.0 new f s first
 
 -- a request
-request-its : (f : Forwarding) (serial : ℕ) → request_of f ≡ Listen serial → (serial ≡ f.serial) × (request_of f ≡ Listen f.serial)
+request-its : (f : Forwarding) (serial : ℕ) → forwarding_request_of f ≡ Listen serial → (serial ≡ f.serial) × (forwarding_request_of f ≡ Listen f.serial)
 request-its f serial e = elim (request-is f.stage f.serial) [
   | inl is ↦ (let both : Listen serial ≡ Listen f.serial = sym e ∙ is in (cc, is))
   | inr is ↦ (let both : Listen serial ≡ Cancel f.serial = sym e ∙ is in cc)
 ]
 
-said : (starts : Starts) (ask : StartAsk) (forwarder_events : List ForwarderEvent) (old : ForwardingState) (g : Forwarding) (r : ForwardingRequest) → request_of g ≡ r
+said : (starts : Starts) (ask : StartAsk) (forwarder_events : List ForwarderEvent) (old : ForwardingState) (g : Forwarding) (r : ForwardingRequest) → forwarding_request_of g ≡ r
     → In g old.all → is_numbered 0 old.all old.serials ≡ true → Pending starts ask old.all
     → Fate starts ask (Requests g ∷ forwarder_events) (after_sending r old.all)
 said starts ask forwarder_events old g (Cancel serial) e here n p = inl (pending-changed starts ask change.Cancel serial old.all tt p)
@@ -380,7 +381,7 @@ replied starts ask false port (Some (Cancel serial)) fs p = pending-changed star
 
 -- a listener
 ordered : (starts : Starts) (ask : StartAsk) (host : List ℕ) (port : ℕ) (number : Option ℕ) (forwarder_events : List ForwarderEvent) (p f : Forwarding)
-    → p ≡ f → IsFor starts.gateway true ask p → (host ≡ f.listen_host) × (port ≡ f.listen_port)
+    → p ≡ f → IsFor (rules_of starts) true ask p → (host ≡ f.listen_host) × (port ≡ f.listen_port)
     → WasServed starts ask (Listens host port number ∷ forwarder_events)
 ordered starts ask host port number forwarder_events p f same is ends = record {
   forwarding = p;
@@ -424,15 +425,15 @@ goes : (starts : Starts) (ask : StartAsk) (forwarder_event : ForwarderEvent) (fo
     → Pending starts ask old.all → Fate starts ask (forwarder_event ∷ forwarder_events) new.all
 goes starts ask (Begins more) forwarder_events old new t d p =
     inl (pending-in starts ask old.all new.all p
-    (pushed more.gateway more.asks (length more.asks) (standing_at old) (standing_at new) p.f (omega arith) d.begins p.here))
+    (pushed (rules_of more) more.asks (length more.asks) (standing_at old) (standing_at new) p.f (omega arith) d.begins p.here))
 goes starts ask (Asks client id opening what answer) forwarder_events old new t d p =
     inl (pending-asked starts ask old.all new.all
-    (ask-leaves (turns_away client id old.waiting) old.gateway opening what old.serials old.all new.all d.came_to d.comes) p)
+    (ask-leaves (turns_away client id old.waiting) old.rules opening what old.serials old.all new.all d.came_to d.comes) p)
 goes starts ask (Answers client id answer) forwarder_events old new t d p = inl (pending-all starts ask old.all new.all (ap (λ (x : ForwardingState). x.all) d.others) p)
 goes starts ask Greets forwarder_events old new t d p = inl (pending-all starts ask old.all new.all (ap (λ (x : ForwardingState). x.all) d.1) p)
 goes starts ask (Requests g) forwarder_events old new t d p =
     subst (λ (fs : List Forwarding). Fate starts ask (Requests g ∷ forwarder_events) fs) (sym (ap (λ (x : ForwardingState). x.all) d.2))
-    (said starts ask forwarder_events old g (request_of g) refl (found-in has_request g old.all d.1) t.numbered p)
+    (said starts ask forwarder_events old g (forwarding_request_of g) refl (found-in has_request g old.all d.1) t.numbered p)
 goes starts ask (Replies success port) forwarder_events old new t d p =
     inl (pending-all starts ask (replied_all success port (first_of old.requests) old.all) new.all (ap (λ (x : ForwardingState). x.all) d)
     (replied starts ask success port (first_of old.requests) old.all p))
@@ -454,32 +455,32 @@ goes starts ask (Unlistens l) forwarder_events old new t d p =
     (in-filter keep p.f old.all (ap not (first-lacks l p.f.stage p.first)) p.here)))
 
 -- which one is recorded stays
-recorded-begins : (gateway : Bool) (asks : List StartAsk) (i j : ℕ) (old new : Standing) → i ≤ length asks → BeginsAt gateway asks i old new
+recorded-begins : (rules : ListenRules) (asks : List StartAsk) (i j : ℕ) (old new : Standing) → i ≤ length asks → BeginsAt rules asks i old new
     → IsRecorded old.refused j → IsRecorded new.refused j
-recorded-begins gateway asks zero j old new l begins recorded = subst (λ (t : Standing). IsRecorded t.refused j) (sym begins) recorded
-recorded-begins gateway asks (suc i) j old new l begins recorded =
-    let first = recorded-begins gateway asks i j old begins.0 (omega arith) begins.1 recorded in
+recorded-begins rules asks zero j old new l begins recorded = subst (λ (t : Standing). IsRecorded t.refused j) (sym begins) recorded
+recorded-begins rules asks (suc i) j old new l begins recorded =
+    let first = recorded-begins rules asks i j old begins.0 (omega arith) begins.1 recorded in
     let at = in-range asks i (omega arith) in
-    let s = there-is (λ (ask : StartAsk). StartsIf (is_refused_alone ask) gateway ask i begins.0 new) (slice_get asks i) at.0 at.1 begins.2 in
-    records-one (is_refused_alone at.0) gateway at.0 i j begins.0 new s first
+    let s = there-is (λ (ask : StartAsk). StartsIf (is_ruled_out rules ask) rules ask i begins.0 new) (slice_get asks i) at.0 at.1 begins.2 in
+    records-one (is_ruled_out rules at.0) rules at.0 i j begins.0 new s first
 
 recorded-reply : (success : Bool) (o : Option ForwardingRequest) (fs : List Forwarding) (refused : Option ℕ) (j : ℕ) → IsRecorded refused j
     → IsRecorded (replied_refused success o fs refused) j
 recorded-reply true None fs refused j recorded = recorded
 recorded-reply false None fs refused j recorded = recorded
 recorded-reply true (Some (Listen serial)) fs refused j recorded = recorded
-recorded-reply false (Some (Listen serial)) fs refused j recorded = recorded-still refused (start_of (find (is_asked serial) fs)) j recorded
+recorded-reply false (Some (Listen serial)) fs refused j recorded = recorded-still refused (forwarding_start_of (find (is_asked serial) fs)) j recorded
 recorded-reply true (Some (Cancel serial)) fs refused j recorded = recorded
 recorded-reply false (Some (Cancel serial)) fs refused j recorded = recorded
 
 recorded-made : (number : Option ℕ) (o : Option Forwarding) (refused : Option ℕ) (j : ℕ) → IsRecorded refused j
     → IsRecorded (made_refused number o refused) j
-recorded-made None o refused j recorded = recorded-still refused (start_of o) j recorded
+recorded-made None o refused j recorded = recorded-still refused (forwarding_start_of o) j recorded
 recorded-made (Some l) o refused j recorded = recorded
 
 recorded-goes : (forwarder_event : ForwarderEvent) (old new : ForwardingState) (j : ℕ) → Does forwarder_event old new → IsRecorded old.refused j → IsRecorded new.refused j
 recorded-goes (Begins more) old new j d recorded =
-    recorded-begins more.gateway more.asks (length more.asks) j (standing_at old) (standing_at new) (omega arith) d.begins recorded
+    recorded-begins (rules_of more) more.asks (length more.asks) j (standing_at old) (standing_at new) (omega arith) d.begins recorded
 recorded-goes (Asks client id opening what answer) old new j d recorded =
     subst (λ (o : Option ℕ). IsRecorded o j) (sym (ap (λ (x : ForwardingState). x.refused) d.others)) recorded
 recorded-goes (Answers client id answer) old new j d recorded = subst (λ (o : Option ℕ). IsRecorded o j) (sym (ap (λ (x : ForwardingState). x.refused) d.others)) recorded
@@ -513,8 +514,8 @@ or-pending starts ask i r forwarder_events all (inr p) = inr (inl p)
 fates : (starts : Starts) (later : List ForwarderEvent) (d : ForwardingState) → Leave (later ++ Begins starts ∷ []) d → (i : ℕ) (ask : StartAsk)
     → slice_get starts.asks i ≡ Some ask → Fails starts i ask d.refused ⊎ Fate starts ask (later ++ Begins starts ∷ []) d.all
 fates starts [] d left i ask is =
-    let from : BeginsAt starts.gateway starts.asks (length starts.asks) (standing_at empty_forwarding_state) (standing_at d) =
-    subst (λ (x : ForwardingState). BeginsAt starts.gateway starts.asks (length starts.asks) (standing_at x) (standing_at d)) left.1 left.2.begins in
+    let from : BeginsAt (rules_of starts) starts.asks (length starts.asks) (standing_at empty_forwarding_state) (standing_at d) =
+    subst (λ (x : ForwardingState). BeginsAt (rules_of starts) starts.asks (length starts.asks) (standing_at x) (standing_at d)) left.1 left.2.begins in
     let on = begins starts (length starts.asks) (standing_at d) (omega arith) from in
     or-pending starts ask i d.refused (Begins starts ∷ []) d.all (on.fates i ask (within starts.asks i ask is) is)
 fates starts (forwarder_event ∷ later) d left i ask is =
@@ -532,7 +533,7 @@ begun-at Requested closing P e rests says = cc
 begun-at (Live port) closing P e rests says = cc
 begun-at (Cancelling port) closing P e rests says = cc
 
-settle : (starts : Starts) (ask : StartAsk) (i : ℕ) (forwarder_events : List ForwarderEvent) (d : ForwardingState) → Tracks d → IsAtRest d
+settle : (starts : Starts) (ask : StartAsk) (i : ℕ) (forwarder_events : List ForwarderEvent) (d : ForwardingState) → Tracks d → ForwarderIsAtRest d
     → Fails starts i ask d.refused ⊎ Fate starts ask forwarder_events d.all → Fails starts i ask d.refused ⊎ WasServed starts ask forwarder_events
 settle starts ask i forwarder_events d t rest (inl r) = inl r
 settle starts ask i forwarder_events d t rest (inr (inr s)) = inr s

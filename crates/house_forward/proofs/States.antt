@@ -4,7 +4,7 @@ use Rattle.std.specs.Prelude.{IfOk, Result, Ok, Err}
 use Rattle.std.proofs.lemmas.Bool.{false≢true}
 use Rattle.mux_outside.specs.HouseCalls.{HouseCall, HandsOn}
 use Rattle.house_forward.specs.Greeting.{sent_in}
-use Rattle.house_forward.specs.RelayTraces.{GoesFurther, Follows, SendsIn, taken_in}
+use Rattle.house_forward.specs.RelayTraces.{GoesFurther, Follows, RelaySendsIn, taken_in}
 use Rattle.house_forward.specs.State.{held_in, HasSent, StandsIn}
 use Rattle.house_forward.specs.declared.forwarder_state.ForwarderState.{ForwarderState}
 use Rattle.house_forward.proofs.Calling.{since-on}
@@ -21,7 +21,7 @@ hands-on call old new e f none silent same goes = λ calls h. record {
 
 -- where something is sent, it was greeted before
 pub says-so : {E : Type 0} (r : Result Bool E) (bytes : List ℕ) (old new : ForwarderState) → old.greeted ≡ true → new.greeted ≡ old.greeted
-    → IfOk r (λ said. said ≡ true → GoesFurther (SendsIn bytes) (held_in old) (held_in new))
+    → IfOk r (λ said. said ≡ true → GoesFurther (RelaySendsIn bytes) (held_in old) (held_in new))
     → IfOk r (λ said. said ≡ true → HasSent bytes old new)
 says-so (Ok said) bytes old new so same h = λ is. record {
   goes = h is;

@@ -11,9 +11,9 @@ use Rattle.mux_outside.specs.HouseCalls.{Joined, Got, End, Writable, Failed}
 use Rattle.mux_outside.specs.declared.house_mark.HouseMark.TheVariants.{HouseOrder}
 use Rattle.mux_outside.specs.declared.order.Order.TheVariants as order
 use Rattle.mux_outside.specs.declared.own_streams.OwnStream.{OwnStream}
-use Rattle.house_relay.specs.Acts.{Act, Reads, Takes, Confirms, Refuses, Delivers, ReceivesEof, ReceivesClose, SendsData, SendsAdjust, SendsEof, SendsClose, Other, read, took}
+use Rattle.house_relay.specs.Acts.{RelayAct, Reads, Takes, Confirms, Refuses, Delivers, ReceivesEof, ReceivesClose, SendsData, SendsAdjust, SendsEof, SendsClose, Other, read, took}
 use Rattle.house_relay.specs.Next.{sends_of}
-use Rattle.house_relay.specs.Relay.{stream_of, delivers, answered_in, received_in, sent_act}
+use Rattle.house_relay.specs.Relay.{socket_stream_of, delivers, answered_in, received_in, sent_act}
 use Rattle.house_relay.specs.Steps.{made_as}
 use Rattle.house_relay.specs.declared.line.ChannelState.{ChannelState}
 use Rattle.house_relay.specs.declared.line.ChannelState.TheVariants.{Dialing, Asked, Opened, Offered, Live, Over}
@@ -25,10 +25,10 @@ use Rattle.house_relay.specs.declared.relay.Socket.TheVariants as socket
 use Rattle.house_forward.specs.Going.{act_of_sending}
 use Rattle.house_forward.specs.Heard.{act_received}
 use Rattle.house_forward.specs.Links.{relay_after}
-use Rattle.house_forward.specs.RelayTraces.{Life, Trace, GoesBy}
-use Rattle.house_forward.specs.RelayTraces.{is_stream, unmade, own_after, own_made, act_of, made_life}
+use Rattle.house_forward.specs.RelayTraces.{Life, Trace, RelayGoesBy}
+use Rattle.house_forward.specs.RelayTraces.{is_stream, unmade, link_own_after, own_made, relay_act_of, made_life}
 use Rattle.house_forward.specs.Numbers.{open_streams, number_of, made_by}
-use Rattle.house_forward.specs.Streaming.{EachHasItsStream, IsOf, got_in, got_call, took_in, took_call}
+use Rattle.house_forward.specs.Streaming.{EachHasItsStream, IsOfStream, got_in, got_call, took_in, took_call}
 use Rattle.house_forward.specs.declared.link.LinkStep.{LinkStep}
 use Rattle.house_forward.specs.declared.link.LinkStep.TheVariants as step
 use Rattle.house_forward.proofs.Differing.{Apart}
@@ -38,18 +38,18 @@ use Rattle.house_forward.proofs.Sound.{Each}
 
 -- ---- what a step reads and takes
 
--- what is heard and said in the channel adds nothing to these bytes
-record IsOfSocket (f : List Act → List ℕ) : Type 0 where
-  other : (acts : List Act) → f (Other ∷ acts) ≡ f acts
-  confirms : (acts : List Act) → f (Confirms ∷ acts) ≡ f acts
-  refuses : (reason : ℕ) (acts : List Act) → f (Refuses reason ∷ acts) ≡ f acts
-  delivers : (bytes : List ℕ) (acts : List Act) → f (Delivers bytes ∷ acts) ≡ f acts
-  eof_received : (acts : List Act) → f (ReceivesEof ∷ acts) ≡ f acts
-  close_received : (acts : List Act) → f (ReceivesClose ∷ acts) ≡ f acts
-  data_sent : (bytes : List ℕ) (acts : List Act) → f (SendsData bytes ∷ acts) ≡ f acts
-  adjust_sent : (n : ℕ) (acts : List Act) → f (SendsAdjust n ∷ acts) ≡ f acts
-  eof_sent : (acts : List Act) → f (SendsEof ∷ acts) ≡ f acts
-  close_sent : (acts : List Act) → f (SendsClose ∷ acts) ≡ f acts
+-- what is received and sent in the channel adds nothing to these bytes
+record IsOfSocket (f : List RelayAct → List ℕ) : Type 0 where
+  other : (acts : List RelayAct) → f (Other ∷ acts) ≡ f acts
+  confirms : (acts : List RelayAct) → f (Confirms ∷ acts) ≡ f acts
+  refuses : (reason : ℕ) (acts : List RelayAct) → f (Refuses reason ∷ acts) ≡ f acts
+  delivers : (bytes : List ℕ) (acts : List RelayAct) → f (Delivers bytes ∷ acts) ≡ f acts
+  eof_received : (acts : List RelayAct) → f (ReceivesEof ∷ acts) ≡ f acts
+  close_received : (acts : List RelayAct) → f (ReceivesClose ∷ acts) ≡ f acts
+  data_sent : (bytes : List ℕ) (acts : List RelayAct) → f (SendsData bytes ∷ acts) ≡ f acts
+  adjust_sent : (n : ℕ) (acts : List RelayAct) → f (SendsAdjust n ∷ acts) ≡ f acts
+  eof_sent : (acts : List RelayAct) → f (SendsEof ∷ acts) ≡ f acts
+  close_sent : (acts : List RelayAct) → f (SendsClose ∷ acts) ≡ f acts
 
 of-read : IsOfSocket read
 of-read = record {
@@ -79,7 +79,7 @@ of-took = record {
   close_sent = λ acts. refl;
 }
 
-same-answered : (f : List Act → List ℕ) → IsOfSocket f → (line : ChannelState) (act : Act) (acts : List Act) → f (act ∷ acts) ≡ f acts
+same-answered : (f : List RelayAct → List ℕ) → IsOfSocket f → (line : ChannelState) (act : RelayAct) (acts : List RelayAct) → f (act ∷ acts) ≡ f acts
     → f (answered_in line act ∷ acts) ≡ f acts
 same-answered f k (Dialing dialog) act acts e = k.other acts
 same-answered f k (Asked host port version) act acts e = k.other acts
@@ -88,7 +88,7 @@ same-answered f k (Offered remote window maximum) act acts e = k.other acts
 same-answered f k (Live live) act acts e = k.other acts
 same-answered f k Over act acts e = k.other acts
 
-same-in : (f : List Act → List ℕ) → IsOfSocket f → (line : ChannelState) (act : Act) (acts : List Act) → f (act ∷ acts) ≡ f acts
+same-in : (f : List RelayAct → List ℕ) → IsOfSocket f → (line : ChannelState) (act : RelayAct) (acts : List RelayAct) → f (act ∷ acts) ≡ f acts
     → f (received_in line act ∷ acts) ≡ f acts
 same-in f k (Dialing dialog) act acts e = k.other acts
 same-in f k (Asked host port version) act acts e = k.other acts
@@ -97,11 +97,11 @@ same-in f k (Offered remote window maximum) act acts e = k.other acts
 same-in f k (Live live) act acts e = e
 same-in f k Over act acts e = k.other acts
 
-same-data : (f : List Act → List ℕ) → IsOfSocket f → (b : Bool) (bytes : List ℕ) (acts : List Act) → f ((if b then Delivers bytes else Other) ∷ acts) ≡ f acts
+same-data : (f : List RelayAct → List ℕ) → IsOfSocket f → (b : Bool) (bytes : List ℕ) (acts : List RelayAct) → f ((if b then Delivers bytes else Other) ∷ acts) ≡ f acts
 same-data f k true bytes acts = k.delivers bytes acts
 same-data f k false bytes acts = k.other acts
 
-same-heard : (f : List Act → List ℕ) → IsOfSocket f → (m : Message) (r : Relay) (acts : List Act) → f (act_received m r ∷ acts) ≡ f acts
+same-heard : (f : List RelayAct → List ℕ) → IsOfSocket f → (m : Message) (r : Relay) (acts : List RelayAct) → f (act_received m r ∷ acts) ≡ f acts
 same-heard f k (message.Transport number rest) r acts = k.other acts
 same-heard f k (message.GlobalRequest name want rest what) r acts = k.other acts
 same-heard f k (message.RequestSuccess rest) r acts = k.other acts
@@ -118,7 +118,7 @@ same-heard f k (message.Request recipient kind want rest) r acts = k.other acts
 same-heard f k (message.Success recipient) r acts = k.other acts
 same-heard f k (message.Failure recipient) r acts = k.other acts
 
-same-said : (f : List Act → List ℕ) → IsOfSocket f → (s : Outgoing) (r : Relay) (acts : List Act) → f (sent_act s r ∷ acts) ≡ f acts
+same-said : (f : List RelayAct → List ℕ) → IsOfSocket f → (s : Outgoing) (r : Relay) (acts : List RelayAct) → f (sent_act s r ∷ acts) ≡ f acts
 same-said f k outgoing.Open r acts = k.other acts
 same-said f k outgoing.Confirmation r acts = k.other acts
 same-said f k outgoing.OpenFailure r acts = k.other acts
@@ -128,7 +128,7 @@ same-said f k (outgoing.Data n) r acts = k.data_sent _ acts
 same-said f k outgoing.Eof r acts = k.eof_sent acts
 same-said f k (outgoing.Adjust n) r acts = k.adjust_sent n acts
 
-same-after : (f : List Act → List ℕ) → IsOfSocket f → (o : Option Outgoing) (r : Relay) (acts : List Act) → f (act_of_sending o r ∷ acts) ≡ f acts
+same-after : (f : List RelayAct → List ℕ) → IsOfSocket f → (o : Option Outgoing) (r : Relay) (acts : List RelayAct) → f (act_of_sending o r ∷ acts) ≡ f acts
 same-after f k None r acts = k.other acts
 same-after f k (Some s) r acts = same-said f k s r acts
 
@@ -145,8 +145,8 @@ took-more s (c ∷ calls) call =
     ap (λ bs. took_call s c ++ bs) (took-more s calls call) ∙ sym (append_assoc (took_call s c) (took_in s calls) (took_call s call))
 
 -- a call in which so much was given and taken
-of-more : (calls : List HouseCall) (call : HouseCall) (t : ℕ) (old new : List Act) → read new ≡ read old ++ got_call t call
-    → took new ≡ took old ++ took_call t call → IsOf calls t old → IsOf (calls ++ call ∷ []) t new
+of-more : (calls : List HouseCall) (call : HouseCall) (t : ℕ) (old new : List RelayAct) → read new ≡ read old ++ got_call t call
+    → took new ≡ took old ++ took_call t call → IsOfStream calls t old → IsOfStream (calls ++ call ∷ []) t new
 of-more calls call t old new e f h = record {
   before = h.before;
   birth = h.birth;
@@ -157,7 +157,7 @@ of-more calls call t old new e f h = record {
   takes = f ∙ ap (λ bs. bs ++ took_call t call) h.takes ∙ sym (took-more t h.since call);
 }
 
-of-acts : (calls : List HouseCall) (t : ℕ) (old new : List Act) → read new ≡ read old → took new ≡ took old → IsOf calls t old → IsOf calls t new
+of-acts : (calls : List HouseCall) (t : ℕ) (old new : List RelayAct) → read new ≡ read old → took new ≡ took old → IsOfStream calls t old → IsOfStream calls t new
 of-acts calls t old new e f h = record {
   before = h.before;
   birth = h.birth;
@@ -169,21 +169,21 @@ of-acts calls t old new e f h = record {
 }
 
 -- nothing was
-of-none : (calls : List HouseCall) (call : HouseCall) (t : ℕ) (acts : List Act) → got_call t call ≡ [] → took_call t call ≡ [] → IsOf calls t acts
-    → IsOf (calls ++ call ∷ []) t acts
+of-none : (calls : List HouseCall) (call : HouseCall) (t : ℕ) (acts : List RelayAct) → got_call t call ≡ [] → took_call t call ≡ [] → IsOfStream calls t acts
+    → IsOfStream (calls ++ call ∷ []) t acts
 of-none calls call t acts e f h =
     of-more calls call t acts acts (sym (append-nil (read acts)) ∙ ap (λ bs. read acts ++ bs) (sym e))
     (sym (append-nil (took acts)) ∙ ap (λ bs. took acts ++ bs) (sym f)) h
 
 -- ---- of a relay
 
-record Fresh (acts : List Act) : Type 0 where
+record Fresh (acts : List RelayAct) : Type 0 where
   reads : read acts ≡ []
   takes : took acts ≡ []
 
-abbrev FedBy : Option OwnStream → List HouseCall → Socket → List Act → Type 0
+abbrev FedBy : Option OwnStream → List HouseCall → Socket → List RelayAct → Type 0
 FedBy None calls s acts = unmade s ≡ true → Fresh acts
-FedBy (Some own) calls s acts = IsOf calls own.number acts
+FedBy (Some own) calls s acts = IsOfStream calls own.number acts
 
 abbrev Fed : List HouseCall → Life → Type 0
 Fed calls l = FedBy l.own calls l.relay.socket l.acts
@@ -192,19 +192,19 @@ record Silent (t : ℕ) (call : HouseCall) : Type 0 where
   gives : got_call t call ≡ []
   takes : took_call t call ≡ []
 
-fed-more : (calls : List HouseCall) (call : HouseCall) (o : Option OwnStream) (s : Socket) (acts : List Act)
+fed-more : (calls : List HouseCall) (call : HouseCall) (o : Option OwnStream) (s : Socket) (acts : List RelayAct)
     → ((own : OwnStream) → o ≡ Some own → Silent own.number call) → FedBy o calls s acts → FedBy o (calls ++ call ∷ []) s acts
 fed-more calls call None s acts silent h = h
 fed-more calls call (Some own) s acts silent h =
     let its = silent own refl in of-none calls call own.number acts its.gives its.takes h
 
-fed-acts : (calls : List HouseCall) (o : Option OwnStream) (s : Socket) (old new : List Act) → read new ≡ read old → took new ≡ took old
+fed-acts : (calls : List HouseCall) (o : Option OwnStream) (s : Socket) (old new : List RelayAct) → read new ≡ read old → took new ≡ took old
     → FedBy o calls s old → FedBy o calls s new
 fed-acts calls None s old new e f h = λ is. (let its = h is in record { reads = e ∙ its.reads; takes = f ∙ its.takes })
 fed-acts calls (Some own) s old new e f h = of-acts calls own.number old new e f h
 
 -- where its socket stays, and nothing is read or taken
-fed-on : (calls : List HouseCall) (so : Relay → Relay → Type 0) (act : Act) (a b : Life) → GoesBy so act a b
+fed-on : (calls : List HouseCall) (so : Relay → Relay → Type 0) (act : RelayAct) (a b : Life) → RelayGoesBy so act a b
     → b.relay.socket ≡ a.relay.socket → read (act ∷ a.acts) ≡ read a.acts → took (act ∷ a.acts) ≡ took a.acts → Fed calls a → Fed calls b
 fed-on calls so act a b h same e f p =
     subst (λ (o : Option OwnStream). FedBy o calls b.relay.socket b.acts) (sym h.own)
@@ -235,14 +235,14 @@ gave t n bytes e = ap (λ (b : Bool). if b then bytes else []) e
 was-taken : (t n : ℕ) (bytes : List ℕ) → (n == t) ≡ true → took_call n (TakesBytes t bytes) ≡ bytes
 was-taken t n bytes e = ap (λ (b : Bool). if b then bytes else []) e
 
-gets-fed : (calls : List HouseCall) (t : ℕ) (bytes : List ℕ) (o : Option OwnStream) (s s' : Socket) (acts : List Act) → is_stream t o ≡ true
+gets-fed : (calls : List HouseCall) (t : ℕ) (bytes : List ℕ) (o : Option OwnStream) (s s' : Socket) (acts : List RelayAct) → is_stream t o ≡ true
     → FedBy o calls s acts → FedBy o (calls ++ Turns (Got t bytes) ∷ []) s' (Reads bytes ∷ acts)
 gets-fed calls t bytes None s s' acts is h = cc
 gets-fed calls t bytes (Some own) s s' acts is h =
     of-more calls (Turns (Got t bytes)) own.number acts (Reads bytes ∷ acts)
     (ap (λ bs. read acts ++ bs) (sym (gave t own.number bytes is))) (sym (append-nil (took acts))) h
 
-takes-fed : (calls : List HouseCall) (t : ℕ) (bytes : List ℕ) (o : Option OwnStream) (s s' : Socket) (acts : List Act) → is_stream t o ≡ true
+takes-fed : (calls : List HouseCall) (t : ℕ) (bytes : List ℕ) (o : Option OwnStream) (s s' : Socket) (acts : List RelayAct) → is_stream t o ≡ true
     → FedBy o calls s acts → FedBy o (calls ++ TakesBytes t bytes ∷ []) s' (Takes bytes ∷ acts)
 takes-fed calls t bytes None s s' acts is h = cc
 takes-fed calls t bytes (Some own) s s' acts is h =
@@ -259,9 +259,9 @@ silent-step call step.Close t n h = record { gives = ap (got_call n) h.2; takes 
 silent-step call step.Writable t n h = record { gives = ap (got_call n) h; takes = ap (took_call n) h }
 silent-step call step.Failed t n h = record { gives = ap (got_call n) h; takes = ap (took_call n) h }
 
-steps-fed : (calls : List HouseCall) (call : HouseCall) (s : LinkStep) (t : ℕ) (o : Option OwnStream) (r : Relay) (acts : List Act)
+steps-fed : (calls : List HouseCall) (call : HouseCall) (s : LinkStep) (t : ℕ) (o : Option OwnStream) (r : Relay) (acts : List RelayAct)
     → Orders call s t → is_stream t o ≡ true → FedBy o calls r.socket acts
-    → FedBy (own_after s o) (calls ++ call ∷ []) (relay_after s r).socket (act_of s ∷ acts)
+    → FedBy (link_own_after s o) (calls ++ call ∷ []) (relay_after s r).socket (relay_act_of s ∷ acts)
 steps-fed calls call s t None r acts ord is h = cc
 steps-fed calls call (step.Pause b) t (Some own) r acts ord is h =
     let its = silent-step call (step.Pause b) t own.number ord in
@@ -271,18 +271,18 @@ steps-fed calls call step.Finish t (Some own) r acts ord is h =
     of-none calls call own.number (Other ∷ acts) its.gives its.takes (of-acts calls own.number acts (Other ∷ acts) refl refl h)
 steps-fed calls call step.End t (Some own) r acts ord is h =
     let its = silent-step call step.End t own.number ord in
-    of-none calls call own.number (act_of step.End ∷ acts) its.gives its.takes
-    (of-acts calls own.number acts (act_of step.End ∷ acts) refl refl h)
+    of-none calls call own.number (relay_act_of step.End ∷ acts) its.gives its.takes
+    (of-acts calls own.number acts (relay_act_of step.End ∷ acts) refl refl h)
 steps-fed calls call step.Close t (Some own) r acts ord is h = λ made. cc
 steps-fed calls call step.Writable t (Some own) r acts ord is h =
     let its = silent-step call step.Writable t own.number ord in
     of-none calls call own.number (Other ∷ acts) its.gives its.takes (of-acts calls own.number acts (Other ∷ acts) refl refl h)
 steps-fed calls call step.Failed t (Some own) r acts ord is h =
     let its = silent-step call step.Failed t own.number ord in
-    of-none calls call own.number (act_of step.Failed ∷ acts) its.gives its.takes
-    (of-acts calls own.number acts (act_of step.Failed ∷ acts) refl refl h)
+    of-none calls call own.number (relay_act_of step.Failed ∷ acts) its.gives its.takes
+    (of-acts calls own.number acts (relay_act_of step.Failed ∷ acts) refl refl h)
 
-unmade-none : (s : Socket) → unmade s ≡ true → stream_of s ≡ None
+unmade-none : (s : Socket) → unmade s ≡ true → socket_stream_of s ≡ None
 unmade-none (socket.Connecting t) e = cc
 unmade-none (socket.Open t) e = cc
 unmade-none socket.Unmade e = refl
@@ -290,7 +290,7 @@ unmade-none (socket.Failed t) e = cc
 unmade-none (socket.NoChannelLeft t) e = cc
 unmade-none socket.Closed e = cc
 
-makes-fed : (calls : List HouseCall) (host : List ℕ) (port : ℕ) (number : Option ℕ) (o : Option OwnStream) (s : Socket) (acts : List Act)
+makes-fed : (calls : List HouseCall) (host : List ℕ) (port : ℕ) (number : Option ℕ) (o : Option OwnStream) (s : Socket) (acts : List RelayAct)
     → unmade s ≡ true → None ≡ number_of o → FedBy o calls s acts
     → FedBy (own_made number) (calls ++ Marks (HouseOrder (order.Connect host port) number) ∷ [])
     (made_as number) (Other ∷ acts)
@@ -324,12 +324,12 @@ fed before call old apart = record {
   gets = λ t bytes e a b s s' p is h.
       subst (λ (c : HouseCall). FedBy b.own (before ++ c ∷ []) b.relay.socket b.acts) (sym e)
       (subst (λ (o : Option OwnStream). FedBy o (before ++ Turns (Got t bytes) ∷ []) b.relay.socket b.acts) (sym h.own)
-      (subst (λ (acts : List Act). FedBy a.own (before ++ Turns (Got t bytes) ∷ []) b.relay.socket acts) (sym h.acts)
+      (subst (λ (acts : List RelayAct). FedBy a.own (before ++ Turns (Got t bytes) ∷ []) b.relay.socket acts) (sym h.acts)
       (gets-fed before t bytes a.own a.relay.socket b.relay.socket a.acts is p)));
   takes = λ t bytes e a b s p is h.
       subst (λ (c : HouseCall). FedBy b.own (before ++ c ∷ []) b.relay.socket b.acts) (sym e)
       (subst (λ (o : Option OwnStream). FedBy o (before ++ TakesBytes t bytes ∷ []) b.relay.socket b.acts) (sym h.own)
-      (subst (λ (acts : List Act). FedBy a.own (before ++ TakesBytes t bytes ∷ []) b.relay.socket acts) (sym h.acts)
+      (subst (λ (acts : List RelayAct). FedBy a.own (before ++ TakesBytes t bytes ∷ []) b.relay.socket acts) (sym h.acts)
       (takes-fed before t bytes a.own a.relay.socket b.relay.socket a.acts is p)));
   steps = λ s t ord a sa may p is. steps-fed before call s t a.own a.relay a.acts ord is p;
   makes = λ host port number e a s p is there.
@@ -341,15 +341,15 @@ fed before call old apart = record {
 
 -- ---- of all
 
-of-own : (calls : List HouseCall) (o : Option OwnStream) (s : Socket) (acts : List Act) → FedBy o calls s acts
-    → IfSome o (λ own. IsOf calls own.number acts)
+of-own : (calls : List HouseCall) (o : Option OwnStream) (s : Socket) (acts : List RelayAct) → FedBy o calls s acts
+    → IfSome o (λ own. IsOfStream calls own.number acts)
 of-own calls None s acts h = tt
 of-own calls (Some own) s acts h = h
 
-all-of : (calls : List HouseCall) (ls : List Life) → Each (Fed calls) ls → All (λ l. IfSome l.own (λ own. IsOf calls own.number l.acts)) ls
-all-of calls [] h = All-nil (λ (l : Life). IfSome l.own (λ own. IsOf calls own.number l.acts))
+all-of : (calls : List HouseCall) (ls : List Life) → Each (Fed calls) ls → All (λ l. IfSome l.own (λ own. IsOfStream calls own.number l.acts)) ls
+all-of calls [] h = All-nil (λ (l : Life). IfSome l.own (λ own. IsOfStream calls own.number l.acts))
 all-of calls (l ∷ ls) h =
-    All-cons (λ (x : Life). IfSome x.own (λ own. IsOf calls own.number x.acts)) l ls (of-own calls l.own l.relay.socket l.acts h.0)
+    All-cons (λ (x : Life). IfSome x.own (λ own. IsOfStream calls own.number x.acts)) l ls (of-own calls l.own l.relay.socket l.acts h.0)
     (all-of calls ls h.1)
 
 pub each-has-its-stream : EachHasItsStream

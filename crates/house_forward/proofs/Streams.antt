@@ -5,16 +5,16 @@ use Rattle.std.specs.List.{list_any, cons_option}
 use Rattle.std.proofs.lemmas.Bool.{or_left, or_right, or_parts, or_from, and_parts, and_from, both_ways, eqb-true, not-true, not_from_false, ne_eqb, eqb-false}
 use Rattle.mux_outside.specs.OwnStreams.{is_one, is_finished, with_pause, with_finish, with_end, without_stream, pause_one, finish_one, end_one}
 use Rattle.mux_outside.specs.declared.own_streams.OwnStream.{OwnStream}
-use Rattle.house_forward.specs.Links.{own_of, streams_of, are_distinct, numbered, has_number, link_after, stream_after, finishes}
+use Rattle.house_forward.specs.Links.{own_stream_of, streams_of, are_distinct, numbered, has_number, link_after, stream_after, finishes}
 use Rattle.house_forward.specs.declared.link.Link.{Link}
 use Rattle.house_forward.specs.declared.link.LinkStep.{LinkStep}
 use Rattle.house_forward.specs.declared.link.LinkStep.TheVariants.{Pause, Finish, End, Close, Writable, Failed}
-use Rattle.house_forward.specs.declared.link.Stream.{Stream}
-use Rattle.house_forward.specs.declared.link.Stream.TheVariants.{Offered, Awaited, Made, Gone}
+use Rattle.house_forward.specs.declared.link.LinkStream.{LinkStream}
+use Rattle.house_forward.specs.declared.link.LinkStream.TheVariants.{Offered, Awaited, Made, Gone}
 
 -- ---- one link and the streams after it
 
-has-one : (s : Stream) (ss : List OwnStream) (t : ℕ) → numbered t s ≡ true → is_one t (cons_option (own_of s) ss) ≡ true
+has-one : (s : LinkStream) (ss : List OwnStream) (t : ℕ) → numbered t s ≡ true → is_one t (cons_option (own_stream_of s) ss) ≡ true
 has-one (Offered host port) ss t n = cc
 has-one Awaited ss t n = cc
 has-one (Made own) ss t n = or_left _ (is_one t ss) n
@@ -24,7 +24,7 @@ behind-one : (o : Option OwnStream) (ss : List OwnStream) (t : ℕ) → is_one t
 behind-one None ss t n = n
 behind-one (Some own) ss t n = or_right (own.number == t) _ n
 
-pub lacks-one : (s : Stream) (ss : List OwnStream) (t : ℕ) → is_one t (cons_option (own_of s) ss) ≡ false
+pub lacks-one : (s : LinkStream) (ss : List OwnStream) (t : ℕ) → is_one t (cons_option (own_stream_of s) ss) ≡ false
     → (numbered t s ≡ false) × (is_one t ss ≡ false)
 lacks-one (Offered host port) ss t e = (refl, e)
 lacks-one Awaited ss t e = (refl, e)
@@ -35,7 +35,7 @@ distinct-tail : (o : Option OwnStream) (ss : List OwnStream) → are_distinct (c
 distinct-tail None ss e = e
 distinct-tail (Some own) ss e = (and_parts (not (is_one own.number ss)) (are_distinct ss) e).1
 
-pub alone : (s : Stream) (ss : List OwnStream) (t : ℕ) → are_distinct (cons_option (own_of s) ss) ≡ true
+pub alone : (s : LinkStream) (ss : List OwnStream) (t : ℕ) → are_distinct (cons_option (own_stream_of s) ss) ≡ true
     → numbered t s ≡ true → is_one t ss ≡ false
 alone (Offered host port) ss t e n = cc
 alone Awaited ss t e n = cc
@@ -44,7 +44,7 @@ alone (Made own) ss t e n =
     subst (λ k. is_one k ss ≡ false) (eqb-true own.number t n) none
 alone Gone ss t e n = cc
 
-pub differs-in : (s : Stream) (ss : List OwnStream) (t : ℕ) (b : Bool) → numbered t s ≡ b → are_distinct (cons_option (own_of s) ss) ≡ true
+pub differs-in : (s : LinkStream) (ss : List OwnStream) (t : ℕ) (b : Bool) → numbered t s ≡ b → are_distinct (cons_option (own_stream_of s) ss) ≡ true
     → is_one t ss ≡ true → b ≡ false
 differs-in s ss t true n e is = absurd (both_ways (is_one t ss) (alone s ss t e n) is)
 differs-in s ss t false n e is = refl
@@ -55,7 +55,7 @@ pub has-stream : (ls : List Link) (k t : ℕ) (x : Link) → k < length ls → g
     → is_one t (streams_of ls) ≡ true
 has-stream [] k t x l e n = absurd (omega arith)
 has-stream (y ∷ ls) zero t x l e n = has-one y.stream (streams_of ls) t (subst (λ (z : Link). has_number t z ≡ true) (sym e) n)
-has-stream (y ∷ ls) (suc k) t x l e n = behind-one (own_of y.stream) (streams_of ls) t (has-stream ls k t x (omega arith) e n)
+has-stream (y ∷ ls) (suc k) t x l e n = behind-one (own_stream_of y.stream) (streams_of ls) t (has-stream ls k t x (omega arith) e n)
 
 -- where none has it no link makes the step
 pub unmoved : (step : LinkStep) (t : ℕ) (ls : List Link) → is_one t (streams_of ls) ≡ false → map (link_after step t) ls ≡ ls
@@ -73,18 +73,18 @@ pub moves-later : (step : LinkStep) (t : ℕ) (y : Link) (ls : List Link) → ar
 moves-later step t y ls e is = rw (differs-in y.stream (streams_of ls) t _ refl e is) refl
 
 pub rest-distinct : (y : Link) (ls : List Link) → are_distinct (streams_of (y ∷ ls)) ≡ true → are_distinct (streams_of ls) ≡ true
-rest-distinct y ls e = distinct-tail (own_of y.stream) (streams_of ls) e
+rest-distinct y ls e = distinct-tail (own_stream_of y.stream) (streams_of ls) e
 
 -- ---- the streams after a step
 
-own-if : (b : Bool) (x y : Link) → own_of (if b then x else y).stream ≡ (if b then own_of x.stream else own_of y.stream)
+own-if : (b : Bool) (x y : Link) → own_stream_of (if b then x else y).stream ≡ (if b then own_stream_of x.stream else own_stream_of y.stream)
 own-if true x y = refl
 own-if false x y = refl
 
-abbrev own_after : LinkStep → ℕ → Stream → Option OwnStream
-own_after step t s = if numbered t s then own_of (stream_after step s) else own_of s
+abbrev link_own_after : LinkStep → ℕ → LinkStream → Option OwnStream
+link_own_after step t s = if numbered t s then own_stream_of (stream_after step s) else own_stream_of s
 
-own-after : (step : LinkStep) (t : ℕ) (l : Link) → own_of (link_after step t l).stream ≡ own_after step t l.stream
+own-after : (step : LinkStep) (t : ℕ) (l : Link) → own_stream_of (link_after step t l).stream ≡ link_own_after step t l.stream
 own-after step t l = own-if (numbered t l.stream) _ l
 
 abbrev option_f : (OwnStream → OwnStream) → Option OwnStream → Option OwnStream
@@ -93,9 +93,9 @@ option_f f (Some own) = Some (f own)
 
 -- a change of the streams that a step makes
 pub record Makes (step : LinkStep) (t : ℕ) (f : OwnStream → OwnStream) : Type 0 where
-  pub at : (own : OwnStream) → own_after step t (Made own) ≡ Some (f own)
+  pub at : (own : OwnStream) → link_own_after step t (Made own) ≡ Some (f own)
 
-after-one : (step : LinkStep) (t : ℕ) (f : OwnStream → OwnStream) → Makes step t f → (s : Stream) → own_after step t s ≡ option_f f (own_of s)
+after-one : (step : LinkStep) (t : ℕ) (f : OwnStream → OwnStream) → Makes step t f → (s : LinkStream) → link_own_after step t s ≡ option_f f (own_stream_of s)
 after-one step t f m (Offered host port) = refl
 after-one step t f m Awaited = refl
 after-one step t f m (Made own) = m.at own
@@ -111,8 +111,8 @@ pub mapped-streams : (step : LinkStep) (t : ℕ) (f : OwnStream → OwnStream) �
 mapped-streams step t f m [] = refl
 mapped-streams step t f m (l ∷ ls) =
     ap (λ o. cons_option o (streams_of (map (link_after step t) ls))) (own-after step t l ∙ after-one step t f m l.stream)
-    ∙ ap (λ ss. cons_option (option_f f (own_of l.stream)) ss) (mapped-streams step t f m ls)
-    ∙ cons-map f (own_of l.stream) (streams_of ls)
+    ∙ ap (λ ss. cons_option (option_f f (own_stream_of l.stream)) ss) (mapped-streams step t f m ls)
+    ∙ cons-map f (own_stream_of l.stream) (streams_of ls)
 
 some-if : (b : Bool) (x y : OwnStream) → (if b then Some x else Some y) ≡ Some (if b then x else y)
 some-if true x y = refl
@@ -146,8 +146,8 @@ close-in : (b : Bool) (own : OwnStream) (ss : List OwnStream)
 close-in true own ss = refl
 close-in false own ss = refl
 
-close-one : (t : ℕ) (s : Stream) (ss : List OwnStream)
-    → cons_option (own_after Close t s) (without_stream t ss) ≡ without_stream t (cons_option (own_of s) ss)
+close-one : (t : ℕ) (s : LinkStream) (ss : List OwnStream)
+    → cons_option (link_own_after Close t s) (without_stream t ss) ≡ without_stream t (cons_option (own_stream_of s) ss)
 close-one t (Offered host port) ss = refl
 close-one t Awaited ss = refl
 close-one t (Made own) ss = close-in (own.number == t) own (without_stream t ss)
@@ -157,7 +157,7 @@ pub closed-streams : (t : ℕ) (ls : List Link) → streams_of (map (link_after 
 closed-streams t [] = refl
 closed-streams t (l ∷ ls) =
     ap (λ o. cons_option o (streams_of (map (link_after Close t) ls))) (own-after Close t l)
-    ∙ ap (λ ss. cons_option (own_after Close t l.stream) ss) (closed-streams t ls)
+    ∙ ap (λ ss. cons_option (link_own_after Close t l.stream) ss) (closed-streams t ls)
     ∙ close-one t l.stream (streams_of ls)
 
 -- ---- distinct numbers
@@ -219,7 +219,7 @@ distinct-more (s ∷ ss) own e n =
 
 -- ---- tests of the streams
 
-one-in : (s : Stream) (t : ℕ) (ss : List OwnStream) → is_one t (cons_option (own_of s) ss) ≡ (numbered t s || is_one t ss)
+one-in : (s : LinkStream) (t : ℕ) (ss : List OwnStream) → is_one t (cons_option (own_stream_of s) ss) ≡ (numbered t s || is_one t ss)
 one-in (Offered host port) t ss = refl
 one-in Awaited t ss = refl
 one-in (Made own) t ss = refl
@@ -229,7 +229,7 @@ pub one_of_links : (t : ℕ) (ls : List Link) → list_any (has_number t) ls ≡
 one_of_links t [] = refl
 one_of_links t (l ∷ ls) = ap (λ b. numbered t l.stream || b) (one_of_links t ls) ∙ sym (one-in l.stream t (streams_of ls))
 
-finished-in : (s : Stream) (t : ℕ) (ss : List OwnStream) → is_finished t (cons_option (own_of s) ss) ≡ (finishes t s || is_finished t ss)
+finished-in : (s : LinkStream) (t : ℕ) (ss : List OwnStream) → is_finished t (cons_option (own_stream_of s) ss) ≡ (finishes t s || is_finished t ss)
 finished-in (Offered host port) t ss = refl
 finished-in Awaited t ss = refl
 finished-in (Made own) t ss = refl

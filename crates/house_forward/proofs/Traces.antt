@@ -1,4 +1,4 @@
--- How the links' steps are those of a course.
+-- How the links' steps are those of a trace.
 use Rattle.std.proofs.Common.{◌≡◌, ◌∙◌, refl, sym, ap, subst, arith, ℕ, suc, ◌+◌, ◌<◌, ◌^◌, Bool, true, false, cond, List, [], ◌∷◌, ◌++◌, set, take, drop, map, Option, Some, None, inl, inr}
 use Rattle.std.specs.Prelude.{◌==◌, ◌&&◌, ◌||◌, ◌≤◌, not, length, find, is_some, IfSome}
 use Rattle.std.specs.List.{list_any, position, cons_option}
@@ -15,27 +15,27 @@ use Rattle.mux_outside.specs.declared.own_streams.OwnStream.{OwnStream}
 use Rattle.mux_outside.specs.declared.piece.TheConstants.{LONGEST_PIECE}
 use Rattle.house_relay.specs.Acts.{Reads, Takes}
 use Rattle.house_relay.specs.Next.{sends_of}
-use Rattle.house_relay.specs.Relay.{Stands, OrdersRight, stream_of}
+use Rattle.house_relay.specs.Relay.{RelayRepresents, OrdersRight, socket_stream_of}
 use Rattle.house_relay.specs.Steps.{fresh_relay, made_as}
 use Rattle.house_relay.specs.declared.line.ChannelState.TheVariants.{Offered as OfServer}
 use Rattle.house_relay.specs.declared.relay.Relay.{Relay}
 use Rattle.house_relay.specs.declared.relay.Socket.TheVariants as socket
 use Rattle.house_forward.specs.ForwardingState.{ForwardingState, greeting_sent, request_sent}
 use Rattle.house_forward.specs.Forwardings.{has_request, has_listener}
-use Rattle.house_forward.specs.Going.{GoesAt, LeavesAt, Gets, GetsOn, TakesOf, TakesOn, SendsOn, ReceivesOn, Obeys, AwaitsAt, MakesAt, MayBeFirst, swept}
-use Rattle.house_forward.specs.Links.{has_sending, has_order, is_of, is_offered, is_awaited, link_after, streams_of, Offers, Joins, has_number, is_number, own_of, is_full, has_full_dialogs, dials, ConnectsAt, made_stream, OrdersIn, IsJoined}
+use Rattle.house_forward.specs.Going.{RelayGoesAt, LeavesAt, Gets, GetsOn, TakesOf, TakesOn, RelaySendsOn, RelayReceivesOn, Obeys, AwaitsAt, MakesAt, MayBeFirst, swept}
+use Rattle.house_forward.specs.Links.{has_sending, has_order, is_of, is_offered, is_awaited, link_after, streams_of, Offers, Joins, has_number, is_link_number, own_stream_of, is_full, has_full_dialogs, dials, ConnectsAt, made_stream, OrdersIn, IsRelayJoined}
 use Rattle.house_forward.specs.Links as linking
-use Rattle.house_forward.specs.RelayTraces.{One, Trace, Held, LinksGo, GoesFurther, ForwardingStateGoes, OnForwardingState, TakesFurther, Represents, Follows, taken_in, with_forwarding_state}
-use Rattle.house_forward.specs.RelayTraces.{ReceivesAt, OffersOne, SendsIn, SendsBy, GivesOrder, JoinsOne, OrdersSocket, MakesOne, held, are_full, are_dialogs_full, is_unmade, IsEndOf}
-use Rattle.house_forward.specs.RelayTraces.{Life, Listens, Speaks, GoesBy, IsLife, IsSocketOf, AreRelayTraces, IsTrace, IsAllowed, StepsBy, Reaches, first_trace, with_relay_traces, left_in, has_channel, has_words, has_stream, is_stream, stepped, made_life}
-use Rattle.house_forward.specs.Said.{framed, sent_by, request_payload}
+use Rattle.house_forward.specs.RelayTraces.{One, Trace, Held, LinksGo, GoesFurther, ForwardingStateGoes, OnForwardingState, TakesFurther, ForwarderRepresents, Follows, taken_in, with_forwarding_state}
+use Rattle.house_forward.specs.RelayTraces.{RelayReceivesAt, OffersOne, RelaySendsIn, SendsBy, GivesOrder, JoinsOne, OrdersSocket, MakesOne, held, are_full, are_dialogs_full, is_socket_unmade, IsEndOf}
+use Rattle.house_forward.specs.RelayTraces.{Life, Listens, Speaks, RelayGoesBy, IsLife, IsSocketOf, AreRelayTraces, IsTrace, OrderIsAllowed, StepsBy, TraceReaches, first_trace, with_relay_traces, first_life_in, has_channel, has_words, has_stream, is_stream, stepped, made_life}
+use Rattle.house_forward.specs.Said.{framed, relay_sent_by, request_payload}
 use Rattle.house_forward.specs.declared.forwarding.Forwarding.{Forwarding}
 use Rattle.house_forward.specs.declared.forwarder_state.Stage.{Stage}
 use Rattle.house_forward.specs.declared.link.Link.{Link}
 use Rattle.house_forward.specs.declared.link.LinkStep.{LinkStep}
 use Rattle.house_forward.specs.declared.link.LinkStep.TheVariants as step
-use Rattle.house_forward.specs.declared.link.Stream.{Stream}
-use Rattle.house_forward.specs.declared.link.Stream.TheVariants.{Offered, Awaited, Made, Gone}
+use Rattle.house_forward.specs.declared.link.LinkStream.{LinkStream}
+use Rattle.house_forward.specs.declared.link.LinkStream.TheVariants.{Offered, Awaited, Made, Gone}
 use Rattle.house_forward.specs.declared.ordering.Ordering.{Ordering}
 use Rattle.mux_outside.specs.declared.greeting.TheConstants.{GREETING}
 use Rattle.proxy_frames.specs.State.{FramerState}
@@ -64,7 +64,7 @@ with-swept most trace old now framer stage forwarding_state is relay_traces are 
     let s = sweeps most relay_traces now are in
     record {
       relay_traces = s.are;
-      past = All-append (λ (l : Life). Stands l.dials l.acts l.relay) trace.past (left_in relay_traces) is.past s.past;
+      past = All-append (λ (l : Life). RelayRepresents l.dials l.acts l.relay) trace.past (first_life_in relay_traces) is.past s.past;
       framer_is = is.framer_is;
       stage_is = is.stage_is;
       forwarding_state_is = is.forwarding_state_is;
@@ -75,10 +75,10 @@ pub of-same : (most : ℕ) (trace : Trace) (framer : FramerState) (stage : Stage
 of-same most trace framer stage forwarding_state old new e is =
     subst (λ (ls : List Link). IsTrace most trace (held ls framer stage forwarding_state)) (sym e) is
 
--- ---- what is heard
+-- ---- what is received
 
 receives-by : (n : ℕ) (m : Message) (old new : List Link) (o : Option ℕ) → position (λ l. l.relay.number == n) old ≡ o
-    → LeavesAt o (ReceivesOn m) old new → LinksGo (ReceivesAt n m) old new
+    → LeavesAt o (RelayReceivesOn m) old new → LinksGo (RelayReceivesAt n m) old new
 receives-by n m old new None e h = λ framer stage forwarding_state most trace is. (
   trace,
   inr (
@@ -100,31 +100,31 @@ receives-by n m old new (Some i) e h = λ framer stage forwarding_state most tra
           (with-swept most trace old (set old i (record x { relay = r })) framer stage forwarding_state is went.relay_traces went.are),
     )
 
--- a message is heard in a channel
+-- a message is received in a channel
 pub receives : (n : ℕ) (m : Message) (old new : List Link)
-    → LeavesAt (position (λ l. l.relay.number == n) old) (ReceivesOn m) old new → LinksGo (ReceivesAt n m) old new
+    → LeavesAt (position (λ l. l.relay.number == n) old) (RelayReceivesOn m) old new → LinksGo (RelayReceivesAt n m) old new
 receives n m old new h = receives-by n m old new (position (λ l. l.relay.number == n) old) refl h
 
-connects-own : (host : List ℕ) (port : ℕ) (s : Stream) → ConnectsAt host port s → None ≡ own_of s
+connects-own : (host : List ℕ) (port : ℕ) (s : LinkStream) → ConnectsAt host port s → None ≡ own_stream_of s
 connects-own host port (Offered texts at) h = refl
 connects-own host port Awaited h = absurd h
 connects-own host port (Made own) h = absurd h
 connects-own host port Gone h = absurd h
 
-connects-end : (host : List ℕ) (port : ℕ) (s : Stream) → ConnectsAt host port s → IsEndOf s (Some (host, port))
+connects-end : (host : List ℕ) (port : ℕ) (s : LinkStream) → ConnectsAt host port s → IsEndOf s (Some (host, port))
 connects-end host port (Offered texts at) h = ap (λ (t : List ℕ). Some (t, port)) (sym h.0) ∙ ap (λ (n : ℕ). Some (texts.one, n)) (sym h.1)
 connects-end host port Awaited h = absurd h
 connects-end host port (Made own) h = absurd h
 connects-end host port Gone h = absurd h
 
-connects-socket : (host : List ℕ) (port : ℕ) (s : Stream) (r : Relay) → ConnectsAt host port s → r.socket ≡ socket.Unmade
+connects-socket : (host : List ℕ) (port : ℕ) (s : LinkStream) (r : Relay) → ConnectsAt host port s → r.socket ≡ socket.Unmade
     → r.ended ≡ false → IsSocketOf s r
 connects-socket host port (Offered texts at) r h e f = (e, f)
 connects-socket host port Awaited r h e f = absurd h
 connects-socket host port (Made own) r h e f = absurd h
 connects-socket host port Gone r h e f = absurd h
 
--- an OPEN of the server is taken
+-- an OPEN of the server is accepted
 pub offers : (to : Forwarding) (remote window maximum : ℕ) (old new : List Link)
     → Offers to remote window maximum old new → LinksGo (OffersOne to remote window maximum) old new
 offers to remote window maximum old new h = λ framer stage forwarding_state most trace is.
@@ -152,18 +152,18 @@ offers to remote window maximum old new h = λ framer stage forwarding_state mos
           (both-append most trace.relay_traces (life ∷ []) old (link ∷ []) is.relay_traces (its, tt))),
     )
 
--- ---- what is said
+-- ---- what is sent
 
--- by what the course's desk is
+-- by the forwarding state of the trace
 by-forwarding_state : (b : Bool) (o : Option Forwarding) (bytes : List ℕ) (old new : Trace) → old.forwarding_state.greeted ≡ b
-    → find has_request old.forwarding_state.all ≡ o → SendsBy b o bytes old new → SendsIn bytes old new
+    → find has_request old.forwarding_state.all ≡ o → SendsBy b o bytes old new → RelaySendsIn bytes old new
 by-forwarding_state b o bytes old new e f h =
     subst (λ (x : Bool). SendsBy x (find has_request old.forwarding_state.all) bytes old new) (sym e)
     (subst (λ (x : Option Forwarding). SendsBy b x bytes old new) (sym f) h)
 
--- the house greets
+-- the forwarder greets
 pub greets : (h : Held) → h.forwarding_state.greeted ≡ false
-    → GoesFurther (SendsIn GREETING.now) h (record h { forwarding_state = greeting_sent h.forwarding_state })
+    → GoesFurther (RelaySendsIn GREETING.now) h (record h { forwarding_state = greeting_sent h.forwarding_state })
 greets h e = λ most trace is. (
   with_forwarding_state (greeting_sent trace.forwarding_state) trace,
   by-forwarding_state false (find has_request trace.forwarding_state.all) GREETING.now trace (with_forwarding_state (greeting_sent trace.forwarding_state) trace)
@@ -179,7 +179,7 @@ greets h e = λ most trace is. (
 
 -- it asks the server for a forwarding, or to end one
 pub requests : (f : Forwarding) (h : Held) → h.forwarding_state.greeted ≡ true → find has_request h.forwarding_state.all ≡ Some f
-    → GoesFurther (SendsIn (framed (request_payload f))) h (record h { forwarding_state = request_sent f h.forwarding_state })
+    → GoesFurther (RelaySendsIn (framed (request_payload f))) h (record h { forwarding_state = request_sent f h.forwarding_state })
 requests f h e first = λ most trace is. (
   with_forwarding_state (request_sent f trace.forwarding_state) trace,
   by-forwarding_state true (Some f) (framed (request_payload f)) trace (with_forwarding_state (request_sent f trace.forwarding_state) trace)
@@ -197,20 +197,20 @@ has-words : (most : ℕ) (life : Life) (link : Link) → IsLife most life link �
 has-words most life link is = ap (λ (r : Relay). is_some (sends_of r)) is.relay_is
 
 says-by : (bytes : List ℕ) (old new : List Link) (o : Option ℕ) → position has_sending old ≡ o → list_any has_sending old ≡ true
-    → IfSome (find has_sending old) (λ l. bytes ≡ framed (sent_by l.relay)) → LeavesAt o SendsOn old new
+    → IfSome (find has_sending old) (λ l. bytes ≡ framed (relay_sent_by l.relay)) → LeavesAt o RelaySendsOn old new
     → LinksGo (SendsBy true None bytes) old new
 says-by bytes old new None e is spelled h = absurd (both_ways (list_any has_sending old) (none-passes has_sending old e) is)
 says-by bytes old new (Some i) e one spelled h = λ framer stage forwarding_state most trace is.
     let x = h.1.0 in
     let r = h.1.1 in
     let found = first-is has_sending old i x e h.1.2 in
-    let words : bytes ≡ framed (sent_by x.relay) =
-    subst (λ (f : Option Link). IfSome f (λ l. bytes ≡ framed (sent_by l.relay))) found spelled in
+    let words : bytes ≡ framed (relay_sent_by x.relay) =
+    subst (λ (f : Option Link). IfSome f (λ l. bytes ≡ framed (relay_sent_by l.relay))) found spelled in
     let went = goes-one has_words has_sending (Speaks bytes) most most trace.relay_traces old i x (record x { relay = r })
     (omega arith) (has-words most) e h.1.2 is.relay_traces
     (λ life its. let on = living.says most life x r its h.1.3 in record {
       next = on.next;
-      goes = (subst (λ (z : Relay). bytes ≡ framed (sent_by z)) (sym its.relay_is) words, on.goes);
+      goes = (subst (λ (z : Relay). bytes ≡ framed (relay_sent_by z)) (sym its.relay_is) words, on.goes);
       is = on.is;
     }) in (
       with_relay_traces went.relay_traces trace,
@@ -219,12 +219,12 @@ says-by bytes old new (Some i) e one spelled h = λ framer stage forwarding_stat
           (with-swept most trace old (set old i (record x { relay = r })) framer stage forwarding_state is went.relay_traces went.are),
     )
 
--- the first relay that has something to say says it
+-- the first relay that has something to send says it
 pub says : (bytes : List ℕ) (old new : List Link) (framer : FramerState) (stage : Stage) (forwarding_state : ForwardingState) → forwarding_state.greeted ≡ true
     → find has_request forwarding_state.all ≡ None → list_any has_sending old ≡ true
-    → IfSome (find has_sending old) (λ l. bytes ≡ framed (sent_by l.relay))
-    → LeavesAt (position has_sending old) SendsOn old new
-    → GoesFurther (SendsIn bytes) (held old framer stage forwarding_state) (held new framer stage forwarding_state)
+    → IfSome (find has_sending old) (λ l. bytes ≡ framed (relay_sent_by l.relay))
+    → LeavesAt (position has_sending old) RelaySendsOn old new
+    → GoesFurther (RelaySendsIn bytes) (held old framer stage forwarding_state) (held new framer stage forwarding_state)
 says bytes old new framer stage forwarding_state e none is spelled h = λ most trace its.
     let went = says-by bytes old new (position has_sending old) refl is spelled h framer stage forwarding_state most trace its in (
       went.0,
@@ -241,12 +241,12 @@ record Ordered (o : Order) (links : List Link) : Type 0 where
   link : Link
   behind : List Link
   own : OwnStream
-  is : own_of link.stream ≡ Some own
+  is : own_stream_of link.stream ≡ Some own
   right : OrdersRight o link.relay own
   were : links ≡ before ++ link ∷ behind
 
-order-of : (o : Order) (s : Stream) (r : Relay) → OrdersIn o s r
-    → (own : OwnStream) × (own_of s ≡ Some own) × OrdersRight o r own
+order-of : (o : Order) (s : LinkStream) (r : Relay) → OrdersIn o s r
+    → (own : OwnStream) × (own_stream_of s ≡ Some own) × OrdersRight o r own
 order-of o (Offered host port) r h = absurd h
 order-of o Awaited r h = absurd h
 order-of o (Made own) r h = (own, refl, h)
@@ -274,7 +274,7 @@ ordered-first p o [] h = absurd h
 ordered-first p o (x ∷ links) h = ordered-if o x links (find p links) (p x) h (ordered-first p o links)
 
 allowed : (o : Order) (most : ℕ) (relay_traces : List Life) (links : List Link) → AreRelayTraces most relay_traces links → Ordered o links
-    → IsAllowed o relay_traces
+    → OrderIsAllowed o relay_traces
 allowed o most relay_traces links are its =
     let s = splits most relay_traces its.before its.link its.behind (subst (AreRelayTraces most relay_traces) its.were are) in
     record {
@@ -329,7 +329,7 @@ pub orders-socket : (host : List ℕ) (port : ℕ) (old new : List Link) (framer
 orders-socket host port old new framer stage forwarding_state some there h =
     orders-socket-by host port old new framer stage forwarding_state (position is_offered old) refl some there h
 
-ends-there : (host : List ℕ) (port : ℕ) (s : Stream) (to : Option (List ℕ × ℕ)) → ConnectsAt host port s → IsEndOf s to
+ends-there : (host : List ℕ) (port : ℕ) (s : LinkStream) (to : Option (List ℕ × ℕ)) → ConnectsAt host port s → IsEndOf s to
     → to ≡ Some (host, port)
 ends-there host port (Offered texts at) to h end =
     end ∙ ap (λ (t : List ℕ). Some (t, at)) h.0 ∙ ap (λ (n : ℕ). Some (host, n)) h.1
@@ -363,7 +363,7 @@ each-some : (o : Option ℕ) (P Q : ℕ → Type 0) → ((t : ℕ) → P t → Q
 each-some None P Q f h = tt
 each-some (Some t) P Q f h = f t h
 
-offered-none : (s : Stream) → linking.offers s ≡ true → own_of s ≡ None
+offered-none : (s : LinkStream) → linking.offers s ≡ true → own_stream_of s ≡ None
 offered-none (Offered host port) e = refl
 offered-none Awaited e = refl
 offered-none (Made own) e = cc
@@ -393,9 +393,9 @@ makes host port number old middle new its others h = λ most trace is.
     let found = first-is is_offered old.links i x its.first its.ordered.1 in
     let there = subst (λ (f : Option Link). IfSome f (λ l. ConnectsAt host port l.stream)) found its.there in
     let streams : streams_of middle.links ≡ streams_of old.links =
-    ap streams_of its.ordered.2 ∙ kept-set (λ (l : Link). own_of l.stream) old.links i (record x { stream = Awaited }) x
+    ap streams_of its.ordered.2 ∙ kept-set (λ (l : Link). own_stream_of l.stream) old.links i (record x { stream = Awaited }) x
     (position-Some is_offered old.links i x its.first).0
-    (sym (offered-none x.stream at.is) ∙ ap (λ (l : Link). own_of l.stream) its.ordered.1) in
+    (sym (offered-none x.stream at.is) ∙ ap (λ (l : Link). own_stream_of l.stream) its.ordered.1) in
     let relay_traces = (s.first ++ s.last) ++ made_life number s.life ∷ [] in
     let last = (before ++ behind) ++ made-link number y ∷ [] in
     let same : new ≡ record old { links = last } =
@@ -405,7 +405,7 @@ makes host port number old middle new its others h = λ most trace is.
         before = s.first;
         life = s.life;
         behind = s.last;
-        others = none-relay_traces most is_unmade is_offered (living.is-unmade most) s.first before s.front at.none;
+        others = none-relay_traces most is_socket_unmade is_offered (living.is-unmade most) s.first before s.front at.none;
         is = living.is-unmade most s.life x s.is ∙ at.is;
         there = ends-there host port x.stream s.life.to there s.is.end;
         fresh = each-some number _ _ (λ t new. none-relay_traces most (has_stream t) (has_number t) (living.has-number t most) trace.relay_traces
@@ -475,8 +475,8 @@ joins l t old new framer stage forwarding_state h = λ most trace is.
     } in
     let one : JoinsOne f t trace.joins trace.relay_traces (trace.relay_traces ++ life ∷ []) = record {
       relay = h.relay;
-      joined = subst (λ (b : Bool). IsJoined b (are_dialogs_full trace.relay_traces) f t h.relay) (sym (full-same most trace.relay_traces old is.relay_traces))
-          (subst (λ (b : Bool). IsJoined (is_full old) b f t h.relay) (sym (dialogs_full-same most trace.relay_traces old is.relay_traces)) h.joined);
+      joined = subst (λ (b : Bool). IsRelayJoined b (are_dialogs_full trace.relay_traces) f t h.relay) (sym (full-same most trace.relay_traces old is.relay_traces))
+          (subst (λ (b : Bool). IsRelayJoined (is_full old) b f t h.relay) (sym (dialogs_full-same most trace.relay_traces old is.relay_traces)) h.joined);
       free = none-relay_traces most (has_channel h.relay.number) (λ l. l.relay.number == h.relay.number)
           (living.has-channel h.relay.number most) trace.relay_traces old is.relay_traces h.free;
       small = h.small;
@@ -513,21 +513,21 @@ silent-first own o ss t e h =
     (subst (λ (s : Option OwnStream). is_silent t (cons_option s ss) ≡ false) e h)).0
 
 -- one of them isn't silent
-not-silent : (t : ℕ) (before : List Link) (x : Link) (behind : List Link) (own : OwnStream) → own_of x.stream ≡ Some own
+not-silent : (t : ℕ) (before : List Link) (x : Link) (behind : List Link) (own : OwnStream) → own_stream_of x.stream ≡ Some own
     → is_silent t (streams_of (before ++ x ∷ behind)) ≡ false → ((own.number == t) && (own.paused || own.ended)) ≡ false
-not-silent t [] x behind own e h = silent-first own (own_of x.stream) (streams_of behind) t e h
+not-silent t [] x behind own e h = silent-first own (own_stream_of x.stream) (streams_of behind) t e h
 not-silent t (y ∷ before) x behind own e h =
-    not-silent t before x behind own e (silent-later (own_of y.stream) (streams_of (before ++ x ∷ behind)) t h)
+    not-silent t before x behind own e (silent-later (own_stream_of y.stream) (streams_of (before ++ x ∷ behind)) t h)
 
 going : (t : ℕ) (before : List Link) (x : Link) (behind : List Link) → is_of t x ≡ true
-    → is_silent t (streams_of (before ++ x ∷ behind)) ≡ false → (own : OwnStream) → own_of x.stream ≡ Some own → own.ended ≡ false
+    → is_silent t (streams_of (before ++ x ∷ behind)) ≡ false → (own : OwnStream) → own_stream_of x.stream ≡ Some own → own.ended ≡ false
 going t before x behind of h own e =
-    let n = (and_parts (has_number t x) (is_number t (stream_of x.relay.socket)) of).0 in
+    let n = (and_parts (has_number t x) (is_link_number t (socket_stream_of x.relay.socket)) of).0 in
     living.loud own t (ap (is_stream t) (sym e) ∙ living.stream-in t x.stream ∙ n) (not-silent t before x behind own e h)
 
 gets-by : (t : ℕ) (bytes : List ℕ) (old new : List Link) (o : Option ℕ) → position (is_of t) old ≡ o
     → IfSome (find (is_of t) old) (λ l. l.relay.held.waiting ≡ []) → length bytes ≤ LONGEST_PIECE
-    → is_silent t (streams_of old) ≡ false → GoesAt o (Gets (not (is_full old)) bytes) old new
+    → is_silent t (streams_of old) ≡ false → RelayGoesAt o (Gets (not (is_full old)) bytes) old new
     → LinksGo (Follows (Turns (Got t bytes))) old new
 gets-by t bytes old new None e rests short loud h = λ framer stage forwarding_state most trace is.
     let none = none-relay_traces most (has_stream t) (is_of t) (living.is-of t most) trace.relay_traces old is.relay_traces (none-passes (is_of t) old e) in
@@ -541,7 +541,7 @@ gets-by t bytes old new (Some i) e rests short loud h = λ framer stage forwardi
     let at = at-first (is_of t) old i x e h.2 in
     let goes-on = going t (take i old) x (drop (suc i) old) at.is
     (subst (λ (ls : List Link). is_silent t (streams_of ls) ≡ false) at.were loud) in
-    let went = goes-one (has_stream t) (is_of t) (GoesBy (GetsOn free bytes) (Reads bytes)) most most trace.relay_traces old i x (record x { relay = r })
+    let went = goes-one (has_stream t) (is_of t) (RelayGoesBy (GetsOn free bytes) (Reads bytes)) most most trace.relay_traces old i x (record x { relay = r })
     (omega arith) (living.is-of t most) e h.2 is.relay_traces
     (λ life its. let on = living.gets free bytes t most life x r its at.is goes-on (rests-first old i t x e h.2 rests) short gave in
     record { next = on.next; goes = on.goes; is = on.is }) in (
@@ -554,7 +554,7 @@ gets-by t bytes old new (Some i) e rests short loud h = λ framer stage forwardi
 -- one gives bytes, while nothing is held of it
 pub gets : (t : ℕ) (bytes : List ℕ) (old new : List Link)
     → IfSome (find (is_of t) old) (λ l. l.relay.held.waiting ≡ []) → length bytes ≤ LONGEST_PIECE
-    → is_silent t (streams_of old) ≡ false → GoesAt (position (is_of t) old) (Gets (not (is_full old)) bytes) old new
+    → is_silent t (streams_of old) ≡ false → RelayGoesAt (position (is_of t) old) (Gets (not (is_full old)) bytes) old new
     → LinksGo (Follows (Turns (Got t bytes))) old new
 gets t bytes old new rests short loud h =
     gets-by t bytes old new (position (is_of t) old) refl rests short loud h
@@ -609,7 +609,7 @@ has-one which to old new one none =
 
 takes-by : (t : ℕ) (bytes : List ℕ) (old new : List Link) (framer : FramerState) (stage : Stage) (forwarding_state : ForwardingState) (o : Option ℕ)
     → position (is_of t) old ≡ o → (o ≡ None → bytes ≡ [])
-    → GoesAt o (TakesOf bytes) old new → TakesFurther t bytes (held old framer stage forwarding_state) (held new framer stage forwarding_state)
+    → RelayGoesAt o (TakesOf bytes) old new → TakesFurther t bytes (held old framer stage forwarding_state) (held new framer stage forwarding_state)
 takes-by t bytes old new framer stage forwarding_state None e nothing h = λ most trace small is.
     let n = length bytes in
     let none = none-relay_traces most (has_stream t) (is_of t) (living.is-of t most) trace.relay_traces old is.relay_traces (none-passes (is_of t) old e) in (
@@ -623,7 +623,7 @@ takes-by t bytes old new framer stage forwarding_state (Some i) e nothing h = λ
     let n = length bytes in
     let x = h.0 in
     let r = h.1 in
-    let went = goes-one (has_stream t) (is_of t) (GoesBy (TakesOn bytes) (Takes bytes)) most (n + most) trace.relay_traces old i x (record x { relay = r })
+    let went = goes-one (has_stream t) (is_of t) (RelayGoesBy (TakesOn bytes) (Takes bytes)) most (n + most) trace.relay_traces old i x (record x { relay = r })
     (omega arith) (living.is-of t most) e h.2 is.relay_traces
     (λ life its. let on = living.takes bytes most life x r small its h.3 in record { next = on.next; goes = on.goes; is = on.is }) in (
       record trace { relay_traces = went.relay_traces },
@@ -635,14 +635,14 @@ takes-by t bytes old new framer stage forwarding_state (Some i) e nothing h = λ
 -- one took bytes
 pub takes : (t : ℕ) (bytes : List ℕ) (old new : List Link) (framer : FramerState) (stage : Stage) (forwarding_state : ForwardingState)
     → (position (is_of t) old ≡ None → bytes ≡ [])
-    → GoesAt (position (is_of t) old) (TakesOf bytes) old new → TakesFurther t bytes (held old framer stage forwarding_state) (held new framer stage forwarding_state)
+    → RelayGoesAt (position (is_of t) old) (TakesOf bytes) old new → TakesFurther t bytes (held old framer stage forwarding_state) (held new framer stage forwarding_state)
 takes t bytes old new framer stage forwarding_state nothing h =
     takes-by t bytes old new framer stage forwarding_state (position (is_of t) old) refl nothing h
 
 -- ---- over the calls
 
-pub reaches-more : (calls : List HouseCall) (call : HouseCall) (a b c : Trace) → Reaches a calls b → Follows call b c
-    → Reaches a (calls ++ call ∷ []) c
+pub reaches-more : (calls : List HouseCall) (call : HouseCall) (a b c : Trace) → TraceReaches a calls b → Follows call b c
+    → TraceReaches a (calls ++ call ∷ []) c
 reaches-more [] call a b c e f = (c, subst (λ (z : Trace). Follows call z c) e f, refl)
 reaches-more (first ∷ calls) call a b c h f = (h.0, h.1, reaches-more calls call h.0 b c h.2 f)
 
@@ -654,9 +654,9 @@ taken-more (Marks mark ∷ calls) call = taken-more calls call
 taken-more (ReceivesBytes bytes ∷ calls) call = taken-more calls call
 taken-more (Turns happening ∷ calls) call = taken-more calls call
 
--- a call in which nothing is taken
+-- a call in which nothing is received
 pub stands-on : (calls : List HouseCall) (call : HouseCall) (old new : Held) → taken_in (call ∷ []) ≡ 0
-    → GoesFurther (Follows call) old new → Represents calls old → Represents (calls ++ call ∷ []) new
+    → GoesFurther (Follows call) old new → ForwarderRepresents calls old → ForwarderRepresents (calls ++ call ∷ []) new
 stands-on calls call old new none goes h = λ few.
     let more : taken_in (calls ++ call ∷ []) ≡ taken_in calls = let all = taken-more calls call in omega (arith, all, none) in
     let lived = h (subst (λ n. n < 2 ^ 64) more few) in
@@ -667,9 +667,9 @@ stands-on calls call old new none goes h = λ few.
       is = subst (λ n. IsTrace n went.0 new) (sym more) went.2;
     }
 
--- one in which bytes are taken
-pub stands-taken : (calls : List HouseCall) (t : ℕ) (bytes : List ℕ) (old new : Held) → TakesFurther t bytes old new → Represents calls old
-    → Represents (calls ++ TakesBytes t bytes ∷ []) new
+-- one in which bytes are received
+pub stands-taken : (calls : List HouseCall) (t : ℕ) (bytes : List ℕ) (old new : Held) → TakesFurther t bytes old new → ForwarderRepresents calls old
+    → ForwarderRepresents (calls ++ TakesBytes t bytes ∷ []) new
 stands-taken calls t bytes old new goes h = λ few.
     let n = length bytes in
     let more : taken_in (calls ++ TakesBytes t bytes ∷ []) ≡ n + taken_in calls =

@@ -5,9 +5,9 @@ use Rattle.std.specs.Prelude.{◌==◌, ◌&&◌, nat_le, if◌then◌else◌}
 use Rattle.std.specs.List.{All, remove}
 use Rattle.std.proofs.lemmas.Bool.{and_parts, both_ways, eqb-true, leb-true}
 use Rattle.std.proofs.lemmas.List.Elements.{All-weaker, All-map}
-use Rattle.house_forward.specs.Asks.{settled, settle_one, settled_at, is_about, same, counted, refused}
+use Rattle.house_forward.specs.Asks.{settled, settle_one, ask_settled_at, is_ask_about, same, counted, refused}
 use Rattle.house_forward.specs.ForwardingState.{ForwardingState}
-use Rattle.house_forward.specs.Forwardings.{is_numbered, changed, stage_after, closing_after, outcome_of, outcome_at, asks_at, cancels_at}
+use Rattle.house_forward.specs.Forwardings.{is_numbered, changed, stage_after, closing_after, forwarding_outcome_of, outcome_at, asks_at, cancels_at}
 use Rattle.house_forward.specs.declared.asks.Outcome.{Outcome}
 use Rattle.house_forward.specs.declared.asks.Outcome.TheVariants.{Refused}
 use Rattle.house_forward.specs.declared.asks.Waiting.{Waiting}
@@ -25,7 +25,7 @@ use Rattle.house_forward.proofs.Serving.{IsSteady}
 
 -- one that was asked for isn't had yet, and one that was asked to close closes
 abbrev pub Holds : Bool → Forwarding → Type 0
-Holds true f = outcome_of f ≡ None
+Holds true f = forwarding_outcome_of f ≡ None
 Holds false f = f.closing ≡ true
 
 abbrev pub HasFate : List Forwarding → Waiting → Type 0
@@ -101,31 +101,31 @@ one-serial (y ∷ xs) x z low high e (inr h) (inr k) same =
 
 -- ---- requests have an outcome
 
-never-none : (at : ℕ) (o : Outcome) (x : Option (ℕ × Outcome)) → settled_at at o x ≡ None → ⊥
+never-none : (at : ℕ) (o : Outcome) (x : Option (ℕ × Outcome)) → ask_settled_at at o x ≡ None → ⊥
 never-none at o None e = cc
 never-none at o (Some y) e = cc
 
 unsettled-if : (P R : Waiting → Type 0) (at : ℕ) (o : Outcome) (w : Waiting) (b : Bool) → (b ≡ false → w.outcome ≡ None → P w → R w)
-    → Unsettled P w → Unsettled R (if b then record w { outcome = settled_at at o w.outcome } else w)
+    → Unsettled P w → Unsettled R (if b then record w { outcome = ask_settled_at at o w.outcome } else w)
 unsettled-if P R at o w true step h = λ none. absurd (never-none at o w.outcome none)
 unsettled-if P R at o w false step h = λ none. step refl none (h none)
 
 -- those that are left have no outcome
 pub all-unsettled : (P R : Waiting → Type 0) (serial : ℕ) (opening : Bool) (at : ℕ) (o : Outcome) (ws : List Waiting)
-    → ((w : Waiting) → is_about serial opening w ≡ false → w.outcome ≡ None → P w → R w)
+    → ((w : Waiting) → is_ask_about serial opening w ≡ false → w.outcome ≡ None → P w → R w)
     → All (Unsettled P) ws → All (Unsettled R) (settled serial opening at o ws)
 all-unsettled P R serial opening at o ws step h =
     All-map (Unsettled R) (settle_one serial opening at o) ws
     (All-weaker (Unsettled P) (λ (w : Waiting). Unsettled R (settle_one serial opening at o w))
-    (λ w u. unsettled-if P R at o w (is_about serial opening w) (step w) u) ws h)
+    (λ w u. unsettled-if P R at o w (is_ask_about serial opening w) (step w) u) ws h)
 
 pub all-unrefused : (P R : Waiting → Type 0) (serial at : ℕ) (ws : List Waiting)
-    → ((w : Waiting) → is_about serial true w ≡ false → is_about serial false w ≡ false → w.outcome ≡ None → P w → R w)
+    → ((w : Waiting) → is_ask_about serial true w ≡ false → is_ask_about serial false w ≡ false → w.outcome ≡ None → P w → R w)
     → All (Unsettled P) ws → All (Unsettled R) (refused serial at ws)
 all-unrefused P R serial at ws step h =
-    all-unsettled (λ (w : Waiting). (is_about serial true w ≡ false) × P w) R serial false (counted at) Refused
+    all-unsettled (λ (w : Waiting). (is_ask_about serial true w ≡ false) × P w) R serial false (counted at) Refused
     (settled serial true at Refused ws) (λ w other none p. step w p.0 other none p.1)
-    (all-unsettled P (λ (w : Waiting). (is_about serial true w ≡ false) × P w) serial true at Refused ws
+    (all-unsettled P (λ (w : Waiting). (is_ask_about serial true w ≡ false) × P w) serial true at Refused ws
     (λ w other none p. (other, p)) h)
 
 first-false : (a b : Bool) → (a && b) ≡ false → b ≡ true → a ≡ false
@@ -137,17 +137,17 @@ same-self true = refl
 same-self false = refl
 
 -- a request of this kind that isn't about a forwarding is about another
-pub of-other : (serial : ℕ) (opening : Bool) (w : Waiting) → w.opening ≡ opening → is_about serial opening w ≡ false
+pub of-other : (serial : ℕ) (opening : Bool) (w : Waiting) → w.opening ≡ opening → is_ask_about serial opening w ≡ false
     → (w.forwarding == serial) ≡ false
 of-other serial opening w is e = first-false (w.forwarding == serial) (same w.opening opening) e
     (ap (λ b. same b opening) is ∙ same-self opening)
 
-neither-if : (serial : ℕ) (w : Waiting) (b : Bool) → w.opening ≡ b → is_about serial true w ≡ false → is_about serial false w ≡ false
+neither-if : (serial : ℕ) (w : Waiting) (b : Bool) → w.opening ≡ b → is_ask_about serial true w ≡ false → is_ask_about serial false w ≡ false
     → (w.forwarding == serial) ≡ false
 neither-if serial w true is e f = of-other serial true w is e
 neither-if serial w false is e f = of-other serial false w is f
 
-pub of-neither : (serial : ℕ) (w : Waiting) → is_about serial true w ≡ false → is_about serial false w ≡ false
+pub of-neither : (serial : ℕ) (w : Waiting) → is_ask_about serial true w ≡ false → is_ask_about serial false w ≡ false
     → (w.forwarding == serial) ≡ false
 of-neither serial w e f = neither-if serial w w.opening refl e f
 
@@ -243,8 +243,8 @@ pub live-holds : (chosen : Option ℕ) (opening : Bool) (f : Forwarding) → (op
 live-holds chosen true f a h = live-outcome chosen f.listen_port f.listen_port f.stage (a refl) h
 live-holds chosen false f a h = h
 
-pub stay-holds : (f : Forwarding) (c : Bool) → outcome_of f ≡ None
-    → outcome_of (record f { stage = stage_after change.Stay f.listen_port f.stage; closing = c }) ≡ None
+pub stay-holds : (f : Forwarding) (c : Bool) → forwarding_outcome_of f ≡ None
+    → forwarding_outcome_of (record f { stage = stage_after change.Stay f.listen_port f.stage; closing = c }) ≡ None
 stay-holds f c h = stage-outcome change.Stay f.listen_port f.listen_port f.stage tt h
 
 -- ---- requests

@@ -7,12 +7,12 @@ use Rattle.std.proofs.lemmas.Bool.{and_parts, and_from, or_parts, both_ways, cas
 use Rattle.std.proofs.lemmas.List.Quantifiers.{position-Some}
 use Rattle.mux_outside.specs.declared.house.HouseReply.{HouseReply}
 use Rattle.mux_outside.specs.declared.start_ask.StartAsk.{StartAsk}
-use Rattle.house_forward.specs.Asks.{settled, settle_one, refused, counted, is_about, same, has_open, is_waiting, taken_at, answer_in, reply_of, earliest, has_outcome, is_settled, waiting_for, turns_away}
+use Rattle.house_forward.specs.Asks.{settled, settle_one, refused, counted, is_ask_about, same, has_open, is_waiting, taken_at, answer_in, reply_of, earliest, has_outcome, is_settled, waiting_for, turns_away}
 use Rattle.house_forward.specs.ForwarderEvents.{ForwarderEvent, Does, Leave}
 use Rattle.house_forward.specs.ForwarderEvents.{Begins, Asks, Answers, Greets, Requests, Replies, Listens, Unlistens}
-use Rattle.house_forward.specs.ForwardingState.{ForwardingState, empty_forwarding_state, IsAsked, Answers as IsAnswered, request_sent, reply_received, GetsListener, EndsListener, standing_at}
-use Rattle.house_forward.specs.Forwardings.{Begins as BeginsAt, StartsIf, Standing, Opens, has_request, requests_at, request_of, request_at, after_sending, changed, stage_after, closing_after, standing, closes_of, comes_of_ends, after_close, EndsLeave, ComesIf, ComesUnless, asks_after, is_asked, asks_at, is_cancelled, cancels_at, live_in, opened_asks, replied_all, replied_asks, removed_at, first_of, to_listen, waits_at, ordered_asks, is_numbered, has_listener, is_listener, listener_at}
-use Rattle.house_forward.specs.Rules.{is_refused_alone}
+use Rattle.house_forward.specs.ForwardingState.{ForwardingState, empty_forwarding_state, IsClientAsk, Answers as IsAnswered, request_sent, reply_received, GetsListener, EndsListener, standing_at}
+use Rattle.house_forward.specs.Forwardings.{Begins as BeginsAt, StartsIf, Standing, Opens, has_request, requests_at, forwarding_request_of, forwarding_request_at, after_sending, changed, stage_after, closing_after, standing, closes_of, comes_of_ends, after_close, EndsLeave, ComesIf, ComesUnless, waiting_after, is_asked, asks_at, is_cancelled, cancels_at, live_outcome_in, opened_asks, replied_all, replied_asks, removed_at, first_of, to_listen, waits_at, ordered_asks, is_numbered, has_listener, is_listener, listener_at}
+use Rattle.house_forward.specs.Rules.{is_ruled_out, rules_of}
 use Rattle.house_forward.specs.declared.asks.Asked.{Asked as Comes}
 use Rattle.house_forward.specs.declared.asks.Asked.TheVariants.{Now, Later}
 use Rattle.house_forward.specs.declared.asks.Outcome.{Outcome}
@@ -26,6 +26,7 @@ use Rattle.house_forward.specs.declared.forwarding.ForwardingRequest.TheVariants
 use Rattle.house_forward.specs.declared.forwarding.Stage.{Stage}
 use Rattle.house_forward.specs.declared.forwarding.Stage.TheVariants.{ToListen, Ordered, Listening, ToRequest, Requested, Live, Cancelling}
 use Rattle.house_forward.specs.declared.rules.Ends.{Ends}
+use Rattle.house_forward.specs.declared.rules.ListenRules.{ListenRules}
 use Rattle.house_forward.proofs.Apart.{Apart}
 use Rattle.house_forward.proofs.Caused.{picked, same-answer}
 use Rattle.house_forward.proofs.Causing.{knows, in-range, there-is, found, Closing, next-closing}
@@ -48,12 +49,12 @@ abbrev pub Closers : List Waiting → List Forwarding → Type 0
 Closers ws all = (f : Forwarding) → In f all → f.closing ≡ true → Closer ws f.serial
 
 -- a request has its forwarding
-abbrev pub IsOf : List Forwarding → ForwardingRequest → Type 0
-IsOf all (Listen n) = (f : Forwarding) × In f all × (f.serial ≡ n) × (asks_at f.stage ≡ true)
-IsOf all (Cancel n) = (f : Forwarding) × In f all × (f.serial ≡ n) × (cancels_at f.stage ≡ true) × (f.closing ≡ true)
+abbrev pub IsOfStream : List Forwarding → ForwardingRequest → Type 0
+IsOfStream all (Listen n) = (f : Forwarding) × In f all × (f.serial ≡ n) × (asks_at f.stage ≡ true)
+IsOfStream all (Cancel n) = (f : Forwarding) × In f all × (f.serial ≡ n) × (cancels_at f.stage ≡ true) × (f.closing ≡ true)
 
 abbrev pub Said : List ForwardingRequest → List Forwarding → Type 0
-Said rs all = (r : ForwardingRequest) → In r rs → IsOf all r
+Said rs all = (r : ForwardingRequest) → In r rs → IsOfStream all r
 
 abbrev Once : List ForwardingRequest → Type 0
 Once [] = Unit {0}
@@ -70,14 +71,14 @@ abbrev Keeps : List Waiting → List Waiting → ℕ → Type 0
 Keeps ws more n = Closer ws n → Closer more n
 
 not-about : (serial : ℕ) (opening : Bool) (w : Waiting) (n : ℕ) → IsCloser n w → (opening ≡ false → n ≡ serial → ⊥)
-    → is_about serial opening w ≡ false
+    → is_ask_about serial opening w ≡ false
 not-about serial true w n c other = and-second (w.forwarding == serial) (same w.opening true) (ap (λ b. same b true) c.closes)
 not-about serial false w n c other = elim (cases_Bool (w.forwarding == serial)) [
   | inl is ↦ absurd (other refl (sym c.of_it ∙ eqb-true w.forwarding serial is))
   | inr isnt ↦ ap (λ b. b && same w.opening false) isnt
 ]
 
-not-settled : (serial : ℕ) (opening : Bool) (at : ℕ) (o : Outcome) (w : Waiting) → is_about serial opening w ≡ false
+not-settled : (serial : ℕ) (opening : Bool) (at : ℕ) (o : Outcome) (w : Waiting) → is_ask_about serial opening w ≡ false
     → settle_one serial opening at o w ≡ w
 not-settled serial opening at o w e = rw e refl
 
@@ -194,18 +195,18 @@ opens-more : (b : Bool) (ends : Ends) (serials : ℕ) (start : Option ℕ) (old 
 opens-more false ends serials start old new o = none-more old new o
 opens-more true ends serials start old new o = subst (More old) (sym o.2) (one-more old o.0 o.1.open_yet)
 
-starts-more : (b gateway : Bool) (ask : StartAsk) (i : ℕ) (old new : Standing) → StartsIf b gateway ask i old new → More old.all new.all
-starts-more true gateway ask i old new s = none-more old.all new.all (ap (λ (t : Standing). t.all) s)
-starts-more false gateway ask i old new s = opens-more _ s.0 old.serials (Some i) old.all new.all s.2.all
+starts-more : (b : Bool) (rules : ListenRules) (ask : StartAsk) (i : ℕ) (old new : Standing) → StartsIf b rules ask i old new → More old.all new.all
+starts-more true rules ask i old new s = none-more old.all new.all (ap (λ (t : Standing). t.all) s)
+starts-more false rules ask i old new s = opens-more _ s.0 old.serials (Some i) old.all new.all s.2.all
 
-begins-more : (gateway : Bool) (asks : List StartAsk) (i : ℕ) (old new : Standing) → i ≤ length asks → BeginsAt gateway asks i old new
+begins-more : (rules : ListenRules) (asks : List StartAsk) (i : ℕ) (old new : Standing) → i ≤ length asks → BeginsAt rules asks i old new
     → More old.all new.all
-begins-more gateway asks zero old new l b = none-more old.all new.all (ap (λ (t : Standing). t.all) b)
-begins-more gateway asks (suc i) old new l b =
-    let first = begins-more gateway asks i old b.0 (omega arith) b.1 in
+begins-more rules asks zero old new l b = none-more old.all new.all (ap (λ (t : Standing). t.all) b)
+begins-more rules asks (suc i) old new l b =
+    let first = begins-more rules asks i old b.0 (omega arith) b.1 in
     let at = in-range asks i (omega arith) in
-    let starts = there-is (λ (ask : StartAsk). StartsIf (is_refused_alone ask) gateway ask i b.0 new) (slice_get asks i) at.0 at.1 b.2 in
-    let last = starts-more (is_refused_alone at.0) gateway at.0 i b.0 new starts in
+    let starts = there-is (λ (ask : StartAsk). StartsIf (is_ruled_out rules ask) rules ask i b.0 new) (slice_get asks i) at.0 at.1 b.2 in
+    let last = starts-more (is_ruled_out rules at.0) rules at.0 i b.0 new starts in
     record {
       keeps = λ f h. last.keeps f (first.keeps f h);
       yet = λ g here closes.
@@ -214,7 +215,7 @@ begins-more gateway asks (suc i) old new l b =
           (y.0, y.1, y.2 ∙ x.2, y.3);
     }
 
-is-kept : (old new : List Forwarding) (r : ForwardingRequest) → ((f : Forwarding) → In f old → In f new) → IsOf old r → IsOf new r
+is-kept : (old new : List Forwarding) (r : ForwardingRequest) → ((f : Forwarding) → In f old → In f new) → IsOfStream old r → IsOfStream new r
 is-kept old new (Listen n) keeps h = (h.0, keeps h.0 h.1, h.2, h.3)
 is-kept old new (Cancel n) keeps h = (h.0, keeps h.0 h.1, h.2, h.3, h.4)
 
@@ -231,7 +232,7 @@ wants-more old new m waiting requests w = record {
 closer-more : (ws : List Waiting) (v : Waiting) (n : ℕ) → Keeps ws (ws ++ v ∷ []) n
 closer-more ws v n c = (c.0, in-left c.0 ws (v ∷ []) c.1, c.2)
 
-closer-asked : (comes : Comes) (client id : ℕ) (opening : Bool) (ws : List Waiting) (n : ℕ) → Keeps ws (asks_after comes client id opening ws) n
+closer-asked : (comes : Comes) (client id : ℕ) (opening : Bool) (ws : List Waiting) (n : ℕ) → Keeps ws (waiting_after comes client id opening ws) n
 closer-asked (Now o) client id opening ws n c = c
 closer-asked (Later serial) client id opening ws n c = closer-more ws (waiting_for client id opening serial) n c
 
@@ -241,9 +242,9 @@ record AskWants (ws more : List Waiting) (rs : List ForwardingRequest) (old new 
   said : Said rs new
 
 asked-more : (comes : Comes) (client id : ℕ) (opening : Bool) (ws : List Waiting) (rs : List ForwardingRequest) (old new : List Forwarding)
-    → More old new → Closers ws old → Said rs old → AskWants ws (asks_after comes client id opening ws) rs old new
+    → More old new → Closers ws old → Said rs old → AskWants ws (waiting_after comes client id opening ws) rs old new
 asked-more comes client id opening ws rs old new m closers said = record {
-  closers = closers-by ws (asks_after comes client id opening ws) old new m.yet
+  closers = closers-by ws (waiting_after comes client id opening ws) old new m.yet
       (λ g here closes c. closer-asked comes client id opening ws g.serial c) closers;
   said = λ r h. is-kept old new r m.keeps (said r h);
 }
@@ -283,7 +284,7 @@ is-changed : (c : Change) (serial : ℕ) (fs : List Forwarding) (r : ForwardingR
     → ((f : Forwarding) → f.serial ≡ serial → r ≡ Listen f.serial → asks_at f.stage ≡ true → asks_at (stage_after c f.listen_port f.stage) ≡ true)
     → ((f : Forwarding) → f.serial ≡ serial → r ≡ Cancel f.serial → cancels_at f.stage ≡ true → cancels_at (stage_after c f.listen_port f.stage) ≡ true)
     → ((f : Forwarding) → f.serial ≡ serial → r ≡ Cancel f.serial → f.closing ≡ true → closing_after c f.closing ≡ true)
-    → IsOf fs r → IsOf (map (changed c serial) fs) r
+    → IsOfStream fs r → IsOfStream (map (changed c serial) fs) r
 is-changed c serial fs (Listen n) asks cancels closes h =
     let f = h.0 in (
       changed c serial f,
@@ -304,7 +305,7 @@ is-changed c serial fs (Cancel n) asks cancels closes h =
     )
 
 asked-close : (comes : Comes) (client id : ℕ) (ws : List Waiting) (rs : List ForwardingRequest) (old new : List Forwarding)
-    → new ≡ after_close comes old → Closers ws old → Said rs old → AskWants ws (asks_after comes client id false ws) rs old new
+    → new ≡ after_close comes old → Closers ws old → Said rs old → AskWants ws (waiting_after comes client id false ws) rs old new
 asked-close (Now o) client id ws rs old new e closers said =
     asked-more (Now o) client id false ws rs old new (none-more old new e) closers said
 asked-close (Later serial) client id ws rs old new e closers said =
@@ -321,7 +322,7 @@ asked-close (Later serial) client id ws rs old new e closers said =
 
 asked-ends : (opening : Bool) (serial client id : ℕ) (ends : Ends) (comes : Comes) (ws : List Waiting) (rs : List ForwardingRequest) (old new : List Forwarding)
     → EndsLeave opening serial ends old new → (opening ≡ false → comes ≡ closes_of (standing ends old)) → Closers ws old → Said rs old
-    → AskWants ws (asks_after comes client id opening ws) rs old new
+    → AskWants ws (waiting_after comes client id opening ws) rs old new
 asked-ends true serial client id ends comes ws rs old new h e closers said =
     asked-more comes client id true ws rs old new (opens-more _ ends serial None old new h) closers said
 asked-ends false serial client id ends comes ws rs old new h e closers said =
@@ -332,26 +333,26 @@ comes-closed : (opening : Bool) (serial : ℕ) (ends : Ends) (comes : Comes) (ol
 comes-closed true serial ends comes old e is = cc
 comes-closed false serial ends comes old e is = e
 
-asked-if : (alone gateway opening : Bool) (ask : StartAsk) (serial client id : ℕ) (comes : Comes) (ws : List Waiting) (rs : List ForwardingRequest)
-    (old new : List Forwarding) → ComesIf alone gateway opening ask serial old new comes → Closers ws old → Said rs old
-    → AskWants ws (asks_after comes client id opening ws) rs old new
-asked-if true gateway opening ask serial client id comes ws rs old new h closers said =
+asked-if : (alone : Bool) (rules : ListenRules) (opening : Bool) (ask : StartAsk) (serial client id : ℕ) (comes : Comes) (ws : List Waiting) (rs : List ForwardingRequest)
+    (old new : List Forwarding) → ComesIf alone rules opening ask serial old new comes → Closers ws old → Said rs old
+    → AskWants ws (waiting_after comes client id opening ws) rs old new
+asked-if true rules opening ask serial client id comes ws rs old new h closers said =
     asked-more comes client id opening ws rs old new (none-more old new h.1) closers said
-asked-if false gateway opening ask serial client id comes ws rs old new h closers said =
+asked-if false rules opening ask serial client id comes ws rs old new h closers said =
     asked-ends opening serial client id h.0 comes ws rs old new h.3 (comes-closed opening serial h.0 comes old h.2) closers said
 
-asked-unless : (away gateway opening : Bool) (ask : StartAsk) (serial client id : ℕ) (comes : Comes) (ws : List Waiting) (rs : List ForwardingRequest)
-    (old new : List Forwarding) → ComesUnless away gateway opening ask serial old new comes → Closers ws old → Said rs old
-    → AskWants ws (asks_after comes client id opening ws) rs old new
-asked-unless true gateway opening ask serial client id comes ws rs old new h closers said =
+asked-unless : (away : Bool) (rules : ListenRules) (opening : Bool) (ask : StartAsk) (serial client id : ℕ) (comes : Comes) (ws : List Waiting) (rs : List ForwardingRequest)
+    (old new : List Forwarding) → ComesUnless away rules opening ask serial old new comes → Closers ws old → Said rs old
+    → AskWants ws (waiting_after comes client id opening ws) rs old new
+asked-unless true rules opening ask serial client id comes ws rs old new h closers said =
     asked-more comes client id opening ws rs old new (none-more old new h.1) closers said
-asked-unless false gateway opening ask serial client id comes ws rs old new h closers said =
-    asked-if (is_refused_alone ask) gateway opening ask serial client id comes ws rs old new h closers said
+asked-unless false rules opening ask serial client id comes ws rs old new h closers said =
+    asked-if (is_ruled_out rules ask) rules opening ask serial client id comes ws rs old new h closers said
 
 after-ask : (client id : ℕ) (opening : Bool) (ask : StartAsk) (answer : HouseReply) (old new : ForwardingState)
-    → IsAsked client id opening ask answer old new → Wants old → Wants new
+    → IsClientAsk client id opening ask answer old new → Wants old → Wants new
 after-ask client id opening ask answer old new a w =
-    let m = asked-unless (turns_away client id old.waiting) old.gateway opening ask old.serials client id a.came_to old.waiting old.requests
+    let m = asked-unless (turns_away client id old.waiting) old.rules opening ask old.serials client id a.came_to old.waiting old.requests
     old.all new.all a.comes w.closers w.said in
     record {
       closers = subst (λ (ws : List Waiting). Closers ws new.all) (sym (ap (λ (d : ForwardingState). d.waiting) a.others)) m.closers;
@@ -469,7 +470,7 @@ cancels-not (Live port) closing P e f = cc
 cancels-not (Cancelling port) closing P e f = cc
 
 not-said : (r : ForwardingRequest) (all : List Forwarding) (serials : ℕ) (f : Forwarding) → is_numbered 0 all serials ≡ true → In f all
-    → has_request f ≡ true → (r ≡ Listen f.serial) ⊎ (r ≡ Cancel f.serial) → IsOf all r → ⊥
+    → has_request f ≡ true → (r ≡ Listen f.serial) ⊎ (r ≡ Cancel f.serial) → IsOfStream all r → ⊥
 not-said (Listen n) all serials f numbered here has which h =
     let same : n ≡ f.serial = listen-is n f.serial which in
     let one : h.0 ≡ f = one-serial all h.0 f 0 serials numbered h.1 here (h.2 ∙ same) in
@@ -487,7 +488,7 @@ not-said (Cancel n) all serials f numbered here has which h =
     cancel-is n m (inl e) = cc
     cancel-is n m (inr e) = cc
 
-which-request : (s : Stage) (n : ℕ) → (request_at s n ≡ Listen n) ⊎ (request_at s n ≡ Cancel n)
+which-request : (s : Stage) (n : ℕ) → (forwarding_request_at s n ≡ Listen n) ⊎ (forwarding_request_at s n ≡ Cancel n)
 which-request (ToListen host) n = inl refl
 which-request Ordered n = inl refl
 which-request (Listening l) n = inl refl
@@ -517,19 +518,19 @@ cancel-keeps n Requested = (λ e. e, λ e. e)
 cancel-keeps n (Live port) = (λ e. cc, λ e. refl)
 cancel-keeps n (Cancelling port) = (λ e. e, λ e. e)
 
-said-keeps : (r q : ForwardingRequest) (fs : List Forwarding) → IsOf fs r → IsOf (after_sending q fs) r
+said-keeps : (r q : ForwardingRequest) (fs : List Forwarding) → IsOfStream fs r → IsOfStream (after_sending q fs) r
 said-keeps r (Listen serial) fs h = is-changed change.ForwardingRequest serial fs r (λ f is of k. (listen-keeps f.listen_port f.stage).0 k)
     (λ f is of k. (listen-keeps f.listen_port f.stage).1 k) (λ f is of k. k) h
 said-keeps r (Cancel serial) fs h = is-changed change.Cancel serial fs r (λ f is of k. (cancel-keeps f.listen_port f.stage).0 k)
     (λ f is of k. (cancel-keeps f.listen_port f.stage).1 k) (λ f is of k. k) h
 
--- the one that says it has it
+-- the one that sends it has it
 changed-its : (c : Change) (f : Forwarding)
     → changed c f.serial f ≡ record f { stage = stage_after c f.listen_port f.stage; closing = closing_after c f.closing }
 changed-its c f = rw (eq-eqb f.serial f.serial refl) refl
 
 said-its : (s : Stage) (f : Forwarding) (fs : List Forwarding) → f.stage ≡ s → requests_at s f.closing ≡ true → In f fs
-    → IsOf (after_sending (request_at s f.serial) fs) (request_at s f.serial)
+    → IsOfStream (after_sending (forwarding_request_at s f.serial) fs) (forwarding_request_at s f.serial)
 said-its (ToListen host) f fs is e h = cc
 said-its Ordered f fs is e h = cc
 said-its (Listening l) f fs is e h = cc
@@ -557,14 +558,14 @@ yet-said (Cancel serial) fs = yet-changed change.Cancel serial fs tt
 
 after-request : (f : Forwarding) (old new : ForwardingState) → Tracks old → find has_request old.all ≡ Some f → new ≡ request_sent f old → Wants old → Wants new
 after-request f old new t is e w =
-    let q = request_of f in
+    let q = forwarding_request_of f in
     let here = found-in has_request f old.all is in
     let has = (found (λ (x : Forwarding). Unit {0}) has_request old.all f is (all-in (λ (x : Forwarding). Unit {0}) old.all (λ x h. tt))).1 in
     let got : Wants (request_sent f old) = record {
       closers = closers-by old.waiting old.waiting old.all (after_sending q old.all) (yet-said q old.all) (λ g here closes c. c) w.closers;
       said = λ r h. elim (out-last r q old.requests h) [
         | inl there ↦ said-keeps r q old.all (w.said r there)
-        | inr same ↦ subst (IsOf (after_sending q old.all)) same (said-its f.stage f old.all refl has here)
+        | inr same ↦ subst (IsOfStream (after_sending q old.all)) same (said-its f.stage f old.all refl has here)
       ];
       once = once-more old.requests q w.once
           (λ h. not-said q old.all old.serials f t.numbered here has (which-request f.stage f.serial) (w.said q h));
@@ -632,8 +633,8 @@ left-differs q serial fs serials h f n here is passes left same =
     (and_from _ _ (eq-eqb f.serial serial same) (subst (λ (x : Forwarding). q x ≡ true) (sym one) passes))
 
 -- a request that isn't the one that is answered has its forwarding still
-listens-left : (serial : ℕ) (fs : List Forwarding) (r : ForwardingRequest) → (r ≡ Listen serial → ⊥) → IsOf fs r
-    → IsOf (removed_at (position (is_asked serial) fs) fs) r
+listens-left : (serial : ℕ) (fs : List Forwarding) (r : ForwardingRequest) → (r ≡ Listen serial → ⊥) → IsOfStream fs r
+    → IsOfStream (removed_at (position (is_asked serial) fs) fs) r
 listens-left serial fs (Listen n) other h = (
   h.0,
   fate-left (is_asked serial) fs (position (is_asked serial) fs) h.0 refl
@@ -650,8 +651,8 @@ listens-left serial fs (Cancel n) other h = (
   h.4,
 )
 
-cancels-left : (serial : ℕ) (fs : List Forwarding) (r : ForwardingRequest) → (r ≡ Cancel serial → ⊥) → IsOf fs r
-    → IsOf (removed_at (position (is_cancelled serial) fs) fs) r
+cancels-left : (serial : ℕ) (fs : List Forwarding) (r : ForwardingRequest) → (r ≡ Cancel serial → ⊥) → IsOfStream fs r
+    → IsOfStream (removed_at (position (is_cancelled serial) fs) fs) r
 cancels-left serial fs (Listen n) other h = (
   h.0,
   fate-left (is_cancelled serial) fs (position (is_cancelled serial) fs) h.0 refl
@@ -694,7 +695,7 @@ replied : (success : Bool) (r : ForwardingRequest) (port : Option ℕ) (at seria
 replied true (Listen serial) port at serials rs fs ws n closers said once = record {
   closers = closers-by ws (replied_asks true port (Some (Listen serial)) fs at ws) fs (map (changed (change.Live port) serial) fs)
       (yet-changed (change.Live port) serial fs tt)
-      (λ g here closes c. closer-opened (live_in port (find (is_asked serial) fs)) serial at ws g.serial c) closers;
+      (λ g here closes c. closer-opened (live_outcome_in port (find (is_asked serial) fs)) serial at ws g.serial c) closers;
   said = λ q h. is-changed (change.Live port) serial fs q
       (λ f is of k. absurd (not-first (Listen serial) rs q once h (of ∙ ap (λ m. Listen m) is)))
       (λ f is of k. live-cancels port f.listen_port f.stage k) (λ f is of k. k) (said q (inr h));
@@ -765,7 +766,7 @@ cancels-waits (Live port) e = refl
 cancels-waits (Cancelling port) e = refl
 
 -- those with requests are others than those that have no listener yet
-is-other : (old new : List Forwarding) (r : ForwardingRequest) → ((f : Forwarding) → In f old → to_listen f ≡ false → In f new) → IsOf old r → IsOf new r
+is-other : (old new : List Forwarding) (r : ForwardingRequest) → ((f : Forwarding) → In f old → to_listen f ≡ false → In f new) → IsOfStream old r → IsOfStream new r
 is-other old new (Listen n) keeps h = (h.0, keeps h.0 h.1 (asks-waits h.0.stage h.3), h.2, h.3)
 is-other old new (Cancel n) keeps h = (h.0, keeps h.0 h.1 (cancels-waits h.0.stage h.3), h.2, h.3, h.4)
 
@@ -829,7 +830,7 @@ cancels-lacks l Requested e = refl
 cancels-lacks l (Live port) e = refl
 cancels-lacks l (Cancelling port) e = refl
 
-is-unlistened : (l : ℕ) (fs : List Forwarding) (r : ForwardingRequest) → IsOf fs r → IsOf (filter (λ f. not (has_listener l f)) fs) r
+is-unlistened : (l : ℕ) (fs : List Forwarding) (r : ForwardingRequest) → IsOfStream fs r → IsOfStream (filter (λ f. not (has_listener l f)) fs) r
 is-unlistened l fs (Listen n) h =
     (h.0, in-filter (λ f. not (has_listener l f)) h.0 fs (asks-lacks l h.0.stage h.3) h.1, h.2, h.3)
 is-unlistened l fs (Cancel n) h =
@@ -864,7 +865,7 @@ after-unlisten l old new t h w =
 
 after : (forwarder_event : ForwarderEvent) (old new : ForwardingState) → Apart old.waiting → Tracks old → Does forwarder_event old new → Wants old → Wants new
 after (Begins starts) old new apart t d w =
-    wants-more old new (begins-more starts.gateway starts.asks (length starts.asks) (standing_at old) (standing_at new) (omega arith) d.begins)
+    wants-more old new (begins-more (rules_of starts) starts.asks (length starts.asks) (standing_at old) (standing_at new) (omega arith) d.begins)
     (ap (λ (x : ForwardingState). x.waiting) d.others) (ap (λ (x : ForwardingState). x.requests) d.others) w
 after (Asks client id opening ask answer) old new apart t d w = after-ask client id opening ask answer old new d w
 after (Answers client id answer) old new apart t d w = after-answering client id answer old new apart d w

@@ -1,21 +1,31 @@
 -- The requests that have no answer yet, and the answers.
-use Rattle.std.specs.Prelude.{◌+◌, ◌-◌, ◌^◌, ℕ, Bool, true, false, ◌&&◌, ◌||◌, ◌==◌, nat_lt, nat_le, min, if◌then◌else◌, List, length, map, Option, Some, None}
+use Rattle.std.specs.Prelude.{◌+◌, ◌-◌, ◌^◌, ℕ, Bool, true, false, ◌&&◌, ◌||◌, ◌==◌, nat_lt, nat_le, min, if◌then◌else◌, List, length, filter, map, Option, Some, None}
 use Rattle.std.specs.List.{list_any, fold, position, remove}
 use Rattle.mux_outside.specs.declared.house.HouseReply.{HouseReply}
 use Rattle.mux_outside.specs.declared.house.HouseReply.TheVariants as reply
 use Rattle.house_forward.specs.declared.asks.Outcome.{Outcome}
 use Rattle.house_forward.specs.declared.asks.Outcome.TheVariants.{Done, Port, Refused}
 use Rattle.house_forward.specs.declared.asks.Waiting.{Waiting}
-use Rattle.house_forward.specs.declared.rules.TheConstants.{MOST_ASKS}
+use Rattle.house_forward.specs.declared.rules.TheConstants.{MOST_ASKS, MOST_WAITING}
 
 -- whether a client has a request with this id
 abbrev pub has_open : ℕ → ℕ → List Waiting → Bool
 has_open client id waiting = list_any (λ w. (w.client == client) && (w.id == id)) waiting
 
--- whether a request is refused for those that wait: one of them is of its client with its id, or
--- they are as many as may wait
+-- how many requests of a client wait
+abbrev pub how_many_of : ℕ → List Waiting → ℕ
+how_many_of client waiting = length (filter (λ w. w.client == client) waiting)
+
+-- whether as many requests of a client wait as may, or as many in all
+abbrev pub is_full_for : ℕ → List Waiting → Bool
+is_full_for client waiting =
+    nat_le MOST_ASKS (how_many_of client waiting) || nat_le MOST_WAITING (length waiting)
+
+-- whether a request is refused for those that wait: one of its client has its id, or as many wait
+-- as may
 abbrev pub turns_away : ℕ → ℕ → List Waiting → Bool
-turns_away client id waiting = has_open client id waiting || nat_le MOST_ASKS (length waiting)
+turns_away client id waiting =
+    has_open client id waiting || is_full_for client waiting
 
 -- a request that waits for the fate of a forwarding
 abbrev pub waiting_for : ℕ → ℕ → Bool → ℕ → Waiting
@@ -42,17 +52,17 @@ same true b = b
 same false true = false
 same false false = true
 
-abbrev pub is_about : ℕ → Bool → Waiting → Bool
-is_about serial opening w = (w.forwarding == serial) && same w.opening opening
+abbrev pub is_ask_about : ℕ → Bool → Waiting → Bool
+is_ask_about serial opening w = (w.forwarding == serial) && same w.opening opening
 
-abbrev pub settled_at : ℕ → Outcome → Option (ℕ × Outcome) → Option (ℕ × Outcome)
-settled_at at outcome None = Some (at, outcome)
-settled_at at outcome (Some o) = Some o
+abbrev pub ask_settled_at : ℕ → Outcome → Option (ℕ × Outcome) → Option (ℕ × Outcome)
+ask_settled_at at outcome None = Some (at, outcome)
+ask_settled_at at outcome (Some o) = Some o
 
 -- it has this outcome as that many had one, if it is one of these and has none yet
 abbrev pub settle_one : ℕ → Bool → ℕ → Outcome → Waiting → Waiting
-settle_one serial opening at outcome w = if is_about serial opening w
-    then record w { outcome = settled_at at outcome w.outcome } else w
+settle_one serial opening at outcome w = if is_ask_about serial opening w
+    then record w { outcome = ask_settled_at at outcome w.outcome } else w
 
 abbrev pub settled : ℕ → Bool → ℕ → Outcome → List Waiting → List Waiting
 settled serial opening at outcome waiting = map (settle_one serial opening at outcome) waiting
@@ -89,15 +99,15 @@ earlier first w = earlier_at w.outcome first w
 abbrev pub earliest : List Waiting → Option Waiting
 earliest waiting = fold earlier None waiting
 
-abbrev pub reply_in : Option (ℕ × Outcome) → Bool → HouseReply
-reply_in None opening = reply.Refused
-reply_in (Some (at, Done)) opening = reply.Done
-reply_in (Some (at, Port port)) opening = if opening then reply.Port port else reply.Refused
-reply_in (Some (at, Refused)) opening = reply.Refused
+abbrev pub ask_reply_in : Option (ℕ × Outcome) → Bool → HouseReply
+ask_reply_in None opening = reply.Refused
+ask_reply_in (Some (at, Done)) opening = reply.Done
+ask_reply_in (Some (at, Port port)) opening = if opening then reply.Port port else reply.Refused
+ask_reply_in (Some (at, Refused)) opening = reply.Refused
 
 -- its answer
 abbrev pub reply_of : Waiting → HouseReply
-reply_of w = reply_in w.outcome w.opening
+reply_of w = ask_reply_in w.outcome w.opening
 
 abbrev pub answer_in : Option Waiting → Option (ℕ × ℕ × HouseReply)
 answer_in None = None

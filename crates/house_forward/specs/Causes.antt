@@ -9,9 +9,9 @@ use Rattle.house_forward.specs.Asks.{turns_away, waiting_for}
 use Rattle.house_forward.specs.ForwarderEvents.{ForwarderEvent, Does, Leave}
 use Rattle.house_forward.specs.ForwarderEvents.{Begins, Asks, Answers, Greets, Requests, Replies, Listens, Unlistens}
 use Rattle.house_forward.specs.ForwardingState.{ForwardingState}
-use Rattle.house_forward.specs.Forwardings.{first_of, granted, bound_to, request_of, outcome_of, reply_to, standing, connects_to, how_many, has_request, next_of, listener_of, listeners_of, listeners_made, counts}
+use Rattle.house_forward.specs.Forwardings.{first_of, granted, bound_to, forwarding_request_of, forwarding_outcome_of, reply_to, standing, connects_to, how_many, has_request, next_of, listener_of, listeners_of, listeners_made, counts}
 use Rattle.house_forward.specs.Quiet.{answers_none}
-use Rattle.house_forward.specs.Rules.{AreEnds, is_refused_alone, kind_of, listen_host, listens_here, connects_there}
+use Rattle.house_forward.specs.Rules.{AreEnds, kind_of, listen_host, listens_here, connects_there, is_refused_alone, rules_of, first_rules, is_unpermitted}
 use Rattle.house_forward.specs.declared.asks.Asked.TheVariants.{Now}
 use Rattle.house_forward.specs.declared.asks.Outcome.{Outcome}
 use Rattle.house_forward.specs.declared.asks.Outcome.TheVariants.{Done, Refused}
@@ -22,21 +22,22 @@ use Rattle.house_forward.specs.declared.forwarding.ForwardingRequest.TheVariants
 use Rattle.house_forward.specs.declared.forwarding.Stage.{Stage}
 use Rattle.house_forward.specs.declared.forwarding.Stage.TheVariants.{ToListen, Ordered, Listening, ToRequest, Requested, Live, Cancelling}
 use Rattle.house_forward.specs.declared.rules.Ends.{Ends}
+use Rattle.house_forward.specs.declared.rules.ListenRules.{ListenRules}
 use Rattle.house_forward.specs.declared.rules.TheConstants.{MOST_FORWARDINGS}
 
 -- ---- what happened
 
--- whether a listen host of none means all addresses: the latest start says it
-abbrev pub gateway_in : List ForwarderEvent → Bool
-gateway_in [] = false
-gateway_in (Begins starts ∷ forwarder_events) = starts.gateway
-gateway_in (Asks client id opening ask reply ∷ forwarder_events) = gateway_in forwarder_events
-gateway_in (Answers client id reply ∷ forwarder_events) = gateway_in forwarder_events
-gateway_in (Greets ∷ forwarder_events) = gateway_in forwarder_events
-gateway_in (Requests f ∷ forwarder_events) = gateway_in forwarder_events
-gateway_in (Replies success port ∷ forwarder_events) = gateway_in forwarder_events
-gateway_in (Listens host port number ∷ forwarder_events) = gateway_in forwarder_events
-gateway_in (Unlistens l ∷ forwarder_events) = gateway_in forwarder_events
+-- the rules of listening here: the latest start says them
+abbrev pub rules_in : List ForwarderEvent → ListenRules
+rules_in [] = first_rules
+rules_in (Begins starts ∷ forwarder_events) = rules_of starts
+rules_in (Asks client id opening ask reply ∷ forwarder_events) = rules_in forwarder_events
+rules_in (Answers client id reply ∷ forwarder_events) = rules_in forwarder_events
+rules_in (Greets ∷ forwarder_events) = rules_in forwarder_events
+rules_in (Requests f ∷ forwarder_events) = rules_in forwarder_events
+rules_in (Replies success port ∷ forwarder_events) = rules_in forwarder_events
+rules_in (Listens host port number ∷ forwarder_events) = rules_in forwarder_events
+rules_in (Unlistens l ∷ forwarder_events) = rules_in forwarder_events
 
 -- the forwardings whose requests were sent and have no reply yet, as they were then: a reply of the
 -- server is to the first
@@ -86,9 +87,9 @@ pub record AreOne (f g : Forwarding) : Type 0 where
 
 -- a request is for this forwarding: it listens where the request specifies; and one to open is
 -- connected where the request specifies, if that is specified in it
-pub record IsFor (gateway opening : Bool) (ask : StartAsk) (f : Forwarding) : Type 0 where
+pub record IsFor (rules : ListenRules) (opening : Bool) (ask : StartAsk) (f : Forwarding) : Type 0 where
   pub kind : kind_of ask.kind ≡ Some f.kind
-  pub listens : f.listen_host ≡ listen_host f.kind gateway ask.listen_host
+  pub listens : f.listen_host ≡ listen_host f.kind rules.gateway ask.listen_host
   pub listen_port : f.listen_port ≡ ask.listen_port
   pub connects : opening ≡ true → connects_there f.kind ≡ true
       → (f.connect_host ≡ ask.connect_host) × (f.connect_port ≡ ask.connect_port)
@@ -102,12 +103,12 @@ pub record ListensSince (host : List ℕ) (port l : ℕ) (forwarder_events : Lis
 
 -- the first request that has no reply is this one, for this forwarding, which the server is to
 -- listen for
-pub record IsNext (what : ℕ → ForwardingRequest) (f : Forwarding) (forwarder_events : List ForwarderEvent) : Type 0 where
+pub record IsNextRequest (what : ℕ → ForwardingRequest) (f : Forwarding) (forwarder_events : List ForwarderEvent) : Type 0 where
   pub first : Forwarding
   pub others : List Forwarding
   pub were : unanswered forwarder_events ≡ first ∷ others
   pub is : AreOne f first
-  pub asks : request_of first ≡ what first.serial
+  pub asks : forwarding_request_of first ≡ what first.serial
   pub there : listens_here f.kind ≡ false
 
 -- the server replied that it listens for it on this port: it granted the request to listen
@@ -116,7 +117,7 @@ pub record IsGranted (f : Forwarding) (port : ℕ) (forwarder_events : List Forw
   pub later : List ForwarderEvent
   pub earlier : List ForwarderEvent
   pub were : forwarder_events ≡ later ++ Replies true chosen ∷ earlier
-  pub next : IsNext Listen f earlier
+  pub next : IsNextRequest Listen f earlier
   pub bound : port ≡ bound_to f.listen_port chosen
 
 -- it is served: it has a listener, or the server listens for it
@@ -148,10 +149,10 @@ pub record IsServed (opening : Bool) (ask : StartAsk) (reply : HouseReply) (all 
   pub forwarding : Forwarding
   pub outcome : Outcome
   pub stands : Contains all forwarding
-  pub is_for : IsFor (gateway_in forwarder_events) true ask forwarding
+  pub is_for : IsFor (rules_in forwarder_events) true ask forwarding
   pub counts_yet : counts forwarding ≡ true
   pub serves : ServesAt forwarding.stage forwarding forwarder_events
-  pub comes : outcome_of forwarding ≡ Some outcome
+  pub comes : forwarding_outcome_of forwarding ≡ Some outcome
   pub replies : reply ≡ reply_to (Now outcome)
 
 -- each that does
@@ -164,20 +165,20 @@ EachServed = (client id : ℕ) (opening : Bool) (ask : StartAsk) (reply : HouseR
 
 -- where its listener was made, those that asked for it get Done; where none could be, all that asked
 -- are refused
-abbrev pub MadeBy : Option ℕ → Bool → Outcome → Type 0
-MadeBy None opening outcome = outcome ≡ Refused
-MadeBy (Some l) true outcome = outcome ≡ Done
-MadeBy (Some l) false outcome = ⊥
+abbrev pub ListenerMadeBy : Option ℕ → Bool → Outcome → Type 0
+ListenerMadeBy None opening outcome = outcome ≡ Refused
+ListenerMadeBy (Some l) true outcome = outcome ≡ Done
+ListenerMadeBy (Some l) false outcome = ⊥
 
 -- a success makes it live, with the port where the server was to choose one, or ends it; a failure
 -- refuses it to all that asked, or lets it live
 abbrev pub RepliedBy : Bool → Option ℕ → List ForwarderEvent → Bool → Forwarding → Outcome → Type 0
-RepliedBy true port earlier true f outcome = IsNext Listen f earlier
+RepliedBy true port earlier true f outcome = IsNextRequest Listen f earlier
     × (outcome ≡ granted f.listen_port (bound_to f.listen_port port))
-RepliedBy true port earlier false f outcome = IsNext Cancel f earlier × (outcome ≡ Done)
-RepliedBy false port earlier true f outcome = IsNext Listen f earlier × (outcome ≡ Refused)
+RepliedBy true port earlier false f outcome = IsNextRequest Cancel f earlier × (outcome ≡ Done)
+RepliedBy false port earlier true f outcome = IsNextRequest Listen f earlier × (outcome ≡ Refused)
 RepliedBy false port earlier false f outcome =
-    (IsNext Listen f earlier ⊎ IsNext Cancel f earlier) × (outcome ≡ Refused)
+    (IsNextRequest Listen f earlier ⊎ IsNextRequest Cancel f earlier) × (outcome ≡ Refused)
 
 -- as its listener was closed, those that asked for that get Done
 abbrev pub ClosedBy : Bool → Outcome → Type 0
@@ -195,13 +196,13 @@ CameBy (Requests g) earlier opening f outcome = ⊥
 CameBy (Replies success port) earlier opening f outcome =
     RepliedBy success port earlier opening f outcome
 CameBy (Listens host port number) earlier opening f outcome = (host ≡ f.listen_host)
-    × (port ≡ f.listen_port) × (listens_here f.kind ≡ true) × MadeBy number opening outcome
+    × (port ≡ f.listen_port) × (listens_here f.kind ≡ true) × ListenerMadeBy number opening outcome
 CameBy (Unlistens l) earlier opening f outcome = (listens_here f.kind ≡ true)
     × ListensSince f.listen_host f.listen_port l earlier × ClosedBy opening outcome
 
 -- an answer: its request had none yet, and has this outcome by what happened since, to the
 -- forwarding that it is for
-pub record HasCause (client id : ℕ) (reply : HouseReply) (forwarder_events : List ForwarderEvent) : Type 0 where
+pub record AnswerHasCause (client id : ℕ) (reply : HouseReply) (forwarder_events : List ForwarderEvent) : Type 0 where
   pub opening : Bool
   pub ask : StartAsk
   pub forwarding : Forwarding
@@ -212,7 +213,7 @@ pub record HasCause (client id : ℕ) (reply : HouseReply) (forwarder_events : L
   pub earlier : List ForwarderEvent
   pub were : forwarder_events ≡ later ++ forwarder_event ∷ (between ++ Asks client id opening ask given.Later ∷ earlier)
   pub open_yet : list_any (answers client id) (later ++ forwarder_event ∷ between) ≡ false
-  pub is_for : IsFor (gateway_in earlier) opening ask forwarding
+  pub is_for : IsFor (rules_in earlier) opening ask forwarding
   pub came : CameBy forwarder_event (between ++ Asks client id opening ask given.Later ∷ earlier) opening
       forwarding outcome
   pub replies : reply ≡ reply_to (Now outcome)
@@ -220,7 +221,7 @@ pub record HasCause (client id : ℕ) (reply : HouseReply) (forwarder_events : L
 -- each has its cause
 abbrev pub EachAnswer : Type 0
 EachAnswer = (client id : ℕ) (reply : HouseReply) (forwarder_events : List ForwarderEvent) (old new : ForwardingState) → Leave forwarder_events old
-    → Does (Answers client id reply) old new → HasCause client id reply forwarder_events
+    → Does (Answers client id reply) old new → AnswerHasCause client id reply forwarder_events
 
 -- ---- what is closed
 
@@ -234,7 +235,7 @@ pub record WaitsToClose (f : Forwarding) (waiting : List Waiting) (forwarder_eve
   pub earlier : List ForwarderEvent
   pub were : forwarder_events ≡ later ++ Asks client id false ask given.Later ∷ earlier
   pub open_yet : list_any (answers client id) later ≡ false
-  pub is_for : IsFor (gateway_in earlier) false ask f
+  pub is_for : IsFor (rules_in earlier) false ask f
   pub waits : Contains waiting (waiting_for client id false f.serial)
 
 -- a request that has this outcome, as that many had one
@@ -264,7 +265,7 @@ pub record CancelsAsked (f : Forwarding) (waiting : List Waiting) (forwarder_eve
 
 abbrev pub EachCancel : Type 0
 EachCancel = (f : Forwarding) (forwarder_events : List ForwarderEvent) (old new : ForwardingState) → Leave forwarder_events old
-    → Does (Requests f) old new → request_of f ≡ Cancel f.serial → CancelsAsked f old.waiting forwarder_events
+    → Does (Requests f) old new → forwarding_request_of f ≡ Cancel f.serial → CancelsAsked f old.waiting forwarder_events
 
 -- the outcome of a request to close as the server replies to its cancel
 abbrev pub cancelled : Bool → Outcome
@@ -291,21 +292,22 @@ EachCancelReply = (serial : ℕ) (success : Bool) (port : Option ℕ) (forwarder
 
 -- A request is refused at once.
 --
--- - Any request: its client has an open request with its id, or as many requests wait as may; or it
---   is refused whatever stands.
+-- - Any request: its client has an open request with its id, or as many requests wait as may, of its
+--   client or in all; or it is refused whatever stands, or is to listen here where it may not.
 -- - One to open: the forwarding that listens there connects elsewhere, or none does and as many are
 --   requested or live as may be.
 -- - One to close: none listens there, or one that closes already.
 pub data IsRefused (client id : ℕ) (opening : Bool) (ask : StartAsk) (d : ForwardingState) : Type 0 where
   TurnedAway : turns_away client id d.waiting ≡ true → IsRefused client id opening ask d
   RefusedAlone : is_refused_alone ask ≡ true → IsRefused client id opening ask d
-  ConnectsElsewhere : (ends : Ends) (f : Forwarding) → opening ≡ true → AreEnds d.gateway ask ends
+  NotPermittedHere : is_unpermitted d.rules ask ≡ true → IsRefused client id opening ask d
+  ConnectsElsewhere : (ends : Ends) (f : Forwarding) → opening ≡ true → AreEnds d.rules ask ends
       → standing ends d.all ≡ Some f → connects_to ends f ≡ false → IsRefused client id opening ask d
-  NoRoom : (ends : Ends) → opening ≡ true → AreEnds d.gateway ask ends → standing ends d.all ≡ None
+  NoRoom : (ends : Ends) → opening ≡ true → AreEnds d.rules ask ends → standing ends d.all ≡ None
       → MOST_FORWARDINGS ≤ how_many d.all → IsRefused client id opening ask d
-  NoneThere : (ends : Ends) → opening ≡ false → AreEnds d.gateway ask ends → standing ends d.all ≡ None
+  NoneThere : (ends : Ends) → opening ≡ false → AreEnds d.rules ask ends → standing ends d.all ≡ None
       → IsRefused client id opening ask d
-  ClosesAlready : (ends : Ends) (f : Forwarding) → opening ≡ false → AreEnds d.gateway ask ends
+  ClosesAlready : (ends : Ends) (f : Forwarding) → opening ≡ false → AreEnds d.rules ask ends
       → standing ends d.all ≡ Some f → f.closing ≡ true → IsRefused client id opening ask d
 
 -- each has one of these causes
@@ -316,7 +318,7 @@ EachRefused = (client id : ℕ) (opening : Bool) (ask : StartAsk) (old new : For
 -- ---- at rest
 
 -- there is no request to say, no listener to order or to close, and no answer to give
-pub record IsAtRest (d : ForwardingState) : Type 0 where
+pub record ForwarderIsAtRest (d : ForwardingState) : Type 0 where
   pub says : find has_request d.all ≡ None
   pub orders : next_of d.waiting d.all ≡ None
   pub answers : answers_none d.waiting ≡ true
@@ -329,7 +331,7 @@ AwaitsReply requests w =
 
 -- at rest each request that waits awaits a reply of the server
 abbrev pub EachAwaits : Type 0
-EachAwaits = (forwarder_events : List ForwarderEvent) (d : ForwardingState) → Leave forwarder_events d → IsAtRest d → All (AwaitsReply d.requests) d.waiting
+EachAwaits = (forwarder_events : List ForwarderEvent) (d : ForwardingState) → Leave forwarder_events d → ForwarderIsAtRest d → All (AwaitsReply d.requests) d.waiting
 
 -- ---- listeners
 

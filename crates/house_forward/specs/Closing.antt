@@ -5,46 +5,46 @@ use Rattle.mux_outside.specs.HouseCalls.{HouseCall, Marks, Turns, Joined, Got}
 use Rattle.mux_outside.specs.declared.house_mark.HouseMark.TheVariants.{HouseOrder}
 use Rattle.mux_outside.specs.declared.order.Order.TheVariants as order
 use Rattle.mux_outside.specs.declared.own_streams.OwnStream.{OwnStream}
-use Rattle.house_relay.specs.Acts.{Act, Fails, Refused, answer, read, outcome_in, waiting, has_ended, received_close, sent_close}
+use Rattle.house_relay.specs.Acts.{RelayAct, Fails, Refused, answer, read, outcome_in, waiting, socket_has_ended, received_close, sent_close}
 use Rattle.house_forward.specs.Forwardings.{has_listener}
-use Rattle.house_forward.specs.RelayTraces.{Life, Trace, Follows, Reaches, first_trace, are_full, are_dialogs_full}
-use Rattle.house_forward.specs.Opening.{IsBefore}
+use Rattle.house_forward.specs.RelayTraces.{Life, Trace, Follows, TraceReaches, first_trace, are_full, are_dialogs_full}
+use Rattle.house_forward.specs.Opening.{IsCallBefore}
 
 -- whether its socket failed
-abbrev pub has_failed : List Act → Bool
-has_failed [] = false
-has_failed (Fails ∷ acts) = true
-has_failed (_ ∷ acts) = has_failed acts
+abbrev pub socket_has_failed : List RelayAct → Bool
+socket_has_failed [] = false
+socket_has_failed (Fails ∷ acts) = true
+socket_has_failed (_ ∷ acts) = socket_has_failed acts
 
 -- ---- its channel has ended
 
 -- CLOSE went both ways
-pub record IsClosed (acts : List Act) : Type 0 where
+pub record IsClosed (acts : List RelayAct) : Type 0 where
   pub heard : received_close acts ≡ true
   pub said : sent_close acts ≡ true
 
 -- its OPEN was refused
-abbrev pub IsRefused : List Act → Type 0
+abbrev pub IsRefused : List RelayAct → Type 0
 IsRefused acts = (reason : ℕ) × answer acts ≡ Refused reason
 
 -- its dialog broke
-pub record HasBroken (dials : Bool) (acts : List Act) : Type 0 where
+pub record HasBroken (dials : Bool) (acts : List RelayAct) : Type 0 where
   pub dialed : dials ≡ true
   pub reply : List ℕ
   pub breaks : outcome_in (read acts) ≡ Breaks reply
 
 -- its client ended before its dialog asked for an end
-pub record HasLeft (dials : Bool) (acts : List Act) : Type 0 where
+pub record HasLeft (dials : Bool) (acts : List RelayAct) : Type 0 where
   pub dialed : dials ≡ true
   pub wants : outcome_in (read acts) ≡ Wants
-  pub ended : has_ended acts ≡ true
+  pub ended : socket_has_ended acts ≡ true
 
-abbrev pub IsThrough : Bool → List Act → Type 0
+abbrev pub IsThrough : Bool → List RelayAct → Type 0
 IsThrough dials acts =
     IsClosed acts ⊎ (IsRefused acts ⊎ (HasBroken dials acts ⊎ HasLeft dials acts))
 
 -- nothing waits for its socket, and nothing more comes from it
-pub record IsServed (dials : Bool) (acts : List Act) : Type 0 where
+pub record IsServed (dials : Bool) (acts : List RelayAct) : Type 0 where
   pub none : waiting dials acts ≡ []
   pub through : IsThrough dials acts
 
@@ -60,7 +60,7 @@ pub record IsTurnedAway (calls : List HouseCall) (own : Option OwnStream) : Type
   pub listener : ℕ
   pub stream : ℕ
   pub trace : Trace
-  pub joined : IsBefore calls (Turns (Joined listener stream)) trace
+  pub joined : IsCallBefore calls (Turns (Joined listener stream)) trace
   pub its : IsStream own stream
   pub cause : (are_full trace.relay_traces ≡ true) ⊎ ((are_dialogs_full trace.relay_traces ≡ true)
       ⊎ (find (has_listener listener) trace.forwarding_state.all ≡ None))
@@ -70,7 +70,7 @@ pub record IsTooLate (calls : List HouseCall) (own : Option OwnStream) : Type 0 
   pub stream : ℕ
   pub bytes : List ℕ
   pub trace : Trace
-  pub gave : IsBefore calls (Turns (Got stream bytes)) trace
+  pub gave : IsCallBefore calls (Turns (Got stream bytes)) trace
   pub its : IsStream own stream
   pub cause : are_full trace.relay_traces ≡ true
 
@@ -89,12 +89,12 @@ pub record IsCloseOf (calls : List HouseCall) (relay_traces : List Life) (t : �
   pub were : relay_traces ≡ before ++ life ∷ behind
   pub is : life.own ≡ Some own
   pub number : own.number ≡ t
-  pub cause : (has_failed life.acts ≡ true)
+  pub cause : (socket_has_failed life.acts ≡ true)
       ⊎ (IsServed life.dials life.acts ⊎ HasNoChannel calls life.own)
 
 -- each Close that is ordered after these calls
 abbrev pub ClosesHaveCause : Type 0
 ClosesHaveCause = (calls : List HouseCall) (trace next : Trace) (t : ℕ) (number : Option ℕ)
-    → Reaches first_trace calls trace
+    → TraceReaches first_trace calls trace
     → Follows (Marks (HouseOrder (order.Close t) number)) trace next
     → IsCloseOf calls trace.relay_traces t

@@ -6,8 +6,8 @@ use Rattle.mux_outside.specs.declared.house_mark.HouseMark.TheVariants.{HouseSai
 use Rattle.mux_outside.specs.declared.order.Order.TheVariants as order
 use Rattle.house_relay.specs.declared.line.ChannelState.TheVariants.{Offered}
 use Rattle.house_forward.specs.Closing.{IsStream}
-use Rattle.house_forward.specs.Connects.{Place}
-use Rattle.house_forward.specs.RelayTraces.{Life, Trace, Follows, Reaches, first_trace}
+use Rattle.house_forward.specs.Connects.{ConnectPlace}
+use Rattle.house_forward.specs.RelayTraces.{Life, Trace, Follows, TraceReaches, first_trace}
 use Rattle.house_forward.specs.Said.{framed, confirmed, not_connected}
 
 -- whether what is sent is an OPEN_CONFIRMATION, or an OPEN_FAILURE: its payload begins after the
@@ -19,7 +19,7 @@ abbrev pub is_failure : List ℕ → Bool
 is_failure bytes = get_or bytes 5 0 == CHANNEL_OPEN_FAILURE
 
 -- a Connect to there got this number, and this happened to that stream after it
-pub record HasHappened (calls : List HouseCall) (to : Place) (t : ℕ)
+pub record HasHappened (calls : List HouseCall) (to : ConnectPlace) (t : ℕ)
     (happening : Happening) : Type 0 where
   pub before : List HouseCall
   pub between : List HouseCall
@@ -28,19 +28,19 @@ pub record HasHappened (calls : List HouseCall) (to : Place) (t : ℕ)
       ∷ (between ++ Turns happening ∷ behind)
 
 -- a Connect to there got no number
-pub record HasNoNumber (calls : List HouseCall) (to : Place) : Type 0 where
+pub record HasNoNumber (calls : List HouseCall) (to : ConnectPlace) : Type 0 where
   pub before : List HouseCall
   pub behind : List HouseCall
   pub are : calls ≡ before ++ Marks (HouseOrder (order.Connect to.0 to.1) None) ∷ behind
 
 -- its stream got its number from a Connect to where it is to be connected, and failed then
-pub record HasFailedSince (calls : List HouseCall) (l : Life) (to : Place) : Type 0 where
+pub record HasFailedSince (calls : List HouseCall) (l : Life) (to : ConnectPlace) : Type 0 where
   pub stream : ℕ
   pub its : IsStream l.own stream
   pub failed : HasHappened calls to stream (Failed stream)
 
 -- one of the relays, which the server opened and the forwarder didn't answer yet
-pub record IsUnanswered (relay_traces : List Life) (l : Life) (remote : ℕ) (to : Place) : Type 0 where
+pub record IsUnanswered (relay_traces : List Life) (l : Life) (remote : ℕ) (to : ConnectPlace) : Type 0 where
   pub before : List Life
   pub behind : List Life
   pub were : relay_traces ≡ before ++ l ∷ behind
@@ -55,7 +55,7 @@ pub record IsConfirmationOf (calls : List HouseCall) (relay_traces : List Life) 
   where
     pub life : Life
     pub remote : ℕ
-    pub to : Place
+    pub to : ConnectPlace
     pub stream : ℕ
     pub unanswered : IsUnanswered relay_traces life remote to
     pub says : bytes ≡ framed (confirmed remote life.relay.number)
@@ -64,7 +64,7 @@ pub record IsConfirmationOf (calls : List HouseCall) (relay_traces : List Life) 
 
 abbrev pub ConfirmsConnected : Type 0
 ConfirmsConnected = (calls : List HouseCall) (trace next : Trace) (bytes : List ℕ)
-    → Reaches first_trace calls trace
+    → TraceReaches first_trace calls trace
     → Follows (Marks (HouseSaid bytes)) trace next → is_confirmation bytes ≡ true
     → IsConfirmationOf calls trace.relay_traces bytes
 
@@ -72,13 +72,13 @@ ConfirmsConnected = (calls : List HouseCall) (trace next : Trace) (bytes : List 
 pub record IsFailureOf (calls : List HouseCall) (relay_traces : List Life) (bytes : List ℕ) : Type 0 where
   pub life : Life
   pub remote : ℕ
-  pub to : Place
+  pub to : ConnectPlace
   pub unanswered : IsUnanswered relay_traces life remote to
   pub says : bytes ≡ framed (not_connected remote)
   pub cause : HasNoNumber calls to ⊎ HasFailedSince calls life to
 
 abbrev pub RefusesUnconnected : Type 0
 RefusesUnconnected = (calls : List HouseCall) (trace next : Trace) (bytes : List ℕ)
-    → Reaches first_trace calls trace
+    → TraceReaches first_trace calls trace
     → Follows (Marks (HouseSaid bytes)) trace next → is_failure bytes ≡ true
     → IsFailureOf calls trace.relay_traces bytes

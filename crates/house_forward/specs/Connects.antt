@@ -1,4 +1,4 @@
--- Where the server's OPENs are to be connected, by the calls: which of them are taken, and which
+-- Where the server's OPENs are to be connected, by the calls: which of them are accepted, and which
 -- Connects are ordered.
 use Rattle.std.specs.Prelude.{◌≡◌, ℕ, if◌then◌else◌, List, [], ◌∷◌, ◌++◌, find, Result, Ok, Err, Option, Some, None}
 use Rattle.std.specs.List.{filter_map}
@@ -12,18 +12,18 @@ use Rattle.mux_outside.specs.declared.house_mark.HouseMark.TheVariants.{HouseIn,
 use Rattle.mux_outside.specs.declared.order.Order.{Order}
 use Rattle.mux_outside.specs.declared.order.Order.TheVariants as order
 use Rattle.house_forward.specs.Forwardings.{served_at}
-use Rattle.house_forward.specs.RelayTraces.{Life, Trace, Follows, Reaches, ReceivesFrames, first_trace, with_received, is_unmade}
+use Rattle.house_forward.specs.RelayTraces.{Life, Trace, Follows, TraceReaches, RelaysReceiveFrames, first_trace, with_received, is_socket_unmade}
 use Rattle.house_forward.specs.declared.forwarding.Forwarding.{Forwarding}
 use Rattle.house_forward.specs.declared.forwarder_state.Stage.{Stage}
 use Rattle.house_forward.specs.declared.forwarder_state.Stage.TheVariants.{Control, Proxy}
 
 -- a host and a port to which a socket is connected
-abbrev pub Place : Type 0
-Place = List ℕ × ℕ
+abbrev pub ConnectPlace : Type 0
+ConnectPlace = List ℕ × ℕ
 
 -- ---- the Connects
 
-abbrev pub connect_in : Order → List Place
+abbrev pub connect_in : Order → List ConnectPlace
 connect_in (order.Listen host port) = []
 connect_in (order.Connect host port) = (host, port) ∷ []
 connect_in (order.Unlisten l) = []
@@ -32,7 +32,7 @@ connect_in (order.Resume t) = []
 connect_in (order.Finish t) = []
 connect_in (order.Close t) = []
 
-abbrev pub connect_marked : HouseMark → List Place
+abbrev pub connect_marked : HouseMark → List ConnectPlace
 connect_marked HouseIn = []
 connect_marked (HouseSaid bytes) = []
 connect_marked (HouseTook size) = []
@@ -40,69 +40,69 @@ connect_marked (HouseAsked client id opening ask reply) = []
 connect_marked (HouseAnswer client id reply) = []
 connect_marked (HouseOrder order number) = connect_in order
 
-abbrev pub connect_of : HouseCall → List Place
-connect_of (Begins starts) = []
-connect_of (Marks mark) = connect_marked mark
-connect_of (Receives bytes) = []
-connect_of (Turns happening) = []
-connect_of (Takes t bytes) = []
+abbrev pub places_connected_by : HouseCall → List ConnectPlace
+places_connected_by (Begins starts) = []
+places_connected_by (Marks mark) = connect_marked mark
+places_connected_by (Receives bytes) = []
+places_connected_by (Turns happening) = []
+places_connected_by (Takes t bytes) = []
 
 -- where the Connects are to that are ordered in these calls, in their order
-abbrev pub connects_in : List HouseCall → List Place
+abbrev pub connects_in : List HouseCall → List ConnectPlace
 connects_in [] = []
-connects_in (call ∷ calls) = connect_of call ++ connects_in calls
+connects_in (call ∷ calls) = places_connected_by call ++ connects_in calls
 
 -- where the sockets are to be connected that aren't ordered yet
-abbrev pub still_to_connect : List Life → List Place
-still_to_connect relay_traces = filter_map (λ l. if is_unmade l then l.to else None) relay_traces
+abbrev pub still_to_connect : List Life → List ConnectPlace
+still_to_connect relay_traces = filter_map (λ l. if is_socket_unmade l then l.to else None) relay_traces
 
 -- ---- the OPENs
 
 -- where a forwarding connects, if there is one
-abbrev pub place_of : Option Forwarding → List Place
+abbrev pub place_of : Option Forwarding → List ConnectPlace
 place_of None = []
 place_of (Some f) = (f.connect_host, f.connect_port) ∷ []
 
--- an OPEN of forwarded-tcpip is taken where the server listens at its address and port for a
+-- an OPEN of forwarded-tcpip is accepted where the server listens at its address and port for a
 -- forwarding
-abbrev pub taken_at : Key → List Forwarding → List Place
+abbrev pub taken_at : Key → List Forwarding → List ConnectPlace
 taken_at (Tcp address port) all = place_of (find (served_at address port) all)
 taken_at (Path path) all = []
 
-abbrev pub taken_for : Opens → List Forwarding → List Place
+abbrev pub taken_for : Opens → List Forwarding → List ConnectPlace
 taken_for Session all = []
 taken_for (Direct key) all = []
 taken_for (Forwarded key) all = taken_at key all
 taken_for OtherType all = []
 
-abbrev pub taken_plain : PlainMessage → List Forwarding → List Place
+abbrev pub taken_plain : PlainMessage → List Forwarding → List ConnectPlace
 taken_plain (Transport number rest) all = []
 taken_plain (GlobalRequest name want rest what) all = []
 taken_plain (RequestSuccess rest) all = []
 taken_plain RequestFailure all = []
 taken_plain (Open kind sender window maximum rest what) all = taken_for what all
 
-abbrev pub taken_message : Message → List Forwarding → List Place
+abbrev pub taken_message : Message → List Forwarding → List ConnectPlace
 taken_message (Plain message) all = taken_plain message all
 taken_message (To recipient message) all = []
 
-abbrev pub taken_reading : Result Message Bad → List Forwarding → List Place
+abbrev pub taken_reading : Result Message Bad → List Forwarding → List ConnectPlace
 taken_reading (Ok message) all = taken_message message all
 taken_reading (Err bad) all = []
 
 -- a frame is a message once the proxy is granted
-abbrev pub taken_frame : Stage → List ℕ → List Forwarding → List Place
+abbrev pub taken_frame : Stage → List ℕ → List Forwarding → List ConnectPlace
 taken_frame Control content all = []
 taken_frame Proxy content all = taken_reading (read_message content) all
 
--- frame by frame, as the forwardings are when that is heard
+-- frame by frame, as the forwardings are when that is received
 abbrev pub taken_frames : (contents : List (List ℕ)) (old new : Trace)
-    → ReceivesFrames contents old new → List Place
+    → RelaysReceiveFrames contents old new → List ConnectPlace
 taken_frames [] old new receives = []
 taken_frames (content ∷ more) old new receives =
     taken_frame old.stage content old.forwarding_state.all ++ taken_frames more receives.2.0 new receives.2.2
 
-abbrev pub taken_call : (call : HouseCall) (old new : Trace) → Follows call old new → List Place
+abbrev pub taken_call : (call : HouseCall) (old new : Trace) → Follows call old new → List ConnectPlace
 taken_call (Begins starts) old new follows = []
 taken_call (Marks mark) old new follows = []
 taken_call (Receives bytes) old new follows =
@@ -110,14 +110,14 @@ taken_call (Receives bytes) old new follows =
 taken_call (Turns happening) old new follows = []
 taken_call (Takes t bytes) old new follows = []
 
--- where the OPENs are to be connected that are taken in these calls, in their order
-abbrev pub taken_in : (calls : List HouseCall) (old new : Trace) → Reaches old calls new → List Place
+-- where the OPENs are to be connected that are accepted in these calls, in their order
+abbrev pub taken_in : (calls : List HouseCall) (old new : Trace) → TraceReaches old calls new → List ConnectPlace
 taken_in [] old new reaches = []
 taken_in (call ∷ calls) old new reaches =
     taken_call call old reaches.0 reaches.1 ++ taken_in calls reaches.0 new reaches.2
 
--- of each OPEN that is taken one Connect is ordered, in their order, to where its forwarding connects,
--- or it is still to be; and none is ordered besides
+-- of each OPEN that is accepted one Connect is ordered, in their order, to where its forwarding
+-- connects, or it is still to be; and none is ordered besides
 abbrev pub OneConnectEach : Type 0
-OneConnectEach = (calls : List HouseCall) (trace : Trace) (reaches : Reaches first_trace calls trace)
+OneConnectEach = (calls : List HouseCall) (trace : Trace) (reaches : TraceReaches first_trace calls trace)
     → taken_in calls first_trace trace reaches ≡ connects_in calls ++ still_to_connect trace.relay_traces

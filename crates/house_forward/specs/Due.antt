@@ -10,39 +10,39 @@ use Rattle.house_forward.specs.declared.forwarding.Forwarding.{Forwarding}
 use Rattle.house_forward.specs.declared.forwarding.Stage.{Stage}
 use Rattle.house_forward.specs.declared.forwarding.Stage.TheVariants.{ToListen, Ordered, Listening, ToRequest, Requested, Live, Cancelling}
 use Rattle.house_forward.specs.declared.link.Link.{Link}
-use Rattle.house_forward.specs.declared.link.Stream.{Stream}
-use Rattle.house_forward.specs.declared.link.Stream.TheVariants.{Offered, Awaited, Made, Gone}
+use Rattle.house_forward.specs.declared.link.LinkStream.{LinkStream}
+use Rattle.house_forward.specs.declared.link.LinkStream.TheVariants.{Offered, Awaited, Made, Gone}
 
 -- whether a stream is to be paused, or to give again
 abbrev pub turns : Relay → OwnStream → Bool
 turns r own = if length r.held.waiting == 0 then own.paused else (stuck_in r.line && not own.paused)
 
-abbrev pub one_if : Bool → ℕ
-one_if true = 1
-one_if false = 0
+abbrev pub count_if : Bool → ℕ
+count_if true = 1
+count_if false = 0
 
 -- of a stream: Pause or Resume, Finish and Close; of one that is to be made, its Connect before
-abbrev pub stream_due : Stream → Relay → ℕ
+abbrev pub stream_due : LinkStream → Relay → ℕ
 stream_due (Offered host port) r = 4
 stream_due Awaited r = 4
-stream_due (Made own) r = 1 + (one_if (not own.finished) + one_if (turns r own))
+stream_due (Made own) r = 1 + (count_if (not own.finished) + count_if (turns r own))
 stream_due Gone r = 0
 
 abbrev pub link_due : Link → ℕ
 link_due l = stream_due l.stream l.relay
 
 -- of a listener: its Listen and its Unlisten
-abbrev pub stage_due : Stage → ℕ
-stage_due (ToListen host) = 2
-stage_due Ordered = 2
-stage_due (Listening l) = 1
-stage_due ToRequest = 0
-stage_due Requested = 0
-stage_due (Live port) = 0
-stage_due (Cancelling port) = 0
+abbrev pub listener_due : Stage → ℕ
+listener_due (ToListen host) = 2
+listener_due Ordered = 2
+listener_due (Listening l) = 1
+listener_due ToRequest = 0
+listener_due Requested = 0
+listener_due (Live port) = 0
+listener_due (Cancelling port) = 0
 
 abbrev pub forwarding_due : Forwarding → ℕ
-forwarding_due f = stage_due f.stage
+forwarding_due f = listener_due f.stage
 
 -- of a request: its answer
 abbrev pub due : List Forwarding → List Link → List Waiting → ℕ

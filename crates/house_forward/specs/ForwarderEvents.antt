@@ -1,4 +1,5 @@
--- What happens to the forwardings, the requests to the server and the asks, as the house is called.
+-- What happens to the forwardings, the requests to the server and the requests, as the forwarder is
+-- called.
 use Rattle.std.specs.Prelude.{◌≡◌, ℕ, Bool, true, false, if◌then◌else◌, List, [], ◌∷◌, ◌++◌, is_some, find, Result, Ok, Err, Option, Some, None}
 use Rattle.ssh_fields.specs.Fields.{take_u32}
 use Rattle.ssh_grammar.specs.Messages.{Message, Plain, To, PlainMessage}
@@ -16,18 +17,19 @@ use Rattle.mux_outside.specs.declared.start_ask.StartAsk.{StartAsk}
 use Rattle.mux_outside.specs.declared.starts.Starts.{Starts}
 use Rattle.house_relay.specs.Next.{sends_of}
 use Rattle.house_relay.specs.declared.relay.Relay.{Relay}
-use Rattle.house_forward.specs.ForwardingState.{ForwardingState, empty_forwarding_state, BeginsWith, IsAsked, Answers as IsAnswered, greeting_sent, request_sent, reply_received, GetsListener, EndsListener}
+use Rattle.house_forward.specs.ForwardingState.{ForwardingState, empty_forwarding_state, BeginsWith, IsClientAsk, Answers as IsAnswered, greeting_sent, request_sent, reply_received, GetsListener, EndsListener}
 use Rattle.house_forward.specs.Forwardings.{has_request}
-use Rattle.house_forward.specs.RelayTraces.{Trace, first_trace, Follows, Reaches, ReceivesFrames, with_received, is_grant, port_in}
-use Rattle.house_forward.specs.Said.{framed, sent_by, request_payload}
+use Rattle.house_forward.specs.RelayTraces.{Trace, first_trace, Follows, TraceReaches, RelaysReceiveFrames, with_received, is_grant, port_in}
+use Rattle.house_forward.specs.Said.{framed, relay_sent_by, request_payload}
 use Rattle.house_forward.specs.declared.forwarding.Forwarding.{Forwarding}
 use Rattle.house_forward.specs.declared.forwarder_state.Stage.{Stage}
 use Rattle.house_forward.specs.declared.forwarder_state.Stage.TheVariants.{Control, Proxy}
 use Rattle.mux_outside.specs.declared.greeting.TheConstants.{GREETING}
 
--- the forwardings of the start are asked for; a client asks to open or close one, and gets this reply
--- at once; an ask gets its answer; the house greets; it says the request of a forwarding; the server
--- replies; a listener is ordered, and gets this number or none; one is ordered to be closed
+-- the forwardings of the start are asked for; a client asks to open or close one, and gets this
+-- reply at once; a request gets its answer; the forwarder greets; it sends the request of a
+-- forwarding; the server replies; a listener is ordered, and gets this number or none; one is
+-- ordered to be closed
 pub data ForwarderEvent : Type 0 where
   Begins : (starts : Starts) → ForwarderEvent
   Asks : (client id : ℕ) (opening : Bool) (ask : StartAsk) (reply : HouseReply) → ForwarderEvent
@@ -41,7 +43,7 @@ pub data ForwarderEvent : Type 0 where
 -- what it leaves
 abbrev pub Does : ForwarderEvent → ForwardingState → ForwardingState → Type 0
 Does (Begins starts) old new = BeginsWith starts old new
-Does (Asks client id opening ask reply) old new = IsAsked client id opening ask reply old new
+Does (Asks client id opening ask reply) old new = IsClientAsk client id opening ask reply old new
 Does (Answers client id reply) old new = IsAnswered client id reply old new
 Does Greets old new = (old.greeted ≡ false) × (new ≡ greeting_sent old)
 Does (Requests f) old new = (old.greeted ≡ true) × (find has_request old.all ≡ Some f)
@@ -57,7 +59,7 @@ Leave (forwarder_event ∷ forwarder_events) forwarding_state = (before : Forwar
 
 -- ---- by the calls
 
--- what the server's message tells
+-- what the server's message means for them
 abbrev pub recorded_plain : PlainMessage → List ForwarderEvent
 recorded_plain (grammar.Transport number rest) = []
 recorded_plain (grammar.GlobalRequest name want rest what) = []
@@ -73,24 +75,24 @@ abbrev pub recorded_if : Result Message Bad → List ForwarderEvent
 recorded_if (Ok m) = recorded m
 recorded_if (Err bad) = []
 
--- a control message tells nothing
-abbrev pub recorded_by : Stage → List ℕ → List ForwarderEvent
-recorded_by Control content = []
-recorded_by Proxy content = recorded_if (reading content)
+-- a control message means nothing for them
+abbrev pub events_recorded_by : Stage → List ℕ → List ForwarderEvent
+events_recorded_by Control content = []
+events_recorded_by Proxy content = recorded_if (reading content)
 
--- behind the control message that grants the proxy it is on
+-- after the control message that grants the proxy it is on
 abbrev pub stage_next : Stage → List ℕ → Stage
 stage_next Control content = if is_grant (take_u32 content) then Proxy else Control
 stage_next Proxy content = Proxy
 
--- what the frames tell, one behind the other
+-- what the frames mean, one after the other
 abbrev pub recorded_in : Stage → List (List ℕ) → List ForwarderEvent
 recorded_in stage [] = []
-recorded_in stage (content ∷ more) = recorded_in (stage_next stage content) more ++ recorded_by stage content
+recorded_in stage (content ∷ more) = recorded_in (stage_next stage content) more ++ events_recorded_by stage content
 
--- what is said is the greeting, or a request, or what a relay says
+-- what is sent is the greeting, or a request, or what a relay sends
 abbrev pub IsSentAs : List ℕ → List ForwarderEvent → Type 0
-IsSentAs bytes [] = (r : Relay) × (is_some (sends_of r) ≡ true) × (bytes ≡ framed (sent_by r))
+IsSentAs bytes [] = (r : Relay) × (is_some (sends_of r) ≡ true) × (bytes ≡ framed (relay_sent_by r))
 IsSentAs bytes (Greets ∷ []) = bytes ≡ GREETING.now
 IsSentAs bytes (Requests f ∷ []) = bytes ≡ framed (request_payload f)
 IsSentAs bytes forwarder_events = ⊥
@@ -105,7 +107,7 @@ ordered_by (order.Resume t) number = []
 ordered_by (order.Finish t) number = []
 ordered_by (order.Close t) number = []
 
--- what a mark tells
+-- what happens by a mark
 abbrev pub AreMarked : HouseMark → List ForwarderEvent → Type 0
 AreMarked HouseIn forwarder_events = forwarder_events ≡ []
 AreMarked (HouseSaid bytes) forwarder_events = IsSentAs bytes forwarder_events
@@ -115,16 +117,16 @@ AreMarked (HouseAsked client id opening ask reply) forwarder_events =
 AreMarked (HouseAnswer client id reply) forwarder_events = forwarder_events ≡ Answers client id reply ∷ []
 AreMarked (HouseOrder o number) forwarder_events = forwarder_events ≡ ordered_by o number
 
--- what happens by a call: as bytes are heard, what their frames tell
+-- what happens by a call: as bytes are received, what their frames mean
 abbrev pub HappenBy : HouseCall → Trace → List ForwarderEvent → Trace → Type 0
 HappenBy (IsBegun starts) old forwarder_events new = forwarder_events ≡ Begins starts ∷ []
 HappenBy (Marks mark) old forwarder_events new = AreMarked mark forwarder_events
 HappenBy (Receives bytes) old forwarder_events new = (contents : List (List ℕ))
-    × ReceivesFrames contents (with_received bytes old) new × (forwarder_events ≡ recorded_in old.stage contents)
+    × RelaysReceiveFrames contents (with_received bytes old) new × (forwarder_events ≡ recorded_in old.stage contents)
 HappenBy (Turns happening) old forwarder_events new = forwarder_events ≡ []
 HappenBy (Takes t bytes) old forwarder_events new = forwarder_events ≡ []
 
--- what happens by the calls, one behind the other
+-- what happens by the calls, one after the other
 abbrev pub Happen : Trace → List HouseCall → List ForwarderEvent → Trace → Type 0
 Happen old [] forwarder_events new = (new ≡ old) × (forwarder_events ≡ [])
 Happen old (call ∷ calls) forwarder_events new = (middle : Trace)
@@ -133,5 +135,5 @@ Happen old (call ∷ calls) forwarder_events new = (middle : Trace)
 
 -- whatever calls were made, these happened
 abbrev pub EachHappens : Type 0
-EachHappens = (calls : List HouseCall) (trace : Trace) → Reaches first_trace calls trace
+EachHappens = (calls : List HouseCall) (trace : Trace) → TraceReaches first_trace calls trace
     → (forwarder_events : List ForwarderEvent) × Happen first_trace calls forwarder_events trace × Leave forwarder_events trace.forwarding_state

@@ -7,9 +7,10 @@ use Rattle.mux_outside.specs.declared.house.HouseReply.{HouseReply}
 use Rattle.mux_outside.specs.declared.start_ask.StartAsk.{StartAsk}
 use Rattle.mux_outside.specs.declared.starts.Starts.{Starts}
 use Rattle.house_forward.specs.Asks.{turns_away, answer_of, after_answer, settled, counted}
-use Rattle.house_forward.specs.Forwardings.{Begins, Standing, what_stands, ComesUnless, reply_to, asks_after, request_of, after_sending}
+use Rattle.house_forward.specs.Forwardings.{Begins, Standing, what_stands, ComesUnless, reply_to, waiting_after, forwarding_request_of, after_sending}
 use Rattle.house_forward.specs.Forwardings.{first_of, replied_all, replied_asks, replied_done, replied_refused}
 use Rattle.house_forward.specs.Forwardings.{next_of, to_listen, listeners_of, OrderedAt, MadeAt, has_listener, made_refused, ordered_asks, ordered_done, serial_of}
+use Rattle.house_forward.specs.Rules.{rules_of, first_rules}
 use Rattle.house_forward.specs.declared.asks.Asked.{Asked}
 use Rattle.house_forward.specs.declared.asks.Asks.{Asks}
 use Rattle.house_forward.specs.declared.asks.Outcome.TheVariants.{Done}
@@ -20,14 +21,15 @@ use Rattle.house_forward.specs.declared.forwardings.Forwardings.{Forwardings}
 use Rattle.house_forward.specs.declared.forwardings.ListenerOrder.{ListenerOrder}
 use Rattle.house_forward.specs.declared.forwardings.ListenerOrder.TheVariants.{Listen as ListensAt, Unlisten as Unlistens}
 use Rattle.house_forward.specs.declared.forwardings.ForwardingWant.TheVariants as want
+use Rattle.house_forward.specs.declared.rules.ListenRules.{ListenRules}
 
--- - Whether a listen host of none means all addresses, and whether the forwarder greeted.
+-- - How it listens on this machine, and whether the forwarder greeted.
 -- - The forwardings, in order of asking, how many there were so far, and the first of those asked
 --   for at the start that was refused.
 -- - The requests to the server that were sent and have no reply yet.
 -- - The requests of clients that have no answer yet, and how many had an outcome.
 pub record ForwardingState : Type 0 where
-  pub gateway : Bool
+  pub rules : ListenRules
   pub greeted : Bool
   pub all : List Forwarding
   pub serials : ℕ
@@ -39,7 +41,7 @@ pub record ForwardingState : Type 0 where
 -- nothing happened yet
 abbrev pub empty_forwarding_state : ForwardingState
 empty_forwarding_state = record {
-  gateway = false;
+  rules = first_rules;
   greeted = false;
   all = [];
   serials = 0;
@@ -50,9 +52,9 @@ empty_forwarding_state = record {
 }
 
 -- that of the forwarder, by what it has
-abbrev pub forwarding_state_of : Bool → Bool → Forwardings → Asks → ForwardingState
-forwarding_state_of gateway greeted forwardings asks = record {
-  gateway = gateway;
+abbrev pub forwarding_state_of : ListenRules → Bool → Forwardings → Asks → ForwardingState
+forwarding_state_of rules greeted forwardings asks = record {
+  rules = rules;
   greeted = greeted;
   all = forwardings.all.items;
   serials = forwardings.serials;
@@ -70,10 +72,10 @@ standing_at d = what_stands d.all d.serials d.refused
 
 -- all that is asked for at the start was asked for, one after another
 pub record BeginsWith (starts : Starts) (old new : ForwardingState) : Type 0 where
-  pub begins : Begins starts.gateway starts.asks (length starts.asks)
+  pub begins : Begins (rules_of starts) starts.asks (length starts.asks)
       (standing_at old) (standing_at new)
   pub others : new ≡ record old {
-    gateway = starts.gateway;
+    rules = rules_of starts;
     all = new.all;
     serials = new.serials;
     refused = new.refused;
@@ -82,16 +84,16 @@ pub record BeginsWith (starts : Starts) (old new : ForwardingState) : Type 0 whe
 -- A client requests to open or close a forwarding, and this is the reply. Its outcome is known by
 -- what stands and by those that wait. It waits where it has no reply yet, and a new forwarding gets
 -- the next serial.
-pub record IsAsked (client id : ℕ) (opening : Bool) (ask : StartAsk) (reply : HouseReply)
+pub record IsClientAsk (client id : ℕ) (opening : Bool) (ask : StartAsk) (reply : HouseReply)
     (old new : ForwardingState) : Type 0 where
   pub came_to : Asked
-  pub comes : ComesUnless (turns_away client id old.waiting) old.gateway opening ask old.serials
+  pub comes : ComesUnless (turns_away client id old.waiting) old.rules opening ask old.serials
       old.all new.all came_to
   pub replies : reply ≡ reply_to came_to
   pub others : new ≡ record old {
     all = new.all;
     serials = old.serials + (length new.all - length old.all);
-    waiting = asks_after came_to client id opening old.waiting;
+    waiting = waiting_after came_to client id opening old.waiting;
   }
 
 -- the request that had an outcome first gets its answer, and waits no longer
@@ -108,8 +110,8 @@ greeting_sent d = record d { greeted = true }
 -- the request of this forwarding is sent, and is unanswered
 abbrev pub request_sent : Forwarding → ForwardingState → ForwardingState
 request_sent f d = record d {
-  all = after_sending (request_of f) d.all;
-  requests = d.requests ++ request_of f ∷ [];
+  all = after_sending (forwarding_request_of f) d.all;
+  requests = d.requests ++ forwarding_request_of f ∷ [];
 }
 
 -- the server's reply to the earliest request that has none: a success, maybe with a port, or a
@@ -181,5 +183,5 @@ pub record ChangesList (old new : Forwardings) : Type 0 where
 
 -- its forwardings and asks go on so, whatever else it has
 abbrev pub ForwardingsGo : (ForwardingState → ForwardingState → Type 0) → Forwardings → Asks → Forwardings → Asks → Type 0
-ForwardingsGo so forwardings asks forwardings' asks' = (gateway greeted : Bool)
-    → so (forwarding_state_of gateway greeted forwardings asks) (forwarding_state_of gateway greeted forwardings' asks')
+ForwardingsGo so forwardings asks forwardings' asks' = (rules : ListenRules) (greeted : Bool)
+    → so (forwarding_state_of rules greeted forwardings asks) (forwarding_state_of rules greeted forwardings' asks')

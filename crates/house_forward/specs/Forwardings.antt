@@ -8,7 +8,7 @@ use Rattle.mux_outside.specs.declared.order.Order.TheVariants as order
 use Rattle.mux_outside.specs.declared.house.HouseReply.{HouseReply}
 use Rattle.mux_outside.specs.declared.house.HouseReply.TheVariants as reply
 use Rattle.mux_outside.specs.declared.start_ask.StartAsk.{StartAsk}
-use Rattle.house_forward.specs.Rules.{listens_here, connects_there, same_kind, is_refused_alone, AreEnds}
+use Rattle.house_forward.specs.Rules.{listens_here, connects_there, same_kind, AreEnds, is_ruled_out}
 use Rattle.house_forward.specs.declared.asks.Outcome.{Outcome}
 use Rattle.house_forward.specs.declared.asks.Outcome.TheVariants.{Done, Port, Refused}
 use Rattle.house_forward.specs.declared.asks.Waiting.{Waiting}
@@ -26,8 +26,9 @@ use Rattle.house_forward.specs.declared.forwardings.ListenerOrder.TheVariants.{L
 use Rattle.house_forward.specs.declared.forwardings.ForwardingWant.{ForwardingWant}
 use Rattle.house_forward.specs.declared.forwardings.ForwardingWant.TheVariants as want
 use Rattle.house_forward.specs.declared.rules.Ends.{Ends}
-use Rattle.house_forward.specs.declared.rules.Kind.{Kind}
-use Rattle.house_forward.specs.declared.rules.Kind.TheVariants.{Local, Remote, Dynamic}
+use Rattle.house_forward.specs.declared.rules.ForwardingKind.{ForwardingKind}
+use Rattle.house_forward.specs.declared.rules.ForwardingKind.TheVariants.{Local, Remote, Dynamic}
+use Rattle.house_forward.specs.declared.rules.ListenRules.{ListenRules}
 use Rattle.house_forward.specs.declared.rules.TheConstants.{MOST_FORWARDINGS}
 
 -- whether it is asked or live: one that listens here ends as it is asked to close
@@ -93,8 +94,8 @@ outcome_at (Live port) asked = Some (granted asked port)
 outcome_at (Cancelling port) asked = Some (granted asked port)
 
 -- the outcome of those that request it, once that is known
-abbrev pub outcome_of : Forwarding → Option Outcome
-outcome_of f = outcome_at f.stage f.listen_port
+abbrev pub forwarding_outcome_of : Forwarding → Option Outcome
+forwarding_outcome_of f = outcome_at f.stage f.listen_port
 
 -- nothing was done for it yet
 abbrev pub is_first : Stage → Bool
@@ -107,18 +108,18 @@ is_first (Live port) = false
 is_first (Cancelling port) = false
 
 -- the host at which a listener is to be ordered, and else this one
-abbrev pub host_at : Stage → List ℕ → List ℕ
-host_at (ToListen texts) host = texts.one
-host_at Ordered host = host
-host_at (Listening l) host = host
-host_at ToRequest host = host
-host_at Requested host = host
-host_at (Live port) host = host
-host_at (Cancelling port) host = host
+abbrev pub listen_host_at : Stage → List ℕ → List ℕ
+listen_host_at (ToListen texts) host = texts.one
+listen_host_at Ordered host = host
+listen_host_at (Listening l) host = host
+listen_host_at ToRequest host = host
+listen_host_at Requested host = host
+listen_host_at (Live port) host = host
+listen_host_at (Cancelling port) host = host
 
 -- a listener is to be ordered at this host
 abbrev pub IsAt : Stage → List ℕ → Type 0
-IsAt stage host = host_at stage host ≡ host
+IsAt stage host = listen_host_at stage host ≡ host
 
 abbrev pub waits_at : Stage → Bool
 waits_at (ToListen host) = true
@@ -169,7 +170,7 @@ abbrev pub opens_of : ℕ → Ends → List Forwarding → Option Forwarding →
 opens_of serial ends fs None =
     if nat_lt (how_many fs) MOST_FORWARDINGS then Later serial else Now Refused
 opens_of serial ends fs (Some f) =
-    if connects_to ends f then as_first f (outcome_of f) else Now Refused
+    if connects_to ends f then as_first f (forwarding_outcome_of f) else Now Refused
 
 -- the outcome of a request to close
 abbrev pub closes_of : Option Forwarding → Asked
@@ -193,18 +194,18 @@ requests_at (Cancelling port) closing = false
 abbrev pub has_request : Forwarding → Bool
 has_request f = requests_at f.stage f.closing
 
-abbrev pub request_at : Stage → ℕ → ForwardingRequest
-request_at (ToListen host) serial = Listen serial
-request_at Ordered serial = Listen serial
-request_at (Listening l) serial = Listen serial
-request_at ToRequest serial = Listen serial
-request_at Requested serial = Listen serial
-request_at (Live port) serial = Cancel serial
-request_at (Cancelling port) serial = Listen serial
+abbrev pub forwarding_request_at : Stage → ℕ → ForwardingRequest
+forwarding_request_at (ToListen host) serial = Listen serial
+forwarding_request_at Ordered serial = Listen serial
+forwarding_request_at (Listening l) serial = Listen serial
+forwarding_request_at ToRequest serial = Listen serial
+forwarding_request_at Requested serial = Listen serial
+forwarding_request_at (Live port) serial = Cancel serial
+forwarding_request_at (Cancelling port) serial = Listen serial
 
 -- the request that is to be sent for it: where the server listens it is to do so no longer
-abbrev pub request_of : Forwarding → ForwardingRequest
-request_of f = request_at f.stage f.serial
+abbrev pub forwarding_request_of : Forwarding → ForwardingRequest
+forwarding_request_of f = forwarding_request_at f.stage f.serial
 
 -- ---- listeners
 
@@ -239,15 +240,15 @@ has_listener l f = is_listener l (listener_of f)
 
 -- ---- what is ordered
 
-abbrev pub ends_at : ℕ → Bool → ℕ → List Waiting → Option ForwardingWant → Option ForwardingWant
-ends_at listener false serial waiting next = next
-ends_at listener true serial waiting next =
+abbrev pub forwarding_ends_at : ℕ → Bool → ℕ → List Waiting → Option ForwardingWant → Option ForwardingWant
+forwarding_ends_at listener false serial waiting next = next
+forwarding_ends_at listener true serial waiting next =
     if owes_opening serial waiting then None else Some (want.Unlisten serial listener)
 
 abbrev pub next_at : Stage → Bool → ℕ → List Waiting → Option ForwardingWant → Option ForwardingWant
 next_at (ToListen host) closing serial waiting next = Some want.Listen
 next_at Ordered closing serial waiting next = None
-next_at (Listening l) closing serial waiting next = ends_at l closing serial waiting next
+next_at (Listening l) closing serial waiting next = forwarding_ends_at l closing serial waiting next
 next_at ToRequest closing serial waiting next = next
 next_at Requested closing serial waiting next = next
 next_at (Live port) closing serial waiting next = next
@@ -394,16 +395,16 @@ EndsLeave true serial ends old new =
 EndsLeave false serial ends old new = new ≡ after_close (closes_of (standing ends old)) old
 
 -- a request that is refused whatever stands changes nothing; of another the two ends are looked at
-abbrev pub ComesIf : Bool → Bool → Bool → StartAsk → ℕ → List Forwarding → List Forwarding → Asked → Type 0
-ComesIf true gateway opening ask serial old new asked = (asked ≡ Now Refused) × (new ≡ old)
-ComesIf false gateway opening ask serial old new asked = (ends : Ends) × AreEnds gateway ask ends
+abbrev pub ComesIf : Bool → ListenRules → Bool → StartAsk → ℕ → List Forwarding → List Forwarding → Asked → Type 0
+ComesIf true rules opening ask serial old new asked = (asked ≡ Now Refused) × (new ≡ old)
+ComesIf false rules opening ask serial old new asked = (ends : Ends) × AreEnds rules ask ends
     × (asked ≡ comes_of_ends opening serial ends old) × EndsLeave opening serial ends old new
 
 -- one is refused whose client has an open ask with its id, or while as many asks wait as may
-abbrev pub ComesUnless : Bool → Bool → Bool → StartAsk → ℕ → List Forwarding → List Forwarding → Asked → Type 0
-ComesUnless true gateway opening ask serial old new asked = (asked ≡ Now Refused) × (new ≡ old)
-ComesUnless false gateway opening ask serial old new asked =
-    ComesIf (is_refused_alone ask) gateway opening ask serial old new asked
+abbrev pub ComesUnless : Bool → ListenRules → Bool → StartAsk → ℕ → List Forwarding → List Forwarding → Asked → Type 0
+ComesUnless true rules opening ask serial old new asked = (asked ≡ Now Refused) × (new ≡ old)
+ComesUnless false rules opening ask serial old new asked =
+    ComesIf (is_ruled_out rules ask) rules opening ask serial old new asked
 
 abbrev pub reply_to : Asked → HouseReply
 reply_to (Now Done) = reply.Done
@@ -412,9 +413,9 @@ reply_to (Now Refused) = reply.Refused
 reply_to (Later serial) = reply.Later
 
 -- a request waits where it has no reply yet
-abbrev pub asks_after : Asked → ℕ → ℕ → Bool → List Waiting → List Waiting
-asks_after (Now outcome) client id opening waiting = waiting
-asks_after (Later serial) client id opening waiting =
+abbrev pub waiting_after : Asked → ℕ → ℕ → Bool → List Waiting → List Waiting
+waiting_after (Now outcome) client id opening waiting = waiting
+waiting_after (Later serial) client id opening waiting =
     waiting ++ waiting_for client id opening serial ∷ []
 
 -- a request that was sent is unanswered
@@ -428,13 +429,13 @@ first_refused None start = start
 first_refused (Some first) start = Some first
 
 -- the forwarding at a place isn't possible
-abbrev pub FailsAt : ℕ → List Forwarding → Option ℕ → Option ℕ → Type 0
-FailsAt i fs old new =
+abbrev pub ForwardingFailsAt : ℕ → List Forwarding → Option ℕ → Option ℕ → Type 0
+ForwardingFailsAt i fs old new =
     (f : Forwarding) × (f ≡ get_or fs i f) × (new ≡ first_refused old f.start)
 
-abbrev pub start_of : Option Forwarding → Option ℕ
-start_of None = None
-start_of (Some f) = f.start
+abbrev pub forwarding_start_of : Option Forwarding → Option ℕ
+forwarding_start_of None = None
+forwarding_start_of (Some f) = f.start
 
 -- ---- the start
 
@@ -447,30 +448,30 @@ pub record Standing : Type 0 where
 abbrev pub what_stands : List Forwarding → ℕ → Option ℕ → Standing
 what_stands fs serials refused = record { all = fs; serials = serials; refused = refused }
 
-abbrev pub refused_if : Asked → ℕ → Option ℕ → Option ℕ
-refused_if (Now Done) i refused = refused
-refused_if (Now (Port port)) i refused = refused
-refused_if (Now Refused) i refused = first_refused refused (Some i)
-refused_if (Later serial) i refused = refused
+abbrev pub ask_refused_if : Asked → ℕ → Option ℕ → Option ℕ
+ask_refused_if (Now Done) i refused = refused
+ask_refused_if (Now (Port port)) i refused = refused
+ask_refused_if (Now Refused) i refused = first_refused refused (Some i)
+ask_refused_if (Later serial) i refused = refused
 
 -- one with these two ends is asked for at the start, at this place
 pub record StartsAt (ends : Ends) (i : ℕ) (old new : Standing) : Type 0 where
   pub all : Opens (is_new ends old.all (standing ends old.all)) ends old.serials (Some i) old.all new.all
   pub serials : new.serials ≡ serials_after (is_new ends old.all (standing ends old.all)) old.serials
-  pub refused : new.refused ≡ refused_if (opens_of old.serials ends old.all (standing ends old.all)) i old.refused
+  pub refused : new.refused ≡ ask_refused_if (opens_of old.serials ends old.all (standing ends old.all)) i old.refused
 
 -- one that is refused whatever stands is the first that was refused, if none was yet
-abbrev pub StartsIf : Bool → Bool → StartAsk → ℕ → Standing → Standing → Type 0
-StartsIf true gateway ask i old new =
+abbrev pub StartsIf : Bool → ListenRules → StartAsk → ℕ → Standing → Standing → Type 0
+StartsIf true rules ask i old new =
     new ≡ what_stands old.all old.serials (first_refused old.refused (Some i))
-StartsIf false gateway ask i old new =
-    (ends : Ends) × AreEnds gateway ask ends × StartsAt ends i old new
+StartsIf false rules ask i old new =
+    (ends : Ends) × AreEnds rules ask ends × StartsAt ends i old new
 
 -- so many of them were asked for, one after another
-abbrev pub Begins : Bool → List StartAsk → ℕ → Standing → Standing → Type 0
-Begins gateway asks zero old new = new ≡ old
-Begins gateway asks (suc i) old new = (one : Standing) × Begins gateway asks i old one
-    × IfSome (slice_get asks i) (λ ask. StartsIf (is_refused_alone ask) gateway ask i one new)
+abbrev pub Begins : ListenRules → List StartAsk → ℕ → Standing → Standing → Type 0
+Begins rules asks zero old new = new ≡ old
+Begins rules asks (suc i) old new = (one : Standing) × Begins rules asks i old one
+    × IfSome (slice_get asks i) (λ ask. StartsIf (is_ruled_out rules ask) rules ask i one new)
 
 -- ---- what orders leave
 
@@ -486,7 +487,7 @@ MadeAt (Some l) i old new = (f : Forwarding) × (f ≡ get_or old i f)
     × (new ≡ set old i (record f { stage = Listening l }))
 
 abbrev pub made_refused : Option ℕ → Option Forwarding → Option ℕ → Option ℕ
-made_refused None first refused = first_refused refused (start_of first)
+made_refused None first refused = first_refused refused (forwarding_start_of first)
 made_refused (Some l) first refused = refused
 
 -- ---- replies of the server
@@ -517,9 +518,9 @@ cancels_at (Cancelling port) = true
 abbrev pub is_cancelled : ℕ → Forwarding → Bool
 is_cancelled serial f = (f.serial == serial) && cancels_at f.stage
 
-abbrev pub live_in : Option ℕ → Option Forwarding → Option Outcome
-live_in port None = None
-live_in port (Some f) = Some (granted f.listen_port (bound_to f.listen_port port))
+abbrev pub live_outcome_in : Option ℕ → Option Forwarding → Option Outcome
+live_outcome_in port None = None
+live_outcome_in port (Some f) = Some (granted f.listen_port (bound_to f.listen_port port))
 
 abbrev pub opened_asks : Option Outcome → ℕ → ℕ → List Waiting → List Waiting
 opened_asks None serial at waiting = waiting
@@ -528,7 +529,7 @@ opened_asks (Some outcome) serial at waiting = settled serial true at outcome wa
 abbrev pub replied_asks : Bool → Option ℕ → Option ForwardingRequest → List Forwarding → ℕ → List Waiting → List Waiting
 replied_asks success port None fs at waiting = waiting
 replied_asks true port (Some (Listen serial)) fs at waiting =
-    opened_asks (live_in port (find (is_asked serial) fs)) serial at waiting
+    opened_asks (live_outcome_in port (find (is_asked serial) fs)) serial at waiting
 replied_asks false port (Some (Listen serial)) fs at waiting = refused serial at waiting
 replied_asks true port (Some (Cancel serial)) fs at waiting = settled serial false at Done waiting
 replied_asks false port (Some (Cancel serial)) fs at waiting = settled serial false at Refused waiting
@@ -541,7 +542,7 @@ opened_done (Some outcome) at = counted at
 abbrev pub replied_done : Bool → Option ℕ → Option ForwardingRequest → List Forwarding → ℕ → ℕ
 replied_done success port None fs at = at
 replied_done true port (Some (Listen serial)) fs at =
-    opened_done (live_in port (find (is_asked serial) fs)) at
+    opened_done (live_outcome_in port (find (is_asked serial) fs)) at
 replied_done false port (Some (Listen serial)) fs at = counted (counted at)
 replied_done success port (Some (Cancel serial)) fs at = counted at
 
@@ -561,7 +562,7 @@ abbrev pub replied_refused : Bool → Option ForwardingRequest → List Forwardi
 replied_refused success None fs refused = refused
 replied_refused true (Some (Listen serial)) fs refused = refused
 replied_refused false (Some (Listen serial)) fs refused =
-    first_refused refused (start_of (find (is_asked serial) fs))
+    first_refused refused (forwarding_start_of (find (is_asked serial) fs))
 replied_refused success (Some (Cancel serial)) fs refused = refused
 
 abbrev pub first_of : List ForwardingRequest → Option ForwardingRequest
@@ -578,7 +579,7 @@ abbrev pub ordered_done : Option ℕ → ℕ → ℕ
 ordered_done None at = counted (counted at)
 ordered_done (Some listener) at = counted at
 
-abbrev is_remote : Kind → Bool
+abbrev is_remote : ForwardingKind → Bool
 is_remote Local = false
 is_remote Remote = true
 is_remote Dynamic = false

@@ -1,4 +1,4 @@
--- What the house says over all its calls: the greeting, once and first, and then frames alone.
+-- What the forwarder sends over all its calls: the greeting, once and first, and then frames alone.
 use Rattle.std.specs.Prelude.{◌≡◌, ◌⊎◌, ℕ, true, List, [], ◌∷◌, ◌++◌, is_some}
 use Rattle.std.specs.List.{All}
 use Rattle.mux_outside.specs.HouseCalls.{HouseCall}
@@ -7,8 +7,8 @@ use Rattle.mux_outside.specs.declared.house_mark.HouseMark.{HouseMark}
 use Rattle.mux_outside.specs.declared.house_mark.HouseMark.TheVariants.{HouseIn, HouseSaid, HouseTook, HouseAsked, HouseAnswer, HouseOrder}
 use Rattle.house_relay.specs.Next.{sends_of}
 use Rattle.house_relay.specs.declared.relay.Relay.{Relay}
-use Rattle.house_forward.specs.RelayTraces.{Trace, first_trace, Reaches}
-use Rattle.house_forward.specs.Said.{framed, sent_by, request_payload}
+use Rattle.house_forward.specs.RelayTraces.{Trace, first_trace, TraceReaches}
+use Rattle.house_forward.specs.Said.{framed, relay_sent_by, request_payload}
 use Rattle.house_forward.specs.declared.forwarding.Forwarding.{Forwarding}
 use Rattle.mux_outside.specs.declared.greeting.TheConstants.{GREETING}
 
@@ -27,22 +27,22 @@ sent_on (Receives bytes) = []
 sent_on (Turns happening) = []
 sent_on (Takes t bytes) = []
 
--- what it says, in order
+-- what it sends, in order
 abbrev pub sent_in : List HouseCall → List (List ℕ)
 sent_in [] = []
 sent_in (call ∷ calls) = sent_on call ++ sent_in calls
 
--- a frame of a proxy client: the request of a forwarding, or what a relay has to say
+-- a frame of a proxy client: the request of a forwarding, or what a relay has to send
 abbrev pub IsFrame : List ℕ → Type 0
 IsFrame bytes = ((f : Forwarding) × (bytes ≡ framed (request_payload f)))
-    ⊎ ((r : Relay) × (is_some (sends_of r) ≡ true) × (bytes ≡ framed (sent_by r)))
+    ⊎ ((r : Relay) × (is_some (sends_of r) ≡ true) × (bytes ≡ framed (relay_sent_by r)))
 
--- the first is the greeting, and each behind it a frame
+-- the first is the greeting, and each after it a frame
 abbrev pub GreetsOnce : List (List ℕ) → Type 0
 GreetsOnce [] = Unit {0}
 GreetsOnce (first ∷ more) = (first ≡ GREETING.now) × All IsFrame more
 
 -- whatever calls were made
 abbrev pub EachGreets : Type 0
-EachGreets = (calls : List HouseCall) (trace : Trace) → Reaches first_trace calls trace
+EachGreets = (calls : List HouseCall) (trace : Trace) → TraceReaches first_trace calls trace
     → GreetsOnce (sent_in calls)

@@ -2,7 +2,7 @@
 use Rattle.conn_messages.specs.declared.message.Message.{Message}
 use Rattle.conn_messages.specs.declared.message.Message.TheVariants as message
 use Rattle.std.specs.Prelude.{if◌then◌else◌}
-use Rattle.house_relay.specs.Acts.{Act, Confirms, Refuses, Delivers, ReceivesEof, ReceivesClose, Other}
+use Rattle.house_relay.specs.Acts.{RelayAct, Confirms, Refuses, Delivers, ReceivesEof, ReceivesClose, Other}
 use Rattle.house_relay.specs.Relay.{delivers, answered_in, received_in}
 use Rattle.house_relay.specs.Steps.{on_line, room_received, eof_received, close_received, request_received, confirmed_in, refused_in, data_received}
 use Rattle.house_relay.specs.declared.relay.Relay.{Relay}
@@ -27,7 +27,7 @@ received_of (message.Success recipient) r = r
 received_of (message.Failure recipient) r = r
 
 -- what happens in it then
-abbrev pub act_received : Message → Relay → Act
+abbrev pub act_received : Message → Relay → RelayAct
 act_received (message.Transport number rest) r = Other
 act_received (message.GlobalRequest name want rest what) r = Other
 act_received (message.RequestSuccess rest) r = Other

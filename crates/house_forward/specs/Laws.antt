@@ -1,9 +1,9 @@
--- What holds of the relays of the house, whatever calls were made.
+-- What holds of the relays of the forwarder, whatever calls were made.
 use Rattle.std.specs.Prelude.{◌≡◌, ◌≤◌, ◌+◌, ◌-◌, true, List, ◌++◌, length, IfSome}
 use Rattle.std.specs.List.{All}
 use Rattle.mux_outside.specs.HouseCalls.{HouseCall}
-use Rattle.house_relay.specs.Acts.{Act, Relays, adjusted, delivered, replies, taken}
-use Rattle.house_relay.specs.Relay.{Keeps, SilentIn, IsResting}
+use Rattle.house_relay.specs.Acts.{RelayAct, Relays, adjusted, delivered, replies, taken}
+use Rattle.house_relay.specs.Relay.{RelayKeeps, SilentIn, IsResting}
 use Rattle.house_relay.specs.declared.TheConstants.{WINDOW}
 use Rattle.house_forward.specs.RelayTraces.{Life, Held, HasLived}
 use Rattle.house_forward.specs.Quiet.{sends_none, orders_none}
@@ -16,14 +16,15 @@ EachRelays = (calls : List HouseCall) (h : Held) (lived : HasLived calls h)
 -- and holds, queues, owes and asks what is left by what happened in it
 abbrev pub EachKeeps : Type 0
 EachKeeps = (calls : List HouseCall) (h : Held) (lived : HasLived calls h)
-    → All (λ l. Keeps l.dials l.acts l.relay) (lived.trace.relay_traces ++ lived.trace.past)
+    → All (λ l. RelayKeeps l.dials l.acts l.relay) (lived.trace.relay_traces ++ lived.trace.past)
 
--- the server keeps to the window of a channel: no more data is delivered in it than that and the room
--- that was given back since
-abbrev pub KeepsWindow : List Act → Type 0
+-- the server keeps to the window of a channel: no more data is delivered in it than that and the
+-- room that was given back since
+abbrev pub KeepsWindow : List RelayAct → Type 0
 KeepsWindow acts = length (delivered acts) ≤ WINDOW + adjusted acts
 
--- where it does, no more waits for the socket than a window, and what is left of the replies of its dialog
+-- where it does, no more waits for the socket than a window, and what is left of the replies of its
+-- dialog
 abbrev pub IsBounded : Life → Type 0
 IsBounded l = KeepsWindow l.acts
     → length l.relay.queue.waiting ≤ WINDOW + (length (replies l.dials l.acts) - taken l.acts)
@@ -38,7 +39,7 @@ pub record Rests (l : Life) : Type 0 where
   pub silent : SilentIn l.relay.line l.relay
   pub resting : IfSome l.own (λ own. IsResting l.relay own)
 
--- where the house has nothing to say and nothing to order, each is at rest
+-- where the forwarder has nothing to send and nothing to order, each is at rest
 abbrev pub EachRests : Type 0
 EachRests = (calls : List HouseCall) (h : Held) (lived : HasLived calls h)
     → sends_none h.forwarding_state.greeted h.forwarding_state.all h.links ≡ true

@@ -16,6 +16,7 @@ pub mod Links
 pub mod RelayTraces
 pub mod Numbers
 pub mod Opening
+pub mod Permitted
 pub mod Places
 pub mod Quiet
 pub mod Rules

@@ -1,6 +1,7 @@
 -- The relays of the forwarder, each with its stream.
 use Rattle.std.specs.Prelude.{◌≡◌, ◌<◌, ◌^◌, ℕ, Bool, true, false, not, ◌&&◌, if◌then◌else◌, ◌==◌, nat_le, List, [], ◌∷◌, ◌++◌, length, map, filter, find, is_some, IfSome, Option, Some, None}
 use Rattle.mux_outside.specs.OwnStreams.{new_stream, is_one, is_finished}
+use Rattle.mux_outside.specs.Streams.{among}
 use Rattle.mux_outside.specs.declared.order.Order.{Order}
 use Rattle.mux_outside.specs.declared.order.Order.TheVariants.{Listen, Connect, Unlisten}
 use Rattle.mux_outside.specs.declared.order.Order.TheVariants as order
@@ -8,7 +9,7 @@ use Rattle.mux_outside.specs.declared.own_streams.OwnStream.{OwnStream}
 use Rattle.std.specs.List.{list_any, filter_map}
 use Rattle.house_relay.specs.ChannelState.{counts}
 use Rattle.house_relay.specs.Next.{sends_of, orders_of}
-use Rattle.house_relay.specs.Relay.{stream_of, OrdersRight}
+use Rattle.house_relay.specs.Relay.{socket_stream_of, OrdersRight}
 use Rattle.house_relay.specs.Steps.{is_gone, connected, failing, sent_of, fresh_relay, fresh_dialing}
 use Rattle.house_relay.specs.declared.line.ChannelState.{ChannelState}
 use Rattle.house_relay.specs.declared.line.ChannelState.TheVariants.{Dialing, Asked, Opened, Live, Over, Offered as OfServer}
@@ -16,26 +17,26 @@ use Rattle.house_relay.specs.declared.relay.Relay.{Relay}
 use Rattle.house_relay.specs.declared.relay.Outgoing.{Outgoing}
 use Rattle.house_relay.specs.declared.relay.Socket.TheVariants as socket
 use Rattle.house_forward.specs.declared.forwarding.Forwarding.{Forwarding}
-use Rattle.house_forward.specs.declared.rules.Kind.{Kind}
-use Rattle.house_forward.specs.declared.rules.Kind.TheVariants.{Local, Remote, Dynamic}
+use Rattle.house_forward.specs.declared.rules.ForwardingKind.{ForwardingKind}
+use Rattle.house_forward.specs.declared.rules.ForwardingKind.TheVariants.{Local, Remote, Dynamic}
 use Rattle.house_forward.specs.declared.rules.TheConstants.{MOST_CHANNELS, MOST_DIALOGS}
 use Rattle.house_forward.specs.declared.link.Link.{Link}
 use Rattle.house_forward.specs.declared.link.LinkStep.{LinkStep}
 use Rattle.house_forward.specs.declared.link.LinkStep.TheVariants.{Pause, Finish, End, Close, Writable, Failed}
-use Rattle.house_forward.specs.declared.link.Stream.{Stream}
-use Rattle.house_forward.specs.declared.link.Stream.TheVariants.{Offered, Awaited, Made, Gone}
+use Rattle.house_forward.specs.declared.link.LinkStream.{LinkStream}
+use Rattle.house_forward.specs.declared.link.LinkStream.TheVariants.{Offered, Awaited, Made, Gone}
 
 -- ---- streams
 
-abbrev pub own_of : Stream → Option OwnStream
-own_of (Offered host port) = None
-own_of Awaited = None
-own_of (Made own) = Some own
-own_of Gone = None
+abbrev pub own_stream_of : LinkStream → Option OwnStream
+own_stream_of (Offered host port) = None
+own_stream_of Awaited = None
+own_stream_of (Made own) = Some own
+own_stream_of Gone = None
 
 -- the streams of the forwarder, in the order in which they were made
 abbrev pub streams_of : List Link → List OwnStream
-streams_of links = filter_map (λ l. own_of l.stream) links
+streams_of links = filter_map (λ l. own_stream_of l.stream) links
 
 -- no two have the same number
 abbrev pub are_distinct : List OwnStream → Bool
@@ -43,20 +44,20 @@ are_distinct [] = true
 are_distinct (s ∷ ss) = not (is_one s.number ss) && are_distinct ss
 
 -- whether one of the streams has the number of this one
-abbrev pub is_taken : Stream → List OwnStream → Bool
+abbrev pub is_taken : LinkStream → List OwnStream → Bool
 is_taken (Offered host port) streams = false
 is_taken Awaited streams = false
 is_taken (Made own) streams = is_one own.number streams
 is_taken Gone streams = false
 
-abbrev pub numbered : ℕ → Stream → Bool
+abbrev pub numbered : ℕ → LinkStream → Bool
 numbered t (Offered host port) = false
 numbered t Awaited = false
 numbered t (Made own) = own.number == t
 numbered t Gone = false
 
 -- whether this stream is finished
-abbrev pub finishes : ℕ → Stream → Bool
+abbrev pub finishes : ℕ → LinkStream → Bool
 finishes t (Offered host port) = false
 finishes t Awaited = false
 finishes t (Made own) = (own.number == t) && own.finished
@@ -67,37 +68,52 @@ abbrev pub has_number : ℕ → Link → Bool
 has_number t l = numbered t l.stream
 
 -- the number of this stream
-abbrev pub number_in : Stream → Option ℕ
-number_in (Offered host port) = None
-number_in Awaited = None
-number_in (Made own) = Some own.number
-number_in Gone = None
+abbrev pub stream_number_in : LinkStream → Option ℕ
+stream_number_in (Offered host port) = None
+stream_number_in Awaited = None
+stream_number_in (Made own) = Some own.number
+stream_number_in Gone = None
 
-abbrev pub is_number : ℕ → Option ℕ → Bool
-is_number t None = false
-is_number t (Some s) = s == t
+abbrev pub is_link_number : ℕ → Option ℕ → Bool
+is_link_number t None = false
+is_link_number t (Some s) = s == t
 
 -- whether this stream is that of its relay
 abbrev pub is_of : ℕ → Link → Bool
-is_of t l = has_number t l && is_number t (stream_of l.relay.socket)
+is_of t l = has_number t l && is_link_number t (socket_stream_of l.relay.socket)
 
-abbrev pub queue_in : Option Link → List ℕ
-queue_in None = []
-queue_in (Some l) = l.relay.queue.waiting
+abbrev pub link_queue_in : Option Link → List ℕ
+link_queue_in None = []
+link_queue_in (Some l) = l.relay.queue.waiting
 
 -- what waits for a stream that is one of the forwarder's and isn't finished
 abbrev pub queue_at : List Link → ℕ → List ℕ
 queue_at links t = if is_one t (streams_of links) && not (is_finished t (streams_of links))
-    then queue_in (find (is_of t) links) else []
+    then link_queue_in (find (is_of t) links) else []
+
+-- this stream, if something waits for it in this link, which has it
+abbrev pub waiting_in : Link → Option ℕ → Option ℕ
+waiting_in l None = None
+waiting_in l (Some t) = if is_of t l && not (finishes t l.stream) && not (length l.relay.queue.waiting == 0)
+    then Some t else None
+
+-- its stream, if something waits for it
+abbrev pub stream_waiting : Link → Option ℕ
+stream_waiting l = waiting_in l (stream_number_in l.stream)
+
+-- a stream, if it is none of these
+abbrev pub unless_among : List ℕ → Option ℕ → List ℕ
+unless_among failed None = []
+unless_among failed (Some t) = if not (among t failed) then t ∷ [] else []
 
 -- a socket is to be connected, or that is ordered
-abbrev pub offers : Stream → Bool
+abbrev pub offers : LinkStream → Bool
 offers (Offered host port) = true
 offers Awaited = false
 offers (Made own) = false
 offers Gone = false
 
-abbrev pub awaits : Stream → Bool
+abbrev pub awaits : LinkStream → Bool
 awaits (Offered host port) = false
 awaits Awaited = true
 awaits (Made own) = false
@@ -109,7 +125,7 @@ is_offered l = offers l.stream
 abbrev pub is_awaited : Link → Bool
 is_awaited l = awaits l.stream
 
-abbrev pub is_without : Stream → Bool
+abbrev pub is_without : LinkStream → Bool
 is_without (Offered host port) = false
 is_without Awaited = false
 is_without (Made own) = false
@@ -155,7 +171,7 @@ is_number_of number links = list_any (λ l. l.relay.number == number) links
 
 -- ---- steps
 
-abbrev pub stream_after : LinkStep → Stream → Stream
+abbrev pub stream_after : LinkStep → LinkStream → LinkStream
 stream_after step (Offered host port) = Offered host port
 stream_after step Awaited = Awaited
 stream_after (Pause b) (Made own) = Made (record own { paused = b })
@@ -180,7 +196,7 @@ link_after step t l = if has_number t l
     then record l { relay = relay_after step l.relay; stream = stream_after step l.stream } else l
 
 -- a stream is made, or couldn't be
-abbrev pub made_stream : Option ℕ → Stream
+abbrev pub made_stream : Option ℕ → LinkStream
 made_stream (Some t) = Made (new_stream t)
 made_stream None = Gone
 
@@ -190,10 +206,10 @@ made_streams None = []
 
 -- ---- orders
 
-abbrev pub order_in : Stream → Relay → Option Order
+abbrev pub order_in : LinkStream → Relay → Option Order
 order_in (Offered host port) r = None
 order_in Awaited r = None
-order_in (Made own) r = if is_number own.number (stream_of r.socket) then orders_of r own else None
+order_in (Made own) r = if is_link_number own.number (socket_stream_of r.socket) then orders_of r own else None
 order_in Gone r = None
 
 -- what its relay orders of its stream
@@ -203,7 +219,7 @@ link_order l = order_in l.stream l.relay
 abbrev pub has_order : Link → Bool
 has_order l = is_some (link_order l)
 
-abbrev pub OrdersIn : Order → Stream → Relay → Type 0
+abbrev pub OrdersIn : Order → LinkStream → Relay → Type 0
 OrdersIn o (Offered host port) r = ⊥
 OrdersIn o Awaited r = ⊥
 OrdersIn o (Made own) r = OrdersRight o r own
@@ -235,7 +251,7 @@ after_sending (Some outgoing) r = sent_of outgoing r
 
 -- ---- what the server opens
 
-abbrev pub ConnectsAt : List ℕ → ℕ → Stream → Type 0
+abbrev pub ConnectsAt : List ℕ → ℕ → LinkStream → Type 0
 ConnectsAt host port (Offered texts at) = (texts.one ≡ host) × (at ≡ port)
 ConnectsAt host port Awaited = ⊥
 ConnectsAt host port (Made own) = ⊥
@@ -256,7 +272,7 @@ ConnectsFirst (Some (order.Close t)) links = Unit {0}
 -- one relay more, for which a socket is to be connected where this forwarding connects
 pub record Offers (f : Forwarding) (remote window maximum : ℕ) (old new : List Link) : Type 0 where
   pub number : ℕ
-  pub stream : Stream
+  pub stream : LinkStream
   pub free : is_number_of number old ≡ false
   pub small : number < 2 ^ 32
   pub connects : ConnectsAt f.connect_host f.connect_port stream
@@ -278,7 +294,7 @@ IsDialed true t r = HasNoChannelLeft t r
 IsDialed false t r = r ≡ fresh_relay r.number fresh_dialing (socket.Open t)
 
 -- the channel is to be to where the forwarding connects, or to where a dialog requests
-abbrev pub IsJoinedAt : Kind → Bool → Forwarding → ℕ → Relay → Type 0
+abbrev pub IsJoinedAt : ForwardingKind → Bool → Forwarding → ℕ → Relay → Type 0
 IsJoinedAt Local dialogs_full f t r =
     r ≡ fresh_relay r.number (Asked f.connect_host f.connect_port None) (socket.Open t)
 IsJoinedAt Remote dialogs_full f t r =
@@ -287,15 +303,15 @@ IsJoinedAt Dynamic dialogs_full f t r = IsDialed dialogs_full t r
 
 -- the relay of an accepted socket: where the forwarder has all channels that it may have, it is
 -- closed
-abbrev pub IsJoined : Bool → Bool → Option Forwarding → ℕ → Relay → Type 0
-IsJoined true dialogs_full f t r = HasNoChannelLeft t r
-IsJoined false dialogs_full None t r = HasNoChannelLeft t r
-IsJoined false dialogs_full (Some f) t r = IsJoinedAt f.kind dialogs_full f t r
+abbrev pub IsRelayJoined : Bool → Bool → Option Forwarding → ℕ → Relay → Type 0
+IsRelayJoined true dialogs_full f t r = HasNoChannelLeft t r
+IsRelayJoined false dialogs_full None t r = HasNoChannelLeft t r
+IsRelayJoined false dialogs_full (Some f) t r = IsJoinedAt f.kind dialogs_full f t r
 
 -- one relay more, for a socket that is accepted
 pub record Joins (f : Option Forwarding) (t : ℕ) (old new : List Link) : Type 0 where
   pub relay : Relay
-  pub joined : IsJoined (is_full old) (has_full_dialogs old) f t relay
+  pub joined : IsRelayJoined (is_full old) (has_full_dialogs old) f t relay
   pub free : is_number_of relay.number old ≡ false
   pub small : relay.number < 2 ^ 32
   pub fresh : is_one t (streams_of old) ≡ false

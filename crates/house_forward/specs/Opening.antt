@@ -1,4 +1,4 @@
--- The OPENs that the house says, by the calls: for which sockets, and to where.
+-- The OPENs that the forwarder sends, by the calls: for which sockets, and to where.
 use Rattle.std.specs.Prelude.{◌≡◌, ◌≢◌, ◌⊎◌, ◌≤◌, ◌<◌, ◌+◌, ◌==◌, ℕ, Bool, true, false, if◌then◌else◌, List, [], ◌∷◌, ◌++◌, length, map, filter, find, get_or, IfSome, Option, Some, None}
 use Rattle.std.specs.List.{All, AllPairs}
 use Rattle.ssh_grammar.specs.declared.numbers.TheConstants.{CHANNEL_OPEN}
@@ -12,15 +12,15 @@ use Rattle.house_relay.specs.Acts.{read, outcome_in}
 use Rattle.house_relay.specs.declared.line.ChannelState.{ChannelState}
 use Rattle.house_relay.specs.declared.line.ChannelState.TheVariants.{Dialing, Asked, Opened, Offered, Live, Over}
 use Rattle.house_forward.specs.Forwardings.{has_listener, has_request}
-use Rattle.house_forward.specs.RelayTraces.{Life, Trace, Follows, MarksIn, SendsBy, Reaches, first_trace}
+use Rattle.house_forward.specs.RelayTraces.{Life, Trace, Follows, MarksIn, SendsBy, TraceReaches, first_trace}
 use Rattle.house_forward.specs.Said.{framed, direct}
 use Rattle.house_forward.specs.declared.forwarding.Forwarding.{Forwarding}
-use Rattle.house_forward.specs.declared.rules.Kind.{Kind}
-use Rattle.house_forward.specs.declared.rules.Kind.TheVariants.{Local, Remote, Dynamic}
+use Rattle.house_forward.specs.declared.rules.ForwardingKind.{ForwardingKind}
+use Rattle.house_forward.specs.declared.rules.ForwardingKind.TheVariants.{Local, Remote, Dynamic}
 
 -- ---- how many there are
 
--- whether what is said is an OPEN: its payload begins behind the length and the padding of its frame
+-- whether what is sent is an OPEN: its payload begins after the length and the padding of its frame
 abbrev pub is_open : List ℕ → Bool
 is_open bytes = get_or bytes 5 0 == CHANNEL_OPEN
 
@@ -39,7 +39,7 @@ opens_by (Receives bytes) = 0
 opens_by (Turns happening) = 0
 opens_by (Takes t bytes) = 0
 
--- how many OPENs were said
+-- how many OPENs were sent
 abbrev pub opens_in : List HouseCall → ℕ
 opens_in [] = 0
 opens_in (call ∷ calls) = opens_by call + opens_in calls
@@ -63,7 +63,7 @@ abbrev pub joins_in : List HouseCall → ℕ
 joins_in [] = 0
 joins_in (call ∷ calls) = joins_by call + joins_in calls
 
--- whether an OPEN is to be said, or is once the dialog asks for an end
+-- whether an OPEN is to be sent, or is once the dialog asks for an end
 abbrev pub may_open : ChannelState → Bool
 may_open (Dialing dialog) = true
 may_open (Asked host port version) = true
@@ -76,14 +76,14 @@ may_open Over = false
 abbrev pub still_to_open : List Life → ℕ
 still_to_open relay_traces = length (filter (λ l. may_open l.relay.line) relay_traces)
 
--- no more OPENs are said, or still to be, than sockets were joined
+-- no more OPENs are sent, or still to be, than sockets were joined
 abbrev pub OneOpenAtMost : Type 0
-OneOpenAtMost = (calls : List HouseCall) (trace : Trace) → Reaches first_trace calls trace
+OneOpenAtMost = (calls : List HouseCall) (trace : Trace) → TraceReaches first_trace calls trace
     → opens_in calls + still_to_open trace.relay_traces ≤ joins_in calls
 
 -- ---- of which sockets
 
--- of which socket the OPEN is that is said, if one is: that of the relay that says it
+-- of which socket the OPEN is that is sent, if one is: that of the relay that sends it
 abbrev pub opener_by : (greeted : Bool) (first : Option Forwarding) (bytes : List ℕ)
     (old new : Trace) → SendsBy greeted first bytes old new → List (Option ℕ)
 opener_by false first bytes old new says = []
@@ -106,20 +106,20 @@ opener_of (Receives bytes) old new follows = []
 opener_of (Turns happening) old new follows = []
 opener_of (Takes t bytes) old new follows = []
 
--- of which sockets the OPENs are that are said in these calls, in their order
-abbrev pub openers_in : (calls : List HouseCall) (old new : Trace) → Reaches old calls new
+-- of which sockets the OPENs are that are sent in these calls, in their order
+abbrev pub openers_in : (calls : List HouseCall) (old new : Trace) → TraceReaches old calls new
     → List (Option ℕ)
 openers_in [] old new reaches = []
 openers_in (call ∷ calls) old new reaches =
     opener_of call old reaches.0 reaches.1 ++ openers_in calls reaches.0 new reaches.2
 
--- and of which those are that are still to be said
+-- and of which those are that are still to be sent
 abbrev pub openers_left : List Life → List (Option ℕ)
 openers_left relay_traces = map (λ l. l.joined) (filter (λ l. may_open l.relay.line) relay_traces)
 
--- each OPEN that is said is told so
+-- each OPEN that is sent is recorded as sent
 abbrev pub EachIsRecorded : Type 0
-EachIsRecorded = (calls : List HouseCall) (trace : Trace) (reaches : Reaches first_trace calls trace)
+EachIsRecorded = (calls : List HouseCall) (trace : Trace) (reaches : TraceReaches first_trace calls trace)
     → length (openers_in calls first_trace trace reaches) ≡ opens_in calls
 
 -- it is one of those that were joined
@@ -128,49 +128,49 @@ pub record IsOneJoined (calls : List HouseCall) (socket : Option ℕ) : Type 0 w
   pub is : socket ≡ Some number
   pub joined : number < joins_in calls
 
--- each OPEN that is said, or still to be, is of a socket that was joined
+-- each OPEN that is sent, or still to be, is of a socket that was joined
 abbrev pub EachWasJoined : Type 0
-EachWasJoined = (calls : List HouseCall) (trace : Trace) (reaches : Reaches first_trace calls trace)
+EachWasJoined = (calls : List HouseCall) (trace : Trace) (reaches : TraceReaches first_trace calls trace)
     → All (IsOneJoined calls)
     (openers_in calls first_trace trace reaches ++ openers_left trace.relay_traces)
 
 -- and no two are of one
 abbrev pub OneOpenEach : Type 0
-OneOpenEach = (calls : List HouseCall) (trace : Trace) (reaches : Reaches first_trace calls trace)
+OneOpenEach = (calls : List HouseCall) (trace : Trace) (reaches : TraceReaches first_trace calls trace)
     → AllPairs (λ a b. a ≢ b)
     (openers_in calls first_trace trace reaches ++ openers_left trace.relay_traces)
 
 -- ---- for what, and to where
 
--- this is one of the calls, and the course was this before it
-pub record IsBefore (calls : List HouseCall) (call : HouseCall) (trace : Trace) : Type 0 where
+-- this is one of the calls, and the trace was this before it
+pub record IsCallBefore (calls : List HouseCall) (call : HouseCall) (trace : Trace) : Type 0 where
   pub before : List HouseCall
   pub behind : List HouseCall
   pub are : calls ≡ before ++ call ∷ behind
-  pub reached : Reaches first_trace before trace
+  pub reached : TraceReaches first_trace before trace
 
--- this socket was joined at the listener of a forwarding of which this is so, and it is this stream,
--- while that is open
+-- this socket was joined at the listener of a forwarding of which this is so, and it is this
+-- stream, while that is open
 pub record IsJoinedFor (calls : List HouseCall) (own : Option OwnStream) (socket : Option ℕ)
     (so : Forwarding → Type 0) : Type 0 where
   pub listener : ℕ
   pub stream : ℕ
   pub trace : Trace
   pub forwarding : Forwarding
-  pub joined : IsBefore calls (Turns (Joined listener stream)) trace
+  pub joined : IsCallBefore calls (Turns (Joined listener stream)) trace
   pub which : socket ≡ Some trace.joins
   pub found : find (has_listener listener) trace.forwarding_state.all ≡ Some forwarding
   pub its : IfSome own (λ o. o.number ≡ stream)
   pub right : so forwarding
 
-abbrev pub IsPlain : Kind → Type 0
-IsPlain Local = Unit {0}
-IsPlain Remote = Unit {0}
-IsPlain Dynamic = ⊥
+abbrev pub IsPlainKind : ForwardingKind → Type 0
+IsPlainKind Local = Unit {0}
+IsPlainKind Remote = Unit {0}
+IsPlainKind Dynamic = ⊥
 
 -- a forwarding connects there
 pub record ConnectsTo (host : List ℕ) (port : ℕ) (f : Forwarding) : Type 0 where
-  pub plain : IsPlain f.kind
+  pub plain : IsPlainKind f.kind
   pub to_host : f.connect_host ≡ host
   pub to_port : f.connect_port ≡ port
 
@@ -183,8 +183,8 @@ pub record IsDialed (calls : List HouseCall) (l : Life) (host : List ℕ) (port 
   pub joined : IsJoinedFor calls l.own l.joined IsDynamic
   pub asks : outcome_in (read l.acts) ≡ Connects host port
 
--- what is said is the OPEN of direct-tcpip of one of the relays, to where the forwarding connects at
--- whose listener its socket was joined, or to the end that its dialog asked for
+-- what is sent is the OPEN of direct-tcpip of one of the relays, to where the forwarding connects
+-- at whose listener its socket was joined, or to the end that its dialog asked for
 pub record IsOpenOf (calls : List HouseCall) (relay_traces : List Life) (bytes : List ℕ) : Type 0 where
   pub before : List Life
   pub life : Life
@@ -196,8 +196,8 @@ pub record IsOpenOf (calls : List HouseCall) (relay_traces : List Life) (bytes :
   pub goes : IsJoinedFor calls life.own life.joined (ConnectsTo host port)
       ⊎ IsDialed calls life host port
 
--- each OPEN that is said behind these calls
+-- each OPEN that is sent after these calls
 abbrev pub OpensGoRight : Type 0
 OpensGoRight = (calls : List HouseCall) (trace next : Trace) (bytes : List ℕ)
-    → Reaches first_trace calls trace → Follows (Marks (HouseSaid bytes)) trace next
+    → TraceReaches first_trace calls trace → Follows (Marks (HouseSaid bytes)) trace next
     → is_open bytes ≡ true → IsOpenOf calls trace.relay_traces bytes

@@ -1,5 +1,5 @@
--- What the calls of the house tell: of each relay how it stands, and what happened in it; and what
--- the house has besides.
+-- What the calls of the forwarder record: of each relay its state, and what happened in it; and
+-- what the forwarder has besides.
 use Rattle.std.specs.Prelude.{◌≡◌, ◌≢◌, ◌⊎◌, ◌≤◌, ◌<◌, ◌+◌, ◌^◌, ◌==◌, ℕ, Bool, true, false, not, nat_le, if◌then◌else◌, List, [], ◌∷◌, ◌++◌, length, map, filter, find, is_some, IfSome, Result, Ok, Err, Option, Some, None}
 use Rattle.std.specs.List.{All, list_any, position}
 use Rattle.ssh_fields.specs.Fields.{take_u32}
@@ -27,22 +27,22 @@ use Rattle.mux_outside.specs.declared.house_mark.HouseMark.TheVariants.{HouseIn,
 use Rattle.mux_outside.specs.declared.order.Order.{Order}
 use Rattle.mux_outside.specs.declared.order.Order.TheVariants as order
 use Rattle.mux_outside.specs.declared.own_streams.OwnStream.{OwnStream}
-use Rattle.house_relay.specs.Acts.{Act, Reads, Ends, Takes, Fails, Other, taken}
+use Rattle.house_relay.specs.Acts.{RelayAct, Reads, Ends, Takes, Fails, Other, taken}
 use Rattle.house_relay.specs.ChannelState.{owed_in, counts}
 use Rattle.house_relay.specs.Next.{sends_of}
-use Rattle.house_relay.specs.Relay.{Stands, OrdersRight, stream_of}
+use Rattle.house_relay.specs.Relay.{RelayRepresents, OrdersRight, socket_stream_of}
 use Rattle.house_relay.specs.Steps.{fresh_relay, is_gone, made_as}
 use Rattle.house_relay.specs.declared.line.ChannelState.TheVariants.{Offered as OfServer}
 use Rattle.house_relay.specs.declared.relay.Relay.{Relay}
 use Rattle.house_relay.specs.declared.relay.Socket.{Socket}
 use Rattle.house_relay.specs.declared.relay.Socket.TheVariants as socket
-use Rattle.house_forward.specs.ForwardingState.{ForwardingState, empty_forwarding_state, forwarding_state_of, BeginsWith, IsAsked, Answers, greeting_sent, request_sent, reply_received, OrdersListener, GetsListener, EndsListener}
+use Rattle.house_forward.specs.ForwardingState.{ForwardingState, empty_forwarding_state, forwarding_state_of, BeginsWith, IsClientAsk, Answers, greeting_sent, request_sent, reply_received, OrdersListener, GetsListener, EndsListener}
 use Rattle.house_forward.specs.Forwardings.{has_request, has_listener, served_at}
-use Rattle.house_forward.specs.Going.{GetsOn, TakesOn, SendsOn, ReceivesOn, act_of_sending, AwaitsAt}
+use Rattle.house_forward.specs.Going.{GetsOn, TakesOn, RelaySendsOn, RelayReceivesOn, act_of_sending, AwaitsAt}
 use Rattle.house_forward.specs.Heard.{act_received}
 use Rattle.house_forward.specs.Known.{ordering_of}
-use Rattle.house_forward.specs.Links.{IsJoined, dials, relay_after, own_of, is_offered, ConnectsAt}
-use Rattle.house_forward.specs.Said.{framed, sent_by, request_payload}
+use Rattle.house_forward.specs.Links.{IsRelayJoined, dials, relay_after, own_stream_of, is_offered, ConnectsAt}
+use Rattle.house_forward.specs.Said.{framed, relay_sent_by, request_payload}
 use Rattle.house_forward.specs.declared.asks.Asks.{Asks}
 use Rattle.house_forward.specs.declared.forwarding.Forwarding.{Forwarding}
 use Rattle.house_forward.specs.declared.forwardings.Forwardings.{Forwardings}
@@ -51,27 +51,28 @@ use Rattle.house_forward.specs.declared.forwarder_state.Stage.TheVariants.{Contr
 use Rattle.house_forward.specs.declared.link.Link.{Link}
 use Rattle.house_forward.specs.declared.link.LinkStep.{LinkStep}
 use Rattle.house_forward.specs.declared.link.LinkStep.TheVariants as step
-use Rattle.house_forward.specs.declared.link.Stream.{Stream}
-use Rattle.house_forward.specs.declared.link.Stream.TheVariants.{Offered, Awaited, Made, Gone}
+use Rattle.house_forward.specs.declared.link.LinkStream.{LinkStream}
+use Rattle.house_forward.specs.declared.link.LinkStream.TheVariants.{Offered, Awaited, Made, Gone}
 use Rattle.house_forward.specs.declared.ordering.Ordering.{Ordering}
 use Rattle.house_forward.specs.declared.ordering.Ordering.TheVariants as ordering
 use Rattle.house_forward.specs.declared.relays.Relays.{Relays}
+use Rattle.house_forward.specs.declared.rules.ListenRules.{ListenRules}
 use Rattle.house_forward.specs.declared.rules.TheConstants.{MOST_CHANNELS, MOST_DIALOGS}
 use Rattle.mux_outside.specs.declared.greeting.TheConstants.{GREETING}
 
--- a relay; its stream, while it is open; whether it began with a dialog; which of the sockets that were
--- joined is its own, if one is, by how many were joined before; where its socket is to be connected, if
--- the server opened it; and what happened in it, the newest first
+-- a relay; its stream, while it is open; whether it began with a dialog; which of the sockets that
+-- were joined is its own, if one is, by how many were joined before; where its socket is to be
+-- connected, if the server opened it; and what happened in it, the newest first
 pub record Life : Type 0 where
   pub relay : Relay
   pub own : Option OwnStream
   pub dials : Bool
   pub joined : Option ℕ
   pub to : Option (List ℕ × ℕ)
-  pub acts : List Act
+  pub acts : List RelayAct
 
--- the relays that there are, and those of which nothing is left; how many sockets were joined; what was
--- heard and isn't read yet; how it is read; and what the house has besides
+-- the relays that there are, and those of which nothing is left; how many sockets were joined; what
+-- was received and isn't read yet; how it is read; and what the forwarder has besides
 pub record Trace : Type 0 where
   pub relay_traces : List Life
   pub past : List Life
@@ -113,7 +114,7 @@ has_stream t l = is_stream t l.own
 abbrev pub has_channel : ℕ → Life → Bool
 has_channel n l = l.relay.number == n
 
--- whether it has something to say
+-- whether it has something to send
 abbrev pub has_words : Life → Bool
 has_words l = is_some (sends_of l.relay)
 
@@ -126,8 +127,8 @@ unmade (socket.NoChannelLeft stream) = false
 unmade socket.Closed = false
 
 -- whether its socket is to be made
-abbrev pub is_unmade : Life → Bool
-is_unmade l = unmade l.relay.socket
+abbrev pub is_socket_unmade : Life → Bool
+is_socket_unmade l = unmade l.relay.socket
 
 -- how many have a channel, or are to have one
 abbrev pub channels_in : List Life → ℕ
@@ -146,7 +147,7 @@ abbrev pub are_dialogs_full : List Life → Bool
 are_dialogs_full relay_traces = nat_le MOST_DIALOGS (dialogs_in relay_traces)
 
 -- its relay goes on so, and this happens in it
-pub record GoesBy (so : Relay → Relay → Type 0) (act : Act) (old new : Life) : Type 0 where
+pub record RelayGoesBy (so : Relay → Relay → Type 0) (act : RelayAct) (old new : Life) : Type 0 where
   pub relay : so old.relay new.relay
   pub own : new.own ≡ old.own
   pub dials : new.dials ≡ old.dials
@@ -173,9 +174,9 @@ OneAtMost which so old new = One which so old new ⊎ ((list_any which old ≡ f
 -- ---- those of which nothing is left
 
 -- the first, if there is one
-abbrev pub left_in : List Life → List Life
-left_in [] = []
-left_in (l ∷ ls) = if is_gone l.relay then l ∷ [] else left_in ls
+abbrev pub first_life_in : List Life → List Life
+first_life_in [] = []
+first_life_in (l ∷ ls) = if is_gone l.relay then l ∷ [] else first_life_in ls
 
 -- the others
 abbrev pub kept_in : List Life → List Life
@@ -184,40 +185,40 @@ kept_in (l ∷ ls) = if is_gone l.relay then ls else l ∷ kept_in ls
 
 -- the relays are these from now on, but for one of which nothing is left
 abbrev pub with_relay_traces : List Life → Trace → Trace
-with_relay_traces relay_traces trace = record trace { relay_traces = kept_in relay_traces; past = trace.past ++ left_in relay_traces }
+with_relay_traces relay_traces trace = record trace { relay_traces = kept_in relay_traces; past = trace.past ++ first_life_in relay_traces }
 
 -- ---- what happens to sockets
 
-abbrev pub own_after : LinkStep → Option OwnStream → Option OwnStream
-own_after step None = None
-own_after (step.Pause b) (Some own) = Some (record own { paused = b })
-own_after step.Finish (Some own) = Some (record own { finished = true })
-own_after step.End (Some own) = Some (record own { ended = true })
-own_after step.Close (Some own) = None
-own_after step.Writable (Some own) = Some own
-own_after step.Failed (Some own) = Some own
+abbrev pub link_own_after : LinkStep → Option OwnStream → Option OwnStream
+link_own_after step None = None
+link_own_after (step.Pause b) (Some own) = Some (record own { paused = b })
+link_own_after step.Finish (Some own) = Some (record own { finished = true })
+link_own_after step.End (Some own) = Some (record own { ended = true })
+link_own_after step.Close (Some own) = None
+link_own_after step.Writable (Some own) = Some own
+link_own_after step.Failed (Some own) = Some own
 
-abbrev pub act_of : LinkStep → Act
-act_of (step.Pause b) = Other
-act_of step.Finish = Other
-act_of step.End = Ends
-act_of step.Close = Other
-act_of step.Writable = Other
-act_of step.Failed = Fails
+abbrev pub relay_act_of : LinkStep → RelayAct
+relay_act_of (step.Pause b) = Other
+relay_act_of step.Finish = Other
+relay_act_of step.End = Ends
+relay_act_of step.Close = Other
+relay_act_of step.Writable = Other
+relay_act_of step.Failed = Fails
 
--- the one with this stream takes a step
+-- the one with this stream makes a step
 abbrev pub stepped : LinkStep → ℕ → Life → Life
 stepped step t l = if has_stream t l then record l {
   relay = relay_after step l.relay;
-  own = own_after step l.own;
-  acts = act_of step ∷ l.acts;
+  own = link_own_after step l.own;
+  acts = relay_act_of step ∷ l.acts;
 } else l
 
--- one relay more, for a socket that is joined at the listener of a forwarding, behind so many others, with
--- a stream that no other has: for an end that this names or a dialog will, or for none
+-- one relay more, for a socket that is joined at the listener of a forwarding, after so many
+-- others, with a stream that no other has: for an end that this names or a dialog will, or for none
 pub record JoinsOne (f : Option Forwarding) (t joins : ℕ) (old new : List Life) : Type 0 where
   pub relay : Relay
-  pub joined : IsJoined (are_full old) (are_dialogs_full old) f t relay
+  pub joined : IsRelayJoined (are_full old) (are_dialogs_full old) f t relay
   pub free : list_any (has_channel relay.number) old ≡ false
   pub small : relay.number < 2 ^ 32
   pub fresh : list_any (has_stream t) old ≡ false
@@ -230,11 +231,11 @@ pub record JoinsOne (f : Option Forwarding) (t joins : ℕ) (old new : List Life
     acts = [];
   } ∷ []
 
--- what happened to a listener or a stream, behind so many sockets that were joined
+-- what happened to a listener or a stream, after so many sockets that were joined
 abbrev pub TurnsTo : Happening → ℕ → List Forwarding → List Life → List Life → Type 0
 TurnsTo (Joined l t) joins all old new = JoinsOne (find (has_listener l) all) t joins old new
 TurnsTo (Got t bytes) joins all old new =
-    OneAtMost (has_stream t) (GoesBy (GetsOn (not (are_full old)) bytes) (Reads bytes)) old new
+    OneAtMost (has_stream t) (RelayGoesBy (GetsOn (not (are_full old)) bytes) (Reads bytes)) old new
 TurnsTo (End t) joins all old new = new ≡ map (stepped step.End t) old
 TurnsTo (Writable t) joins all old new = new ≡ map (stepped step.Writable t) old
 TurnsTo (Failed t) joins all old new = new ≡ map (stepped step.Failed t) old
@@ -247,15 +248,15 @@ joins_after (End t) joins = joins
 joins_after (Writable t) joins = joins
 joins_after (Failed t) joins = joins
 
--- ---- what is said
+-- ---- what is sent
 
--- it says this
+-- it sends this
 abbrev pub Speaks : List ℕ → Life → Life → Type 0
-Speaks bytes old new = (bytes ≡ framed (sent_by old.relay))
-    × GoesBy SendsOn (act_of_sending (sends_of old.relay) old.relay) old new
+Speaks bytes old new = (bytes ≡ framed (relay_sent_by old.relay))
+    × RelayGoesBy RelaySendsOn (act_of_sending (sends_of old.relay) old.relay) old new
 
--- where the house has not greeted it does; else the first forwarding that has a request says it;
--- else the first relay that has something to say says that
+-- where the forwarder has not greeted it does; else the first forwarding that has a request sends
+-- it; else the first relay that has something to send says that
 abbrev pub SendsBy : Bool → Option Forwarding → List ℕ → Trace → Trace → Type 0
 SendsBy false first bytes old new =
     (bytes ≡ GREETING.now) × (new ≡ with_forwarding_state (greeting_sent old.forwarding_state) old)
@@ -264,19 +265,19 @@ SendsBy true (Some f) bytes old new =
 SendsBy true None bytes old new = (relay_traces : List Life)
     × One has_words (Speaks bytes) old.relay_traces relay_traces × (new ≡ with_relay_traces relay_traces old)
 
--- what is said is the first of these
-abbrev pub SendsIn : List ℕ → Trace → Trace → Type 0
-SendsIn bytes old new = SendsBy old.forwarding_state.greeted (find has_request old.forwarding_state.all) bytes old new
+-- what is sent is the first of these
+abbrev pub RelaySendsIn : List ℕ → Trace → Trace → Type 0
+RelaySendsIn bytes old new = SendsBy old.forwarding_state.greeted (find has_request old.forwarding_state.all) bytes old new
 
--- ---- what is heard
+-- ---- what is received
 
--- it hears this
+-- it receives this
 abbrev pub Listens : Message → Life → Life → Type 0
-Listens m old new = GoesBy (ReceivesOn m) (act_received m old.relay) old new
+Listens m old new = RelayGoesBy (RelayReceivesOn m) (act_received m old.relay) old new
 
--- the one whose channel has this number hears a message, if there is one
-abbrev pub ReceivesAt : ℕ → Message → Trace → Trace → Type 0
-ReceivesAt n m old new = ((relay_traces : List Life) × One (has_channel n) (Listens m) old.relay_traces relay_traces
+-- the one whose channel has this number receives a message, if there is one
+abbrev pub RelayReceivesAt : ℕ → Message → Trace → Trace → Type 0
+RelayReceivesAt n m old new = ((relay_traces : List Life) × One (has_channel n) (Listens m) old.relay_traces relay_traces
     × (new ≡ with_relay_traces relay_traces old))
     ⊎ ((list_any (has_channel n) old.relay_traces ≡ false) × (new ≡ old))
 
@@ -302,7 +303,7 @@ abbrev pub OpensFor : Option Forwarding → ℕ → ℕ → ℕ → Trace → Tr
 OpensFor None remote window maximum old new = new ≡ old
 OpensFor (Some f) remote window maximum old new = OffersOne f remote window maximum old new
 
--- an OPEN of the server is taken where it listens for a forwarding at this address and port
+-- an OPEN of the server is accepted where it listens for a forwarding at this address and port
 abbrev pub ReceivesOpen : Opening → ℕ → ℕ → ℕ → Trace → Trace → Type 0
 ReceivesOpen (opens.Forwarded (keys.Tcp address port)) remote window maximum old new =
     OpensFor (find (served_at address.now port) old.forwarding_state.all) remote window maximum old new
@@ -329,23 +330,23 @@ ReceivesMessage message.RequestFailure old new = ReceivesReply false None old ne
 ReceivesMessage (message.Open kind sender window maximum rest what) old new =
     ReceivesOpen what sender window maximum old new
 ReceivesMessage (message.Confirmation recipient sender window maximum rest) old new =
-    ReceivesAt recipient (message.Confirmation recipient sender window maximum rest) old new
+    RelayReceivesAt recipient (message.Confirmation recipient sender window maximum rest) old new
 ReceivesMessage (message.OpenFailure recipient reason text language) old new =
-    ReceivesAt recipient (message.OpenFailure recipient reason text language) old new
+    RelayReceivesAt recipient (message.OpenFailure recipient reason text language) old new
 ReceivesMessage (message.Adjust recipient add) old new =
-    ReceivesAt recipient (message.Adjust recipient add) old new
+    RelayReceivesAt recipient (message.Adjust recipient add) old new
 ReceivesMessage (message.Data recipient bytes) old new =
-    ReceivesAt recipient (message.Data recipient bytes) old new
+    RelayReceivesAt recipient (message.Data recipient bytes) old new
 ReceivesMessage (message.Extended recipient code bytes) old new =
-    ReceivesAt recipient (message.Extended recipient code bytes) old new
-ReceivesMessage (message.Eof recipient) old new = ReceivesAt recipient (message.Eof recipient) old new
-ReceivesMessage (message.Close recipient) old new = ReceivesAt recipient (message.Close recipient) old new
+    RelayReceivesAt recipient (message.Extended recipient code bytes) old new
+ReceivesMessage (message.Eof recipient) old new = RelayReceivesAt recipient (message.Eof recipient) old new
+ReceivesMessage (message.Close recipient) old new = RelayReceivesAt recipient (message.Close recipient) old new
 ReceivesMessage (message.Request recipient kind want rest) old new =
-    ReceivesAt recipient (message.Request recipient kind want rest) old new
+    RelayReceivesAt recipient (message.Request recipient kind want rest) old new
 ReceivesMessage (message.Success recipient) old new =
-    ReceivesAt recipient (message.Success recipient) old new
+    RelayReceivesAt recipient (message.Success recipient) old new
 ReceivesMessage (message.Failure recipient) old new =
-    ReceivesAt recipient (message.Failure recipient) old new
+    RelayReceivesAt recipient (message.Failure recipient) old new
 
 -- what is no message changes nothing
 abbrev pub ReceivesReading : Result Said Bad → Trace → Trace → Type 0
@@ -357,25 +358,25 @@ abbrev pub is_grant : Option (ℕ × List ℕ) → Bool
 is_grant None = false
 is_grant (Some p) = p.0 == S_PROXY
 
--- control messages come first; behind the one that grants the proxy each frame is a message of the
+-- control messages come first; after the one that grants the proxy each frame is a message of the
 -- connection protocol
 abbrev pub ReceivesFrame : Stage → List ℕ → Trace → Trace → Type 0
 ReceivesFrame Control content old new = new ≡ (if is_grant (take_u32 content)
     then record old { stage = Proxy; framer = switched framing.Proxy old.framer } else old)
 ReceivesFrame Proxy content old new = ReceivesReading (reading content) old new
 
--- the front of what was heard is cut off
+-- the front of what was received is cut off
 abbrev pub cut_off : Front → Trace → Trace
 cut_off front trace = record trace { framer = after_front front trace.framer }
 
 -- frame by frame, until none is whole
-abbrev pub ReceivesFrames : List (List ℕ) → Trace → Trace → Type 0
-ReceivesFrames [] old new = (answer_to (front_of old.framer) ≢ next.Frame)
+abbrev pub RelaysReceiveFrames : List (List ℕ) → Trace → Trace → Type 0
+RelaysReceiveFrames [] old new = (answer_to (front_of old.framer) ≢ next.Frame)
     × (new ≡ cut_off (front_of old.framer) old)
-ReceivesFrames (content ∷ more) old new =
+RelaysReceiveFrames (content ∷ more) old new =
     (rest : List ℕ) × (front_of old.framer ≡ Frame content rest)
     × ((middle : Trace) × ReceivesFrame old.stage content (cut_off (Frame content rest) old) middle
-    × ReceivesFrames more middle new)
+    × RelaysReceiveFrames more middle new)
 
 abbrev pub with_received : List ℕ → Trace → Trace
 with_received bytes trace = record trace { framer = pushed bytes trace.framer }
@@ -383,7 +384,7 @@ with_received bytes trace = record trace { framer = pushed bytes trace.framer }
 -- ---- what is ordered
 
 -- one may be ordered so
-pub record IsAllowed (o : Order) (relay_traces : List Life) : Type 0 where
+pub record OrderIsAllowed (o : Order) (relay_traces : List Life) : Type 0 where
   pub before : List Life
   pub life : Life
   pub behind : List Life
@@ -392,9 +393,9 @@ pub record IsAllowed (o : Order) (relay_traces : List Life) : Type 0 where
   pub right : OrdersRight o life.relay own
   pub were : relay_traces ≡ before ++ life ∷ behind
 
--- it takes its step
+-- it makes its step
 abbrev pub StepsBy : Order → LinkStep → ℕ → Trace → Trace → Type 0
-StepsBy o s t old new = IsAllowed o old.relay_traces × (new ≡ with_relay_traces (map (stepped s t) old.relay_traces) old)
+StepsBy o s t old new = OrderIsAllowed o old.relay_traces × (new ≡ with_relay_traces (map (stepped s t) old.relay_traces) old)
 
 abbrev pub own_made : Option ℕ → Option OwnStream
 own_made None = None
@@ -408,14 +409,14 @@ made_life number l = record l {
   acts = Other ∷ l.acts;
 }
 
--- the first socket that is to be made, which is to be connected there, is made, with a stream that no
--- other has, or couldn't be: it is the last from now on
+-- the first socket that is to be made, which is to be connected there, is made, with a stream that
+-- no other has, or couldn't be: it is the last from now on
 pub record MakesOne (host : List ℕ) (port : ℕ) (number : Option ℕ) (old new : Trace) : Type 0 where
   pub before : List Life
   pub life : Life
   pub behind : List Life
-  pub others : list_any is_unmade before ≡ false
-  pub is : is_unmade life ≡ true
+  pub others : list_any is_socket_unmade before ≡ false
+  pub is : is_socket_unmade life ≡ true
   pub there : life.to ≡ Some (host, port)
   pub fresh : IfSome number (λ t. list_any (has_stream t) old.relay_traces ≡ false)
   pub were : old.relay_traces ≡ before ++ life ∷ behind
@@ -434,34 +435,34 @@ OrdersIn (order.Close t) number old new = StepsBy (order.Close t) step.Close t o
 
 abbrev pub MarksIn : HouseMark → Trace → Trace → Type 0
 MarksIn HouseIn old new = new ≡ old
-MarksIn (HouseSaid bytes) old new = SendsIn bytes old new
+MarksIn (HouseSaid bytes) old new = RelaySendsIn bytes old new
 MarksIn (HouseTook size) old new = new ≡ old
 MarksIn (HouseAsked client id opening ask reply) old new =
-    OnForwardingState (IsAsked client id opening ask reply) old new
+    OnForwardingState (IsClientAsk client id opening ask reply) old new
 MarksIn (HouseAnswer client id reply) old new = OnForwardingState (Answers client id reply) old new
 MarksIn (HouseOrder o number) old new = OrdersIn o number old new
 
--- what a call leaves of the course
+-- what a call leaves of the trace
 abbrev pub Follows : HouseCall → Trace → Trace → Type 0
 Follows (Begins starts) old new = OnForwardingState (BeginsWith starts) old new
 Follows (Marks mark) old new = MarksIn mark old new
 Follows (ReceivesBytes bytes) old new =
-    (contents : List (List ℕ)) × ReceivesFrames contents (with_received bytes old) new
+    (contents : List (List ℕ)) × RelaysReceiveFrames contents (with_received bytes old) new
 Follows (Turns happening) old new = (relay_traces : List Life)
     × TurnsTo happening old.joins old.forwarding_state.all old.relay_traces relay_traces
     × (new ≡ record old { relay_traces = relay_traces; joins = joins_after happening old.joins })
 Follows (TakesBytes t bytes) old new = (relay_traces : List Life)
-    × OneAtMost (has_stream t) (GoesBy (TakesOn bytes) (Takes bytes)) old.relay_traces relay_traces
+    × OneAtMost (has_stream t) (RelayGoesBy (TakesOn bytes) (Takes bytes)) old.relay_traces relay_traces
     × (new ≡ record old { relay_traces = relay_traces })
     × (list_any (has_stream t) old.relay_traces ≡ false → bytes ≡ [])
 
--- what the calls leave of it, one behind the other
-abbrev pub Reaches : Trace → List HouseCall → Trace → Type 0
-Reaches old [] new = new ≡ old
-Reaches old (call ∷ calls) new =
-    (middle : Trace) × Follows call old middle × Reaches middle calls new
+-- what the calls leave of it, one after the other
+abbrev pub TraceReaches : Trace → List HouseCall → Trace → Type 0
+TraceReaches old [] new = new ≡ old
+TraceReaches old (call ∷ calls) new =
+    (middle : Trace) × Follows call old middle × TraceReaches middle calls new
 
--- how many bytes the streams took in all
+-- how many bytes the streams accepted in all
 abbrev pub taken_in : List HouseCall → ℕ
 taken_in [] = 0
 taken_in (TakesBytes t bytes ∷ calls) = length bytes + taken_in calls
@@ -470,30 +471,31 @@ taken_in (Marks mark ∷ calls) = taken_in calls
 taken_in (ReceivesBytes bytes ∷ calls) = taken_in calls
 taken_in (Turns happening ∷ calls) = taken_in calls
 
--- ---- what the house has then
+-- ---- what the forwarder has then
 
 -- a link's stream and its relay's socket are the same
-abbrev pub IsSocketOf : Stream → Relay → Type 0
+abbrev pub IsSocketOf : LinkStream → Relay → Type 0
 IsSocketOf (Offered host port) r = (r.socket ≡ socket.Unmade) × (r.ended ≡ false)
 IsSocketOf Awaited r = (r.socket ≡ socket.Unmade) × (r.ended ≡ false)
-IsSocketOf (Made own) r = (stream_of r.socket ≡ Some own.number) × (r.ended ≡ own.ended)
+IsSocketOf (Made own) r = (socket_stream_of r.socket ≡ Some own.number) × (r.ended ≡ own.ended)
 IsSocketOf Gone r = r.socket ≡ socket.Closed
 
--- where a socket that is to be connected is to go; none is one that is ordered and has no number yet
-abbrev pub IsEndOf : Stream → Option (List ℕ × ℕ) → Type 0
+-- where a socket that is to be connected is to go; none is one that is ordered and has no number
+-- yet
+abbrev pub IsEndOf : LinkStream → Option (List ℕ × ℕ) → Type 0
 IsEndOf (Offered host port) to = to ≡ Some (host.one, port)
 IsEndOf Awaited to = ⊥
 IsEndOf (Made own) to = Unit {0}
 IsEndOf Gone to = Unit {0}
 
--- a link is that of a life; its relay stands for what happened in it, in which no more than so many bytes
--- were taken
+-- a link is that of a life; its relay represents what happened in it, in which no more than so many
+-- bytes were accepted
 pub record IsLife (most : ℕ) (life : Life) (link : Link) : Type 0 where
   pub relay_is : life.relay ≡ link.relay
-  pub own_is : life.own ≡ own_of link.stream
+  pub own_is : life.own ≡ own_stream_of link.stream
   pub socket : IsSocketOf link.stream link.relay
   pub end : IsEndOf link.stream life.to
-  pub stands : Stands life.dials life.acts link.relay
+  pub stands : RelayRepresents life.dials life.acts link.relay
   pub owed : owed_in link.relay.line ≤ taken life.acts
   pub few : taken life.acts ≤ most
 
@@ -503,8 +505,8 @@ AreRelayTraces most [] (link ∷ links) = ⊥
 AreRelayTraces most (life ∷ relay_traces) [] = ⊥
 AreRelayTraces most (life ∷ relay_traces) (link ∷ links) = IsLife most life link × AreRelayTraces most relay_traces links
 
--- the links of the house, what was heard and isn't read yet, how it is read, and what there is
--- besides
+-- the links of the forwarder, what was received and isn't read yet, how it is read, and what there
+-- is besides
 pub record Held : Type 0 where
   pub links : List Link
   pub framer : FramerState
@@ -516,19 +518,19 @@ held links framer stage forwarding_state =
     record { links = links; framer = framer; stage = stage; forwarding_state = forwarding_state }
 
 -- by what the house has
-abbrev pub held_of : Relays → FramerState → Stage → Bool → Bool → Forwardings → Asks → Held
-held_of relays framer stage gateway greeted forwardings asks =
-    held relays.all.items framer stage (forwarding_state_of gateway greeted forwardings asks)
+abbrev pub forwarder_held_of : Relays → FramerState → Stage → ListenRules → Bool → Forwardings → Asks → Held
+forwarder_held_of relays framer stage rules greeted forwardings asks =
+    held relays.all.items framer stage (forwarding_state_of rules greeted forwardings asks)
 
--- the house has what a course leaves, in which no stream took more bytes than so many
+-- the forwarder has what a trace leaves, in which no stream accepted more bytes than so many
 pub record IsTrace (most : ℕ) (trace : Trace) (h : Held) : Type 0 where
   pub relay_traces : AreRelayTraces most trace.relay_traces h.links
-  pub past : All (λ l. Stands l.dials l.acts l.relay) trace.past
+  pub past : All (λ l. RelayRepresents l.dials l.acts l.relay) trace.past
   pub framer_is : trace.framer ≡ h.framer
   pub stage_is : trace.stage ≡ h.stage
   pub forwarding_state_is : trace.forwarding_state ≡ h.forwarding_state
 
--- whatever the course was, it goes on so
+-- whatever the trace was, it goes on so
 abbrev pub GoesFurther : (Trace → Trace → Type 0) → Held → Held → Type 0
 GoesFurther so old new = (most : ℕ) (trace : Trace) → IsTrace most trace old
     → (next : Trace) × so trace next × IsTrace most next new
@@ -538,21 +540,21 @@ abbrev pub LinksGo : (Trace → Trace → Type 0) → List Link → List Link �
 LinksGo so old new = (framer : FramerState) (stage : Stage) (forwarding_state : ForwardingState)
     → GoesFurther so (held old framer stage forwarding_state) (held new framer stage forwarding_state)
 
--- of all but what was heard
+-- of all but what was received
 abbrev pub HouseGoes : (Trace → Trace → Type 0) → Relays → Forwardings → Asks → Relays
     → Forwardings → Asks → Type 0
 HouseGoes so relays forwardings asks relays' forwardings' asks' =
-    (framer : FramerState) (stage : Stage) (gateway greeted : Bool) → GoesFurther so
-    (held_of relays framer stage gateway greeted forwardings asks)
-    (held_of relays' framer stage gateway greeted forwardings' asks')
+    (framer : FramerState) (stage : Stage) (rules : ListenRules) (greeted : Bool) → GoesFurther so
+    (forwarder_held_of relays framer stage rules greeted forwardings asks)
+    (forwarder_held_of relays' framer stage rules greeted forwardings' asks')
 
 -- of what there is besides the links alone
 abbrev pub ForwardingStateGoes : (ForwardingState → ForwardingState → Type 0) → Held → Held → Type 0
 ForwardingStateGoes so old new = (new ≡ record old { forwarding_state = new.forwarding_state }) × so old.forwarding_state new.forwarding_state
 
--- whether a frame is heard, and what that leaves
+-- whether a frame is received, and what that leaves
 abbrev pub ReceivesNext : Bool → Trace → Trace → Type 0
-ReceivesNext false old new = ReceivesFrames [] old new
+ReceivesNext false old new = RelaysReceiveFrames [] old new
 ReceivesNext true old new = (content rest : List ℕ) × (front_of old.framer ≡ Frame content rest)
     × ReceivesFrame old.stage content (cut_off (Frame content rest) old) new
 
@@ -564,7 +566,7 @@ pub record OrdersSocket (host : List ℕ) (port : ℕ) (old new : Held) : Type 0
   pub ordered : AwaitsAt (Some place) old.links new.links
   pub others : new ≡ record old { links = new.links }
 
--- what the house has while it awaits the number of what it ordered, by what it had before
+-- what the forwarder has while it awaits the number of what it ordered, by what it had before
 abbrev pub AwaitsNumber : Option Ordering → Held → Held → Type 0
 AwaitsNumber None old new = new ≡ old
 AwaitsNumber (Some (ordering.Listen host port)) old new =
@@ -592,7 +594,7 @@ abbrev pub GetsNumber : Option Ordering → Option ℕ → Held → Held → Typ
 GetsNumber ordering number old new = IfSome (ordering_of ordering) (λ order. (before : Held)
     → AwaitsNumber ordering before old → GoesFurther (OrdersIn order number) before new)
 
--- what is taken is counted
+-- what is accepted is counted
 abbrev pub TakesFurther : ℕ → List ℕ → Held → Held → Type 0
 TakesFurther t bytes old new = (most : ℕ) (trace : Trace) → length bytes + most < 2 ^ 64
     → IsTrace most trace old → (next : Trace) × Follows (TakesBytes t bytes) trace next
@@ -601,14 +603,14 @@ TakesFurther t bytes old new = (most : ℕ) (trace : Trace) → length bytes + m
 -- the calls were made, and this is what they leave
 pub record HasLived (calls : List HouseCall) (h : Held) : Type 0 where
   pub trace : Trace
-  pub reached : Reaches first_trace calls trace
+  pub reached : TraceReaches first_trace calls trace
   pub is : IsTrace (taken_in calls) trace h
 
--- the house stands for its calls, unless 2^64 bytes or more were taken in all
-abbrev pub Represents : List HouseCall → Held → Type 0
-Represents calls h = taken_in calls < 2 ^ 64 → HasLived calls h
+-- the forwarder represents its calls, unless 2^64 bytes or more were accepted in all
+abbrev pub ForwarderRepresents : List HouseCall → Held → Type 0
+ForwarderRepresents calls h = taken_in calls < 2 ^ 64 → HasLived calls h
 
--- the house stands for its calls, or did before it gave the order whose number it awaits
+-- the forwarder represents its calls, or did before it gave the order whose number it awaits
 abbrev pub StandsSince : Option Ordering → List HouseCall → Held → Type 0
 StandsSince ordering calls h =
-    (before : Held) × Represents calls before × AwaitsNumber ordering before h
+    (before : Held) × ForwarderRepresents calls before × AwaitsNumber ordering before h

@@ -97,22 +97,22 @@ in_offer (Data n) remote number = not_connected remote
 in_offer Eof remote number = not_connected remote
 in_offer (Adjust n) remote number = not_connected remote
 
-abbrev pub payload_in : ChannelState → Relay → Outgoing → List ℕ
-payload_in (Dialing dialog) r outgoing = []
-payload_in (Asked host port version) r outgoing = direct r.number host port
-payload_in (Opened version) r outgoing = []
-payload_in (Offered remote window maximum) r outgoing = in_offer outgoing remote r.number
-payload_in (Live live) r outgoing = in_live outgoing live.remote r.held.waiting
-payload_in Over r outgoing = []
+abbrev pub said_payload_in : ChannelState → Relay → Outgoing → List ℕ
+said_payload_in (Dialing dialog) r outgoing = []
+said_payload_in (Asked host port version) r outgoing = direct r.number host port
+said_payload_in (Opened version) r outgoing = []
+said_payload_in (Offered remote window maximum) r outgoing = in_offer outgoing remote r.number
+said_payload_in (Live live) r outgoing = in_live outgoing live.remote r.held.waiting
+said_payload_in Over r outgoing = []
 
 -- the payload of what a relay sends
 abbrev pub payload_of : Relay → Outgoing → List ℕ
-payload_of r outgoing = payload_in r.line r outgoing
+payload_of r outgoing = said_payload_in r.line r outgoing
 
 abbrev pub payload_if : Relay → Option Outgoing → List ℕ
 payload_if r None = []
 payload_if r (Some outgoing) = payload_of r outgoing
 
 -- the payload of what it sends next
-abbrev pub sent_by : Relay → List ℕ
-sent_by r = payload_if r (sends_of r)
+abbrev pub relay_sent_by : Relay → List ℕ
+relay_sent_by r = payload_if r (sends_of r)

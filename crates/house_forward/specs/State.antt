@@ -10,13 +10,13 @@ use Rattle.house_forward.specs.Forwardings.{ListensFirst}
 use Rattle.house_forward.specs.Greeting.{sent_in}
 use Rattle.house_forward.specs.Known.{known_of}
 use Rattle.house_forward.specs.Links.{queue_at, ConnectsFirst}
-use Rattle.house_forward.specs.RelayTraces.{Held, held_of, GoesFurther, SendsIn, StandsSince}
+use Rattle.house_forward.specs.RelayTraces.{Held, forwarder_held_of, GoesFurther, RelaySendsIn, StandsSince}
 use Rattle.house_forward.specs.Quiet.{quiet_of}
 use Rattle.house_forward.specs.declared.forwarder_state.ForwarderState.{ForwarderState}
 
 -- what it has of that which its calls record
 abbrev pub held_in : ForwarderState → Held
-held_in has = held_of has.relays has.framer has.stage has.gateway has.greeted has.forwardings
+held_in has = forwarder_held_of has.relays has.framer has.stage has.rules has.greeted has.forwardings
     has.asks
 
 abbrev pub known_in : ForwarderState → Known
@@ -76,7 +76,7 @@ pub record ChangesForwardings (old new : ForwarderState) : Type 0 where
   pub asks : new.asks ≡ old.asks
   pub framer : new.framer ≡ old.framer
   pub stage : new.stage ≡ old.stage
-  pub gateway : new.gateway ≡ old.gateway
+  pub rules : new.rules ≡ old.rules
   pub greeted : new.greeted ≡ old.greeted
   pub ordering : new.ordering ≡ old.ordering
   pub must : new.must ≡ old.must
@@ -87,7 +87,7 @@ pub record ChangesRelays (old new : ForwarderState) : Type 0 where
   pub asks : new.asks ≡ old.asks
   pub framer : new.framer ≡ old.framer
   pub stage : new.stage ≡ old.stage
-  pub gateway : new.gateway ≡ old.gateway
+  pub rules : new.rules ≡ old.rules
   pub greeted : new.greeted ≡ old.greeted
   pub ordering : new.ordering ≡ old.ordering
   pub must : new.must ≡ old.must
@@ -102,13 +102,13 @@ pub record OrdersFirst (o : Option Order) (has : ForwarderState) : Type 0 where
 
 -- it sent this: it has greeted then, and where it had not this is the greeting
 pub record HasSent (bytes : List ℕ) (old new : ForwarderState) : Type 0 where
-  pub goes : GoesFurther (SendsIn bytes) (held_in old) (held_in new)
+  pub goes : GoesFurther (RelaySendsIn bytes) (held_in old) (held_in new)
   pub greeted : new.greeted ≡ true
   pub first : old.greeted ≡ false → bytes ≡ GREETING.now
 
 -- all that is known of it, with the marks that it recorded
-abbrev pub state_of : Option (List HouseMark) → ForwarderState → HouseState
-state_of recorded has = record {
+abbrev pub house_state_of : Option (List HouseMark) → ForwarderState → HouseState
+house_state_of recorded has = record {
   recorded = recorded;
   known = known_in has;
   quiet = quiet_in has;

@@ -3,8 +3,8 @@ use Rattle.std.specs.Prelude.{◌≡◌, ◌==◌, ℕ, if◌then◌else◌, Lis
 use Rattle.std.specs.List.{All}
 use Rattle.mux_outside.specs.HouseCalls.{HouseCall, Happening, Begins, Marks, Receives, Turns, Takes}
 use Rattle.mux_outside.specs.HouseCalls.{Joined, Got, End, Writable, Failed}
-use Rattle.house_relay.specs.Acts.{Act, read, took}
-use Rattle.house_forward.specs.RelayTraces.{Trace, Reaches, first_trace}
+use Rattle.house_relay.specs.Acts.{RelayAct, read, took}
+use Rattle.house_forward.specs.RelayTraces.{Trace, TraceReaches, first_trace}
 use Rattle.house_forward.specs.Numbers.{made_by}
 
 abbrev pub got_turn : ℕ → Happening → List ℕ
@@ -33,13 +33,13 @@ took_call s (Receives bytes) = []
 took_call s (Turns happening) = []
 took_call s (Takes t bytes) = if s == t then bytes else []
 
--- the bytes that it took in them, in order
+-- the bytes that it accepted in them, in order
 abbrev pub took_in : ℕ → List HouseCall → List ℕ
 took_in s [] = []
 took_in s (call ∷ calls) = took_call s call ++ took_in s calls
 
 -- what was read and taken is what this stream gave and took since a call brought it
-pub record IsOf (calls : List HouseCall) (t : ℕ) (acts : List Act) : Type 0 where
+pub record IsOfStream (calls : List HouseCall) (t : ℕ) (acts : List RelayAct) : Type 0 where
   pub before : List HouseCall
   pub birth : HouseCall
   pub since : List HouseCall
@@ -50,5 +50,5 @@ pub record IsOf (calls : List HouseCall) (t : ℕ) (acts : List Act) : Type 0 wh
 
 -- this is so of each relay and its stream
 abbrev pub EachHasItsStream : Type 0
-EachHasItsStream = (calls : List HouseCall) (trace : Trace) → Reaches first_trace calls trace
-    → All (λ l. IfSome l.own (λ own. IsOf calls own.number l.acts)) trace.relay_traces
+EachHasItsStream = (calls : List HouseCall) (trace : Trace) → TraceReaches first_trace calls trace
+    → All (λ l. IfSome l.own (λ own. IsOfStream calls own.number l.acts)) trace.relay_traces

@@ -1,10 +1,10 @@
 //! The requests of clients that are to be answered later.
-ghost use Rattle.std.specs.Prelude.{◌≡◌, ◌≤◌, ◌<◌, ◌+◌, ◌++◌, ◌∷◌, [], length, OnOk, OnErr, None};
+ghost use Rattle.std.specs.Prelude.{◌≡◌, ◌≤◌, ◌<◌, ◌++◌, ◌∷◌, [], ℕ, length, OnOk, OnErr, None};
 ghost use Rattle.std.specs.List.{position};
-ghost use Rattle.house_forward.specs.Asks.{has_open, turns_away, waiting_for, settle_one, settled, refused, counted, owes_opening, earlier, earliest, stamp_of, reply_of, answer_of, after_answer, is_waiting};
+ghost use Rattle.house_forward.specs.Asks.{has_open, how_many_of, is_full_for, turns_away, waiting_for, settle_one, settled, refused, counted, owes_opening, earlier, earliest, stamp_of, reply_of, answer_of, after_answer, is_waiting};
 ghost use Rattle.house_forward.specs.declared.rules.TheConstants.{MOST_ASKS};
 
-use crate::rules::MOST_ASKS;
+use crate::rules::{MOST_ASKS, MOST_WAITING};
 use mux_outside::HouseReply;
 use ssh_fields::OutOfMemory;
 use std::alloc::Global;
@@ -44,7 +44,8 @@ pub struct Asks {
     waiting: Vec<Waiting>,
     /// How many had an outcome.
     done: u64,
-    ghost few: { length waiting.items ≤ MOST_ASKS },
+    // At most so many are of one client.
+    ghost few: { (client : ℕ) → how_many_of client waiting.items ≤ MOST_ASKS },
 }
 
 impl Asks {
@@ -74,12 +75,26 @@ impl Asks {
             .any(|w| w.client == client && w.id == id)
     }
 
-    /// Whether a request is refused for those that wait: its client has one with its id, or they
-    /// are as many as may wait.
+    // How many a client has.
+    fn how_many_of(&self, client: u64) -> usize
+        ensures { result ≡ how_many_of client self.now.waiting.items }
+    {
+        self.waiting.iter().filter(|w| w.client == client).count()
+    }
+
+    // Whether as many of a client wait as may, or as many in all.
+    fn is_full_for(&self, client: u64) -> bool
+        ensures { result ≡ is_full_for client self.now.waiting.items }
+    {
+        self.how_many_of(client) >= MOST_ASKS || self.len() >= MOST_WAITING
+    }
+
+    /// Whether a request is refused for those that wait: one of its client has its id, or as many
+    /// wait as may.
     pub fn turns_away(&self, client: u64, id: u32) -> bool
         ensures { result ≡ turns_away client id self.now.waiting.items }
     {
-        self.has(client, id) || self.len() >= MOST_ASKS
+        self.has(client, id) || self.is_full_for(client)
     }
 
     /// One more, that waits for the fate of a forwarding.
@@ -90,7 +105,7 @@ impl Asks {
         opening: bool,
         forwarding: u64,
     ) -> Result<(), OutOfMemory>
-        requires { length self.old.waiting.items < MOST_ASKS }
+        requires { how_many_of client self.old.waiting.items < MOST_ASKS }
         ensures waits { OnOk result (self.new.waiting.items ≡ self.old.waiting.items
             ++ waiting_for client id opening forwarding ∷ []) }
         ensures done { self.new.done ≡ self.old.done }
@@ -113,9 +128,7 @@ impl Asks {
         ensures done { self.new.done ≡ counted self.old.done }
     {
         let at = self.done;
-        for w in self.waiting.iter_mut() {
-            *w = settled(*w, forwarding, opening, at, outcome);
-        }
+        settle_all(&mut self.waiting, forwarding, opening, at, outcome);
         self.done = at.saturating_add(1);
     }
 
@@ -209,6 +222,15 @@ fn earlier(first: Option<Waiting>, w: Waiting) -> Option<Waiting>
     match first {
         None => Some(w),
         Some(f) => { if at < f.stamp() { Some(w) } else { Some(f) } }
+    }
+}
+
+// Those of these requests that have no outcome yet have this one.
+fn settle_all(waiting: &mut Vec<Waiting>, forwarding: u64, opening: bool, at: u64, outcome: Outcome)
+    ensures { waiting.new.items ≡ settled forwarding opening at outcome waiting.old.items }
+{
+    for w in waiting.iter_mut() {
+        *w = settled(*w, forwarding, opening, at, outcome);
     }
 }
 

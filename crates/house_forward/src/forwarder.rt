@@ -1,13 +1,14 @@
 //! The forwarder.
 ghost use Rattle.std.specs.Prelude.{◌≡◌, ◌≤◌, ◌+◌, OnOk, IfOk, Some};
 ghost use Rattle.std.specs.Option.{option_to_list};
-ghost use Rattle.mux_outside.specs.House.{IsBlank, IsFresh, NoMark, ask_of, order_marks};
-ghost use Rattle.house_forward.specs.State.{due_in, most_due_in, state_of};
+ghost use Rattle.mux_outside.specs.House.{IsBlank, IsFresh, NoMark, start_ask_of, order_marks};
+ghost use Rattle.house_forward.specs.State.{due_in, most_due_in, house_state_of};
 
 use crate::forwarder_state::ForwarderState;
 use crate::reserved::Reserved;
 use mux_outside::{
     Asks, FwdAsk, House, HouseMark, HouseReply, Notes, Order, OwnTurn, Piece, StartAsk, Starts,
+    Streams,
 };
 use ssh_fields::{OutOfMemory, Text};
 use std::alloc::Global;
@@ -26,7 +27,7 @@ impl<N: Notes + Drop> Forwarder<N> {
     /// A forwarder that has nothing yet.
     pub fn new(alloc: Global, notes: N) -> Result<Forwarder<N>, OutOfMemory>
         requires { NoMark (N.recorded notes) }
-        ensures { IfOk result (λ f. IsFresh (state_of (N.recorded f.notes.notes) f.has)) }
+        ensures { IfOk result (λ f. IsFresh (house_state_of (N.recorded f.notes.notes) f.has)) }
     {
         Ok(Forwarder {
             alloc,
@@ -85,7 +86,7 @@ fn mark_of(order: &Order) -> Option<HouseMark>
 
 // A request of a client, for its mark.
 fn copy_of(alloc: Global, what: &FwdAsk<'_>) -> Result<StartAsk, OutOfMemory>
-    ensures { IfOk result (λ ask. ask ≡ ask_of what.now) }
+    ensures { IfOk result (λ ask. ask ≡ start_ask_of what.now) }
 {
     let listen_host = Text::copy(alloc, what.listen_host)?;
     match Text::copy(alloc, what.connect_host) {
@@ -107,7 +108,7 @@ fn copy_of(alloc: Global, what: &FwdAsk<'_>) -> Result<StartAsk, OutOfMemory>
 impl<N: Notes + Drop> Asks for Forwarder<N> {
     ghost may = { λ _. Unit {0} };
 
-    ghost state = { λ f. state_of (N.recorded f.notes.notes) f.has };
+    ghost state = { λ f. house_state_of (N.recorded f.notes.notes) f.has };
 
     #[tactic(auto, using(crate::proofs::Recorded::none_more, crate::proofs::Room::due_most))]
     fn ask(
@@ -132,9 +133,9 @@ impl<N: Notes + Drop> Asks for Forwarder<N> {
 }
 
 impl<N: Notes + Drop> House for Forwarder<N> {
-    ghost fresh = { λ f. IsFresh (state_of (N.recorded f.notes.notes) f.has) };
+    ghost fresh = { λ f. IsFresh (house_state_of (N.recorded f.notes.notes) f.has) };
 
-    ghost begun = { λ f. let state = state_of (N.recorded f.notes.notes) f.has in
+    ghost begun = { λ f. let state = house_state_of (N.recorded f.notes.notes) f.has in
         IsBlank state.known state.recorded };
 
     fn present(&self) -> bool {
@@ -199,6 +200,10 @@ impl<N: Notes + Drop> House for Forwarder<N> {
 
     fn queue_of(&self, stream: u64) -> &[u8] {
         self.has.queue_of(stream)
+    }
+
+    fn list_waiting(&self, failed: &Streams, into: &mut Streams) -> Result<(), OutOfMemory> {
+        self.has.relays.list_waiting(failed, into)
     }
 
     fn took(&mut self, stream: u64, n: usize) {

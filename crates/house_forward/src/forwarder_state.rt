@@ -11,6 +11,7 @@ use crate::asks::Asks;
 use crate::forwardings::Forwardings;
 use crate::ordering::Ordering;
 use crate::relays::Relays;
+use crate::rules::ListenRules;
 use proxy_frames::Framer;
 use std::alloc::Global;
 
@@ -27,7 +28,7 @@ enum Stage {
 #[derive(Drop)]
 pub struct ForwarderState {
     alloc: Global,
-    gateway: bool,
+    rules: ListenRules,
     pub must: bool,
     pub asks: Asks,
     ordering: Option<Ordering>,

@@ -1,13 +1,13 @@
 //! One forwarding of the forwarder.
 ghost use Rattle.std.specs.Prelude.{◌≡◌, true, not, is_some, IfOk, OnOk, IfSome, None, Some};
-ghost use Rattle.house_forward.specs.Forwardings.{counts, listens_at, connects_to, outcome_of, bound_of, listener_of, is_first, as_first, has_request, request_of, IsAt, IsAskedFor};
+ghost use Rattle.house_forward.specs.Forwardings.{counts, listens_at, connects_to, forwarding_outcome_of, bound_of, listener_of, is_first, as_first, has_request, forwarding_request_of, IsAt, IsAskedFor};
 ghost use Rattle.house_forward.specs.Said.{request_name, request_port};
 ghost use Rattle.house_forward.specs.Rules.{listens_here};
 ghost use Rattle.house_forward.specs.Forwardings.{to_listen, waits_at, has_listener, changed, stage_after, bound_to, granted, is_asked, is_cancelled, is_to_listen, is_pending, want_in, served_at};
 
 use crate::asks::{Asked, Asks, Outcome};
 use crate::forwardings::ForwardingWant;
-use crate::rules::{Ends, Kind, same_kind};
+use crate::rules::{Ends, ForwardingKind, same_kind};
 use crate::two_texts::TwoTexts;
 use ssh_fields::{OutOfMemory, Text};
 use std::alloc::Global;
@@ -61,7 +61,7 @@ pub enum Change {
 pub struct Forwarding {
     /// A number of its own, never used again.
     pub serial: u64,
-    pub kind: Kind,
+    pub kind: ForwardingKind,
     /// The listen host as it is used, and the port as it was asked.
     pub listen_host: Text,
     pub listen_port: u32,
@@ -257,7 +257,7 @@ impl Forwarding {
     pub fn serves(&self, address: &[u8], port: u32) -> bool
         ensures { result ≡ served_at address.now port self.now }
     {
-        same_kind(self.kind, Kind::Remote)
+        same_kind(self.kind, ForwardingKind::Remote)
             && self.bound() == Some(port)
             && self.listen_host.as_bytes() == address
     }
@@ -351,7 +351,7 @@ impl Forwarding {
 
     /// The outcome of those that request it, once that is known.
     pub fn outcome(&self) -> Option<Outcome>
-        ensures { result ≡ outcome_of self.now }
+        ensures { result ≡ forwarding_outcome_of self.now }
     {
         match self.stage {
             Stage::Listening(_) => Some(Outcome::Done),
@@ -368,7 +368,7 @@ impl Forwarding {
 
     /// The outcome of the same request again.
     pub fn as_first(&self) -> Asked
-        ensures { result ≡ as_first self.now (outcome_of self.now) }
+        ensures { result ≡ as_first self.now (forwarding_outcome_of self.now) }
     {
         match self.outcome() {
             None => Asked::Later(self.serial),
@@ -393,7 +393,7 @@ impl Forwarding {
 
     /// The request that is to be sent for it, where there is one.
     pub fn request(&self) -> ForwardingRequest
-        ensures { result ≡ request_of self.now }
+        ensures { result ≡ forwarding_request_of self.now }
     {
         match self.stage {
             Stage::Live(_) => ForwardingRequest::Cancel(self.serial),
@@ -473,10 +473,10 @@ fn first_stage(alloc: Global, ends: Ends<'_>) -> Result<Stage, OutOfMemory>
     ensures place { IfOk result (λ stage. IsAt stage ends.entry.listen_host.now) }
 {
     match ends.kind {
-        Kind::Local | Kind::Dynamic => {
+        ForwardingKind::Local | ForwardingKind::Dynamic => {
             let host = TwoTexts::copy(alloc, ends.listen_host)?;
             Ok(Stage::ToListen(host))
         }
-        Kind::Remote => Ok(Stage::ToRequest),
+        ForwardingKind::Remote => Ok(Stage::ToRequest),
     }
 }

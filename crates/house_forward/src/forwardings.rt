@@ -5,17 +5,17 @@ ghost use Rattle.std.specs.Option.{option_copied};
 ghost use Rattle.mux_outside.specs.House.{gives_none};
 ghost use Rattle.house_forward.specs.Asks.{refused};
 ghost use Rattle.house_forward.specs.Forwardings.{standing, how_many, opens_of, closes_of, has_request};
-ghost use Rattle.house_forward.specs.Forwardings.{first_refused, FailsAt, IsAt, is_numbered, ListensFor};
-ghost use Rattle.house_forward.specs.Forwardings.{Begins, StartsIf, OrderedAt, removed_at, serials_after, start_of, what_stands};
-ghost use Rattle.house_forward.specs.Rules.{is_refused_alone};
+ghost use Rattle.house_forward.specs.Forwardings.{first_refused, ForwardingFailsAt, IsAt, is_numbered, ListensFor};
+ghost use Rattle.house_forward.specs.Forwardings.{Begins, StartsIf, OrderedAt, removed_at, serials_after, forwarding_start_of, what_stands};
+ghost use Rattle.house_forward.specs.Rules.{is_ruled_out};
 ghost use Rattle.house_forward.specs.Forwardings.{listeners_of, is_pending, to_listen, is_first_to_listen, is_ordered_first, is_in_order, next_of, changed, after_close, is_new, Opens};
-ghost use Rattle.house_forward.specs.Forwardings.{is_asked, is_cancelled, live_in, after_sending, served_at, has_listener};
+ghost use Rattle.house_forward.specs.Forwardings.{is_asked, is_cancelled, live_outcome_in, after_sending, served_at, has_listener};
 
 use crate::asks::{Asked, Asks, Outcome};
 use crate::forwarding::{Change, Forwarding, ForwardingRequest, Stage};
-use crate::rules::{Ends, Kind, MOST_FORWARDINGS, ends_of, of_start};
+use crate::rules::{Ends, ForwardingKind, ListenRules, MOST_FORWARDINGS, ends_of, of_start};
 use crate::two_texts::TwoTexts;
-use mux_outside::{StartAsk, Starts};
+use mux_outside::{StartAsk, StartAsks};
 use ssh_fields::OutOfMemory;
 use std::alloc::Global;
 use std::collections::VecDeque;
@@ -154,28 +154,27 @@ impl Forwardings {
     }
 
     /// All that is asked for at the start, one after another.
-    pub fn start_all(&mut self, starts: &Starts) -> Result<(), OutOfMemory>
-        ensures begins { OnOk result (Begins starts.now.gateway starts.now.asks
-            (length starts.now.asks) (what_stands self.old.all.items self.old.serials
-            self.old.refused) (what_stands self.new.all.items self.new.serials
-            self.new.refused)) }
+    pub fn start_all(&mut self, asks: &StartAsks, rules: &ListenRules) -> Result<(), OutOfMemory>
+        ensures begins { OnOk result (Begins rules.now asks.now (length asks.now)
+            (what_stands self.old.all.items self.old.serials self.old.refused)
+            (what_stands self.new.all.items self.new.serials self.new.refused)) }
         ensures listeners { listeners_of self.new.all.items
             ≡ listeners_of self.old.all.items }
         ensures count { length self.new.all.items
-            ≤ length self.old.all.items + length starts.now.asks }
+            ≤ length self.old.all.items + length asks.now }
         ensures requests { self.new.requests.items ≡ self.old.requests.items }
     {
-        for i in 0..starts.asks.len() {
-            if let Some(ask) = starts.asks.get(i) {
-                self.start(ask, starts.gateway, i)?;
+        for i in 0..asks.len() {
+            if let Some(ask) = asks.get(i) {
+                self.start(ask, rules, i)?;
             }
         }
         Ok(())
     }
 
     // One that is asked for at the start, at this place.
-    fn start(&mut self, ask: &StartAsk, gateway: bool, i: usize) -> Result<(), OutOfMemory>
-        ensures starts { OnOk result (StartsIf (is_refused_alone ask.now) gateway ask.now i
+    fn start(&mut self, ask: &StartAsk, rules: &ListenRules, i: usize) -> Result<(), OutOfMemory>
+        ensures starts { OnOk result (StartsIf (is_ruled_out rules.now ask.now) rules.now ask.now i
             (what_stands self.old.all.items self.old.serials self.old.refused)
             (what_stands self.new.all.items self.new.serials self.new.refused)) }
         ensures listeners { listeners_of self.new.all.items
@@ -183,7 +182,7 @@ impl Forwardings {
         ensures count { length self.new.all.items ≤ length self.old.all.items + 1 }
         ensures requests { self.new.requests.items ≡ self.old.requests.items }
     {
-        let Some(ends) = ends_of(of_start(ask), gateway) else {
+        let Some(ends) = ends_of(of_start(ask), rules) else {
             self.refuse_start(Some(i));
             return Ok(());
         };
@@ -334,7 +333,7 @@ impl Forwardings {
         ensures all { self.new.all.items ≡ remove self.old.all.items i }
         ensures serials { self.new.serials ≡ self.old.serials }
         ensures requests { self.new.requests ≡ self.old.requests }
-        ensures refused { FailsAt i self.old.all.items self.old.refused self.new.refused }
+        ensures refused { ForwardingFailsAt i self.old.all.items self.old.refused self.new.refused }
     {
         let f = self.all.remove(i);
         self.refuse_start(f.start);
@@ -419,7 +418,7 @@ impl Forwardings {
 
     // The outcome of a forwarding as the server listens for it.
     fn granted(&self, serial: u64, port: Option<u32>) -> Option<Outcome>
-        ensures { result ≡ live_in port (find (is_asked serial) self.now.all.items) }
+        ensures { result ≡ live_outcome_in port (find (is_asked serial) self.now.all.items) }
     {
         let f = self.all.iter().find(|f| f.is_asked(serial))?;
         Some(f.granted(port))
@@ -432,7 +431,7 @@ impl Forwardings {
         ensures serials { self.new.serials ≡ self.old.serials }
         ensures requests { self.new.requests ≡ self.old.requests }
         ensures refused { self.new.refused ≡ first_refused self.old.refused
-            (start_of (find (is_asked serial) self.old.all.items)) }
+            (forwarding_start_of (find (is_asked serial) self.old.all.items)) }
     {
         if let Some(i) = self.asked(serial) {
             self.fail(i);

@@ -1,20 +1,20 @@
 //! A relay of the forwarder and its stream.
-ghost use Rattle.std.specs.Prelude.{◌≡◌, is_some, true, IfSome, OnOk, None};
-ghost use Rattle.house_relay.specs.Relay.{stream_of, GoesOn};
+ghost use Rattle.std.specs.Prelude.{◌≡◌, ◌++◌, is_some, true, IfSome, OnOk, None};
+ghost use Rattle.house_relay.specs.Relay.{socket_stream_of, RelayGoesOn};
 ghost use Rattle.house_relay.specs.Steps.{made_as};
 ghost use Rattle.house_forward.specs.Heard.{received_of, act_received};
-ghost use Rattle.house_forward.specs.Links.{has_number, is_of, is_offered, is_awaited, is_left, link_after, relay_after, made_stream, link_order, has_order, has_sending, finishes, number_in, is_channel, is_dialog, ConnectsAt, IsOrderOf};
+ghost use Rattle.house_forward.specs.Links.{has_number, is_of, is_offered, is_awaited, is_left, link_after, relay_after, made_stream, link_order, has_order, has_sending, finishes, stream_number_in, stream_waiting, unless_among, is_channel, is_dialog, ConnectsAt, IsOrderOf};
 
 use crate::two_texts::TwoTexts;
 use conn_messages::Message;
 use house_relay::{ChannelState, Relay};
-use mux_outside::{Order, OwnStream};
+use mux_outside::{Order, OwnStream, Streams};
 use ssh_fields::OutOfMemory;
 use std::mem;
 
 /// How the stream of a relay stands.
 #[derive(Drop)]
-pub enum Stream {
+pub enum LinkStream {
     /// A socket is to be connected to this end.
     Offered { host: TwoTexts, port: u32 },
     /// That is ordered, and the number is awaited.
@@ -41,17 +41,17 @@ pub enum LinkStep {
 #[derive(Drop)]
 pub struct Link {
     pub relay: Relay,
-    pub stream: Stream,
+    pub stream: LinkStream,
 }
 
 impl Link {
     /// The number of its stream.
     pub fn number(&self) -> Option<u64>
-        ensures { result ≡ number_in self.now.stream }
+        ensures { result ≡ stream_number_in self.now.stream }
     {
         match &self.stream {
-            Stream::Made(own) => Some(own.number),
-            Stream::Offered { .. } | Stream::Awaited | Stream::Gone => None,
+            LinkStream::Made(own) => Some(own.number),
+            LinkStream::Offered { .. } | LinkStream::Awaited | LinkStream::Gone => None,
         }
     }
 
@@ -60,8 +60,8 @@ impl Link {
         ensures { result ≡ has_number stream self.now }
     {
         match &self.stream {
-            Stream::Made(own) => own.number == stream,
-            Stream::Offered { .. } | Stream::Awaited | Stream::Gone => false,
+            LinkStream::Made(own) => own.number == stream,
+            LinkStream::Offered { .. } | LinkStream::Awaited | LinkStream::Gone => false,
         }
     }
 
@@ -77,9 +77,37 @@ impl Link {
         ensures { result ≡ finishes stream self.now.stream }
     {
         match &self.stream {
-            Stream::Made(own) => own.number == stream && own.finished,
-            Stream::Offered { .. } | Stream::Awaited | Stream::Gone => false,
+            LinkStream::Made(own) => own.number == stream && own.finished,
+            LinkStream::Offered { .. } | LinkStream::Awaited | LinkStream::Gone => false,
         }
+    }
+
+    // Its stream, if something waits for it.
+    fn waiting(&self) -> Option<u64>
+        ensures { result ≡ stream_waiting self.now }
+    {
+        if self.relay.queue.is_empty() {
+            return None;
+        }
+        let stream = self.number()?;
+        if !self.is_of(stream) || self.is_finished(stream) {
+            return None;
+        }
+        Some(stream)
+    }
+
+    /// Adds its stream, if something waits for it and it is none of these that failed.
+    pub fn list_waiting(&self, failed: &Streams, into: &mut Streams) -> Result<(), OutOfMemory>
+        ensures { OnOk result (into.new ≡ into.old
+            ++ unless_among failed.now (stream_waiting self.now)) }
+    {
+        let Some(stream) = self.waiting() else {
+            return Ok(());
+        };
+        if failed.contains(stream) {
+            return Ok(());
+        }
+        into.push(stream)
     }
 
     /// Whether a socket is to be connected for it.
@@ -87,8 +115,8 @@ impl Link {
         ensures { result ≡ is_offered self.now }
     {
         match &self.stream {
-            Stream::Offered { .. } => true,
-            Stream::Awaited | Stream::Made(_) | Stream::Gone => false,
+            LinkStream::Offered { .. } => true,
+            LinkStream::Awaited | LinkStream::Made(_) | LinkStream::Gone => false,
         }
     }
 
@@ -97,8 +125,8 @@ impl Link {
         ensures { result ≡ is_awaited self.now }
     {
         match &self.stream {
-            Stream::Awaited => true,
-            Stream::Offered { .. } | Stream::Made(_) | Stream::Gone => false,
+            LinkStream::Awaited => true,
+            LinkStream::Offered { .. } | LinkStream::Made(_) | LinkStream::Gone => false,
         }
     }
 
@@ -128,8 +156,8 @@ impl Link {
         ensures { result ≡ is_left self.now }
     {
         match &self.stream {
-            Stream::Gone => self.relay.is_gone(),
-            Stream::Offered { .. } | Stream::Awaited | Stream::Made(_) => false,
+            LinkStream::Gone => self.relay.is_gone(),
+            LinkStream::Offered { .. } | LinkStream::Awaited | LinkStream::Made(_) => false,
         }
     }
 
@@ -153,14 +181,14 @@ impl Link {
         ensures may { IfSome result (λ order. IsOrderOf order self.now) }
     {
         match &self.stream {
-            Stream::Made(own) => {
+            LinkStream::Made(own) => {
                 if self.relay.stream() == Some(own.number) {
                     self.relay.orders(own)
                 } else {
                     None
                 }
             }
-            Stream::Offered { .. } | Stream::Awaited | Stream::Gone => None,
+            LinkStream::Offered { .. } | LinkStream::Awaited | LinkStream::Gone => None,
         }
     }
 
@@ -172,14 +200,14 @@ impl Link {
             return;
         }
         self.relay_takes(step);
-        let Stream::Made(own) = &mut self.stream else {
+        let LinkStream::Made(own) = &mut self.stream else {
             return;
         };
         match step {
             LinkStep::Pause(paused) => own.paused = paused,
             LinkStep::Finish => own.finished = true,
             LinkStep::End => own.ended = true,
-            LinkStep::Close => self.stream = Stream::Gone,
+            LinkStep::Close => self.stream = LinkStream::Gone,
             LinkStep::Writable | LinkStep::Failed => {}
         }
     }
@@ -202,15 +230,15 @@ impl Link {
         ensures some { is_some result ≡ is_offered self.old }
         ensures gives { IfSome result (λ r. ConnectsAt r.0.one r.1 self.old.stream) }
         ensures ordered { is_offered self.old ≡ true
-            → self.new ≡ record self.old { stream = Stream.Awaited } }
+            → self.new ≡ record self.old { stream = LinkStream.Awaited } }
         ensures none { result ≡ None → self.new ≡ self.old }
     {
         match &self.stream {
-            Stream::Offered { .. } => {}
-            Stream::Awaited | Stream::Made(_) | Stream::Gone => return None,
+            LinkStream::Offered { .. } => {}
+            LinkStream::Awaited | LinkStream::Made(_) | LinkStream::Gone => return None,
         }
-        match mem::replace(&mut self.stream, Stream::Awaited) {
-            Stream::Offered { host, port } => Some((host, port)),
+        match mem::replace(&mut self.stream, LinkStream::Awaited) {
+            LinkStream::Offered { host, port } => Some((host, port)),
             _ => None,
         }
     }
@@ -224,8 +252,8 @@ impl Link {
     {
         self.relay.made(stream);
         self.stream = match stream {
-            Some(stream) => Stream::Made(OwnStream::new(stream)),
-            None => Stream::Gone,
+            Some(stream) => LinkStream::Made(OwnStream::new(stream)),
+            None => LinkStream::Gone,
         };
     }
 
@@ -233,7 +261,7 @@ impl Link {
     pub fn receives(&mut self, message: &Message<'_>) -> Result<(), OutOfMemory>
         ensures heard { OnOk result
             (self.new.relay ≡ received_of message.now self.old.relay) }
-        ensures goes { OnOk result (GoesOn self.old.relay self.new.relay
+        ensures goes { OnOk result (RelayGoesOn self.old.relay self.new.relay
             (act_received message.now self.old.relay)) }
         ensures stream { self.new.stream ≡ self.old.stream }
         ensures held { self.new.relay.held ≡ self.old.relay.held }

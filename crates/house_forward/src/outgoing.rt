@@ -5,7 +5,7 @@ ghost use Rattle.ssh_grammar.specs.Messages.{To, Data as GivesData};
 ghost use Rattle.ssh_grammar.specs.SpellMessage.{spell};
 ghost use Rattle.mux_outside.specs.House.{SendsFits};
 ghost use Rattle.house_relay.specs.Next.{sends_of};
-ghost use Rattle.house_relay.specs.Relay.{IsSending, GoesOn};
+ghost use Rattle.house_relay.specs.Relay.{IsSending, RelayGoesOn};
 ghost use Rattle.house_forward.specs.Going.{act_of_sending};
 ghost use Rattle.house_forward.specs.Links.{after_sending};
 ghost use Rattle.house_forward.specs.Said.{framed, payload_of, direct, confirmed, in_live, in_offer, is_data, limits, requested};
@@ -76,7 +76,7 @@ pub fn send(alloc: Global, relay: &mut Relay, into: &mut Piece) -> Result<bool, 
     ensures said { IfOk result (λ said. relay.new ≡ after_sending (sends_of relay.old) relay.old) }
     ensures spelled { IfOk result (λ said. IfSome (sends_of relay.old)
         (λ outgoing. into.new ≡ framed (payload_of relay.old outgoing))) }
-    ensures goes { OnOk result (GoesOn relay.old relay.new
+    ensures goes { OnOk result (RelayGoesOn relay.old relay.new
         (act_of_sending (sends_of relay.old) relay.old)) }
     ensures few { length relay.new.held.waiting ≤ length relay.old.held.waiting }
 {

@@ -10,7 +10,7 @@ ghost use Rattle.ssh_grammar.specs.ReadMessage.{read_message as reading};
 use crate::asks::Asks;
 use crate::forwarding::Forwarding;
 use crate::forwardings::Forwardings;
-use crate::link::{Link, Stream};
+use crate::link::{Link, LinkStream};
 use crate::relays::Relays;
 use crate::two_texts::TwoTexts;
 use conn_messages::{Key, Message, Opening, read_message};
@@ -102,7 +102,7 @@ fn take_open(
     let number = relays.free_number().ok_or(OutOfMemory)?;
     relays.push(Link {
         relay: Relay::offered(alloc, number, remote, window, maximum),
-        stream: Stream::Offered {
+        stream: LinkStream::Offered {
             host,
             port: forwarding.connect_port,
         },

@@ -1,14 +1,14 @@
-//! The relays of the house, each with its stream.
-ghost use Rattle.std.specs.Prelude.{◌≡◌, ◌≤◌, ◌<◌, ◌^◌, ◌%◌, ◌+◌, ◌++◌, ◌∷◌, [], ℕ, true, false, not, length, map, take, find, ◌==◌, IfOk, IfSome, OnOk, OnErr, OnSome, None, Some, Ok};
+//! The relays of the forwarder, each with its stream.
+ghost use Rattle.std.specs.Prelude.{◌≡◌, ◌≤◌, ◌<◌, ◌^◌, ◌%◌, ◌+◌, ◌++◌, ◌∷◌, [], ℕ, true, false, not, length, map, filter, take, find, ◌==◌, IfOk, IfSome, OnOk, OnErr, OnSome, None, Some, Ok};
 ghost use Rattle.std.specs.List.{All, list_any, position, sum_by};
 ghost use Rattle.std.specs.Option.{option_copied};
-ghost use Rattle.mux_outside.specs.House.{SendsFits, sends_nothing, gives_none, order_marks, OrderFits, Known as TheKnown, known_after_order, queue_after_took};
-ghost use Rattle.mux_outside.specs.OwnStreams.{is_one, is_finished};
+ghost use Rattle.mux_outside.specs.House.{SendsFits, sends_nothing, gives_none, order_marks, OrderFits, Known as TheKnown, known_after_order, has_waiting, queue_after_took};
+ghost use Rattle.mux_outside.specs.OwnStreams.{is_one, is_finished, numbers_of};
 ghost use Rattle.mux_outside.specs.declared.piece.TheConstants.{LONGEST_PIECE};
 ghost use Rattle.house_forward.specs.Due.{link_due};
-ghost use Rattle.house_forward.specs.Going.{GoesAt, LeavesAt, Gets, TakesOf, SendsOn, ReceivesOn, Obeys, AwaitsAt, MakesAt, swept};
-ghost use Rattle.house_forward.specs.Said.{framed, sent_by};
-ghost use Rattle.house_forward.specs.Links.{streams_of, has_number, are_distinct, is_taken, is_of, queue_in, link_after, is_offered, is_awaited, is_left, is_full, channels, dialogs, has_full_dialogs, is_number_of, has_order, has_sending, made_streams, obeyed, ConnectsAt};
+ghost use Rattle.house_forward.specs.Going.{RelayGoesAt, LeavesAt, Gets, TakesOf, RelaySendsOn, RelayReceivesOn, Obeys, AwaitsAt, MakesAt, swept};
+ghost use Rattle.house_forward.specs.Said.{framed, relay_sent_by};
+ghost use Rattle.house_forward.specs.Links.{streams_of, has_number, are_distinct, is_taken, is_of, link_queue_in, queue_at, link_after, is_offered, is_awaited, is_left, is_full, channels, dialogs, has_full_dialogs, is_number_of, has_order, has_sending, made_streams, obeyed, ConnectsAt};
 
 use crate::link::{Link, LinkStep};
 use crate::outgoing;
@@ -16,7 +16,7 @@ use crate::places::Places;
 use crate::rules::{MOST_CHANNELS, MOST_DIALOGS};
 use crate::two_texts::TwoTexts;
 use conn_messages::Message;
-use mux_outside::{Order, Piece};
+use mux_outside::{Order, Piece, Streams};
 use ssh_fields::OutOfMemory;
 use std::alloc::Global;
 
@@ -68,7 +68,7 @@ impl Relays {
         Ok(())
     }
 
-    /// Whether the house has all channels that it may have.
+    /// Whether the forwarder has all channels that it may have.
     pub fn is_full(&self) -> bool
         ensures { result ≡ is_full self.now.all.items }
     {
@@ -97,7 +97,7 @@ impl Relays {
         None
     }
 
-    /// Whether a relay has this number.
+    // Whether a relay has this number.
     fn has_number(&self, number: u32) -> bool
         ensures { result ≡ is_number_of number self.now.all.items }
     {
@@ -119,7 +119,7 @@ impl Relays {
         self.place_with(stream).is_some()
     }
 
-    /// Whether a stream takes no more bytes.
+    /// Whether a stream accepts no more bytes.
     pub fn has_finished(&self, stream: u64) -> bool
         ensures { result ≡ is_finished stream (streams_of self.now.all.items) }
     {
@@ -129,9 +129,21 @@ impl Relays {
         }
     }
 
+    /// Adds those streams for which something waits, but for these that failed.
+    pub fn list_waiting(&self, failed: &Streams, into: &mut Streams) -> Result<(), OutOfMemory>
+        ensures { OnOk result (into.new ≡ into.old
+            ++ filter (has_waiting (queue_at self.now.all.items) failed.now)
+            (numbers_of (streams_of self.now.all.items))) }
+    {
+        for i in 0..self.all.len() {
+            self.all[i].list_waiting(failed, into)?;
+        }
+        Ok(())
+    }
+
     // ---- places
 
-    /// The place of the one whose stream has this number.
+    // The place of the one whose stream has this number.
     fn place_with(&self, stream: u64) -> Option<usize>
         ensures { result ≡ position (has_number stream) self.now.all.items }
     {
@@ -143,7 +155,7 @@ impl Relays {
         self.all.iter().position(|l| l.has_number(stream))
     }
 
-    /// Whether the stream with this number is at this place.
+    // Whether the stream with this number is at this place.
     fn is_at(&self, i: usize, stream: u64) -> bool
         ensures { result ≡ true → position (has_number stream) self.now.all.items ≡ Some i }
     {
@@ -153,7 +165,7 @@ impl Relays {
         self.all[i].has_number(stream)
     }
 
-    /// The place of the one whose stream that is, and its relay's too.
+    // The place of the one whose stream that is, and its relay's too.
     fn place_of(&self, stream: u64) -> Option<usize>
         ensures { result ≡ position (is_of stream) self.now.all.items }
     {
@@ -203,7 +215,7 @@ impl Relays {
 
     // ---- what happens to streams
 
-    /// A stream takes a step.
+    /// A stream makes a step.
     pub fn step(&mut self, stream: u64, step: LinkStep)
         ensures steps { self.new.all.items ≡ map (link_after step stream) self.old.all.items }
         ensures next { self.new.next ≡ self.old.next }
@@ -216,7 +228,7 @@ impl Relays {
         requires short { length bytes.now ≤ LONGEST_PIECE }
         requires rests { IfSome (find (is_of stream) self.old.all.items)
             (λ l. l.relay.held.waiting ≡ []) }
-        ensures reads { OnOk result (GoesAt (position (is_of stream) self.old.all.items)
+        ensures reads { OnOk result (RelayGoesAt (position (is_of stream) self.old.all.items)
             (Gets (not (is_full self.old.all.items)) bytes.now)
             self.old.all.items self.new.all.items) }
         ensures streams { streams_of self.new.all.items ≡ streams_of self.old.all.items }
@@ -231,15 +243,15 @@ impl Relays {
         link.relay.got(self.alloc, bytes, free)
     }
 
-    /// A stream took the first bytes of those that wait for it.
+    /// A stream accepted the first bytes of those that wait for it.
     pub fn took(&mut self, stream: u64, n: usize)
-        requires { n ≤ length (queue_in (find (is_of stream) self.old.all.items)) }
-        ensures takes { GoesAt (position (is_of stream) self.old.all.items)
-            (TakesOf (take n (queue_in (find (is_of stream) self.old.all.items))))
+        requires { n ≤ length (link_queue_in (find (is_of stream) self.old.all.items)) }
+        ensures takes { RelayGoesAt (position (is_of stream) self.old.all.items)
+            (TakesOf (take n (link_queue_in (find (is_of stream) self.old.all.items))))
             self.old.all.items self.new.all.items }
         ensures streams { streams_of self.new.all.items ≡ streams_of self.old.all.items }
-        ensures queues { (t : ℕ) → queue_in (find (is_of t) self.new.all.items)
-            ≡ queue_after_took stream n t (queue_in (find (is_of t) self.old.all.items)) }
+        ensures queues { (t : ℕ) → link_queue_in (find (is_of t) self.new.all.items)
+            ≡ queue_after_took stream n t (link_queue_in (find (is_of t) self.old.all.items)) }
         ensures due { sum_by link_due self.new.all.items ≡ sum_by link_due self.old.all.items }
         ensures next { self.new.next ≡ self.old.next }
     {
@@ -273,7 +285,7 @@ impl Relays {
         Some(order)
     }
 
-    /// The stream of an order takes its step.
+    // The stream of an order takes its step.
     fn obey(&mut self, order: &Order)
         ensures { self.new.all.items ≡ obeyed order.now self.old.all.items }
     {
@@ -286,7 +298,7 @@ impl Relays {
         }
     }
 
-    /// Forgets one of which nothing is left.
+    // Forgets one of which nothing is left.
     fn sweep(&mut self)
         ensures all { self.new.all.items ≡ swept self.old.all.items }
         ensures streams { streams_of self.new.all.items ≡ streams_of self.old.all.items }
@@ -337,19 +349,19 @@ impl Relays {
         self.places.note(&self.all);
     }
 
-    // ---- what is said and heard
+    // ---- what is sent and received
 
-    /// Puts what the first relay that has something to say says into the piece.
+    /// Puts what the first relay that has something to send says into the piece.
     pub fn send(&mut self, into: &mut Piece) -> Result<bool, OutOfMemory>
         ensures fits { SendsFits result into.new }
         ensures exact { OnOk result
             (sends_nothing result ≡ not (list_any has_sending self.old.all.items)) }
         ensures streams { streams_of self.new.all.items ≡ streams_of self.old.all.items }
         ensures count { length self.new.all.items ≤ length self.old.all.items }
-        ensures says { OnOk result (LeavesAt (position has_sending self.old.all.items) SendsOn
+        ensures says { OnOk result (LeavesAt (position has_sending self.old.all.items) RelaySendsOn
             self.old.all.items self.new.all.items) }
         ensures spelled { OnOk result (IfSome (find has_sending self.old.all.items)
-            (λ l. into.new ≡ framed (sent_by l.relay))) }
+            (λ l. into.new ≡ framed (relay_sent_by l.relay))) }
         ensures silent { result ≡ Ok false → self.new ≡ self.old }
     {
         let Some(i) = self.outgoing() else {
@@ -360,15 +372,15 @@ impl Relays {
         Ok(said)
     }
 
-    /// What the first that has something to say says.
+    // What the first that has something to send says.
     fn send_at(&mut self, i: usize, into: &mut Piece) -> Result<bool, OutOfMemory>
         requires { position has_sending self.old.all.items ≡ Some i }
         ensures fits { SendsFits result into.new }
         ensures exact { IfOk result (λ said. said ≡ true) }
-        ensures says { OnOk result (GoesAt (Some i) SendsOn
+        ensures says { OnOk result (RelayGoesAt (Some i) RelaySendsOn
             self.old.all.items self.new.all.items) }
         ensures spelled { OnOk result (IfSome (find has_sending self.old.all.items)
-            (λ l. into.new ≡ framed (sent_by l.relay))) }
+            (λ l. into.new ≡ framed (relay_sent_by l.relay))) }
         ensures streams { streams_of self.new.all.items ≡ streams_of self.old.all.items }
         ensures count { length self.new.all.items ≡ length self.old.all.items }
     {
@@ -376,11 +388,11 @@ impl Relays {
         outgoing::send(self.alloc, &mut link.relay, into)
     }
 
-    /// The relay whose channel has this number hears a message.
+    /// The relay whose channel has this number receives a message.
     pub fn receive(&mut self, number: u32, message: &Message<'_>) -> Result<(), OutOfMemory>
         ensures receives { OnOk result (LeavesAt
             (position (λ l. l.relay.number == number) self.old.all.items)
-            (ReceivesOn message.now) self.old.all.items self.new.all.items) }
+            (RelayReceivesOn message.now) self.old.all.items self.new.all.items) }
         ensures streams { streams_of self.new.all.items ≡ streams_of self.old.all.items }
         ensures count { length self.new.all.items ≤ length self.old.all.items }
         ensures next { self.new.next ≡ self.old.next }
@@ -393,7 +405,7 @@ impl Relays {
         Ok(())
     }
 
-    /// The first whose channel has this number hears a message.
+    // The first whose channel has this number receives a message.
     fn receive_at(
         &mut self,
         i: usize,
@@ -401,7 +413,7 @@ impl Relays {
         message: &Message<'_>,
     ) -> Result<(), OutOfMemory>
         requires { position (λ l. l.relay.number == number) self.old.all.items ≡ Some i }
-        ensures receives { OnOk result (GoesAt (Some i) (ReceivesOn message.now)
+        ensures receives { OnOk result (RelayGoesAt (Some i) (RelayReceivesOn message.now)
             self.old.all.items self.new.all.items) }
         ensures streams { streams_of self.new.all.items ≡ streams_of self.old.all.items }
         ensures count { length self.new.all.items ≡ length self.old.all.items }
@@ -412,7 +424,7 @@ impl Relays {
     }
 }
 
-/// The one that has a stream takes a step.
+// The one that has a stream makes a step.
 fn step_all(links: &mut Vec<Link>, stream: u64, step: LinkStep)
     ensures { links.new.items ≡ map (link_after step stream) links.old.items }
 {
@@ -421,14 +433,14 @@ fn step_all(links: &mut Vec<Link>, stream: u64, step: LinkStep)
     }
 }
 
-/// How many channels there are, or are to be.
+// How many channels there are, or are to be.
 fn channels_in(links: &[Link]) -> usize
     ensures { result ≡ channels links.now }
 {
     links.iter().filter(|l| l.is_channel()).count()
 }
 
-/// How many dialogs are under way.
+// How many dialogs are under way.
 fn dialogs_in(links: &[Link]) -> usize
     ensures { result ≡ dialogs links.now }
 {

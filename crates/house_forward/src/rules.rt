@@ -1,16 +1,24 @@
 //! What is requested of the forwarder, as it is compared and as it is refused at once.
-ghost use Rattle.std.specs.Prelude.{◌≡◌, not, is_some, IfSome};
-ghost use Rattle.mux_outside.specs.House.{ask_of};
+ghost use Rattle.std.specs.List.{list_any};
+ghost use Rattle.std.specs.Prelude.{◌≡◌, not, is_some, IfSome, IfOk};
+ghost use Rattle.mux_outside.specs.House.{start_ask_of};
 ghost use Rattle.mux_outside.specs.declared.start_ask.StartAsk.{StartAsk};
-ghost use Rattle.house_forward.specs.Rules.{listens_here, connects_there, same_kind, kind_of, local_host, remote_host, listen_host, has_bad_port, is_refused_alone, AreEnds, IsAsk};
+ghost use Rattle.house_forward.specs.Rules.{listens_here, connects_there, same_kind, kind_of, local_host, remote_host, listen_host, has_bad_port, is_ruled_out, AreEnds, IsHandedAsk};
+ghost use Rattle.house_forward.specs.Rules.{has_host, has_port, is_for, is_permitted_here, first_rules, rules_of};
 
-use mux_outside::{FwdAsk, LONGEST_HOST, StartAsk as OneAsk};
+use mux_outside::{FwdAsk, LONGEST_HOST, ListenEntry, ListenPermit, StartAsk as OneAsk, Starts};
+use ssh_fields::{OutOfMemory, Text};
+use std::alloc::Global;
 
 /// The most forwardings that are asked or live.
 pub const MOST_FORWARDINGS: usize = 64;
 
-/// The most requests that wait for their answer.
+/// The most requests of a client that wait for their answer.
 pub const MOST_ASKS: usize = 1_024;
+
+/// The most requests that wait in all, those of clients that have gone among them: as many as 64
+/// clients may have.
+pub const MOST_WAITING: usize = 65_536;
 
 /// The most channels of one client of the master.
 pub const MOST_CHANNELS: usize = 256;
@@ -27,7 +35,7 @@ const THIS_HOST: &[u8] = b"localhost";
 
 /// How a forwarding works.
 #[derive(Clone, Copy, PartialEq, Eq)]
-pub enum Kind {
+pub enum ForwardingKind {
     /// The forwarder listens, and the server connects.
     Local,
     /// The server listens, and the forwarder connects.
@@ -36,14 +44,14 @@ pub enum Kind {
     Dynamic,
 }
 
-impl Kind {
+impl ForwardingKind {
     /// Whether the forwarder listens.
     pub fn listens_here(self) -> bool
         ensures { result ≡ listens_here self }
     {
         match self {
-            Kind::Local | Kind::Dynamic => true,
-            Kind::Remote => false,
+            ForwardingKind::Local | ForwardingKind::Dynamic => true,
+            ForwardingKind::Remote => false,
         }
     }
 
@@ -52,28 +60,28 @@ impl Kind {
         ensures { result ≡ connects_there self }
     {
         match self {
-            Kind::Local | Kind::Remote => true,
-            Kind::Dynamic => false,
+            ForwardingKind::Local | ForwardingKind::Remote => true,
+            ForwardingKind::Dynamic => false,
         }
     }
 }
 
 /// Whether both are the same.
-pub fn same_kind(a: Kind, b: Kind) -> bool
+pub fn same_kind(a: ForwardingKind, b: ForwardingKind) -> bool
     ensures { result ≡ same_kind a b }
 {
     match (a, b) {
-        (Kind::Local, Kind::Local) => true,
-        (Kind::Remote, Kind::Remote) => true,
-        (Kind::Dynamic, Kind::Dynamic) => true,
-        (Kind::Local | Kind::Remote | Kind::Dynamic, _) => false,
+        (ForwardingKind::Local, ForwardingKind::Local) => true,
+        (ForwardingKind::Remote, ForwardingKind::Remote) => true,
+        (ForwardingKind::Dynamic, ForwardingKind::Dynamic) => true,
+        (ForwardingKind::Local | ForwardingKind::Remote | ForwardingKind::Dynamic, _) => false,
     }
 }
 
 /// Two ends that are asked for, the listen host as it is used.
 #[derive(Clone, Copy)]
 pub struct Ends<'a> {
-    pub kind: Kind,
+    pub kind: ForwardingKind,
     pub listen_host: &'a [u8],
     pub listen_port: u32,
     pub connect_host: &'a [u8],
@@ -93,7 +101,7 @@ pub struct Asked<'a> {
 
 /// A client's ask: no path can stand in it.
 pub fn of_client<'a>(what: &FwdAsk<'a>) -> Asked<'a>
-    ensures { IsAsk result (ask_of what.now) }
+    ensures { IsHandedAsk result (start_ask_of what.now) }
 {
     Asked {
         kind: what.kind,
@@ -107,7 +115,7 @@ pub fn of_client<'a>(what: &FwdAsk<'a>) -> Asked<'a>
 
 /// A request of the configuration.
 pub fn of_start(ask: &OneAsk) -> Asked<'_>
-    ensures { IsAsk result ask.now }
+    ensures { IsHandedAsk result ask.now }
 {
     Asked {
         kind: ask.kind,
@@ -120,13 +128,13 @@ pub fn of_start(ask: &OneAsk) -> Asked<'_>
 }
 
 // The kinds that are served.
-fn kind_of(kind: u32) -> Option<Kind>
+fn kind_of(kind: u32) -> Option<ForwardingKind>
     ensures { result ≡ kind_of kind }
 {
     match kind {
-        1 => Some(Kind::Local),
-        2 => Some(Kind::Remote),
-        3 => Some(Kind::Dynamic),
+        1 => Some(ForwardingKind::Local),
+        2 => Some(ForwardingKind::Remote),
+        3 => Some(ForwardingKind::Dynamic),
         _ => None,
     }
 }
@@ -160,18 +168,18 @@ fn remote_host(host: &[u8]) -> &[u8]
 }
 
 // The host as it is used.
-fn listen_host(kind: Kind, host: &[u8], gateway: bool) -> &[u8]
+fn listen_host(kind: ForwardingKind, host: &[u8], gateway: bool) -> &[u8]
     ensures { result.now ≡ listen_host kind gateway host.now }
 {
     match kind {
-        Kind::Local | Kind::Dynamic => local_host(host, gateway),
-        Kind::Remote => remote_host(host),
+        ForwardingKind::Local | ForwardingKind::Dynamic => local_host(host, gateway),
+        ForwardingKind::Remote => remote_host(host),
     }
 }
 
 // Whether a port is past the last, or missing where one is needed. A dialog specifies where a
 // dynamic forwarding connects.
-fn has_bad_port(kind: Kind, listen: u32, connect: u32) -> bool
+fn has_bad_port(kind: ForwardingKind, listen: u32, connect: u32) -> bool
     ensures { result ≡ has_bad_port kind listen connect }
 {
     listen > LAST_PORT
@@ -180,13 +188,94 @@ fn has_bad_port(kind: Kind, listen: u32, connect: u32) -> bool
         || (kind.listens_here() && listen == 0)
 }
 
+/// How the forwarder listens on this machine.
+#[derive(Drop)]
+pub struct ListenRules {
+    /// Whether a host of none means all its addresses.
+    pub gateway: bool,
+    /// Where it may listen.
+    pub here: ListenPermit,
+}
+
+impl ListenRules {
+    /// Those before the start.
+    pub fn first() -> ListenRules
+        ensures { result ≡ first_rules }
+    {
+        ListenRules {
+            gateway: false,
+            here: ListenPermit::Any,
+        }
+    }
+
+    /// Those of the start.
+    pub fn of(alloc: Global, starts: &Starts) -> Result<ListenRules, OutOfMemory>
+        ensures { IfOk result (λ rules. rules ≡ rules_of starts.now) }
+    {
+        let here = starts.here.copy(alloc)?;
+        Ok(ListenRules {
+            gateway: starts.gateway,
+            here,
+        })
+    }
+}
+
+// Whether an entry is for this host, or for each.
+fn has_host(entry: &Option<Text>, host: &[u8]) -> bool
+    ensures { result ≡ has_host entry.now host.now }
+{
+    match entry {
+        None => true,
+        Some(h) => h.as_bytes() == host,
+    }
+}
+
+// Whether an entry is for this port, or for each.
+fn has_port(entry: Option<u32>, port: u32) -> bool
+    ensures { result ≡ has_port entry port }
+{
+    match entry {
+        None => true,
+        Some(p) => p == port,
+    }
+}
+
+// Whether an entry is for this host and port.
+fn is_for(entry: &ListenEntry, host: &[u8], port: u32) -> bool
+    ensures { result ≡ is_for host.now port entry.now }
+{
+    has_host(&entry.host, host) && has_port(entry.port, port)
+}
+
+// Whether some entry is for this host and port.
+fn is_for_some(entries: &[ListenEntry], host: &[u8], port: u32) -> bool
+    ensures { result ≡ list_any (is_for host.now port) entries.now }
+{
+    for entry in entries {
+        if is_for(entry, host, port) {
+            return true;
+        }
+    }
+    false
+}
+
+// Whether a listener at this host and port is permitted.
+fn is_permitted_here(here: &ListenPermit, host: &[u8], port: u32) -> bool
+    ensures { result ≡ is_permitted_here here.now host.now port }
+{
+    match here {
+        ListenPermit::Any => true,
+        ListenPermit::Only(entries) => is_for_some(entries.as_slice(), host, port),
+    }
+}
+
 /// The two ends that are asked for; None where what is asked is refused whatever stands already:
-/// for its kind, a path, a port or a host.
-pub fn ends_of(asked: Asked<'_>, gateway: bool) -> Option<Ends<'_>>
-    ensures exact { (ask : StartAsk) → IsAsk asked.entry ask
-        → is_some result ≡ not (is_refused_alone ask) }
-    ensures ends { (ask : StartAsk) → IsAsk asked.entry ask
-        → IfSome result (λ ends. AreEnds gateway ask ends) }
+/// for its kind, a path, a port or a host, or for where it would listen on this machine.
+pub fn ends_of<'a>(asked: Asked<'a>, rules: &ListenRules) -> Option<Ends<'a>>
+    ensures exact { (ask : StartAsk) → IsHandedAsk asked.entry ask
+        → is_some result ≡ not (is_ruled_out rules.now ask) }
+    ensures ends { (ask : StartAsk) → IsHandedAsk asked.entry ask
+        → IfSome result (λ ends. AreEnds rules.now ask ends) }
 {
     let kind = match kind_of(asked.kind) {
         Some(kind) => kind,
@@ -199,9 +288,13 @@ pub fn ends_of(asked: Asked<'_>, gateway: bool) -> Option<Ends<'_>>
     {
         return None;
     }
+    let host = listen_host(kind, asked.listen_host, rules.gateway);
+    if kind.listens_here() && !is_permitted_here(&rules.here, host, asked.listen_port) {
+        return None;
+    }
     Some(Ends {
         kind,
-        listen_host: listen_host(kind, asked.listen_host, gateway),
+        listen_host: host,
         listen_port: asked.listen_port,
         connect_host: asked.connect_host,
         connect_port: asked.connect_port,

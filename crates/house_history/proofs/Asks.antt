@@ -18,7 +18,7 @@ use Rattle.mux_history.specs.declared.limits.TheConstants.{HOUSE, MAX_FORWARDING
 use Rattle.mux_history.specs.Channels.{Channel, held_of}
 use Rattle.mux_history.specs.Choices.{pick_of, replies_given, reply_at, with_reply}
 use Rattle.mux_history.specs.Controls.{body_asks, greeted, sent_body, sent_first, sent_later}
-use Rattle.mux_history.specs.Forwardings.{current, is_free_at}
+use Rattle.mux_history.specs.Forwardings.{current, is_forwarding_free_at}
 use Rattle.mux_history.specs.Summary.{Requests, read_summary}
 use Rattle.mux_history.specs.Journal.{new_sayings}
 use Rattle.mux_history.specs.Keys.{is_askable}
@@ -32,7 +32,7 @@ use Rattle.mux_history.specs.Said.{Outcome, is_full_of_asks, sent_summary, sent_
 use Rattle.mux_history.specs.Settings.{by_lists}
 use Rattle.mux_history.proofs.Readings.{reading-ok}
 use Rattle.house_forward.specs.ForwardingState.{greeting_sent, request_sent}
-use Rattle.house_forward.specs.Forwardings.{has_request, request_of}
+use Rattle.house_forward.specs.Forwardings.{has_request, forwarding_request_of}
 use Rattle.house_forward.specs.RelayTraces.{Trace, Life, SendsBy, with_forwarding_state}
 use Rattle.house_forward.specs.Said.{framed, request_payload}
 use Rattle.house_forward.specs.declared.forwarding.Forwarding.{Forwarding}
@@ -244,7 +244,7 @@ record SendsIf (policy : Policy) (own : List Row) (p : List ℕ) (what : Global)
 
 request-sends : (policy : Policy) (own : List Row) (p : List ℕ) (what : Global) → IsAboutForwarding what → SendsIf policy own p what
 request-sends policy own p (Forward key) h = record { sent = true && (is_askable key && (permits policy.listens key && nat_lt (length (current own)) MAX_FORWARDINGS)); is = refl }
-request-sends policy own p (Cancel key) h = record { sent = any_of (is_free_at HOUSE key) (current own); is = refl }
+request-sends policy own p (Cancel key) h = record { sent = any_of (is_forwarding_free_at HOUSE key) (current own); is = refl }
 request-sends policy own p KeepAlive h = absurd h
 request-sends policy own p OtherName h = absurd h
 
@@ -298,7 +298,7 @@ request-goes policy pid picks given rows trace recorded f p what o g greeted non
     let unanswered = ap unanswered_asks leave.own in
     let replies = replies-append recorded.payloads (refusals fs) in
     let refusals-many = refusals-reply fs in
-    let longer = length-append trace.forwarding_state.requests (request_of f ∷ []) in
+    let longer = length-append trace.forwarding_state.requests (forwarding_request_of f ∷ []) in
     let were = g.requests in
     let going : Going rows' new recorded' = record {
       on = leave.on;

@@ -1,4 +1,4 @@
--- What the calls of the house leave of its relays as the history sees them.
+-- What the calls of the forwarder leave of its relays as the history sees them.
 use Rattle.std.proofs.Common.{◌≡◌, ◌≤◌, ◌<◌, ◌+◌, ◌-◌, ◌^◌, ℕ, zero, suc, min, Bool, true, false, Option, Some, None, List, [], ◌∷◌, ◌++◌, refl, sym, ap, ◌∙◌, subst, arith, map, length, length-append, inl, inr}
 use Rattle.std.specs.Prelude.{◌⊎◌, ◌≢◌, ◌&&◌, ◌==◌, not, nat_lt, if◌then◌else◌, find, Result, Ok, Err, slice_index_or}
 use Rattle.std.specs.List.{AllPairs, list_any}
@@ -25,11 +25,11 @@ use Rattle.mux_outside.specs.declared.order.Order.{Order}
 use Rattle.mux_outside.specs.declared.order.Order.TheVariants as order
 use Rattle.mux_history.specs.Channels.{Channel, is_number}
 use Rattle.mux_history.specs.Summary as summary
-use Rattle.house_relay.specs.Acts.{Act, Confirms, Delivers, ReceivesClose, ReceivesEof, Other, Reads, Refuses, Takes, adjusted, delivered, outcome_in}
-use Rattle.house_relay.specs.Dialing.{IsReading}
+use Rattle.house_relay.specs.Acts.{RelayAct, Confirms, Delivers, ReceivesClose, ReceivesEof, Other, Reads, Refuses, Takes, adjusted, delivered, outcome_in}
+use Rattle.house_relay.specs.Dialing.{IsDialogReading}
 use Rattle.house_relay.specs.ChannelState.{counts, receives_close, receives_eof, receives_request, receives_room, in_live, over_if, takes_in}
 use Rattle.house_relay.specs.Relay.{answered_in, delivers, delivers_in, received_in}
-use Rattle.house_relay.specs.Steps.{ComesOf, DialsIn, IsAskedFor, IsToDial, confirmed_in, data_received, is_closed, is_gone, refused_in}
+use Rattle.house_relay.specs.Steps.{ComesOf, DialsIn, IsOpenAskedFor, IsToDial, confirmed_in, data_received, is_socket_closed, is_gone, refused_in}
 use Rattle.house_relay.specs.declared.line.Live.{Live as LiveState}
 use Rattle.house_relay.specs.declared.line.ChannelState.{ChannelState}
 use Rattle.house_relay.specs.declared.line.ChannelState.TheVariants.{Asked, Dialing, Live, Offered, Opened, Over}
@@ -38,14 +38,14 @@ use Rattle.house_relay.specs.declared.relay.Socket.{Socket}
 use Rattle.house_forward.specs.Forwardings.{has_listener, served_at}
 use Rattle.house_forward.specs.Going.{GetsOn, TakesOn}
 use Rattle.house_forward.specs.Heard.{act_received, received_of}
-use Rattle.house_forward.specs.Links.{IsJoined, IsJoinedAt, IsDialed}
-use Rattle.house_forward.specs.RelayTraces.{Trace, Follows, GoesBy, ReceivesAt, ReceivesMessage, ReceivesOpen, ReceivesReading, JoinsOne, Life, MakesOne, MarksIn, OffersOne, One, OneAtMost, OpensFor, OrdersIn, StepsBy, TurnsTo, are_dialogs_full, are_full, has_channel, has_stream, kept_in, made_life, stepped, with_relay_traces}
-use Rattle.house_forward.specs.Numbers.{channels_of}
+use Rattle.house_forward.specs.Links.{IsRelayJoined, IsJoinedAt, IsDialed}
+use Rattle.house_forward.specs.RelayTraces.{Trace, Follows, RelayGoesBy, RelayReceivesAt, ReceivesMessage, ReceivesOpen, ReceivesReading, JoinsOne, Life, MakesOne, MarksIn, OffersOne, One, OneAtMost, OpensFor, OrdersIn, StepsBy, TurnsTo, are_dialogs_full, are_full, has_channel, has_stream, kept_in, made_life, stepped, with_relay_traces}
+use Rattle.house_forward.specs.Numbers.{relay_channels_of}
 use Rattle.house_forward.specs.declared.forwarding.Forwarding.{Forwarding}
 use Rattle.house_forward.specs.declared.link.LinkStep.{LinkStep}
 use Rattle.house_forward.specs.declared.link.LinkStep.TheVariants as step
-use Rattle.house_forward.specs.declared.rules.Kind.{Kind}
-use Rattle.house_forward.specs.declared.rules.Kind.TheVariants.{Dynamic, Local, Remote}
+use Rattle.house_forward.specs.declared.rules.ForwardingKind.{ForwardingKind}
+use Rattle.house_forward.specs.declared.rules.ForwardingKind.TheVariants.{Dynamic, Local, Remote}
 use Rattle.house_forward.proofs.Keeping.{is-reading}
 use Rattle.house_forward.proofs.Owning.{number-heard}
 use Rattle.house_forward.proofs.Sound.{All, Each as EachLife, Sound, each-back as life-back, joined_life, offered_life, step_of}
@@ -86,7 +86,7 @@ views-append (l ∷ fs) bs (e ∷ es) gs a b = (a.0, views-append fs bs es gs a.
 -- ---- the same is seen of it
 
 -- where so much came
-came-live : (live : LiveState) (acts acts' : List Act) (a : Acct) (n : ℕ) → adjusted acts' ≡ adjusted acts → length (delivered acts') ≤ n → LiveIs live acts a → LiveIs live acts' (record a { came = n })
+came-live : (live : LiveState) (acts acts' : List RelayAct) (a : Acct) (n : ℕ) → adjusted acts' ≡ adjusted acts → length (delivered acts') ≤ n → LiveIs live acts a → LiveIs live acts' (record a { came = n })
 came-live live acts acts' a n given came i = record {
   remote = i.remote;
   room = i.room;
@@ -99,10 +99,10 @@ came-live live acts acts' a n given came i = record {
   came = came;
 }
 
-acts-live : (live : LiveState) (acts acts' : List Act) (a : Acct) → adjusted acts' ≡ adjusted acts → delivered acts' ≡ delivered acts → LiveIs live acts a → LiveIs live acts' a
+acts-live : (live : LiveState) (acts acts' : List RelayAct) (a : Acct) → adjusted acts' ≡ adjusted acts → delivered acts' ≡ delivered acts → LiveIs live acts a → LiveIs live acts' a
 acts-live live acts acts' a given came i = came-live live acts acts' a a.came given (subst (λ (d : List ℕ). length d ≤ a.came) (sym came) i.came) i
 
-acts-view : (line : ChannelState) (acts acts' : List Act) (v : View) → adjusted acts' ≡ adjusted acts → delivered acts' ≡ delivered acts → ViewOf line acts v → ViewOf line acts' v
+acts-view : (line : ChannelState) (acts acts' : List RelayAct) (v : View) → adjusted acts' ≡ adjusted acts → delivered acts' ≡ delivered acts → ViewOf line acts v → ViewOf line acts' v
 acts-view (Dialing dialog) acts acts' v given came i = (i.0, (given ∙ i.1.0, came ∙ i.1.1))
 acts-view (Asked host port version) acts acts' v given came i = (i.0, (given ∙ i.1.0, came ∙ i.1.1))
 acts-view (Opened version) acts acts' v given came i = (i.0, (given ∙ i.1.0, came ∙ i.1.1))
@@ -110,12 +110,12 @@ acts-view (Offered remote window maximum) acts acts' v given came i = (i.0, (giv
 acts-view (Live live) acts acts' v given came i = (i.0, i.1, acts-live live acts acts' i.0 given came i.2)
 acts-view Over acts acts' v given came i = i
 
-live-if : (b : Bool) (x y : LiveState) (acts : List Act) (v : View) → ViewOf (Live x) acts v → ViewOf (Live y) acts v → ViewOf (Live (if b then x else y)) acts v
+live-if : (b : Bool) (x y : LiveState) (acts : List RelayAct) (v : View) → ViewOf (Live x) acts v → ViewOf (Live y) acts v → ViewOf (Live (if b then x else y)) acts v
 live-if true x y acts v i j = i
 live-if false x y acts v i j = j
 
--- the socket took some
-takes-view : (n : ℕ) (line : ChannelState) (acts : List Act) (v : View) → ViewOf line acts v → ViewOf (takes_in n line) acts v
+-- the socket accepted some
+takes-view : (n : ℕ) (line : ChannelState) (acts : List RelayAct) (v : View) → ViewOf line acts v → ViewOf (takes_in n line) acts v
 takes-view n (Dialing dialog) acts v i = i
 takes-view n (Asked host port version) acts v i = i
 takes-view n (Opened version) acts v i = i
@@ -138,7 +138,7 @@ takes-view n (Live live) acts v i = live-if live.close_sent live _ acts v i (
 takes-view n Over acts v i = i
 
 -- a dialog was read
-to-dial : (line : ChannelState) (acts : List Act) (v : View) → IsToDial line → v ≡ NoChannel → Untouched acts → ViewOf line acts v
+to-dial : (line : ChannelState) (acts : List RelayAct) (v : View) → IsToDial line → v ≡ NoChannel → Untouched acts → ViewOf line acts v
 to-dial (Dialing dialog) acts v h e u = (e, u)
 to-dial (Asked host port version) acts v h e u = absurd h
 to-dial (Opened version) acts v h e u = absurd h
@@ -146,7 +146,7 @@ to-dial (Offered remote window maximum) acts v h e u = absurd h
 to-dial (Live live) acts v h e u = absurd h
 to-dial Over acts v h e u = absurd h
 
-to-ask : (host : List ℕ) (port : ℕ) (line : ChannelState) (acts : List Act) (v : View) → IsAskedFor host port line → v ≡ NoChannel → Untouched acts → ViewOf line acts v
+to-ask : (host : List ℕ) (port : ℕ) (line : ChannelState) (acts : List RelayAct) (v : View) → IsOpenAskedFor host port line → v ≡ NoChannel → Untouched acts → ViewOf line acts v
 to-ask host port (Dialing dialog) acts v h e u = absurd h
 to-ask host port (Asked host' port' version) acts v h e u = (e, u)
 to-ask host port (Opened version) acts v h e u = absurd h
@@ -154,17 +154,17 @@ to-ask host port (Offered remote window maximum) acts v h e u = absurd h
 to-ask host port (Live live) acts v h e u = absurd h
 to-ask host port Over acts v h e u = absurd h
 
-over-view : (line : ChannelState) (acts : List Act) (v : View) → line ≡ Over → v ≡ NoChannel → ViewOf line acts v
+over-view : (line : ChannelState) (acts : List RelayAct) (v : View) → line ≡ Over → v ≡ NoChannel → ViewOf line acts v
 over-view line acts v is e = subst (λ (l : ChannelState). ViewOf l acts v) (sym is) e
 
-comes-view : (o : Outcome) (free : Bool) (old new : Relay) (acts : List Act) (v : View) → ComesOf o free old new → v ≡ NoChannel → Untouched acts → ViewOf new.line acts v
+comes-view : (o : Outcome) (free : Bool) (old new : Relay) (acts : List RelayAct) (v : View) → ComesOf o free old new → v ≡ NoChannel → Untouched acts → ViewOf new.line acts v
 comes-view Wants free old new acts v h e u = to-dial new.line acts v h.0 e u
 comes-view (Connects host port) true old new acts v h e u = to-ask host port new.line acts v h.0 e u
 comes-view (Connects host port) false old new acts v h e u = over-view new.line acts v h.0 e
 comes-view (Breaks reply) free old new acts v h e u = over-view new.line acts v h.0 e
 
-dials-view : (line : ChannelState) (free : Bool) (bytes : List ℕ) (old new : Relay) (acts : List Act) (v : View)
-    → ((dialog : State) → line ≡ Dialing dialog → IsReading dialog) → old.line ≡ line → DialsIn line free bytes old new → ViewOf line acts v → ViewOf new.line acts v
+dials-view : (line : ChannelState) (free : Bool) (bytes : List ℕ) (old new : Relay) (acts : List RelayAct) (v : View)
+    → ((dialog : State) → line ≡ Dialing dialog → IsDialogReading dialog) → old.line ≡ line → DialsIn line free bytes old new → ViewOf line acts v → ViewOf new.line acts v
 dials-view (Dialing dialog) free bytes old new acts v reads e h i =
     comes-view (outcome_in (dialog.bytes ++ bytes)) free old new acts v (h (reads dialog refl)) i.0 i.1
 dials-view (Asked host port version) free bytes old new acts v reads e h i = subst (λ (l : ChannelState). ViewOf l acts v) (sym (h.0 ∙ e)) i
@@ -173,18 +173,18 @@ dials-view (Offered remote window maximum) free bytes old new acts v reads e h i
 dials-view (Live live) free bytes old new acts v reads e h i = subst (λ (l : ChannelState). ViewOf l acts v) (sym (h.0 ∙ e)) i
 dials-view Over free bytes old new acts v reads e h i = subst (λ (l : ChannelState). ViewOf l acts v) (sym (h.0 ∙ e)) i
 
-gets-view : (free : Bool) (bytes : List ℕ) (a b : Life) (e : Entry) → Sound a → GoesBy (GetsOn free bytes) (Reads bytes) a b → IsView a e → IsView b e
+gets-view : (free : Bool) (bytes : List ℕ) (a b : Life) (e : Entry) → Sound a → RelayGoesBy (GetsOn free bytes) (Reads bytes) a b → IsView a e → IsView b e
 gets-view free bytes a b e s h i = record {
   number = i.number ∙ ap (λ (n : ℕ). Some n) (sym h.relay.3);
-  view = subst (λ (acts : List Act). ViewOf b.relay.line acts e.1) (sym h.acts)
+  view = subst (λ (acts : List RelayAct). ViewOf b.relay.line acts e.1) (sym h.acts)
       (acts-view b.relay.line a.acts (Reads bytes ∷ a.acts) e.1 refl refl
       (dials-view a.relay.line free bytes a.relay b.relay a.acts e.1 (is-reading a.dials a.acts a.relay s.stands) refl h.relay.0 i.view));
 }
 
-took-view : (bytes : List ℕ) (a b : Life) (e : Entry) → Sound a → GoesBy (TakesOn bytes) (Takes bytes) a b → IsView a e → IsView b e
+took-view : (bytes : List ℕ) (a b : Life) (e : Entry) → Sound a → RelayGoesBy (TakesOn bytes) (Takes bytes) a b → IsView a e → IsView b e
 took-view bytes a b e s h i = record {
   number = i.number ∙ ap (λ (r : Relay). Some r.number) (sym h.relay.0);
-  view = subst (λ (acts : List Act). ViewOf b.relay.line acts e.1) (sym h.acts)
+  view = subst (λ (acts : List RelayAct). ViewOf b.relay.line acts e.1) (sym h.acts)
       (acts-view b.relay.line a.acts (Takes bytes ∷ a.acts) e.1 refl refl
       (subst (λ (r : Relay). ViewOf r.line a.acts e.1) (sym h.relay.0) (takes-view (length bytes) a.relay.line a.acts e.1 i.view)));
 }
@@ -232,7 +232,7 @@ seen-relay_traces hs notes old new views s = record { entries = s.entries; orpha
 
 -- ---- one of which nothing is left is forgotten
 
-no-count : (line : ChannelState) (acts : List Act) (v : View) → not (counts line) ≡ true → ViewOf line acts v → v ≡ NoChannel
+no-count : (line : ChannelState) (acts : List RelayAct) (v : View) → not (counts line) ≡ true → ViewOf line acts v → v ≡ NoChannel
 no-count (Dialing dialog) acts v h i = i.0
 no-count (Asked host port version) acts v h i = absurd (let bad : false ≡ true = h in cc)
 no-count (Opened version) acts v h i = absurd (let bad : false ≡ true = h in cc)
@@ -241,7 +241,7 @@ no-count (Live live) acts v h i = absurd (let bad : false ≡ true = h in cc)
 no-count Over acts v h i = i
 
 gone-view : (l : Life) (e : Entry) → is_gone l.relay ≡ true → IsView l e → e.1 ≡ NoChannel
-gone-view l e h i = no-count l.relay.line l.acts e.1 (and_parts (is_closed l.relay.socket) (not (counts l.relay.line)) h).1 i.view
+gone-view l e h i = no-count l.relay.line l.acts e.1 (and_parts (is_socket_closed l.relay.socket) (not (counts l.relay.line)) h).1 i.view
 
 record Swept (relay_traces : List Life) (es : List Entry) : Type 0 where
   front : List Entry
@@ -304,12 +304,12 @@ dialed-view : (dialogs_full : Bool) (t : ℕ) (r : Relay) → IsDialed dialogs_f
 dialed-view true t r h = none-view _ r (ap (λ (x : Relay). x.line) h) refl
 dialed-view false t r h = none-view _ r (ap (λ (x : Relay). x.line) h) (refl, (refl, refl))
 
-joined-at-view : (kind : Kind) (dialogs_full : Bool) (f : Forwarding) (t : ℕ) (r : Relay) → IsJoinedAt kind dialogs_full f t r → ViewOf r.line [] NoChannel
+joined-at-view : (kind : ForwardingKind) (dialogs_full : Bool) (f : Forwarding) (t : ℕ) (r : Relay) → IsJoinedAt kind dialogs_full f t r → ViewOf r.line [] NoChannel
 joined-at-view Local dialogs_full f t r h = none-view _ r (ap (λ (x : Relay). x.line) h) (refl, (refl, refl))
 joined-at-view Remote dialogs_full f t r h = none-view _ r (ap (λ (x : Relay). x.line) h) (refl, (refl, refl))
 joined-at-view Dynamic dialogs_full f t r h = dialed-view dialogs_full t r h
 
-joined-view : (full dialogs_full : Bool) (f : Option Forwarding) (t : ℕ) (r : Relay) → IsJoined full dialogs_full f t r → ViewOf r.line [] NoChannel
+joined-view : (full dialogs_full : Bool) (f : Option Forwarding) (t : ℕ) (r : Relay) → IsRelayJoined full dialogs_full f t r → ViewOf r.line [] NoChannel
 joined-view true dialogs_full f t r h = none-view _ r (ap (λ (x : Relay). x.line) h) refl
 joined-view false dialogs_full None t r h = none-view _ r (ap (λ (x : Relay). x.line) h) refl
 joined-view false dialogs_full (Some f) t r h = joined-at-view f.kind dialogs_full f t r h
@@ -377,7 +377,7 @@ IsCalmMark (HouseAsked client id opening ask reply) = Unit {0}
 IsCalmMark (HouseAnswer client id reply) = Unit {0}
 IsCalmMark (HouseOrder o number) = Unit {0}
 
--- nothing is said in the connection, or heard there
+-- nothing is sent in the connection, or received there
 abbrev pub IsCalm : HouseCall → Type 0
 IsCalm (Begins starts) = Unit {0}
 IsCalm (Marks mark) = IsCalmMark mark
@@ -398,7 +398,7 @@ calm-turn : (hs : List Channel) (notes : List Note) (happening : Happening) (old
 calm-turn hs notes (Joined l t) old new all h s = seen-joins hs notes (find (has_listener l) old.forwarding_state.all) t old.joins old.relay_traces new h s
 calm-turn hs notes (Got t bytes) old new all h s =
     seen-relay_traces hs notes old.relay_traces new
-    (views-most (has_stream t) (GoesBy (GetsOn (not (are_full old.relay_traces)) bytes) (Reads bytes)) old.relay_traces new (gets-view (not (are_full old.relay_traces)) bytes) h all) s
+    (views-most (has_stream t) (RelayGoesBy (GetsOn (not (are_full old.relay_traces)) bytes) (Reads bytes)) old.relay_traces new (gets-view (not (are_full old.relay_traces)) bytes) h all) s
 calm-turn hs notes (End t) old new all h s =
     subst (λ (ls : List Life). Seen hs ls notes) (sym h) (seen-relay_traces hs notes old.relay_traces (map (stepped step.End t) old.relay_traces) (stepped-views step.End t old.relay_traces) s)
 calm-turn hs notes (Writable t) old new all h s =
@@ -406,7 +406,8 @@ calm-turn hs notes (Writable t) old new all h s =
 calm-turn hs notes (Failed t) old new all h s =
     subst (λ (ls : List Life). Seen hs ls notes) (sym h) (seen-relay_traces hs notes old.relay_traces (map (stepped step.Failed t) old.relay_traces) (stepped-views step.Failed t old.relay_traces) s)
 
--- where the relays are sound a call by which nothing is said or heard leaves what is seen of them
+-- where the relays are sound a call by which nothing is sent or received leaves what is seen of
+-- them
 pub calm : (hs : List Channel) (notes : List Note) (call : HouseCall) (old new : Trace) → All Sound old → IsCalm call → Follows call old new → Seen hs old.relay_traces notes → Seen hs new.relay_traces notes
 calm hs notes (Begins starts) old new all c h s = seen-same hs notes old new (same-of old new _ h.2 refl) s
 calm hs notes (Marks mark) old new all c h s = calm-mark hs notes mark old new c h s
@@ -415,7 +416,7 @@ calm hs notes (Turns happening) old new all c h s =
     subst (λ (x : Trace). Seen hs x.relay_traces notes) (sym h.2) (calm-turn hs notes happening old h.0 all.relay_traces h.1 s)
 calm hs notes (TakesBytes t bytes) old new all c h s =
     subst (λ (x : Trace). Seen hs x.relay_traces notes) (sym h.2)
-    (seen-relay_traces hs notes old.relay_traces h.0 (views-most (has_stream t) (GoesBy (TakesOn bytes) (Takes bytes)) old.relay_traces h.0 (took-view bytes) h.1 all.relay_traces) s)
+    (seen-relay_traces hs notes old.relay_traces h.0 (views-most (has_stream t) (RelayGoesBy (TakesOn bytes) (Takes bytes)) old.relay_traces h.0 (took-view bytes) h.1 all.relay_traces) s)
 
 -- ---- no two have the same number
 
@@ -427,11 +428,11 @@ Distinct (l ∷ ls) = Each (λ (k : Life). (k.relay.number == l.relay.number) �
 abbrev NoneAt : ℕ → List Life → Type 0
 NoneAt n ls = Each (λ (k : Life). (k.relay.number == n) ≡ false) ls
 
-differs-all : (n : ℕ) (ls : List Life) → ((j d : ℕ) → j < length (channels_of ls) → n ≢ slice_index_or (channels_of ls) j d) → NoneAt n ls
+differs-all : (n : ℕ) (ls : List Life) → ((j d : ℕ) → j < length (relay_channels_of ls) → n ≢ slice_index_or (relay_channels_of ls) j d) → NoneAt n ls
 differs-all n [] h = tt
 differs-all n (k ∷ ls) h = (ne_eqb k.relay.number n (λ e. h zero 0 (omega arith) (sym e)), differs-all n ls (λ j d lt. h (suc j) d (omega (arith, lt))))
 
-pub distinct-of : (relay_traces : List Life) → AllPairs (λ (a b : ℕ). a ≢ b) (channels_of relay_traces) → Distinct relay_traces
+pub distinct-of : (relay_traces : List Life) → AllPairs (λ (a b : ℕ). a ≢ b) (relay_channels_of relay_traces) → Distinct relay_traces
 distinct-of [] h = tt
 distinct-of (l ∷ ls) h = (
   differs-all l.relay.number ls (λ j d lt. h zero (suc j) d (omega arith) (omega (arith, lt))),
@@ -509,11 +510,11 @@ unnumbered-at : (n : ℕ) (f : View → View) (es : List Entry) → Each Unnumbe
 unnumbered-at n f [] u = tt
 unnumbered-at n f (e ∷ es) u = (u.0, unnumbered-at n f es u.1)
 
--- what is seen of one that hears a message
+-- what is seen of one that receives a message
 abbrev ReceivesAs : Message → (View → View) → (View → Type 0) → Type 0
-ReceivesAs m f Q = (r : Relay) (acts : List Act) (v : View) → Q v → ViewOf r.line acts v → ViewOf (received_of m r).line (act_received m r ∷ acts) (if-has true f v)
+ReceivesAs m f Q = (r : Relay) (acts : List RelayAct) (v : View) → Q v → ViewOf r.line acts v → ViewOf (received_of m r).line (act_received m r ∷ acts) (if-has true f v)
 
-seen-at : (hs : List Channel) (notes : List Note) (n : ℕ) (m : Message) (f : View → View) (Q : View → Type 0) → ReceivesAs m f Q → (old new : Trace) → Distinct old.relay_traces → ReceivesAt n m old new
+seen-at : (hs : List Channel) (notes : List Note) (n : ℕ) (m : Message) (f : View → View) (Q : View → Type 0) → ReceivesAs m f Q → (old new : Trace) → Distinct old.relay_traces → RelayReceivesAt n m old new
     → (es os : List Entry) → AreViews old.relay_traces es → Each Unnumbered os → Each (λ (e : Entry). is_number e.0 n ≡ true → Q e.1) (es ++ os) → Later hs (map (at-number n f) (es ++ os)) notes
     → Seen hs new.relay_traces notes × Distinct new.relay_traces
 seen-at hs notes n m f Q goes old new d (inl h) es os views unnumbered bound later =
@@ -530,7 +531,7 @@ seen-at hs notes n m f Q goes old new d (inl h) es os views unnumbered bound lat
       number = w.is.number ∙ ap (λ (k : ℕ). Some k) (sym same);
       view = subst (λ (b : Bool). ViewOf one.next.relay.line one.next.acts (if-has b f e.1)) (sym is)
           (subst (λ (r : Relay). ViewOf r.line one.next.acts (if-has true f e.1)) (sym one.goes.relay.0)
-          (subst (λ (acts : List Act). ViewOf (received_of m one.life.relay).line acts (if-has true f e.1)) (sym one.goes.acts)
+          (subst (λ (acts : List RelayAct). ViewOf (received_of m one.life.relay).line acts (if-has true f e.1)) (sym one.goes.acts)
           (goes one.life.relay one.life.acts e.1 its w.is.view)));
     } in
     let mapped : map g (es ++ os) ≡ (map g w.front ++ g e ∷ map g w.back) ++ map g os =
@@ -558,7 +559,7 @@ seen-at hs notes n m f Q goes old new d (inr h) es os views unnumbered bound lat
       subst (λ (c : Trace). Distinct c.relay_traces) (sym h.1) d,
     )
 
--- ---- what one hears
+-- ---- what one receives
 
 -- a line of which no note changes what is seen
 abbrev IsIdle : ChannelState → Type 0
@@ -569,7 +570,7 @@ IsIdle (Offered remote window maximum) = Unit {0}
 IsIdle (Live live) = ⊥
 IsIdle Over = Unit {0}
 
-idle-fixed : (line : ChannelState) (f : View → View) (acts : List Act) (v : View) → IsIdle line → ViewOf line acts v → if-has true f v ≡ v
+idle-fixed : (line : ChannelState) (f : View → View) (acts : List RelayAct) (v : View) → IsIdle line → ViewOf line acts v → if-has true f v ≡ v
 idle-fixed (Dialing dialog) f acts v h i = ap (λ (x : View). if-has true f x) i.0 ∙ sym i.0
 idle-fixed (Asked host port version) f acts v h i = ap (λ (x : View). if-has true f x) i.0 ∙ sym i.0
 idle-fixed (Opened version) f acts v h i = absurd h
@@ -577,11 +578,11 @@ idle-fixed (Offered remote window maximum) f acts v h i = ap (λ (x : View). if-
 idle-fixed (Live live) f acts v h i = absurd h
 idle-fixed Over f acts v h i = ap (λ (x : View). if-has true f x) i ∙ sym i
 
-idle : (line : ChannelState) (f : View → View) (acts acts' : List Act) (v : View) → IsIdle line → adjusted acts' ≡ adjusted acts → delivered acts' ≡ delivered acts → ViewOf line acts v → ViewOf line acts' (if-has true f v)
+idle : (line : ChannelState) (f : View → View) (acts acts' : List RelayAct) (v : View) → IsIdle line → adjusted acts' ≡ adjusted acts → delivered acts' ≡ delivered acts → ViewOf line acts v → ViewOf line acts' (if-has true f v)
 idle line f acts acts' v h given came i = subst (λ (x : View). ViewOf line acts' x) (sym (idle-fixed line f acts v h i)) (acts-view line acts acts' v given came i)
 
 -- its OPEN is confirmed
-confirmed-view : (line : ChannelState) (s w m : ℕ) (r : Relay) (acts : List Act) (v : View) → r.line ≡ line → ViewOf line acts v
+confirmed-view : (line : ChannelState) (s w m : ℕ) (r : Relay) (acts : List RelayAct) (v : View) → r.line ≡ line → ViewOf line acts v
     → ViewOf (confirmed_in line s w m r).line (answered_in line Confirms ∷ acts) (if-has true (view-accepts s w m) v)
 confirmed-view (Dialing dialog) s w m r acts v e i = subst (λ (l : ChannelState). ViewOf l (Other ∷ acts) (if-has true (view-accepts s w m) v)) (sym e) (idle (Dialing dialog) (view-accepts s w m) acts (Other ∷ acts) v tt refl refl i)
 confirmed-view (Asked host port version) s w m r acts v e i = subst (λ (l : ChannelState). ViewOf l (Other ∷ acts) (if-has true (view-accepts s w m) v)) (sym e) (idle (Asked host port version) (view-accepts s w m) acts (Other ∷ acts) v tt refl refl i)
@@ -606,7 +607,7 @@ confirmed-view (Live live) s w m r acts v e i = subst (λ (l : ChannelState). Vi
 confirmed-view Over s w m r acts v e i = subst (λ (l : ChannelState). ViewOf l (Other ∷ acts) (if-has true (view-accepts s w m) v)) (sym e) (idle Over (view-accepts s w m) acts (Other ∷ acts) v tt refl refl i)
 
 -- or refused
-refused-view : (line : ChannelState) (reason : ℕ) (r : Relay) (acts : List Act) (v : View) → r.line ≡ line → ViewOf line acts v
+refused-view : (line : ChannelState) (reason : ℕ) (r : Relay) (acts : List RelayAct) (v : View) → r.line ≡ line → ViewOf line acts v
     → ViewOf (refused_in line reason r).line (answered_in line (Refuses reason) ∷ acts) (if-has true (view-receives summary.Fails) v)
 refused-view (Dialing dialog) reason r acts v e i = subst (λ (l : ChannelState). ViewOf l (Other ∷ acts) (if-has true (view-receives summary.Fails) v)) (sym e) (idle (Dialing dialog) (view-receives summary.Fails) acts (Other ∷ acts) v tt refl refl i)
 refused-view (Asked host port version) reason r acts v e i = subst (λ (l : ChannelState). ViewOf l (Other ∷ acts) (if-has true (view-receives summary.Fails) v)) (sym e) (idle (Asked host port version) (view-receives summary.Fails) acts (Other ∷ acts) v tt refl refl i)
@@ -617,7 +618,7 @@ refused-view (Live live) reason r acts v e i = subst (λ (l : ChannelState). Vie
 refused-view Over reason r acts v e i = subst (λ (l : ChannelState). ViewOf l (Other ∷ acts) (if-has true (view-receives summary.Fails) v)) (sym e) (idle Over (view-receives summary.Fails) acts (Other ∷ acts) v tt refl refl i)
 
 -- a step of a channel that is confirmed
-live-view : (step : LiveState → ChannelState) (act : summary.Act) (line : ChannelState) (acts acts' : List Act) (v : View) → adjusted acts' ≡ adjusted acts → delivered acts' ≡ delivered acts
+live-view : (step : LiveState → ChannelState) (act : summary.Act) (line : ChannelState) (acts acts' : List RelayAct) (v : View) → adjusted acts' ≡ adjusted acts → delivered acts' ≡ delivered acts
     → opened-receives act ≡ IsOpened → ((live : LiveState) (a : Acct) → BoundView act (IsLive a) → LiveIs live acts' a → ViewOf (step live) acts' (view-receives act (IsLive a)))
     → BoundView act v → ViewOf line acts v → ViewOf (in_live step line) acts' (if-has true (view-receives act) v)
 live-view step act (Dialing dialog) acts acts' v given came opened goes bound i = idle (Dialing dialog) (view-receives act) acts acts' v tt given came i
@@ -637,13 +638,13 @@ in-live-same (Offered remote window maximum) = refl
 in-live-same (Live live) = refl
 in-live-same Over = refl
 
-stays-view : (act : summary.Act) (line : ChannelState) (acts acts' : List Act) (v : View) → adjusted acts' ≡ adjusted acts → delivered acts' ≡ delivered acts
+stays-view : (act : summary.Act) (line : ChannelState) (acts acts' : List RelayAct) (v : View) → adjusted acts' ≡ adjusted acts → delivered acts' ≡ delivered acts
     → opened-receives act ≡ IsOpened → ((live : LiveState) (a : Acct) → BoundView act (IsLive a) → LiveIs live acts' a → ViewOf (Live live) acts' (view-receives act (IsLive a)))
     → BoundView act v → ViewOf line acts v → ViewOf line acts' (if-has true (view-receives act) v)
 stays-view act line acts acts' v given came opened goes bound i =
     subst (λ (l : ChannelState). ViewOf l acts' (if-has true (view-receives act) v)) (in-live-same line) (live-view Live act line acts acts' v given came opened goes bound i)
 
-heard-given : (line : ChannelState) (act : Act) (acts : List Act) → adjusted (act ∷ acts) ≡ adjusted acts → adjusted (received_in line act ∷ acts) ≡ adjusted acts
+heard-given : (line : ChannelState) (act : RelayAct) (acts : List RelayAct) → adjusted (act ∷ acts) ≡ adjusted acts → adjusted (received_in line act ∷ acts) ≡ adjusted acts
 heard-given (Dialing dialog) act acts e = refl
 heard-given (Asked host port version) act acts e = refl
 heard-given (Opened version) act acts e = refl
@@ -651,7 +652,7 @@ heard-given (Offered remote window maximum) act acts e = refl
 heard-given (Live live) act acts e = e
 heard-given Over act acts e = refl
 
-heard-came : (line : ChannelState) (act : Act) (acts : List Act) → delivered (act ∷ acts) ≡ delivered acts → delivered (received_in line act ∷ acts) ≡ delivered acts
+heard-came : (line : ChannelState) (act : RelayAct) (acts : List RelayAct) → delivered (act ∷ acts) ≡ delivered acts → delivered (received_in line act ∷ acts) ≡ delivered acts
 heard-came (Dialing dialog) act acts e = refl
 heard-came (Asked host port version) act acts e = refl
 heard-came (Opened version) act acts e = refl
@@ -659,7 +660,7 @@ heard-came (Offered remote window maximum) act acts e = refl
 heard-came (Live live) act acts e = e
 heard-came Over act acts e = refl
 
-room-view : (n : ℕ) (acts : List Act) (live : LiveState) (a : Acct) → a.room + n ≤ 4294967295 → LiveIs live acts a → ViewOf (Live (receives_room n live)) acts (IsLive (record a { room = a.room + n }))
+room-view : (n : ℕ) (acts : List RelayAct) (live : LiveState) (a : Acct) → a.room + n ≤ 4294967295 → LiveIs live acts a → ViewOf (Live (receives_room n live)) acts (IsLive (record a { room = a.room + n }))
 room-view n acts live a bound i =
     let room = i.room in
     let below : live.room + n < 4294967296 = omega (arith, room, bound) in
@@ -680,7 +681,7 @@ room-view n acts live a bound i =
       },
     )
 
-eof-view : (acts : List Act) (live : LiveState) (a : Acct) → LiveIs live acts a → ViewOf (Live (receives_eof live)) acts (IsLive a)
+eof-view : (acts : List RelayAct) (live : LiveState) (a : Acct) → LiveIs live acts a → ViewOf (Live (receives_eof live)) acts (IsLive a)
 eof-view acts live a i = (
   a,
   refl,
@@ -697,7 +698,7 @@ eof-view acts live a i = (
   },
 )
 
-close-view : (acts : List Act) (live : LiveState) (a : Acct) → LiveIs live acts a → ViewOf (receives_close live) acts (unless-over a.close_sent (record a { close_received = true }))
+close-view : (acts : List RelayAct) (live : LiveState) (a : Acct) → LiveIs live acts a → ViewOf (receives_close live) acts (unless-over a.close_sent (record a { close_received = true }))
 close-view acts live a i =
     subst (λ (b : Bool). ViewOf (receives_close live) acts (unless-over b (record a { close_received = true }))) i.close_sent
     (go live.close_sent)
@@ -720,7 +721,7 @@ close-view acts live a i =
       },
     )
 
-request-view : (want : Bool) (acts : List Act) (live : LiveState) (a : Acct) → BoundView (summary.Asks want) (IsLive a) → LiveIs live acts a
+request-view : (want : Bool) (acts : List RelayAct) (live : LiveState) (a : Acct) → BoundView (summary.Asks want) (IsLive a) → LiveIs live acts a
     → ViewOf (Live (receives_request want live)) acts (IsLive (record a { failures = more_asks want a.close_sent a.failures }))
 request-view false acts live a bound i = (a, refl, i)
 request-view true acts live a bound i =
@@ -748,14 +749,14 @@ request-view true acts live a bound i =
           },
         )
 
-came-view : (n : ℕ) (acts acts' : List Act) (live : LiveState) (a : Acct) → adjusted acts' ≡ adjusted acts → length (delivered acts') ≤ length (delivered acts) + n → LiveIs live acts a
+came-view : (n : ℕ) (acts acts' : List RelayAct) (live : LiveState) (a : Acct) → adjusted acts' ≡ adjusted acts → length (delivered acts') ≤ length (delivered acts) + n → LiveIs live acts a
     → ViewOf (Live live) acts' (IsLive (record a { came = a.came + n }))
 came-view n acts acts' live a given more i =
     let came = i.came in
     (record a { came = a.came + n }, refl, came-live live acts acts' a (a.came + n) given (omega (arith, more, came)) i)
 
 -- data is delivered or not
-data-view : (line : ChannelState) (s : Socket) (bytes : List ℕ) (acts : List Act) (v : View) → ViewOf line acts v
+data-view : (line : ChannelState) (s : Socket) (bytes : List ℕ) (acts : List RelayAct) (v : View) → ViewOf line acts v
     → ViewOf line ((if delivers_in line s then Delivers bytes else Other) ∷ acts) (if-has true (view-receives (summary.Carries (length bytes))) v)
 data-view (Dialing dialog) s bytes acts v i = idle (Dialing dialog) (view-receives (summary.Carries (length bytes))) acts (Other ∷ acts) v tt refl refl i
 data-view (Asked host port version) s bytes acts v i = idle (Asked host port version) (view-receives (summary.Carries (length bytes))) acts (Other ∷ acts) v tt refl refl i
@@ -777,11 +778,11 @@ data-line false bytes r = refl
 
 -- ---- one message
 
-seen-does : (hs : List Channel) (notes : List Note) (n : ℕ) (act : summary.Act) (m : Message) → ReceivesAs m (view-receives act) (BoundView act) → (old new : Trace) → Distinct old.relay_traces → ReceivesAt n m old new
+seen-does : (hs : List Channel) (notes : List Note) (n : ℕ) (act : summary.Act) (m : Message) → ReceivesAs m (view-receives act) (BoundView act) → (old new : Trace) → Distinct old.relay_traces → RelayReceivesAt n m old new
     → Seen hs old.relay_traces (Does n act ∷ notes) → Seen hs new.relay_traces notes × Distinct new.relay_traces
 seen-does hs notes n act m goes old new d h s = seen-at hs notes n m (view-receives act) (BoundView act) goes old new d h s.entries s.orphans s.views s.unnumbered s.later.0 s.later.1
 
-seen-accepts : (hs : List Channel) (notes : List Note) (n s w x : ℕ) (m : Message) → ReceivesAs m (view-accepts s w x) (λ (v : View). Unit {0}) → (old new : Trace) → Distinct old.relay_traces → ReceivesAt n m old new
+seen-accepts : (hs : List Channel) (notes : List Note) (n s w x : ℕ) (m : Message) → ReceivesAs m (view-accepts s w x) (λ (v : View). Unit {0}) → (old new : Trace) → Distinct old.relay_traces → RelayReceivesAt n m old new
     → Seen hs old.relay_traces (Accepts n s w x ∷ notes) → Seen hs new.relay_traces notes × Distinct new.relay_traces
 seen-accepts hs notes n s w x m goes old new d h seen =
     seen-at hs notes n m (view-accepts s w x) (λ (v : View). Unit {0}) goes old new d h seen.entries seen.orphans seen.views seen.unnumbered
@@ -794,7 +795,7 @@ seen-nothing hs notes old new c is e d s =
       subst Distinct (sym same) d,
     )
 
--- an OPEN that the house doesn't take
+-- an OPEN that the forwarder doesn't accept
 seen-orphan : (hs : List Channel) (notes : List Note) (s w m : ℕ) (old new : Trace) → new ≡ old → Distinct old.relay_traces → Seen hs old.relay_traces (Offers s w m ∷ notes) → Seen hs new.relay_traces notes × Distinct new.relay_traces
 seen-orphan hs notes s w m old new is d seen = (
   subst (λ (c : Trace). Seen hs c.relay_traces notes) (sym is) (record {
@@ -811,7 +812,7 @@ from-end : (e : Entry) (bs : List Entry) → Swapped (bs ++ e ∷ []) (e ∷ bs)
 from-end e [] = Same (e ∷ [])
 from-end e (b ∷ bs) = Then (b ∷ (bs ++ e ∷ [])) (b ∷ e ∷ bs) (e ∷ b ∷ bs) (Next b (bs ++ e ∷ []) (e ∷ bs) (from-end e bs)) (Swap b e bs)
 
--- and one that it takes
+-- and one that it accepts
 seen-offered : (hs : List Channel) (notes : List Note) (f : Forwarding) (s w m : ℕ) (old new : Trace) → OffersOne f s w m old new → Distinct old.relay_traces → Seen hs old.relay_traces (Offers s w m ∷ notes) → Seen hs new.relay_traces notes × Distinct new.relay_traces
 seen-offered hs notes f s w m old new h d seen =
     let n = h.number in
@@ -903,11 +904,11 @@ heard-as hs notes (Err bad) old new d h s = seen-nothing hs notes old new _ h re
 heard-as hs notes (Ok said) old new d h s =
     heard-message hs notes h.0 old new d h.2 (subst (λ (x : Said). Seen hs old.relay_traces (note-of (summary.summary x) ∷ notes)) (sym h.1) s)
 
--- it hears a payload that it was told
+-- it receives a payload that it was given
 pub heard-one : (hs : List Channel) (notes : List Note) (p : List ℕ) (old new : Trace) → Distinct old.relay_traces → ReceivesReading (reading p) old new → Seen hs old.relay_traces (note-in p ∷ notes) → Seen hs new.relay_traces notes × Distinct new.relay_traces
 heard-one hs notes p old new d h s = heard-as hs notes (reading p) old new d h (subst (λ (n : Note). Seen hs old.relay_traces (n ∷ notes)) (note-reads p) s)
 
--- it hears some of them, one behind the other
+-- it receives some of them, one after the other
 pub heard-all : (hs : List Channel) (notes : List Note) (ps : List (List ℕ)) (old new : Trace) → Distinct old.relay_traces → ReceivesAll ps old new → Seen hs old.relay_traces (map note-in ps ++ notes) → Seen hs new.relay_traces notes
 heard-all hs notes [] old new d h s = seen-same hs notes old new h.relay_traces s
 heard-all hs notes (p ∷ ps) old new d h s =

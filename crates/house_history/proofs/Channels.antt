@@ -13,8 +13,8 @@ use Rattle.ssh_grammar.specs.declared.side.Side.TheVariants.{Up, Down}
 use Rattle.ssh_grammar.specs.Messages.{Global, Opens}
 use Rattle.ssh_grammar.specs.Said.{BadFraming, Body, Payload, Outgoing}
 use Rattle.ssh_grammar.specs.SpellMessage.{with_sender}
-use Rattle.mux_history.specs.Channels.{Channel, after_farewell, after_item, any_act, any_by, begun_by, channels_of, received_by, held_of, is_closes, is_fails, is_held, is_number, opened_down, opened_up, own_of, with_down, with_up, with_ups}
-use Rattle.mux_history.specs.Summary.{Act, Confirmation, Confirms, Fails, Summary, Open, Refuses, Requests, Succeeds, Transport, Within, read_summary, reading, sender_of}
+use Rattle.mux_history.specs.Channels.{Channel, after_farewell, after_item, any_act, any_by, begun_by, channels_of, received_by, held_of, is_closes, is_fails, is_channel_held, is_number, opened_down, opened_up, own_number_of, with_down, with_up, with_ups}
+use Rattle.mux_history.specs.Summary.{Act, Confirmation, Confirms, Fails, Summary, Open, Refuses, Requests, Succeeds, Transport, Within, read_summary, reading, summary_sender_of}
 use Rattle.mux_history.specs.Journal.{IsLawful, log_of_journal}
 use Rattle.mux_history.specs.Kept.{AtEach, ForEach}
 use Rattle.mux_history.specs.Laws.{with_act}
@@ -41,44 +41,44 @@ abbrev pub IsMine : ℕ → Channel → Type 0
 IsMine k x = x.client ≡ k
 
 abbrev IsHeld : Channel → Type 0
-IsHeld x = is_held x ≡ true
+IsHeld x = is_channel_held x ≡ true
 
 -- before the others, unless it is over
 abbrev pub kept : Channel → List Channel → List Channel
-kept z bs = elim (is_held z) [ true ↦ z ∷ bs | false ↦ bs ]
+kept z bs = elim (is_channel_held z) [ true ↦ z ∷ bs | false ↦ bs ]
 
-pub kept-held : (z : Channel) (bs : List Channel) → is_held z ≡ true → kept z bs ≡ z ∷ bs
+pub kept-held : (z : Channel) (bs : List Channel) → is_channel_held z ≡ true → kept z bs ≡ z ∷ bs
 kept-held z bs e = ap (λ (b : Bool). elim b as (λ _. List Channel) [ true ↦ z ∷ bs | false ↦ bs ]) e
 
-pub kept-over : (z : Channel) (bs : List Channel) → is_held z ≡ false → kept z bs ≡ bs
+pub kept-over : (z : Channel) (bs : List Channel) → is_channel_held z ≡ false → kept z bs ≡ bs
 kept-over z bs e = ap (λ (b : Bool). elim b as (λ _. List Channel) [ true ↦ z ∷ bs | false ↦ bs ]) e
 
 -- ---- filters
 
-filter-kept : (z : Channel) (bs : List Channel) → filter is_held bs ≡ bs → filter is_held (z ∷ bs) ≡ kept z bs
-filter-kept z bs e = by_test (is_held z) refl
+filter-kept : (z : Channel) (bs : List Channel) → filter is_channel_held bs ≡ bs → filter is_channel_held (z ∷ bs) ≡ kept z bs
+filter-kept z bs e = by_test (is_channel_held z) refl
   where
-    by_test : (b : Bool) → is_held z ≡ b → filter is_held (z ∷ bs) ≡ kept z bs
-    by_test true h = filter-yes is_held z bs h ∙ (ap (λ (l : List Channel). z ∷ l) e ∙ sym (kept-held z bs h))
-    by_test false h = filter-no is_held z bs h ∙ (e ∙ sym (kept-over z bs h))
+    by_test : (b : Bool) → is_channel_held z ≡ b → filter is_channel_held (z ∷ bs) ≡ kept z bs
+    by_test true h = filter-yes is_channel_held z bs h ∙ (ap (λ (l : List Channel). z ∷ l) e ∙ sym (kept-held z bs h))
+    by_test false h = filter-no is_channel_held z bs h ∙ (e ∙ sym (kept-over z bs h))
 
-filter-all : (xs : List Channel) → Each IsHeld xs → filter is_held xs ≡ xs
+filter-all : (xs : List Channel) → Each IsHeld xs → filter is_channel_held xs ≡ xs
 filter-all [] all = refl
-filter-all (x ∷ xs) all = filter-yes is_held x xs all.0 ∙ ap (λ (l : List Channel). x ∷ l) (filter-all xs all.1)
+filter-all (x ∷ xs) all = filter-yes is_channel_held x xs all.0 ∙ ap (λ (l : List Channel). x ∷ l) (filter-all xs all.1)
 
-all-held : (xs : List Channel) → Each IsHeld (filter is_held xs)
+all-held : (xs : List Channel) → Each IsHeld (filter is_channel_held xs)
 all-held [] = tt
-all-held (x ∷ xs) = by_test (all-held xs) (is_held x) refl
+all-held (x ∷ xs) = by_test (all-held xs) (is_channel_held x) refl
   where
-    by_test : Each IsHeld (filter is_held xs) → (b : Bool) → is_held x ≡ b → Each IsHeld (filter is_held (x ∷ xs))
-    by_test ih true h = subst (Each IsHeld) (sym (filter-yes is_held x xs h)) (h, ih)
-    by_test ih false h = subst (Each IsHeld) (sym (filter-no is_held x xs h)) ih
+    by_test : Each IsHeld (filter is_channel_held xs) → (b : Bool) → is_channel_held x ≡ b → Each IsHeld (filter is_channel_held (x ∷ xs))
+    by_test ih true h = subst (Each IsHeld) (sym (filter-yes is_channel_held x xs h)) (h, ih)
+    by_test ih false h = subst (Each IsHeld) (sym (filter-no is_channel_held x xs h)) ih
 
-pub held-held : (own : List Row) → Each (λ (x : Channel). is_held x ≡ true) (held_of own)
+pub held-held : (own : List Row) → Each (λ (x : Channel). is_channel_held x ≡ true) (held_of own)
 held-held own = all-held (channels_of own)
 
-twice : (xs : List Channel) → filter is_held (filter is_held xs) ≡ filter is_held xs
-twice xs = filter-all (filter is_held xs) (all-held xs)
+twice : (xs : List Channel) → filter is_channel_held (filter is_channel_held xs) ≡ filter is_channel_held xs
+twice xs = filter-all (filter is_channel_held xs) (all-held xs)
 
 map-stays : (g : Channel → Channel) (xs : List Channel) → Each (λ (y : Channel). g y ≡ y) xs → map g xs ≡ xs
 map-stays g [] all = refl
@@ -94,13 +94,13 @@ each-two P Q R step (x ∷ xs) a b = (step x a.0 b.0, each-two P Q R step xs a.1
 
 -- one of them changes
 change-one : (g : Channel → Channel) (fs bs : List Channel) (x x' : Channel) → Each IsHeld fs → Each IsHeld bs
-    → Each (λ (y : Channel). g y ≡ y) fs → Each (λ (y : Channel). g y ≡ y) bs → g x ≡ x' → filter is_held (map g (fs ++ x ∷ bs)) ≡ fs ++ kept x' bs
+    → Each (λ (y : Channel). g y ≡ y) fs → Each (λ (y : Channel). g y ≡ y) bs → g x ≡ x' → filter is_channel_held (map g (fs ++ x ∷ bs)) ≡ fs ++ kept x' bs
 change-one g [] bs x x' hf hb sf sb e =
-    ap (λ (y : Channel). filter is_held (y ∷ map g bs)) e
-    ∙ (ap (λ (l : List Channel). filter is_held (x' ∷ l)) (map-stays g bs sb) ∙ filter-kept x' bs (filter-all bs hb))
+    ap (λ (y : Channel). filter is_channel_held (y ∷ map g bs)) e
+    ∙ (ap (λ (l : List Channel). filter is_channel_held (x' ∷ l)) (map-stays g bs sb) ∙ filter-kept x' bs (filter-all bs hb))
 change-one g (f ∷ fs) bs x x' hf hb sf sb e =
-    ap (λ (y : Channel). filter is_held (y ∷ map g (fs ++ x ∷ bs))) sf.0
-    ∙ (filter-yes is_held f (map g (fs ++ x ∷ bs)) hf.0 ∙ ap (λ (l : List Channel). f ∷ l) (change-one g fs bs x x' hf.1 hb sf.1 sb e))
+    ap (λ (y : Channel). filter is_channel_held (y ∷ map g (fs ++ x ∷ bs))) sf.0
+    ∙ (filter-yes is_channel_held f (map g (fs ++ x ∷ bs)) hf.0 ∙ ap (λ (l : List Channel). f ∷ l) (change-one g fs bs x x' hf.1 hb sf.1 sb e))
 
 -- ---- a row with no farewell
 
@@ -108,18 +108,18 @@ farewell-none : (item : Item) (k : ℕ) (up down : List (List ℕ)) (x : Channel
 farewell-none item k up down x = elim (x.client == k) as (λ b. (elim b as (λ _. Channel) [ true ↦ x | false ↦ x ]) ≡ x) [ true ↦ refl | false ↦ refl ]
 
 plain-step : (item : Item) (k : ℕ) (up down : List (List ℕ)) (own : List Row)
-    → held_of (plain_row item k up down ∷ own) ≡ filter is_held (map (after_item (plain_row item k up down)) (held_of own)) ++ filter is_held (begun_by k up item)
+    → held_of (plain_row item k up down ∷ own) ≡ filter is_channel_held (map (after_item (plain_row item k up down)) (held_of own)) ++ filter is_channel_held (begun_by k up item)
 plain-step item k up down own =
     let row = plain_row item k up down in
-    let ys = filter is_held (map (after_item row) (held_of own) ++ begun_by k up item) in
+    let ys = filter is_channel_held (map (after_item row) (held_of own) ++ begun_by k up item) in
     held-step row own
-    ∙ (ap (filter is_held) (map-stays (after_farewell row) ys (each-any (λ (y : Channel). after_farewell row y ≡ y) (farewell-none item k up down) ys))
+    ∙ (ap (filter is_channel_held) (map-stays (after_farewell row) ys (each-any (λ (y : Channel). after_farewell row y ≡ y) (farewell-none item k up down) ys))
     ∙ (twice (map (after_item row) (held_of own) ++ begun_by k up item)
-    ∙ filter-append is_held (map (after_item row) (held_of own)) (begun_by k up item)))
+    ∙ filter-append is_channel_held (map (after_item row) (held_of own)) (begun_by k up item)))
 
 -- what the row does to a channel of its client
 abbrev does : Item → List (List ℕ) → Channel → Channel
-does item up x = with_ups (own_of item) up (received_by item x)
+does item up x = with_ups (own_number_of item) up (received_by item x)
 
 at-mine : (item : Item) (k : ℕ) (up down : List (List ℕ)) (x : Channel) → x.client ≡ k → after_item (plain_row item k up down) x ≡ does item up x
 at-mine item k up down x mine =
@@ -132,7 +132,7 @@ at-any item k up down x stays =
 
 one-changes : (item : Item) (k : ℕ) (up down : List (List ℕ)) (own : List Row) → Good (held_of own) → Each (IsMine k) (held_of own)
     → (fs bs : List Channel) (x x' : Channel) → held_of own ≡ fs ++ x ∷ bs
-    → ((y : Channel) → Far x y → does item up y ≡ y) → (x.client ≡ k → is_held x ≡ true → does item up x ≡ x') → begun_by k up item ≡ []
+    → ((y : Channel) → Far x y → does item up y ≡ y) → (x.client ≡ k → is_channel_held x ≡ true → does item up x ≡ x') → begun_by k up item ≡ []
     → held_of (plain_row item k up down ∷ own) ≡ fs ++ kept x' bs
 one-changes item k up down own good mine fs bs x x' are others here none =
     let g = after_item (plain_row item k up down) in
@@ -142,9 +142,9 @@ one-changes item k up down own good mine fs bs x x' are others here none =
     let stays : (y : Channel) → Far x y → g y ≡ y = λ y f. at-any item k up down y (others y f) in
     let its = (each-behind (IsMine k) fs (x ∷ bs) all).0 in
     plain-step item k up down own
-    ∙ (ap (λ (l : List Channel). filter is_held (map g (held_of own)) ++ filter is_held l) none
-    ∙ (append-nil (filter is_held (map g (held_of own)))
-    ∙ (ap (λ (l : List Channel). filter is_held (map g l)) are
+    ∙ (ap (λ (l : List Channel). filter is_channel_held (map g (held_of own)) ++ filter is_channel_held l) none
+    ∙ (append-nil (filter is_channel_held (map g (held_of own)))
+    ∙ (ap (λ (l : List Channel). filter is_channel_held (map g l)) are
     ∙ change-one g fs bs x x' (each-front IsHeld fs (x ∷ bs) held) (each-behind IsHeld fs (x ∷ bs) held).1
     (each-of (Far x) (λ (y : Channel). g y ≡ y) stays fs (far-front fs bs x far))
     (each-of (Far x) (λ (y : Channel). g y ≡ y) stays bs (far-behind fs bs x far))
@@ -156,9 +156,9 @@ none-changes : (item : Item) (k : ℕ) (up down : List (List ℕ)) (own : List R
 none-changes item k up down own zs stay begun held =
     let g = after_item (plain_row item k up down) in
     plain-step item k up down own
-    ∙ (ap (λ (l : List Channel). filter is_held (map g (held_of own)) ++ filter is_held l) begun
-    ∙ (ap (λ (l : List Channel). filter is_held (map g (held_of own)) ++ l) (filter-all zs held)
-    ∙ (ap (λ (l : List Channel). filter is_held l ++ zs) (map-stays g (held_of own) (each-of (λ (y : Channel). does item up y ≡ y) (λ (y : Channel). g y ≡ y) (λ y e. at-any item k up down y e) (held_of own) stay))
+    ∙ (ap (λ (l : List Channel). filter is_channel_held (map g (held_of own)) ++ filter is_channel_held l) begun
+    ∙ (ap (λ (l : List Channel). filter is_channel_held (map g (held_of own)) ++ l) (filter-all zs held)
+    ∙ (ap (λ (l : List Channel). filter is_channel_held l ++ zs) (map-stays g (held_of own) (each-of (λ (y : Channel). does item up y ≡ y) (λ (y : Channel). g y ≡ y) (λ y e. at-any item k up down y e) (held_of own) stay))
     ∙ ap (λ (l : List Channel). l ++ zs) (twice (channels_of own)))))
 
 still : (item : Item) (k : ℕ) (up down : List (List ℕ)) (own : List Row)
@@ -174,33 +174,33 @@ at-number o n e = ap (λ (p : Option ℕ). is_number p n) e ∙ self n
 both : (a b : Bool) → a ≡ true → b ≡ true → (a && b) ≡ true
 both a b e f = ap (λ (c : Bool). c && b) e ∙ f
 
-up-within : (own : Option ℕ) (s : ℕ) (act : Act) (x : Channel) → x.remote ≡ Some s → is_held x ≡ true → with_up own (Within s act) x ≡ with_act Up act x
+up-within : (own : Option ℕ) (s : ℕ) (act : Act) (x : Channel) → x.remote ≡ Some s → is_channel_held x ≡ true → with_up own (Within s act) x ≡ with_act Up act x
 up-within own s act x remote held =
-    ap (λ (b : Bool). elim b as (λ _. Channel) [ true ↦ with_act Up act x | false ↦ x ]) (both (is_number x.remote s) (is_held x) (at-number x.remote s remote) held)
+    ap (λ (b : Bool). elim b as (λ _. Channel) [ true ↦ with_act Up act x | false ↦ x ]) (both (is_number x.remote s) (is_channel_held x) (at-number x.remote s remote) held)
 
 up-other : (own : Option ℕ) (s : ℕ) (act : Act) (y : Channel) → is_number y.remote s ≡ false → with_up own (Within s act) y ≡ y
-up-other own s act y other = ap (λ (b : Bool). elim (b && is_held y) as (λ _. Channel) [ true ↦ with_act Up act y | false ↦ y ]) other
+up-other own s act y other = ap (λ (b : Bool). elim (b && is_channel_held y) as (λ _. Channel) [ true ↦ with_act Up act y | false ↦ y ]) other
 
-up-confirms : (own : Option ℕ) (s n w m : ℕ) (x : Channel) → x.remote ≡ Some s → is_held x ≡ true → with_up own (Confirmation s n w m) x ≡ record x { own = own; number = Some n; acts = (Up, Confirms w m) ∷ x.acts }
+up-confirms : (own : Option ℕ) (s n w m : ℕ) (x : Channel) → x.remote ≡ Some s → is_channel_held x ≡ true → with_up own (Confirmation s n w m) x ≡ record x { own = own; number = Some n; acts = (Up, Confirms w m) ∷ x.acts }
 up-confirms own s n w m x remote held =
-    ap (λ (b : Bool). elim b as (λ _. Channel) [ true ↦ record x { own = own; number = Some n; acts = (Up, Confirms w m) ∷ x.acts } | false ↦ x ]) (both (is_number x.remote s) (is_held x) (at-number x.remote s remote) held)
+    ap (λ (b : Bool). elim b as (λ _. Channel) [ true ↦ record x { own = own; number = Some n; acts = (Up, Confirms w m) ∷ x.acts } | false ↦ x ]) (both (is_number x.remote s) (is_channel_held x) (at-number x.remote s remote) held)
 
 up-unconfirmed : (own : Option ℕ) (s n w m : ℕ) (y : Channel) → is_number y.remote s ≡ false → with_up own (Confirmation s n w m) y ≡ y
-up-unconfirmed own s n w m y other = ap (λ (b : Bool). elim (b && is_held y) as (λ _. Channel) [ true ↦ record y { own = own; number = Some n; acts = (Up, Confirms w m) ∷ y.acts } | false ↦ y ]) other
+up-unconfirmed own s n w m y other = ap (λ (b : Bool). elim (b && is_channel_held y) as (λ _. Channel) [ true ↦ record y { own = own; number = Some n; acts = (Up, Confirms w m) ∷ y.acts } | false ↦ y ]) other
 
-down-within : (n : ℕ) (act : Act) (x : Channel) → x.number ≡ Some n → is_held x ≡ true → with_down (Within n act) x ≡ with_act Down act x
+down-within : (n : ℕ) (act : Act) (x : Channel) → x.number ≡ Some n → is_channel_held x ≡ true → with_down (Within n act) x ≡ with_act Down act x
 down-within n act x number held =
-    ap (λ (b : Bool). elim b as (λ _. Channel) [ true ↦ with_act Down act x | false ↦ x ]) (both (is_number x.number n) (is_held x) (at-number x.number n number) held)
+    ap (λ (b : Bool). elim b as (λ _. Channel) [ true ↦ with_act Down act x | false ↦ x ]) (both (is_number x.number n) (is_channel_held x) (at-number x.number n number) held)
 
 down-other : (n : ℕ) (act : Act) (y : Channel) → is_number y.number n ≡ false → with_down (Within n act) y ≡ y
-down-other n act y other = ap (λ (b : Bool). elim (b && is_held y) as (λ _. Channel) [ true ↦ with_act Down act y | false ↦ y ]) other
+down-other n act y other = ap (λ (b : Bool). elim (b && is_channel_held y) as (λ _. Channel) [ true ↦ with_act Down act y | false ↦ y ]) other
 
-down-confirms : (n s w m : ℕ) (x : Channel) → x.number ≡ Some n → is_held x ≡ true → with_down (Confirmation n s w m) x ≡ record x { remote = Some s; acts = (Down, Confirms w m) ∷ x.acts }
+down-confirms : (n s w m : ℕ) (x : Channel) → x.number ≡ Some n → is_channel_held x ≡ true → with_down (Confirmation n s w m) x ≡ record x { remote = Some s; acts = (Down, Confirms w m) ∷ x.acts }
 down-confirms n s w m x number held =
-    ap (λ (b : Bool). elim b as (λ _. Channel) [ true ↦ record x { remote = Some s; acts = (Down, Confirms w m) ∷ x.acts } | false ↦ x ]) (both (is_number x.number n) (is_held x) (at-number x.number n number) held)
+    ap (λ (b : Bool). elim b as (λ _. Channel) [ true ↦ record x { remote = Some s; acts = (Down, Confirms w m) ∷ x.acts } | false ↦ x ]) (both (is_number x.number n) (is_channel_held x) (at-number x.number n number) held)
 
 down-unconfirmed : (n s w m : ℕ) (y : Channel) → is_number y.number n ≡ false → with_down (Confirmation n s w m) y ≡ y
-down-unconfirmed n s w m y other = ap (λ (b : Bool). elim (b && is_held y) as (λ _. Channel) [ true ↦ record y { remote = Some s; acts = (Down, Confirms w m) ∷ y.acts } | false ↦ y ]) other
+down-unconfirmed n s w m y other = ap (λ (b : Bool). elim (b && is_channel_held y) as (λ _. Channel) [ true ↦ record y { remote = Some s; acts = (Down, Confirms w m) ∷ y.acts } | false ↦ y ]) other
 
 -- confirmed and nothing else
 fresh-held : (way : Side) (w m : ℕ) (acts : List (Side × Act)) → acts ≡ []
@@ -219,8 +219,8 @@ pub said-act : (k : ℕ) (own : List Row) (p : List ℕ) (given : Option HouseRe
 said-act k own p given down s act reads good mine fs bs x are remote =
     let item = Says k (Payload p) given in
     one-changes item k (p ∷ []) down own good mine fs bs x (with_act Up act x) are
-    (λ y far. reading-ok p (Within s act) (λ m. with_up (own_of item) m y) y reads ∙ up-other (own_of item) s act y (far.remotes s (at-number x.remote s remote)))
-    (λ its held. reading-ok p (Within s act) (λ m. with_up (own_of item) m x) x reads ∙ up-within (own_of item) s act x remote held)
+    (λ y far. reading-ok p (Within s act) (λ m. with_up (own_number_of item) m y) y reads ∙ up-other (own_number_of item) s act y (far.remotes s (at-number x.remote s remote)))
+    (λ its held. reading-ok p (Within s act) (λ m. with_up (own_number_of item) m x) x reads ∙ up-within (own_number_of item) s act x remote held)
     (begun-said k p given (p ∷ []) (Within s act) reads)
 
 pub said-confirmation : (k : ℕ) (own : List Row) (p : List ℕ) (given : Option HouseReply) (down : List (List ℕ)) (pick s n w m : ℕ) → AreBytes p → read_summary p ≡ Ok (Confirmation s n w m)
@@ -231,13 +231,13 @@ said-confirmation k own p given down pick s n w m bytes reads good mine fs bs x 
     let q = with_sender p pick in
     let in_it : SenderIn p (Confirmation s n w m) = sender-in p (Confirmation s n w m) n bytes reads refl in
     let sent : read_summary q ≡ Ok (Confirmation s (word pick) w m) = reads-sent p (Confirmation s n w m) in_it pick in
-    let owns : own_of item ≡ Some n = reading-ok p (Confirmation s n w m) sender_of None reads in
+    let owns : own_number_of item ≡ Some n = reading-ok p (Confirmation s n w m) summary_sender_of None reads in
     let x' : Channel = record x { own = Some n; number = Some (word pick); acts = (Up, Confirms w m) ∷ x.acts } in (
       word pick,
       one-changes item k (q ∷ []) down own good mine fs bs x x' are
-          (λ y far. reading-ok q (Confirmation s (word pick) w m) (λ m. with_up (own_of item) m y) y sent ∙ up-unconfirmed (own_of item) s (word pick) w m y (far.remotes s (at-number x.remote s remote)))
-          (λ its held. reading-ok q (Confirmation s (word pick) w m) (λ m. with_up (own_of item) m x) x sent
-          ∙ (up-confirms (own_of item) s (word pick) w m x remote held ∙ ap (λ (o : Option ℕ). record x { own = o; number = Some (word pick); acts = (Up, Confirms w m) ∷ x.acts }) owns))
+          (λ y far. reading-ok q (Confirmation s (word pick) w m) (λ m. with_up (own_number_of item) m y) y sent ∙ up-unconfirmed (own_number_of item) s (word pick) w m y (far.remotes s (at-number x.remote s remote)))
+          (λ its held. reading-ok q (Confirmation s (word pick) w m) (λ m. with_up (own_number_of item) m x) x sent
+          ∙ (up-confirms (own_number_of item) s (word pick) w m x remote held ∙ ap (λ (o : Option ℕ). record x { own = o; number = Some (word pick); acts = (Up, Confirms w m) ∷ x.acts }) owns))
           (begun-said k p given (q ∷ []) (Confirmation s n w m) reads)
           ∙ ap (λ (l : List Channel). fs ++ l) (kept-held x' bs (fresh-held Up w m x.acts fresh)),
     )
@@ -253,7 +253,7 @@ said-open k own p given down pick what n w m bytes reads =
     let z : Channel = record { client = k; by = Up; own = Some n; number = Some (word pick); remote = None; window = w; maximum = m; acts = [] } in (
       word pick,
       none-changes item k (q ∷ []) down own (z ∷ [])
-          (each-any (λ (y : Channel). does item (q ∷ []) y ≡ y) (λ y. reading-ok q (Open what (word pick) w m) (λ m. with_up (own_of item) m y) y sent) (held_of own))
+          (each-any (λ (y : Channel). does item (q ∷ []) y ≡ y) (λ y. reading-ok q (Open what (word pick) w m) (λ m. with_up (own_number_of item) m y) y sent) (held_of own))
           (begun-said k p given (q ∷ []) (Open what n w m) reads
           ∙ ap (λ (o : Option ℕ). record { client = k; by = Up; own = Some n; number = o; remote = None; window = w; maximum = m; acts = [] } ∷ []) (number-sent p (Open what n w m) in_it pick))
           (refl, tt),
@@ -274,7 +274,7 @@ pub said-request : (k : ℕ) (own : List Row) (p : List ℕ) (given : Option Hou
 said-request k own p given down what wants reads =
     let item = Says k (Payload p) given in
     still item k (p ∷ []) down own
-    (each-any (λ (y : Channel). does item (p ∷ []) y ≡ y) (λ y. reading-ok p (Requests what wants) (λ m. with_up (own_of item) m y) y reads) (held_of own))
+    (each-any (λ (y : Channel). does item (p ∷ []) y ≡ y) (λ y. reading-ok p (Requests what wants) (λ m. with_up (own_number_of item) m y) y reads) (held_of own))
     (begun-said k p given (p ∷ []) (Requests what wants) reads)
 
 -- ---- what it receives
@@ -393,13 +393,13 @@ begun-mine k up (Says j (Payload p) given) = reads-mine k p (opened_up k up) (λ
 begun-mine k up (Heard p) = elim (k == 0) as (λ b. Each (IsMine k) (elim b as (λ _. List Channel) [ true ↦ [] | false ↦ reading p (opened_down k up) [] ])) [ true ↦ tt | false ↦ reads-mine k p (opened_down k up) (λ m. (begins-mine k up m).1) ]
 begun-mine k up item = tt
 
-filter-mine : (k : ℕ) (xs : List Channel) → Each (IsMine k) xs → Each (IsMine k) (filter is_held xs)
+filter-mine : (k : ℕ) (xs : List Channel) → Each (IsMine k) xs → Each (IsMine k) (filter is_channel_held xs)
 filter-mine k [] all = tt
-filter-mine k (x ∷ xs) all = by_test (filter-mine k xs all.1) (is_held x) refl
+filter-mine k (x ∷ xs) all = by_test (filter-mine k xs all.1) (is_channel_held x) refl
   where
-    by_test : Each (IsMine k) (filter is_held xs) → (b : Bool) → is_held x ≡ b → Each (IsMine k) (filter is_held (x ∷ xs))
-    by_test ih true h = subst (Each (IsMine k)) (sym (filter-yes is_held x xs h)) (all.0, ih)
-    by_test ih false h = subst (Each (IsMine k)) (sym (filter-no is_held x xs h)) ih
+    by_test : Each (IsMine k) (filter is_channel_held xs) → (b : Bool) → is_channel_held x ≡ b → Each (IsMine k) (filter is_channel_held (x ∷ xs))
+    by_test ih true h = subst (Each (IsMine k)) (sym (filter-yes is_channel_held x xs h)) (all.0, ih)
+    by_test ih false h = subst (Each (IsMine k)) (sym (filter-no is_channel_held x xs h)) ih
 
 map-mine : (k : ℕ) (g : Channel → Channel) → ((x : Channel) → (g x).client ≡ x.client) → (xs : List Channel) → Each (IsMine k) xs → Each (IsMine k) (map g xs)
 map-mine k g keeps [] all = tt
@@ -409,33 +409,33 @@ pub mine-stays : (item : Item) (k : ℕ) (up down : List (List ℕ)) (own : List
 mine-stays item k up down own mine =
     let row = plain_row item k up down in
     subst (Each (IsMine k)) (sym (plain-step item k up down own))
-    (each-append (IsMine k) (filter is_held (map (after_item row) (held_of own))) (filter is_held (begun_by k up item))
+    (each-append (IsMine k) (filter is_channel_held (map (after_item row) (held_of own))) (filter is_channel_held (begun_by k up item))
     (filter-mine k (map (after_item row) (held_of own)) (map-mine k (after_item row) (item-client row) (held_of own) mine))
     (filter-mine k (begun_by k up item) (begun-mine k up item)))
 
 -- ---- and apart
 
 abbrev picked : ℕ → List Channel → List Channel
-picked k xs = filter is_held (filter (is_of k) xs)
+picked k xs = filter is_channel_held (filter (is_of k) xs)
 
-one-picked : (k : ℕ) (x : Channel) (xs : List Channel) (P : List Channel → Type 0) → (x.client ≡ k → is_held x ≡ true → P (x ∷ picked k xs)) → P (picked k xs) → P (picked k (x ∷ xs))
-one-picked k x xs P yes_it past = by_test (x.client == k) refl (is_held x) refl
+one-picked : (k : ℕ) (x : Channel) (xs : List Channel) (P : List Channel → Type 0) → (x.client ≡ k → is_channel_held x ≡ true → P (x ∷ picked k xs)) → P (picked k xs) → P (picked k (x ∷ xs))
+one-picked k x xs P yes_it past = by_test (x.client == k) refl (is_channel_held x) refl
   where
-    by_test : (b : Bool) → (x.client == k) ≡ b → (h : Bool) → is_held x ≡ h → P (picked k (x ∷ xs))
-    by_test false e h f = subst P (sym (ap (filter is_held) (filter-no (is_of k) x xs e))) past
-    by_test true e false f = subst P (sym (ap (filter is_held) (filter-yes (is_of k) x xs e) ∙ filter-no is_held x (filter (is_of k) xs) f)) past
-    by_test true e true f = subst P (sym (ap (filter is_held) (filter-yes (is_of k) x xs e) ∙ filter-yes is_held x (filter (is_of k) xs) f)) (yes_it (same-number x.client k e) f)
+    by_test : (b : Bool) → (x.client == k) ≡ b → (h : Bool) → is_channel_held x ≡ h → P (picked k (x ∷ xs))
+    by_test false e h f = subst P (sym (ap (filter is_channel_held) (filter-no (is_of k) x xs e))) past
+    by_test true e false f = subst P (sym (ap (filter is_channel_held) (filter-yes (is_of k) x xs e) ∙ filter-no is_channel_held x (filter (is_of k) xs) f)) past
+    by_test true e true f = subst P (sym (ap (filter is_channel_held) (filter-yes (is_of k) x xs e) ∙ filter-yes is_channel_held x (filter (is_of k) xs) f)) (yes_it (same-number x.client k e) f)
 
 mine-picked : (k : ℕ) (xs : List Channel) → Each (IsMine k) (picked k xs)
 mine-picked k [] = tt
 mine-picked k (x ∷ xs) = let ih = mine-picked k xs in one-picked k x xs (Each (IsMine k)) (λ e h. (e, ih)) ih
 
-far-of : (k : ℕ) (x y : Channel) → x.client ≡ k → is_held x ≡ true → y.client ≡ k → is_held y ≡ true → ApartFrom x y → Far x y
+far-of : (k : ℕ) (x y : Channel) → x.client ≡ k → is_channel_held x ≡ true → y.client ≡ k → is_channel_held y ≡ true → ApartFrom x y → Far x y
 far-of k x y mine held its also apart =
     let same : (x.client == y.client) ≡ true = subst (λ (j : ℕ). (x.client == j) ≡ true) (mine ∙ sym its) (self x.client) in
     record { numbers = apart.numbers held also; remotes = apart.remotes held also; owns = apart.owns held also same }
 
-fars-picked : (k : ℕ) (x : Channel) → x.client ≡ k → is_held x ≡ true → (ys : List Channel) → finds.Each (ApartFrom x) ys → Each (Far x) (picked k ys)
+fars-picked : (k : ℕ) (x : Channel) → x.client ≡ k → is_channel_held x ≡ true → (ys : List Channel) → finds.Each (ApartFrom x) ys → Each (Far x) (picked k ys)
 fars-picked k x mine held [] all = tt
 fars-picked k x mine held (y ∷ ys) all =
     let ih = fars-picked k x mine held ys all.1 in
@@ -449,12 +449,12 @@ far-picked k (x ∷ xs) apart =
 
 -- the channels of a client's rows
 pub mine-held : (k : ℕ) (rows : List Row) → Each (IsMine k) (held_of (rows_of k rows))
-mine-held k rows = subst (λ (xs : List Channel). Each (IsMine k) (filter is_held xs)) (channels-local k rows) (mine-picked k (channels_of rows))
+mine-held k rows = subst (λ (xs : List Channel). Each (IsMine k) (filter is_channel_held xs)) (channels-local k rows) (mine-picked k (channels_of rows))
 
 pub good-own : (k : ℕ) (rows : List Row) → AreApart (channels_of rows) → Good (held_of (rows_of k rows))
 good-own k rows apart = record {
   held = held-held (rows_of k rows);
-  far = subst (λ (xs : List Channel). AllFar (filter is_held xs)) (channels-local k rows) (far-picked k (channels_of rows) apart.apart);
+  far = subst (λ (xs : List Channel). AllFar (filter is_channel_held xs)) (channels-local k rows) (far-picked k (channels_of rows) apart.apart);
 }
 
 abbrev pub OwnGood : List Row → Type 0

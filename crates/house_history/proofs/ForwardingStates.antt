@@ -13,7 +13,7 @@ use Rattle.conn_messages.specs.declared.key.Key.TheVariants as keys
 use Rattle.mux_history.specs.Summary.{summary, reading as summary-reading}
 use Rattle.mux_history.specs.Requests.{is_reply}
 use Rattle.house_forward.specs.Forwardings.{served_at}
-use Rattle.house_forward.specs.RelayTraces.{Trace, ReceivesAt, ReceivesMessage, ReceivesOpen, ReceivesReading, OpensFor}
+use Rattle.house_forward.specs.RelayTraces.{Trace, RelayReceivesAt, ReceivesMessage, ReceivesOpen, ReceivesReading, OpensFor}
 use Rattle.house_forward.specs.declared.forwarding.Forwarding.{Forwarding}
 use Rattle.house_history.proofs.Receiving.{ReceivesAll}
 use Rattle.house_history.proofs.AnswersOf.{replies-in}
@@ -26,7 +26,7 @@ pub record ForwardingStateReceived (replies : ℕ) (old new : Trace) : Type 0 wh
 same-forwarding_state : (old new : Trace) → new.forwarding_state ≡ old.forwarding_state → ForwardingStateReceived 0 old new
 same-forwarding_state old new e = record { greeted = ap (λ d. d.greeted) e; requests = let l : length new.forwarding_state.requests ≡ length old.forwarding_state.requests = ap (λ d. length d.requests) e in omega (arith, l) }
 
-at-same : (n : ℕ) (m : Message) (old new : Trace) → ReceivesAt n m old new → new.forwarding_state ≡ old.forwarding_state
+at-same : (n : ℕ) (m : Message) (old new : Trace) → RelayReceivesAt n m old new → new.forwarding_state ≡ old.forwarding_state
 at-same n m old new (inl h) = ap (λ c. c.forwarding_state) h.2
 at-same n m old new (inr h) = ap (λ c. c.forwarding_state) h.1
 

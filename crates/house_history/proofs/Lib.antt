@@ -26,5 +26,10 @@ pub mod Remotes
 pub mod Asks
 pub mod Unasked
 pub mod Relays
+pub mod Permitted
 pub mod Marks
 pub mod Runs
+pub mod Ends
+pub mod Marked
+pub mod Received
+pub mod RunsRelay

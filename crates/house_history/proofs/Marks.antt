@@ -1,4 +1,4 @@
--- The house stays, mark by mark.
+-- The forwarder stays, mark by mark.
 use Rattle.std.proofs.Common.{◌≡◌, ◌≤◌, ◌<◌, ◌+◌, ◌*◌, ◌^◌, ℕ, Bool, true, false, not, ◌&&◌, Option, Some, None, List, [], ◌∷◌, ◌++◌, refl, sym, ap, ◌∙◌, subst, arith, map, append-nil, length, inl}
 use Rattle.std.specs.Prelude.{◌==◌, find, take, if◌then◌else◌, IsTrue}
 use Rattle.std.proofs.lemmas.Bool.{eqb-true}
@@ -32,12 +32,13 @@ use Rattle.mux_history.specs.Promises.{SpeaksInTime, Throughout, WaitsAt}
 use Rattle.mux_history.specs.Rows.{Admit, BadServer, Gone, Heard, HouseSays, Item, Row, RunEnd, Says, ServerCut, ServerEnd, ServerFailed, Took, is_ended, is_lost, rows_of}
 use Rattle.mux_history.specs.Settings.{by_lists}
 use Rattle.mux_history.specs.Wires.{FollowsRead, ReadsWhenAsked}
-use Rattle.mux_peers.specs.Asked.{asked_of}
-use Rattle.mux_engine.specs.Answers.{AnswersDeferred, is_deferred}
+use Rattle.mux_peers.specs.Asked.{asks_of_rows}
+use Rattle.mux_engine.specs.Answers.{AnswersOpen}
 use Rattle.mux_engine.specs.Called.{calls_at, calls_in, if_own}
-use Rattle.mux_engine.specs.Places.{IsOfOthers, is_about}
+use Rattle.mux_engine.specs.Places.{IsOfOthers, is_mark_about}
 use Rattle.mux_engine.proofs.Greeting.{greets-before}
-use Rattle.house_forward.specs.RelayTraces.{Trace, Follows, Life, Reaches, SendsBy, first_trace}
+use Rattle.mux_engine.proofs.Deferred.{answer-deferred, is_deferred}
+use Rattle.house_forward.specs.RelayTraces.{Trace, Follows, Life, TraceReaches, SendsBy, first_trace}
 use Rattle.house_forward.proofs.Sound.{All, Sound, all-sound, follow-sound}
 use Rattle.house_history.specs.Runs.{HouseStays}
 use Rattle.house_history.proofs.Lists.{Each, each-found, each-front, found}
@@ -60,24 +61,24 @@ use Rattle.house_history.proofs.Readings.{SmallIn}
 use Rattle.house_history.proofs.Views.{IsOffered, View}
 use Rattle.house_history.proofs.Fitting.{Entry, Fits, FitsAs, Owns, number-is, offered-at, owned-at}
 use Rattle.house_history.proofs.Seen.{AreViews, Seen, ViewOf, note-in}
-use Rattle.house_relay.specs.Acts.{Act}
+use Rattle.house_relay.specs.Acts.{RelayAct}
 use Rattle.house_relay.specs.declared.line.ChannelState.{ChannelState}
 use Rattle.house_relay.specs.declared.line.ChannelState.TheVariants as line
 use Rattle.house_forward.specs.Forwardings.{has_request}
 use Rattle.house_forward.specs.declared.forwarding.Forwarding.{Forwarding}
-use Rattle.house_forward.specs.Numbers.{channels_of}
+use Rattle.house_forward.specs.Numbers.{relay_channels_of}
 use Rattle.house_forward.proofs.Owning.{channels-differ, channels-small}
 use Rattle.mux_history.specs.Channels.{Channel, held_of, is_confirmed, is_number, is_up}
 use Rattle.std.proofs.lemmas.Bool.{and_parts}
 
--- the mark names the house's own number: as that of a stream, or of a client that it answers
+-- the mark names the forwarder's own number: as that of a stream, or of a client that it answers
 abbrev names_in : HouseMark → Bool
 names_in (HouseAnswer client id reply) = client == HOUSE
 names_in mark = false
 
 abbrev names_house : Mark → Bool
 names_house (House mark) = names_in mark
-names_house mark = is_about HOUSE mark
+names_house mark = is_mark_about HOUSE mark
 
 abbrev NamesOthers : List Mark → Mark → Type 0
 NamesOthers before mark = names_house mark ≡ false
@@ -101,7 +102,7 @@ owned-small : (hs : List Channel) (o : Option ℕ) (x : Channel) → Each IsSmal
 owned-small hs None x small f = absurd f
 owned-small hs (Some n) x small f = each-found IsSmallChannel (owned-at n) x hs f small
 
-small-view : (hs : List Channel) (l : ChannelState) (acts : List Act) (o : Option ℕ) (v : View) → Each IsSmallChannel hs → ViewOf l acts v → FitsAs hs o v → SmallIn l × WindowIn l
+small-view : (hs : List Channel) (l : ChannelState) (acts : List RelayAct) (o : Option ℕ) (v : View) → Each IsSmallChannel hs → ViewOf l acts v → FitsAs hs o v → SmallIn l × WindowIn l
 small-view hs (line.Dialing dialog) acts o v small h f = (tt, tt)
 small-view hs (line.Asked host port version) acts o v small h f = (tt, tt)
 small-view hs (line.Opened version) acts o v small h f = (tt, tt)
@@ -125,22 +126,22 @@ relay_traces-small rows trace recorded g empty small =
     let s : Seen hs trace.relay_traces [] = subst (λ (ps : List (List ℕ)). Seen hs trace.relay_traces (map note-in ps)) none.1 g.seen in
     small-relay_traces hs trace.relay_traces s.entries small s.views (each-front (Fits hs) s.entries s.orphans s.later.fits)
 
--- and those of the house
-numbers-each : (relay_traces : List Life) → AllByRecursion (λ n. n < 2 ^ 32) (channels_of relay_traces) → Each (λ (l : Life). l.relay.number < 2 ^ 32) relay_traces
+-- and those of the forwarder
+numbers-each : (relay_traces : List Life) → AllByRecursion (λ n. n < 2 ^ 32) (relay_channels_of relay_traces) → Each (λ (l : Life). l.relay.number < 2 ^ 32) relay_traces
 numbers-each [] all = tt
 numbers-each (l ∷ relay_traces) all = (all.0, numbers-each relay_traces all.1)
 
-numbers-small : (calls : List HouseCall) (trace : Trace) → Reaches first_trace calls trace → Each (λ (l : Life). l.relay.number < 2 ^ 32) trace.relay_traces
+numbers-small : (calls : List HouseCall) (trace : Trace) → TraceReaches first_trace calls trace → Each (λ (l : Life). l.relay.number < 2 ^ 32) trace.relay_traces
 numbers-small calls trace h = numbers-each trace.relay_traces (channels-small calls trace h)
 
 -- ---- calls
 
 pub record Split (calls more : List HouseCall) (a c : Trace) : Type 0 where
   pub middle : Trace
-  pub first : Reaches a calls middle
-  pub rest : Reaches middle more c
+  pub first : TraceReaches a calls middle
+  pub rest : TraceReaches middle more c
 
-reach-split : (calls more : List HouseCall) (a c : Trace) → Reaches a (calls ++ more) c → Split calls more a c
+reach-split : (calls more : List HouseCall) (a c : Trace) → TraceReaches a (calls ++ more) c → Split calls more a c
 reach-split [] more a c h = record { middle = a; first = refl; rest = h }
 reach-split (one ∷ calls) more a c h =
     let s = reach-split calls more h.0 c h.2 in
@@ -151,7 +152,7 @@ pub record Calmed (rows : List Row) (trace new : Trace) : Type 0 where
   pub goes : (recorded : Recorded) → Going rows trace recorded → Going rows new recorded
   pub greeted : new.forwarding_state.greeted ≡ trace.forwarding_state.greeted
 
-calms : (rows : List Row) (calls : List HouseCall) (trace new : Trace) → Each IsCalm calls → All Sound trace → Reaches trace calls new → Calmed rows trace new
+calms : (rows : List Row) (calls : List HouseCall) (trace new : Trace) → Each IsCalm calls → All Sound trace → TraceReaches trace calls new → Calmed rows trace new
 calms rows [] trace new calm sound h = record {
   goes = λ recorded g. subst (λ (c : Trace). Going rows c recorded) (sym h) g;
   greeted = ap (λ c. c.forwarding_state.greeted) h;
@@ -171,17 +172,17 @@ if-calm t one calm = go (is_own t)
     go true = (calm, tt)
     go false = tt
 
--- ---- what is so behind each mark
+-- ---- what is so after each mark
 
 pub data Inv (setting : Setting) (journal : List Mark) (trace : Trace) : Type 0 where
   Past : is_ended (log_of_journal setting journal) ≡ true → is_lost (rows_of HOUSE (log_of_journal setting journal)) ≡ false → Inv setting journal trace
   Here : (recorded : Recorded) → Going (log_of_journal setting journal) trace recorded → SentSo trace.forwarding_state.greeted (bytes_of HOUSE journal) → Inv setting journal trace
 
--- the house says nothing at this mark
+-- the forwarder sends nothing at this mark
 bytes-same : (mark : Mark) (before : List Mark) → bytes_in HOUSE mark ≡ [] → bytes_of HOUSE (mark ∷ before) ≡ bytes_of HOUSE before
 bytes-same mark before e = ap (λ (l : List ℕ). bytes_of HOUSE before ++ l) e ∙ append-nil (bytes_of HOUSE before)
 
--- marks at which the house says and takes nothing
+-- marks at which the forwarder sends and receives nothing
 record IsQuiet (setting : Setting) (before : List Mark) (mark : Mark) : Type 0 where
   silent : bytes_in HOUSE mark ≡ []
   calm : Each IsCalm (calls_at setting before mark)
@@ -193,7 +194,7 @@ after-so setting before mark trace new same greeted said =
 
 -- where its items are after, so is all
 pub quiet-step : (policy : Policy) (pid : ℕ) (picks : List ℕ) (given : List HouseReply) (before : List Mark) (mark : Mark) (trace new : Trace) → bytes_in HOUSE mark ≡ []
-    → Each IsCalm (calls_at (by_lists policy pid picks given) before mark) → All Sound trace → Reaches trace (calls_at (by_lists policy pid picks given) before mark) new
+    → Each IsCalm (calls_at (by_lists policy pid picks given) before mark) → All Sound trace → TraceReaches trace (calls_at (by_lists policy pid picks given) before mark) new
     → SentSo trace.forwarding_state.greeted (bytes_of HOUSE before)
     → After (log_of_journal (by_lists policy pid picks given) (mark ∷ before)) trace → Inv (by_lists policy pid picks given) (mark ∷ before) new
 quiet-step policy pid picks given before mark trace new silent calm sound reached said (IsOver ended kept) = Past ended kept
@@ -202,7 +203,7 @@ quiet-step policy pid picks given before mark trace new silent calm sound reache
     let c = calms (log_of_journal setting (mark ∷ before)) (calls_at setting before mark) trace new calm sound reached in
     Here recorded (c.goes recorded g) (after-so setting before mark trace new (bytes-same mark before silent) c.greeted said)
 
--- behind the end only what is taken makes rows
+-- after the end only what is accepted makes rows
 pub record IsPast (rows : List Row) : Type 0 where
   pub ended : is_ended rows ≡ true
   pub kept : is_lost (rows_of HOUSE rows) ≡ false
@@ -279,19 +280,19 @@ module _ (policy : Policy) (pid : ℕ) (picks : List ℕ) (given : List HouseRep
   gets-none : (t : ℕ) (bytes : List ℕ) → (t == HOUSE) ≡ false → bytes_in HOUSE (Gets t bytes) ≡ []
   gets-none t bytes e = ap (λ (b : Bool). elim b as (λ _. List ℕ) [ true ↦ bytes | false ↦ [] ]) e
 
-  -- ---- the server says something
+  -- ---- the server sends something
 
-  -- nothing waited for the house
+  -- nothing waited for the forwarder
   none-before : (before : List Mark) → FollowsRead before → Throughout (WaitsAt setting) before → pending HOUSE (log_of_journal setting before) ≡ []
   none-before [] follows waits = absurd follows
-  none-before (Waits waiting Read streams accepts ∷ before) follows waits = waits.0.house
-  none-before (Waits waiting WriteOnly streams accepts ∷ before) follows waits = absurd follows
+  none-before (Waits waiting Read streams shown ∷ before) follows waits = waits.0.house
+  none-before (Waits waiting WriteOnly streams shown ∷ before) follows waits = absurd follows
   none-before (Accepts k ∷ before) follows waits = absurd follows
   none-before (Gets t bytes ∷ before) follows waits = absurd follows
   none-before (Ends t ∷ before) follows waits = absurd follows
   none-before (Frees t ∷ before) follows waits = absurd follows
   none-before (Fails t ∷ before) follows waits = absurd follows
-  none-before (Takes t bytes ∷ before) follows waits = absurd follows
+  none-before (Takes t bytes accepts ∷ before) follows waits = absurd follows
   none-before (Holds t ∷ before) follows waits = absurd follows
   none-before (WriteFails t ∷ before) follows waits = absurd follows
   none-before (Joins l t ∷ before) follows waits = absurd follows
@@ -310,8 +311,8 @@ module _ (policy : Policy) (pid : ℕ) (picks : List ℕ) (given : List HouseRep
     right : AtEach RightAt (log_of_journal setting (mark ∷ before))
     small : HeldSmall (log_of_journal setting before)
     calls : List HouseCall
-    reached : Reaches first_trace calls trace
-    goes : Reaches trace (calls_at setting before mark) new
+    reached : TraceReaches first_trace calls trace
+    goes : TraceReaches trace (calls_at setting before mark) new
 
   -- what its items leave
   after-is : (mark : Mark) (before : List Mark) (new : Trace) → After (log_of_journal setting (mark ∷ before)) new → SentSo new.forwarding_state.greeted (bytes_of HOUSE (mark ∷ before)) → Inv setting (mark ∷ before) new
@@ -367,11 +368,11 @@ module _ (policy : Policy) (pid : ℕ) (picks : List ℕ) (given : List HouseRep
       → Inv setting (WriteFails t ∷ before) new
   write-fails-mark before t trace new recorded one g said = other-mark before (WriteFails t) trace new recorded one g said refl (if-calm t (Turns (Failed t)) tt) (fails-other t (is_server t) (is_own_stream t) one.other)
 
-  takes-mark : (before : List Mark) (t : ℕ) (bytes : List ℕ) (trace new : Trace) (recorded : Recorded) → OneMore before (Takes t bytes) trace new → Going (log_of_journal setting before) trace recorded → SentSo trace.forwarding_state.greeted (bytes_of HOUSE before)
-      → Inv setting (Takes t bytes ∷ before) new
-  takes-mark before t bytes trace new recorded one g said = other-mark before (Takes t bytes) trace new recorded one g said refl (if-calm t (call.Takes t bytes) tt) (takes-other t (length bytes) (is_own_stream t) one.other)
+  takes-mark : (before : List Mark) (t : ℕ) (bytes : List ℕ) (accepts : Bool) (trace new : Trace) (recorded : Recorded) → OneMore before (Takes t bytes accepts) trace new → Going (log_of_journal setting before) trace recorded → SentSo trace.forwarding_state.greeted (bytes_of HOUSE before)
+      → Inv setting (Takes t bytes accepts ∷ before) new
+  takes-mark before t bytes accepts trace new recorded one g said = other-mark before (Takes t bytes accepts) trace new recorded one g said refl (if-calm t (call.Takes t bytes) tt) (takes-other t (length bytes) (is_own_stream t) one.other)
 
-  -- ---- the house takes
+  -- ---- the forwarder accepts
 
   took-mark : (before : List Mark) (size : ℕ) (trace new : Trace) (recorded : Recorded) → OneMore before (House (HouseTook size)) trace new → Going (log_of_journal setting before) trace recorded → SentSo trace.forwarding_state.greeted (bytes_of HOUSE before)
       → Inv setting (House (HouseTook size) ∷ before) new
@@ -384,7 +385,7 @@ module _ (policy : Policy) (pid : ℕ) (picks : List ℕ) (given : List HouseRep
       after-is (House (HouseTook size)) before new (took-step setting rows trace new size recorded apart g follows)
       (after-so setting before (House (HouseTook size)) trace new (bytes-same (House (HouseTook size)) before refl) forwarding_state.greeted said)
 
-  -- ---- the house speaks
+  -- ---- the forwarder speaks
 
   said-mark : (before : List Mark) (bytes : List ℕ) (trace new : Trace) (recorded : Recorded) → OneMore before (House (HouseSaid bytes)) trace new → Going (log_of_journal setting before) trace recorded → SentSo trace.forwarding_state.greeted (bytes_of HOUSE before)
       → Inv setting (House (HouseSaid bytes) ∷ before) new
@@ -435,13 +436,13 @@ module _ (policy : Policy) (pid : ℕ) (picks : List ℕ) (given : List HouseRep
 
   step : ReceivedRow policy pid → (before : List Mark) (mark : Mark) (trace new : Trace) (recorded : Recorded) → (mark ≡ House HouseIn → ⊥) → OneMore before mark trace new → Going (log_of_journal setting before) trace recorded → SentSo trace.forwarding_state.greeted (bytes_of HOUSE before)
       → Inv setting (mark ∷ before) new
-  step heard before (Waits waiting want streams accepts) trace new recorded other one g said = other-mark before (Waits waiting want streams accepts) trace new recorded one g said refl tt tt
+  step heard before (Waits waiting want streams shown) trace new recorded other one g said = other-mark before (Waits waiting want streams shown) trace new recorded one g said refl tt tt
   step heard before (Accepts k) trace new recorded other one g said = other-mark before (Accepts k) trace new recorded one g said refl tt (client-other k one.lawful.1, tt)
   step heard before (Gets t bytes) trace new recorded other one g said = gets-mark heard before t bytes trace new recorded one g said
   step heard before (Ends t) trace new recorded other one g said = ends-mark before t trace new recorded one g said
   step heard before (Frees t) trace new recorded other one g said = other-mark before (Frees t) trace new recorded one g said refl (if-calm t (Turns (Writable t)) tt) tt
   step heard before (Fails t) trace new recorded other one g said = fails-mark before t trace new recorded one g said
-  step heard before (Takes t bytes) trace new recorded other one g said = takes-mark before t bytes trace new recorded one g said
+  step heard before (Takes t bytes accepts) trace new recorded other one g said = takes-mark before t bytes accepts trace new recorded one g said
   step heard before (Holds t) trace new recorded other one g said = other-mark before (Holds t) trace new recorded one g said refl tt tt
   step heard before (WriteFails t) trace new recorded other one g said = write-fails-mark before t trace new recorded one g said
   step heard before (Joins l t) trace new recorded other one g said = other-mark before (Joins l t) trace new recorded one g said refl (tt, tt) tt
@@ -452,7 +453,7 @@ module _ (policy : Policy) (pid : ℕ) (picks : List ℕ) (given : List HouseRep
       let p = past-items (items_in before mark) (log_of_journal setting before) (record { ended = ended; kept = kept }) in Past p.ended p.kept
   next heard before mark trace new other one (Here recorded g said) = step heard before mark trace new recorded other one g said
 
-  -- ---- the house is let in
+  -- ---- the forwarder is let in
 
   first-own : List Row
   first-own = plain_row (Admit HOUSE) HOUSE [] (frame_answer (Greets VERSION) ∷ []) ∷ []
@@ -486,8 +487,8 @@ module _ (policy : Policy) (pid : ℕ) (picks : List ℕ) (given : List HouseRep
     phase = (no-grant, record { channels = refl; asked = refl; forwardings = refl; silent = refl });
   }
 
-  -- the house began with some forwardings, and then it is let in
-  let-in : (starts : Starts) (trace : Trace) → Reaches first_trace (Begins starts ∷ []) trace → Inv setting (House HouseIn ∷ []) trace
+  -- the forwarder began with some forwardings, and then it is let in
+  let-in : (starts : Starts) (trace : Trace) → TraceReaches first_trace (Begins starts ∷ []) trace → Inv setting (House HouseIn ∷ []) trace
   let-in starts trace reached =
       let c = calms first-own (Begins starts ∷ []) first_trace trace (tt, tt) (record { relay_traces = tt; past = tt }) reached in
       Here first-recorded (subst (λ (rows : List Row). Going rows trace first-recorded) (sym first-log) (c.goes first-recorded first-going))
@@ -505,7 +506,7 @@ module _ (policy : Policy) (pid : ℕ) (picks : List ℕ) (given : List HouseRep
     pub small : AtEach HeldSmall (log_of_journal setting journal)
     pub within : is_accepted HOUSE journal ≡ true
     pub starts : Starts
-    pub reached : Reaches first_trace (Begins starts ∷ calls_in setting journal) trace
+    pub reached : TraceReaches first_trace (Begins starts ∷ calls_in setting journal) trace
 
   same-house : (mark : HouseMark) (before : List Mark) → (House mark ≡ House HouseIn → ⊥) → is_accepted HOUSE (House mark ∷ before) ≡ is_accepted HOUSE before
   same-house HouseIn before other = absurd (other refl)
@@ -571,7 +572,7 @@ module _ (policy : Policy) (pid : ℕ) (picks : List ℕ) (given : List HouseRep
   ends-unlost journal trace (Past ended kept) = kept
   ends-unlost journal trace (Here recorded g said) = in-kept (rows_of HOUSE (log_of_journal setting journal)) g.inside
 
-  -- ---- a house that was not let in has no rows
+  -- ---- a forwarder that was not let in has no rows
 
   Nobody : List Row → Type 0
   Nobody rows = rows_of HOUSE rows ≡ []
@@ -625,9 +626,9 @@ module _ (policy : Policy) (pid : ℕ) (picks : List ℕ) (given : List HouseRep
       nobody-others (items_in before (Ends t)) (log_of_journal setting before) (ends-other t (parse InProxy (bytes_of 0 before)).rest (is_server t) (is_own_stream t) named) none
   nobody-mark before (Fails t) other lawful named out none = nobody-others (items_in before (Fails t)) (log_of_journal setting before) (fails-other t (is_server t) (is_own_stream t) named) none
   nobody-mark before (WriteFails t) other lawful named out none = nobody-others (items_in before (WriteFails t)) (log_of_journal setting before) (fails-other t (is_server t) (is_own_stream t) named) none
-  nobody-mark before (Takes t bytes) other lawful named out none = nobody-others (items_in before (Takes t bytes)) (log_of_journal setting before) (takes-other t (length bytes) (is_own_stream t) named) none
+  nobody-mark before (Takes t bytes accepts) other lawful named out none = nobody-others (items_in before (Takes t bytes accepts)) (log_of_journal setting before) (takes-other t (length bytes) (is_own_stream t) named) none
   nobody-mark before (House mark) other lawful named out none = nobody-house before mark (λ e. other (ap House e)) lawful named out none
-  nobody-mark before (Waits waiting want streams accepts) other lawful named out none = none
+  nobody-mark before (Waits waiting want streams shown) other lawful named out none = none
   nobody-mark before (Frees t) other lawful named out none = none
   nobody-mark before (Holds t) other lawful named out none = none
   nobody-mark before (Joins l t) other lawful named out none = none
@@ -657,26 +658,26 @@ module _ (policy : Policy) (pid : ℕ) (picks : List ℕ) (given : List HouseRep
   unfolding Nobody
   unlost journal lawful others out = ap is_lost (nobody journal lawful others out)
 
-  -- no mark names the house, whose calls greet first
-  names-others : (journal : List Mark) → Throughout IsOfOthers journal → Throughout (AnswersDeferred setting) journal → GreetsFirst (calls_in setting journal) → Throughout NamesOthers journal
+  -- no mark names the forwarder, whose calls greet first
+  names-others : (journal : List Mark) → Throughout IsOfOthers journal → Throughout (AnswersOpen setting) journal → GreetsFirst (calls_in setting journal) → Throughout NamesOthers journal
   names-others [] others answered greets = tt
   names-others (mark ∷ before) others answered greets = (by_mark mark others.0 answered.0, names-others before others.1 answered.1 earlier)
     where
       earlier : GreetsFirst (calls_in setting before)
       earlier = greets-before (calls_in setting before) (calls_at setting before mark) greets
 
-      by_client : (client id : ℕ) → IsTrue (list_any (is_deferred client id) (asked_of (log_of_journal setting before))) → (b : Bool) → (client == HOUSE) ≡ b → b ≡ false
+      by_client : (client id : ℕ) → IsTrue (list_any (is_deferred client id) (asks_of_rows (log_of_journal setting before))) → (b : Bool) → (client == HOUSE) ≡ b → b ≡ false
       by_client client id due false e = refl
       by_client client id due true e =
           let same : client ≡ HOUSE = eqb-true client HOUSE e in
           let none = house-unasked policy pid picks given before others.1 earlier id in
-          absurd (let bad : true ≡ false = sym due ∙ (ap (λ (k : ℕ). list_any (is_deferred k id) (asked_of (log_of_journal setting before))) same ∙ none) in cc)
+          absurd (let bad : true ≡ false = sym due ∙ (ap (λ (k : ℕ). list_any (is_deferred k id) (asks_of_rows (log_of_journal setting before))) same ∙ none) in cc)
 
-      by_house : (mark : HouseMark) → AnswersDeferred setting before (House mark) → NamesOthers before (House mark)
-      by_house (HouseAnswer client id reply) due = by_client client id due (client == HOUSE) refl
+      by_house : (mark : HouseMark) → AnswersOpen setting before (House mark) → NamesOthers before (House mark)
+      by_house (HouseAnswer client id reply) due = by_client client id (answer-deferred setting before client id reply due) (client == HOUSE) refl
       by_house mark due = refl
 
-      by_mark : (mark : Mark) → IsOfOthers before mark → AnswersDeferred setting before mark → NamesOthers before mark
+      by_mark : (mark : Mark) → IsOfOthers before mark → AnswersOpen setting before mark → NamesOthers before mark
       by_mark (House mark) other due = by_house mark due
       by_mark mark other due = other
 

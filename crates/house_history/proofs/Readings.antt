@@ -33,7 +33,7 @@ use Rattle.house_relay.specs.declared.relay.Outgoing.TheVariants.{Open, Confirma
 use Rattle.house_relay.specs.declared.relay.Socket.{Socket}
 use Rattle.house_relay.specs.declared.relay.Socket.TheVariants as socket
 use Rattle.house_forward.specs.Forwardings.{has_request}
-use Rattle.house_forward.specs.Said.{framed, direct, confirmed, not_connected, requested, request_payload, request_name, request_port, payload_of, payload_in, in_live, in_offer}
+use Rattle.house_forward.specs.Said.{framed, direct, confirmed, not_connected, requested, request_payload, request_name, request_port, payload_of, said_payload_in, in_live, in_offer}
 use Rattle.house_forward.specs.declared.forwarding.Forwarding.{Forwarding}
 use Rattle.house_forward.specs.declared.forwarding.Stage.{Stage}
 use Rattle.house_forward.specs.declared.forwarding.Stage.TheVariants.{ToListen, Ordered, Listening, ToRequest, Requested, Live as ServedOn, Cancelling}
@@ -235,11 +235,11 @@ live-reads remote held (Adjust n) h there fits = reads-as (full.To remote (full.
 
 -- ---- any
 
-reads-in : (line : ChannelState) (r : Relay) (s : Outgoing) → sends_in line r ≡ Some s → r.number < 2 ^ 32 → SmallIn line → length (framed (payload_in line r s)) ≤ 65536 → ReadsIn line r.number s (payload_in line r s)
+reads-in : (line : ChannelState) (r : Relay) (s : Outgoing) → sends_in line r ≡ Some s → r.number < 2 ^ 32 → SmallIn line → length (framed (said_payload_in line r s)) ≤ 65536 → ReadsIn line r.number s (said_payload_in line r s)
 reads-in (Dialing dialog) r s e here there fits = absurd (cc)
 reads-in (Asked host port version) r s e here there fits = open-says s e fits
   where
-    open-says : (s : Outgoing) → Some Open ≡ Some s → length (framed (payload_in (Asked host port version) r s)) ≤ 65536 → ReadsOpen r.number s (payload_in (Asked host port version) r s)
+    open-says : (s : Outgoing) → Some Open ≡ Some s → length (framed (said_payload_in (Asked host port version) r s)) ≤ 65536 → ReadsOpen r.number s (said_payload_in (Asked host port version) r s)
     open-says s e fits = open-reads r.number host port s e here fits
 reads-in (Opened version) r s e here there fits = absurd (cc)
 reads-in (Offered remote window maximum) r s e here there fits = offer-reads remote r.number s (subst OfferSends e (offer-says r.socket)) there here

@@ -11,7 +11,7 @@ use Rattle.ssh_grammar.specs.IsMessage.{Spells}
 use Rattle.ssh_grammar.specs.Messages.{Opens}
 use Rattle.ssh_grammar.specs.Messages as full
 use Rattle.ssh_grammar.specs.ReadMessage.{Form, OfChannel, OfNone, OfPlain, Reading, forms, read_as, read_message, with_reading}
-use Rattle.ssh_grammar.specs.SpellMessage.{in_payload, open_failure, recipient_place, request_failure, too_many_channels, with_number, with_recipient}
+use Rattle.ssh_grammar.specs.SpellMessage.{in_payload, open_failure, recipient_place, request_failure, too_many_channels, payload_with_number, with_recipient}
 use Rattle.ssh_grammar.specs.Tables.{by_number}
 use Rattle.ssh_grammar.specs.declared.fault.Bad.{Bad}
 use Rattle.ssh_grammar.specs.declared.numbers.TheConstants.{DISCONNECT, RESOURCE_SHORTAGE}
@@ -20,7 +20,7 @@ use Rattle.ssh_grammar.proofs.MessageReads.{reads_is_spelled}
 use Rattle.ssh_grammar.proofs.MessageSpelled.{spelled_reads}
 use Rattle.mux_history.specs.declared.limits.TheConstants.{HOUSE, MAX_CHANNELS}
 use Rattle.mux_history.specs.declared.why.Why.{Why}
-use Rattle.mux_history.specs.Channels.{Channel, channels_of, held_of, holder, is_confirmed, is_confirms, is_fails, is_held, is_number, is_up, live_in}
+use Rattle.mux_history.specs.Channels.{Channel, channels_of, held_of, holder, is_confirmed, is_confirms, is_fails, is_channel_held, is_number, is_up, live_in}
 use Rattle.mux_history.specs.Farewell.{farewell}
 use Rattle.mux_history.specs.Forwardings.{live_at}
 use Rattle.mux_history.specs.Summary.{Act, Answers, Asks, Carries, Closes, Confirmation, Confirms, Ends as EndsData, Fails, Summary, Grants, Open, Refuses, Requests, Succeeds, Transport, Within, summary, read_summary, reading}
@@ -112,13 +112,13 @@ others-go row rows trace recorded most other unended going =
 
 holder-local : (k : ℕ) (rows : List Row) (n : ℕ) (x : Channel) → holder rows n ≡ Some x → x.client ≡ k → holder (rows_of k rows) n ≡ Some x
 holder-local k rows n x is mine =
-    ap (λ (cs : List Channel). find (λ (y : Channel). is_number y.number n) (filter is_held cs)) (sym (channels-local k rows))
-    ∙ find-part is_held (is_of k) (λ (y : Channel). is_number y.number n) x (channels_of rows) is (ap (λ (i : ℕ). i == k) mine ∙ same-at k)
+    ap (λ (cs : List Channel). find (λ (y : Channel). is_number y.number n) (filter is_channel_held cs)) (sym (channels-local k rows))
+    ∙ find-part is_channel_held (is_of k) (λ (y : Channel). is_number y.number n) x (channels_of rows) is (ap (λ (i : ℕ). i == k) mine ∙ same-at k)
 
 young-holds : (rows : List Row) (n : ℕ) → IsYoung (rows_of HOUSE rows) → Reached rows n HOUSE → ⊥
 young-holds rows n young r =
     let at = holder-local HOUSE rows n r.channel r.is r.client in
-    let none : holder (rows_of HOUSE rows) n ≡ None = ap (λ (cs : List Channel). find (λ (y : Channel). is_number y.number n) (filter is_held cs)) young.channels in
+    let none : holder (rows_of HOUSE rows) n ≡ None = ap (λ (cs : List Channel). find (λ (y : Channel). is_number y.number n) (filter is_channel_held cs)) young.channels in
     let bad : Some r.channel ≡ None = sym at ∙ none in
     absurd cc
 
@@ -409,9 +409,9 @@ recipient-fits n OfNone rest r m e = cc
 message-length : (p : List ℕ) (m : full.Message) (c : ℕ) → read_message p ≡ Ok m → length (with_recipient p c) ≡ length p
 message-length p m c e =
     let at : in_payload recipient_place p ≡ recipient_place m = ap (λ (r : Result full.Message Bad). elim r as (λ _. Option ℕ) [ Err x ↦ None | Ok m ↦ recipient_place m ]) e in
-    ap (λ (o : Option ℕ). length (with_number p o c)) at ∙ by_message p m e
+    ap (λ (o : Option ℕ). length (payload_with_number p o c)) at ∙ by_message p m e
   where
-    by_message : (p : List ℕ) (m : full.Message) → read_message p ≡ Ok m → length (with_number p (recipient_place m) c) ≡ length p
+    by_message : (p : List ℕ) (m : full.Message) → read_message p ≡ Ok m → length (payload_with_number p (recipient_place m) c) ≡ length p
     by_message p (full.Plain m) e = refl
     by_message [] (full.To r m) e = cc
     by_message (n ∷ rest) (full.To r m) e =
@@ -583,8 +583,8 @@ each-part {X} P held mine (x ∷ xs) all = go (each-part P held mine xs) (mine x
 
 none-remote : (k : ℕ) (rows : List Row) (s : ℕ) → live_in rows s ≡ None → Each (λ (z : Channel). is_number z.remote s ≡ false) (held_of (rows_of k rows))
 none-remote k rows s unused =
-    subst (λ (cs : List Channel). Each (λ (z : Channel). is_number z.remote s ≡ false) (filter is_held cs)) (channels-local k rows)
-    (each-part (λ (z : Channel). is_number z.remote s ≡ false) is_held (is_of k) (channels_of rows) (none-pass (λ (z : Channel). is_number z.remote s) (held_of rows) unused))
+    subst (λ (cs : List Channel). Each (λ (z : Channel). is_number z.remote s ≡ false) (filter is_channel_held cs)) (channels-local k rows)
+    (each-part (λ (z : Channel). is_number z.remote s ≡ false) is_channel_held (is_of k) (channels_of rows) (none-pass (λ (z : Channel). is_number z.remote s) (held_of rows) unused))
 
 forwarder_event-open : (rows : List Row) (p : List ℕ) (what : Opens) (s w m : ℕ) → is_lost (rows_of HOUSE rows) ≡ false → AreBytes p → 1 ≤ length p → length p + 1 ≤ 262144
     → read_summary p ≡ Ok (Open what s w m) → live_in rows s ≡ None → ForwarderEvent (rows_of HOUSE rows) p

@@ -23,7 +23,7 @@ use Rattle.proxy_frames.specs.declared.next.Next.TheVariants as next
 use Rattle.mux_outside.specs.HouseCalls.{Receives}
 use Rattle.mux_history.specs.Pending.{joined}
 use Rattle.house_forward.specs.Forwardings.{served_at}
-use Rattle.house_forward.specs.RelayTraces.{Trace, Follows, ReceivesAt, ReceivesFrame, ReceivesFrames, ReceivesMessage, ReceivesReading, OpensFor, cut_off, is_grant, with_received}
+use Rattle.house_forward.specs.RelayTraces.{Trace, Follows, RelayReceivesAt, ReceivesFrame, RelaysReceiveFrames, ReceivesMessage, ReceivesReading, OpensFor, cut_off, is_grant, with_received}
 use Rattle.house_forward.specs.declared.forwarding.Forwarding.{Forwarding}
 use Rattle.house_forward.specs.declared.forwarder_state.Stage.{Stage}
 use Rattle.house_forward.specs.declared.forwarder_state.Stage.TheVariants.{Control, Proxy}
@@ -228,7 +228,7 @@ record Leaves (old new : Trace) : Type 0 where
 leaves : (old to new : Trace) → new ≡ to → to.framer ≡ old.framer → to.stage ≡ old.stage → Leaves old new
 leaves old to new e f s = record { framer = ap (λ (c : Trace). c.framer) e ∙ f; stage = ap (λ (c : Trace). c.stage) e ∙ s }
 
-at-leaves : (n : ℕ) (m : Message) (old new : Trace) → ReceivesAt n m old new → Leaves old new
+at-leaves : (n : ℕ) (m : Message) (old new : Trace) → RelayReceivesAt n m old new → Leaves old new
 at-leaves n m old new (inl h) = leaves old _ new h.2 refl refl
 at-leaves n m old new (inr h) = leaves old old new h.1 refl refl
 
@@ -422,7 +422,7 @@ step c middle pending t content rest r e h = by_stage c.stage refl (recorded-fro
           ungranted = λ u. absurd (subst (λ (x : Stage). Ungranted x t) s u);
         }
 
-runs : (contents : List (List ℕ)) (c new : Trace) (pending : List ℕ) (t : Recorded) → Ready c pending t → ReceivesFrames contents c new → Heard c new pending t
+runs : (contents : List (List ℕ)) (c new : Trace) (pending : List ℕ) (t : Recorded) → Ready c pending t → RelaysReceiveFrames contents c new → Heard c new pending t
 runs [] c new pending t r h = stays c new pending t r h.0 h.1
 runs (content ∷ more) c new pending t r h =
     let s = step c h.2.0 pending t content h.0 r h.1 h.2.1 in

@@ -6,7 +6,7 @@ use Rattle.std.proofs.lemmas.List.{map-append}
 use Rattle.ssh_grammar.specs.declared.side.Side.{Side}
 use Rattle.ssh_grammar.specs.declared.side.Side.TheVariants.{Up, Down}
 use Rattle.ssh_grammar.specs.declared.fault.Breach.TheVariants.{NotOpen}
-use Rattle.mux_history.specs.Channels.{Channel, any_act, any_by, is_closes, is_confirmed, is_confirms, is_fails, is_held, is_number, is_up}
+use Rattle.mux_history.specs.Channels.{Channel, any_act, any_by, is_closes, is_confirmed, is_confirms, is_fails, is_channel_held, is_number, is_up}
 use Rattle.mux_history.specs.Summary.{Act, Answers, Asks, Carries, Closes, Confirms, Ends, Fails, Grants}
 use Rattle.mux_history.specs.Laws.{with_act}
 use Rattle.mux_history.specs.Ledger.{answered, breach, carried, sum_of}
@@ -98,7 +98,7 @@ fits-one hs c x (IsLive a) own fits = subst (λ (y : Channel). IsAccount y a) (s
 -- a channel of this number, and its entry
 record Meets (fs bs : List Channel) (x : Channel) (c : ℕ) (es gs : List Entry) (v : View) : Type 0 where
   own : x.own ≡ Some c
-  held : is_held x ≡ true
+  held : is_channel_held x ≡ true
   none : Each (λ (y : Channel). owned-at c y ≡ false) fs
   more : Each (λ (y : Channel). owned-at c y ≡ false) bs
   front : AreFree c es
@@ -114,7 +114,7 @@ meets fs bs x c es gs v good own fit =
     let o = others-of es (Some c, v) gs fit.apart in
     record {
       own = own;
-      held = (each-behind (λ (y : Channel). is_held y ≡ true) fs (x ∷ bs) good.held).0;
+      held = (each-behind (λ (y : Channel). is_channel_held y ≡ true) fs (x ∷ bs) good.held).0;
       none = none;
       more = each-of (Far x) (λ (y : Channel). owned-at c y ≡ false) apart bs (far-behind fs bs x good.far);
       front = free-of c v es o.front;
@@ -143,11 +143,11 @@ held-closes true u d h = absurd (let bad : false ≡ true = h in cc)
 held-closes false true d h = refl
 held-closes false false d h = refl
 
-closes-held : (x : Channel) (a : Acct) → is_held x ≡ true → IsAccount x a → is_held (with_act Down Closes x) ≡ not a.close_sent
+closes-held : (x : Channel) (a : Acct) → is_channel_held x ≡ true → IsAccount x a → is_channel_held (with_act Down Closes x) ≡ not a.close_sent
 closes-held x a held is = held-closes (any_act is_fails x.acts) (any_by Up is_closes x.acts) (any_by Down is_closes x.acts) held ∙ ap (λ (b : Bool). not b) is.closed
 
 goes-on : (act : Act) (fs bs : List Channel) (x : Channel) (c : ℕ) (es gs : List Entry) (a : Acct) → Meets fs bs x c es gs (IsLive a) → is_confirms act ≡ false → breach Down act x ≡ None
-    → is_held (with_act Down act x) ≡ true → Fit (fs ++ kept (with_act Down act x) bs) (es ++ (Some c, IsLive (receives act a)) ∷ gs)
+    → is_channel_held (with_act Down act x) ≡ true → Fit (fs ++ kept (with_act Down act x) bs) (es ++ (Some c, IsLive (receives act a)) ∷ gs)
 goes-on act fs bs x c es gs a m plain fine held =
     let x' = with_act Down act x in
     subst (λ (l : List Channel). Fit (fs ++ l) (es ++ (Some c, IsLive (receives act a)) ∷ gs)) (sym (kept-held x' bs held))

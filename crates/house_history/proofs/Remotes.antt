@@ -17,7 +17,7 @@ use Rattle.ssh_grammar.specs.ReadMessage.{read_message}
 use Rattle.ssh_grammar.specs.Said.{BadFraming, Body, InControl, InProxy, Mode, Payload, Outgoing, Stopped, first_in, mode_after, parse, parse_by, parse_front, said, sending_in}
 use Rattle.ssh_grammar.proofs.MessageReads.{reads_is_spelled}
 use Rattle.mux_history.specs.declared.limits.TheConstants.{HOUSE}
-use Rattle.mux_history.specs.Channels.{Channel, after_farewell, after_item, begun_by, channels_of, received_by, held_of, is_held, is_number, opened_down, opened_up, own_of, with_down, with_up, with_ups}
+use Rattle.mux_history.specs.Channels.{Channel, after_farewell, after_item, begun_by, channels_of, received_by, held_of, is_channel_held, is_number, opened_down, opened_up, own_number_of, with_down, with_up, with_ups}
 use Rattle.mux_history.specs.Choices.{FromLists, pick_of, replies_given, reply_at, with_reply}
 use Rattle.mux_history.specs.Controls.{body_asks, greeted}
 use Rattle.mux_history.specs.Summary.{Confirmation, Confirms, Summary, Open, Within, summary, read_summary, reading}
@@ -131,7 +131,7 @@ items-bytes before (wire.Gets stream bytes) all lawful =
 items-bytes before (wire.Ends stream) all lawful = gone-or stream (server_end (parse InProxy (bytes_of 0 before)).rest) (end-bytes (parse InProxy (bytes_of 0 before)).rest)
 items-bytes before (wire.Fails stream) all lawful = gone-or stream ServerFailed tt
 items-bytes before (wire.WriteFails stream) all lawful = gone-or stream ServerFailed tt
-items-bytes before (wire.Takes stream bytes) all lawful = unless-bytes stream _ (tt, tt)
+items-bytes before (wire.Takes stream bytes accepts) all lawful = unless-bytes stream _ (tt, tt)
 items-bytes before (wire.House HouseIn) all lawful = (tt, tt)
 items-bytes before (wire.House (HouseSaid bytes)) all lawful = new-said HOUSE before bytes all lawful.3
 items-bytes before (wire.House (HouseTook size)) all lawful = (tt, tt)
@@ -212,8 +212,8 @@ small-read p f x each small = by_case (read_summary p) refl
     by_case (Ok m) reads = each m reads
 
 small-up : (own : Option ℕ) (m : Summary) (x : Channel) → IsSmallChannel x → IsSmallChannel (with_up own m x)
-small-up own (Confirmation s n w max) x small = elim (is_number x.remote s && is_held x) as (λ b. IsSmallChannel (elim b as (λ _. Channel) [ true ↦ record x { own = own; number = Some n; acts = (Up, Confirms w max) ∷ x.acts } | false ↦ x ])) [ true ↦ small | false ↦ small ]
-small-up own (Within s act) x small = elim (is_number x.remote s && is_held x) as (λ b. IsSmallChannel (elim b as (λ _. Channel) [ true ↦ record x { acts = (Up, act) ∷ x.acts } | false ↦ x ])) [ true ↦ small | false ↦ small ]
+small-up own (Confirmation s n w max) x small = elim (is_number x.remote s && is_channel_held x) as (λ b. IsSmallChannel (elim b as (λ _. Channel) [ true ↦ record x { own = own; number = Some n; acts = (Up, Confirms w max) ∷ x.acts } | false ↦ x ])) [ true ↦ small | false ↦ small ]
+small-up own (Within s act) x small = elim (is_number x.remote s && is_channel_held x) as (λ b. IsSmallChannel (elim b as (λ _. Channel) [ true ↦ record x { acts = (Up, act) ∷ x.acts } | false ↦ x ])) [ true ↦ small | false ↦ small ]
 small-up own m x small = small
 
 small-ups : (own : Option ℕ) (ps : List (List ℕ)) (x : Channel) → IsSmallChannel x → IsSmallChannel (with_ups own ps x)
@@ -224,8 +224,8 @@ said-small : (p : List ℕ) (n s w max t : ℕ) → AreBytes p → read_summary 
 said-small p n s w max t bytes reads e = own-small p (Confirmation n s w max) t bytes reads e
 
 small-down : (p : List ℕ) (m : Summary) (x : Channel) → AreBytes p → read_summary p ≡ Ok m → IsSmallChannel x → IsSmallChannel (with_down m x)
-small-down p (Confirmation n s w max) x bytes reads small = elim (is_number x.number n && is_held x) as (λ b. IsSmallChannel (elim b as (λ _. Channel) [ true ↦ record x { remote = Some s; acts = (Down, Confirms w max) ∷ x.acts } | false ↦ x ])) [ true ↦ ((λ t e. said-small p n s w max t bytes reads e), small.1) | false ↦ small ]
-small-down p (Within n act) x bytes reads small = elim (is_number x.number n && is_held x) as (λ b. IsSmallChannel (elim b as (λ _. Channel) [ true ↦ record x { acts = (Down, act) ∷ x.acts } | false ↦ x ])) [ true ↦ small | false ↦ small ]
+small-down p (Confirmation n s w max) x bytes reads small = elim (is_number x.number n && is_channel_held x) as (λ b. IsSmallChannel (elim b as (λ _. Channel) [ true ↦ record x { remote = Some s; acts = (Down, Confirms w max) ∷ x.acts } | false ↦ x ])) [ true ↦ ((λ t e. said-small p n s w max t bytes reads e), small.1) | false ↦ small ]
+small-down p (Within n act) x bytes reads small = elim (is_number x.number n && is_channel_held x) as (λ b. IsSmallChannel (elim b as (λ _. Channel) [ true ↦ record x { acts = (Down, act) ∷ x.acts } | false ↦ x ])) [ true ↦ small | false ↦ small ]
 small-down p m x bytes reads small = small
 
 small-heard : (item : Item) (x : Channel) → HasBytes item → IsSmallChannel x → IsSmallChannel (received_by item x)
@@ -233,8 +233,8 @@ small-heard (Heard p) x bytes small = small-read p (λ m. with_down m x) x (λ m
 small-heard item x bytes small = small
 
 small-item : (row : Row) → RowBytes row → (x : Channel) → IsSmallChannel x → IsSmallChannel (after_item row x)
-small-item row bytes x small = elim (x.client == row.client) as (λ b. IsSmallChannel (elim b as (λ _. Channel) [ true ↦ with_ups (own_of row.item) row.up (received_by row.item x) | false ↦ x ]))
-    [ true ↦ small-ups (own_of row.item) row.up (received_by row.item x) (small-heard row.item x bytes small) | false ↦ small ]
+small-item row bytes x small = elim (x.client == row.client) as (λ b. IsSmallChannel (elim b as (λ _. Channel) [ true ↦ with_ups (own_number_of row.item) row.up (received_by row.item x) | false ↦ x ]))
+    [ true ↦ small-ups (own_number_of row.item) row.up (received_by row.item x) (small-heard row.item x bytes small) | false ↦ small ]
 
 small-farewell : (row : Row) (x : Channel) → IsSmallChannel x → IsSmallChannel (after_farewell row x)
 small-farewell row x small = elim (x.client == row.client) as (λ b. IsSmallChannel (elim b as (λ _. Channel) [ true ↦ with_ups None row.farewell x | false ↦ x ]))
@@ -281,8 +281,8 @@ channels-small (row ∷ before) all =
     (small-begun row.client row.up row.item all.0))
 
 pub held-small : (k : ℕ) (rows : List Row) → Each RowBytes rows → Each IsSmallChannel (held_of (rows_of k rows))
-held-small k rows all = subst (λ (xs : List Channel). Each IsSmallChannel (filter is_held xs)) (channels-local k rows)
-    (each-filter IsSmallChannel is_held (filter (is_of k) (channels_of rows)) (each-filter IsSmallChannel (is_of k) (channels_of rows) (channels-small rows all)))
+held-small k rows all = subst (λ (xs : List Channel). Each IsSmallChannel (filter is_channel_held xs)) (channels-local k rows)
+    (each-filter IsSmallChannel is_channel_held (filter (is_of k) (channels_of rows)) (each-filter IsSmallChannel (is_of k) (channels_of rows) (channels-small rows all)))
 
 at-small : (rows : List Row) → Each RowBytes rows → AtEach (λ rows. Each IsSmallChannel (held_of (rows_of HOUSE rows))) rows
 at-small [] all = held-small HOUSE [] all

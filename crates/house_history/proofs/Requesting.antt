@@ -11,9 +11,9 @@ use Rattle.house_forward.specs.ForwarderEvents.{ForwarderEvent, Does, Leave}
 use Rattle.house_forward.specs.ForwarderEvents.{Begins, Asks, Answers, Greets, Requests, Replies, Listens as ListensAt, Unlistens}
 use Rattle.house_forward.specs.ForwardingState.{ForwardingState, request_sent, reply_received, standing_at}
 use Rattle.house_forward.specs.Asks.{turns_away}
-use Rattle.house_forward.specs.Forwardings.{Begins as BeginsAt, StartsIf, Standing, Opens, counts, how_many, is_new, has_request, requests_at, request_of, request_at, after_sending, changed, stage_after, closing_after, standing, closes_of, after_close, EndsLeave, ComesIf, ComesUnless, is_asked, asks_at, is_cancelled, cancels_at, replied_all, removed_at, first_of, has_listener}
-use Rattle.house_forward.specs.RelayTraces.{Trace, Reaches, first_trace}
-use Rattle.house_forward.specs.Rules.{is_refused_alone, listens_here}
+use Rattle.house_forward.specs.Forwardings.{Begins as BeginsAt, StartsIf, Standing, Opens, counts, how_many, is_new, has_request, requests_at, forwarding_request_of, forwarding_request_at, after_sending, changed, stage_after, closing_after, standing, closes_of, after_close, EndsLeave, ComesIf, ComesUnless, is_asked, asks_at, is_cancelled, cancels_at, replied_all, removed_at, first_of, has_listener}
+use Rattle.house_forward.specs.RelayTraces.{Trace, TraceReaches, first_trace}
+use Rattle.house_forward.specs.Rules.{listens_here, is_ruled_out, rules_of}
 use Rattle.house_forward.specs.declared.asks.Asked.{Asked as Comes}
 use Rattle.house_forward.specs.declared.asks.Asked.TheVariants.{Now, Later}
 use Rattle.house_forward.specs.declared.forwarding.Change.{Change}
@@ -24,6 +24,7 @@ use Rattle.house_forward.specs.declared.forwarding.ForwardingRequest.TheVariants
 use Rattle.house_forward.specs.declared.forwarding.Stage.{Stage}
 use Rattle.house_forward.specs.declared.forwarding.Stage.TheVariants.{ToListen, Ordered, Listening, ToRequest, Requested, Live, Cancelling}
 use Rattle.house_forward.specs.declared.rules.Ends.{Ends}
+use Rattle.house_forward.specs.declared.rules.ListenRules.{ListenRules}
 use Rattle.house_forward.specs.declared.rules.TheConstants.{MOST_FORWARDINGS}
 use Rattle.house_forward.proofs.Causing.{Knows, knows, in-range, there-is, found as is-found}
 use Rattle.house_forward.proofs.Doing.{each-happens}
@@ -31,7 +32,7 @@ use Rattle.house_forward.proofs.Members.{In, in-map, in-filter, in-all, found-in
 use Rattle.house_forward.proofs.Resolving.{MadeOf, listener-made, tracks}
 use Rattle.house_forward.proofs.Serving.{StageFits, Stands}
 use Rattle.house_forward.proofs.Tracking.{Tracks, one-serial}
-use Rattle.house_forward.proofs.Wanting.{Wants, wants, IsOf}
+use Rattle.house_forward.proofs.Wanting.{Wants, wants, IsOfStream}
 
 -- ---- those of a list, each once, are no more than another list has
 
@@ -171,20 +172,20 @@ opens-few true ends serial start old new room o few =
     let more = few-push old o.0 in
     subst (λ (fs : List Forwarding). how_many fs ≤ 64) (sym o.2) (omega (arith, less, more))
 
-starts-few : (b gateway : Bool) (ask : StartAsk) (i : ℕ) (old new : Standing) → StartsIf b gateway ask i old new → how_many old.all ≤ 64
+starts-few : (b : Bool) (rules : ListenRules) (ask : StartAsk) (i : ℕ) (old new : Standing) → StartsIf b rules ask i old new → how_many old.all ≤ 64
     → how_many new.all ≤ 64
-starts-few true gateway ask i old new s few = subst (λ (t : Standing). how_many t.all ≤ 64) (sym s) few
-starts-few false gateway ask i old new s few =
+starts-few true rules ask i old new s few = subst (λ (t : Standing). how_many t.all ≤ 64) (sym s) few
+starts-few false rules ask i old new s few =
     opens-few _ s.0 old.serials (Some i) old.all new.all (λ e. room-for s.0 old.all (standing s.0 old.all) e) s.2.all few
 
-begins-few : (gateway : Bool) (asks : List StartAsk) (i : ℕ) (old new : Standing) → i ≤ length asks → BeginsAt gateway asks i old new
+begins-few : (rules : ListenRules) (asks : List StartAsk) (i : ℕ) (old new : Standing) → i ≤ length asks → BeginsAt rules asks i old new
     → how_many old.all ≤ 64 → how_many new.all ≤ 64
-begins-few gateway asks zero old new l b few = subst (λ (t : Standing). how_many t.all ≤ 64) (sym b) few
-begins-few gateway asks (suc i) old new l b few =
-    let first = begins-few gateway asks i old b.0 (omega arith) b.1 few in
+begins-few rules asks zero old new l b few = subst (λ (t : Standing). how_many t.all ≤ 64) (sym b) few
+begins-few rules asks (suc i) old new l b few =
+    let first = begins-few rules asks i old b.0 (omega arith) b.1 few in
     let at = in-range asks i (omega arith) in
-    let starts = there-is (λ (ask : StartAsk). StartsIf (is_refused_alone ask) gateway ask i b.0 new) (slice_get asks i) at.0 at.1 b.2 in
-    starts-few (is_refused_alone at.0) gateway at.0 i b.0 new starts first
+    let starts = there-is (λ (ask : StartAsk). StartsIf (is_ruled_out rules ask) rules ask i b.0 new) (slice_get asks i) at.0 at.1 b.2 in
+    starts-few (is_ruled_out rules at.0) rules at.0 i b.0 new starts first
 
 -- ---- one that changes
 
@@ -226,15 +227,15 @@ ends-few false serial ends old new h few =
     let less = few-closed (closes_of (standing ends old)) old in
     subst (λ (fs : List Forwarding). how_many fs ≤ 64) (sym h) (omega (arith, less, few))
 
-asked-if : (alone gateway opening : Bool) (ask : StartAsk) (serial : ℕ) (comes : Comes) (old new : List Forwarding)
-    → ComesIf alone gateway opening ask serial old new comes → how_many old ≤ 64 → how_many new ≤ 64
-asked-if true gateway opening ask serial comes old new h few = subst (λ (fs : List Forwarding). how_many fs ≤ 64) (sym h.1) few
-asked-if false gateway opening ask serial comes old new h few = ends-few opening serial h.0 old new h.3 few
+asked-if : (alone : Bool) (rules : ListenRules) (opening : Bool) (ask : StartAsk) (serial : ℕ) (comes : Comes) (old new : List Forwarding)
+    → ComesIf alone rules opening ask serial old new comes → how_many old ≤ 64 → how_many new ≤ 64
+asked-if true rules opening ask serial comes old new h few = subst (λ (fs : List Forwarding). how_many fs ≤ 64) (sym h.1) few
+asked-if false rules opening ask serial comes old new h few = ends-few opening serial h.0 old new h.3 few
 
-asked-unless : (away gateway opening : Bool) (ask : StartAsk) (serial : ℕ) (comes : Comes) (old new : List Forwarding)
-    → ComesUnless away gateway opening ask serial old new comes → how_many old ≤ 64 → how_many new ≤ 64
-asked-unless true gateway opening ask serial comes old new h few = subst (λ (fs : List Forwarding). how_many fs ≤ 64) (sym h.1) few
-asked-unless false gateway opening ask serial comes old new h few = asked-if (is_refused_alone ask) gateway opening ask serial comes old new h few
+asked-unless : (away : Bool) (rules : ListenRules) (opening : Bool) (ask : StartAsk) (serial : ℕ) (comes : Comes) (old new : List Forwarding)
+    → ComesUnless away rules opening ask serial old new comes → how_many old ≤ 64 → how_many new ≤ 64
+asked-unless true rules opening ask serial comes old new h few = subst (λ (fs : List Forwarding). how_many fs ≤ 64) (sym h.1) few
+asked-unless false rules opening ask serial comes old new h few = asked-if (is_ruled_out rules ask) rules opening ask serial comes old new h few
 
 -- ---- those with a request that is unanswered listen at the server
 
@@ -284,7 +285,7 @@ replied-few false port forwarder_events d (Cancel serial ∷ rs) e k t w =
 -- ---- a request is sent
 
 none-yet : (d : ForwardingState) (f : Forwarding) (s : Stage) → f.stage ≡ s → requests_at s f.closing ≡ true → In f d.all → Tracks d → Wants d
-    → In (request_at s f.serial) d.requests → ⊥
+    → In (forwarding_request_at s f.serial) d.requests → ⊥
 none-yet d f (ToListen host) e is here t w h = absurd cc
 none-yet d f Ordered e is here t w h = absurd cc
 none-yet d f (Listening l) e is here t w h = absurd cc
@@ -319,10 +320,10 @@ same-few old new e few h = record { once = subst Once (sym e) h.once; few = few 
 after : (forwarder_event : ForwarderEvent) (forwarder_events : List ForwarderEvent) (old new : ForwardingState) → Knows forwarder_events old → Tracks old → Wants old → Does forwarder_event old new → Few old → Few new
 after (Begins starts) forwarder_events old new k t w d h =
     same-few old new (ap (λ (x : ForwardingState). x.requests) d.others)
-    (begins-few starts.gateway starts.asks (length starts.asks) (standing_at old) (standing_at new) (omega arith) d.begins h.few) h
+    (begins-few (rules_of starts) starts.asks (length starts.asks) (standing_at old) (standing_at new) (omega arith) d.begins h.few) h
 after (Asks client id opening ask answer) forwarder_events old new k t w d h =
     same-few old new (ap (λ (x : ForwardingState). x.requests) d.others)
-    (asked-unless (turns_away client id old.waiting) old.gateway opening ask old.serials d.came_to old.all new.all d.comes h.few) h
+    (asked-unless (turns_away client id old.waiting) old.rules opening ask old.serials d.came_to old.all new.all d.comes h.few) h
 after (Answers client id answer) forwarder_events old new k t w d h =
     same-few old new (ap (λ (x : ForwardingState). x.requests) d.others)
     (subst (λ (fs : List Forwarding). how_many fs ≤ 64) (sym (ap (λ (x : ForwardingState). x.all) d.others)) h.few) h
@@ -330,11 +331,11 @@ after Greets forwarder_events old new k t w d h =
     same-few old new (ap (λ (x : ForwardingState). x.requests) d.1)
     (subst (λ (fs : List Forwarding). how_many fs ≤ 64) (sym (ap (λ (x : ForwardingState). x.all) d.1)) h.few) h
 after (Requests f) forwarder_events old new k t w d h =
-    let less = few-said (request_of f) old.all in
+    let less = few-said (forwarding_request_of f) old.all in
     let few = h.few in
     let is = (is-found (λ (x : Forwarding). Unit {0}) has_request old.all f d.1 (λ i x lt. tt)).1 in
     let got : Few (request_sent f old) = record {
-      once = once-push old.requests (request_of f) h.once (none-yet old f f.stage refl is (found-in has_request f old.all d.1) t w);
+      once = once-push old.requests (forwarding_request_of f) h.once (none-yet old f f.stage refl is (found-in has_request f old.all d.1) t w);
       few = omega (arith, less, few);
     } in
     subst (λ (x : ForwardingState). Few x) (sym d.2) got
@@ -380,7 +381,7 @@ cancels-not Requested e = cc
 cancels-not (Live port) e = cc
 cancels-not (Cancelling port) e = refl
 
-of-one : (forwarder_events : List ForwarderEvent) (d : ForwardingState) (r : ForwardingRequest) → Knows forwarder_events d → IsOf d.all r → In r (map own_of (filter counts d.all))
+of-one : (forwarder_events : List ForwarderEvent) (d : ForwardingState) (r : ForwardingRequest) → Knows forwarder_events d → IsOfStream d.all r → In r (map own_of (filter counts d.all))
 of-one forwarder_events d (Listen n) k h =
     let f = h.0 in
     let is : own_of f ≡ Listen n = ap (λ (b : Bool). own_if b f.serial) h.3 ∙ ap (λ (m : ℕ). Listen m) h.2 in
@@ -402,5 +403,5 @@ few-requests forwarder_events forwarding_state left =
     let many : length (map own_of (filter counts forwarding_state.all)) ≡ how_many forwarding_state.all = length-map (filter counts forwarding_state.all) own_of in
     omega (arith, less, many, few)
 
-pub requests-few : (calls : List HouseCall) (trace : Trace) → Reaches first_trace calls trace → length trace.forwarding_state.requests ≤ 64
+pub requests-few : (calls : List HouseCall) (trace : Trace) → TraceReaches first_trace calls trace → length trace.forwarding_state.requests ≤ 64
 requests-few calls trace reached = let all = each-happens calls trace reached in few-requests all.0 trace.forwarding_state all.2

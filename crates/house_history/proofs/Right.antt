@@ -4,7 +4,7 @@ use Rattle.std.specs.Prelude.{filter}
 use Rattle.mux_outside.specs.declared.house.HouseReply.{HouseReply}
 use Rattle.mux_outside.specs.declared.mark.Mark.{Mark}
 use Rattle.mux_history.specs.declared.limits.TheConstants.{HOUSE}
-use Rattle.mux_history.specs.Channels.{Channel, channels_of, held_of, is_held}
+use Rattle.mux_history.specs.Channels.{Channel, channels_of, held_of, is_channel_held}
 use Rattle.mux_history.specs.Journal.{IsLawful, log_of_journal}
 use Rattle.mux_history.specs.Kept.{AtEach, ForEach}
 use Rattle.mux_history.specs.Policy.{Policy}
@@ -31,8 +31,8 @@ all-owned [] all = tt
 all-owned (x ∷ xs) all = ((λ n e. let o = all.0.owned n e in (o.0, o.1, all.0.small o.0 o.1)), all-owned xs all.1)
 
 owned-held : (k : ℕ) (rows : List Row) → AreApart (channels_of rows) → Each IsOwned (held_of (rows_of k rows))
-owned-held k rows apart = subst (λ (xs : List Channel). Each IsOwned (filter is_held xs)) (channels-local k rows)
-    (each-filter IsOwned is_held (filter (is_of k) (channels_of rows)) (each-filter IsOwned (is_of k) (channels_of rows) (all-owned (channels_of rows) apart.each)))
+owned-held k rows apart = subst (λ (xs : List Channel). Each IsOwned (filter is_channel_held xs)) (channels-local k rows)
+    (each-filter IsOwned is_channel_held (filter (is_of k) (channels_of rows)) (each-filter IsOwned (is_of k) (channels_of rows) (all-owned (channels_of rows) apart.each)))
 
 right-one : (rows : List Row) → AreApart (channels_of rows) → AllAreUsed rows → RightAt rows
 right-one rows apart used = record {

@@ -21,7 +21,7 @@ use Rattle.mux_history.specs.Requests.{answers, answers_to, is_reply, is_sent, r
 use Rattle.mux_history.specs.Rows.{Fate, Gone, Goes, Heard, Item, Row, Says, is_ended, is_lost, loses, rows_of}
 use Rattle.mux_history.specs.Said.{Outcome}
 use Rattle.mux_history.proofs.Answered.{answers-grow}
-use Rattle.mux_isolation.specs.View.{left_of}
+use Rattle.mux_isolation.specs.LogView.{waiting_left_of}
 use Rattle.mux_isolation.proofs.Fulls.{all-fit}
 use Rattle.mux_bounds.specs.Awaited.{RepliesAwaited}
 use Rattle.mux_bounds.specs.Bounds.{weight}
@@ -203,7 +203,7 @@ no-answers row own none silent =
 abbrev pub AllUsed : List Row → Type 0
 AllUsed own = length (replies own) ≤ trues (wanted own)
 
-none-left : (flags : List Bool) (heard : List (List ℕ)) → (left_of flags heard).early ≡ [] → length heard ≤ trues flags
+none-left : (flags : List Bool) (heard : List (List ℕ)) → (waiting_left_of flags heard).early ≡ [] → length heard ≤ trues flags
 none-left [] [] e = omega arith
 none-left [] (p ∷ heard) e = absurd (let h : p ∷ heard ≡ [] = e in cc)
 none-left (false ∷ flags) heard e = none-left flags heard e

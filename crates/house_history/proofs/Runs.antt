@@ -16,16 +16,16 @@ use Rattle.house_history.proofs.Marks.{house-stays}
 
 pub run-stays : {T : Type 0} (May : HouseReply → Type 0) (state : T → HouseState) (house : T) → LeadsOn (state house).stands → RunsKeep May state house
 run-stays May state house leads present starts policy pid turns before start seen refused answer run ne small =
-    let set : Setting = by_lists policy pid run.picks run.replies in
-    let trace = leads (Begins starts ∷ calls_in set run.journal) (run.handed ne (Begins starts ∷ []) refl) small in
-    ap (λ (rows : List Row). is_lost (rows_of HOUSE rows)) (run.whole ne) ∙ house-stays policy pid run.picks run.replies run.journal trace.0 record {
-      lawful = run.of_wire.lawful;
-      asked = run.of_wire.asked;
-      waits = run.written.waits;
-      speaks = run.written.speaks;
-      answered = run.answered;
-      others = run.own_streams.others;
-      fresh = subst AreFresh (run.whole ne) run.fresh;
+    let set : Setting = by_lists policy pid run.choices.picks run.choices.replies in
+    let trace = leads (Begins starts ∷ calls_in set run.wire.journal) (run.forwarder.handed ne (Begins starts ∷ []) refl) small in
+    ap (λ (rows : List Row). is_lost (rows_of HOUSE rows)) (run.log.whole ne) ∙ house-stays policy pid run.choices.picks run.choices.replies run.wire.journal trace.0 record {
+      lawful = run.wire.of_wire.lawful;
+      asked = run.wire.of_wire.asked;
+      waits = run.marks.written.waits;
+      speaks = run.marks.written.speaks;
+      answered = run.marks.answered;
+      others = run.wire.own_streams.others;
+      fresh = subst AreFresh (run.log.whole ne) run.log.fresh;
       starts = starts;
       reached = trace.1;
     }

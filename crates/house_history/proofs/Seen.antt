@@ -1,7 +1,7 @@
 -- The relays of the forwarder as the history sees them.
 use Rattle.std.proofs.Common.{◌≡◌, ◌≤◌, ℕ, false, Some, None, List, [], ◌∷◌, ◌++◌}
 use Rattle.std.specs.Prelude.{length, Ok, Err}
-use Rattle.house_relay.specs.Acts.{Act, adjusted, delivered}
+use Rattle.house_relay.specs.Acts.{RelayAct, adjusted, delivered}
 use Rattle.house_relay.specs.declared.line.ChannelState.{ChannelState}
 use Rattle.house_relay.specs.declared.line.ChannelState.TheVariants.{Asked, Dialing, Live, Offered, Opened, Over}
 use Rattle.house_relay.specs.declared.line.Live.{Live as LiveState}
@@ -20,11 +20,11 @@ use Rattle.house_history.proofs.Fitting.{Entry, Fit}
 use Rattle.house_history.proofs.Notes.{Later, Note, Nothing, fresh-acct, note-of, unless-over}
 
 -- nothing went through its channel
-abbrev pub Untouched : List Act → Type 0
+abbrev pub Untouched : List RelayAct → Type 0
 Untouched acts = (adjusted acts ≡ 0) × (delivered acts ≡ [])
 
 -- a channel that is confirmed has this account
-pub record LiveIs (live : LiveState) (acts : List Act) (a : Acct) : Type 0 where
+pub record LiveIs (live : LiveState) (acts : List RelayAct) (a : Acct) : Type 0 where
   pub remote : live.remote ≡ a.remote
   pub room : live.room ≡ a.room
   pub maximum : live.maximum ≡ a.maximum
@@ -35,7 +35,7 @@ pub record LiveIs (live : LiveState) (acts : List Act) (a : Acct) : Type 0 where
   pub given : adjusted acts ≡ a.given
   pub came : length (delivered acts) ≤ a.came
 
-abbrev pub ViewOf : ChannelState → List Act → View → Type 0
+abbrev pub ViewOf : ChannelState → List RelayAct → View → Type 0
 ViewOf (Dialing dialog) acts v = (v ≡ NoChannel) × Untouched acts
 ViewOf (Asked host port version) acts v = (v ≡ NoChannel) × Untouched acts
 ViewOf (Opened version) acts v = (v ≡ IsOpened) × Untouched acts

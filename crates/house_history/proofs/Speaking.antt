@@ -3,11 +3,11 @@
 use Rattle.std.proofs.Common.{◌≡◌, ◌≤◌, ◌<◌, ◌+◌, ◌-◌, ◌^◌, ℕ, Bool, true, false, not, min, ◌&&◌, Option, Some, None, List, [], ◌∷◌, ◌++◌, refl, sym, ap, ◌∙◌, subst, arith, length, length-append, append_assoc, IsTrue}
 use Rattle.std.specs.Prelude.{nat_lt, is_some, if◌then◌else◌}
 use Rattle.std.proofs.lemmas.Bool.{ltb-true}
-use Rattle.house_relay.specs.Acts.{Act, adjusted, delivered, replies, sent_eof, taken, to_take}
+use Rattle.house_relay.specs.Acts.{RelayAct, adjusted, delivered, replies, sent_eof, taken, to_take}
 use Rattle.house_relay.specs.ChannelState.{counts, over_if}
 use Rattle.house_relay.specs.Next.{chunk, sends_held, sends_in, sends_live, sends_of}
-use Rattle.house_relay.specs.Relay.{IsLive as StandsLive, LineStands, Stands, is_finished, sent_act}
-use Rattle.house_relay.specs.Steps.{is_closed, is_gone, sent_of}
+use Rattle.house_relay.specs.Relay.{IsLive as StandsLive, LineStands, RelayRepresents, is_finished, sent_act}
+use Rattle.house_relay.specs.Steps.{is_socket_closed, is_gone, sent_of}
 use Rattle.house_relay.specs.declared.line.ChannelState.{ChannelState}
 use Rattle.house_relay.specs.declared.line.ChannelState.TheVariants.{Asked, Dialing, Live, Offered, Opened, Over}
 use Rattle.house_relay.specs.declared.line.Live.{Live as LiveState}
@@ -82,7 +82,7 @@ and-right : (a b : Bool) → (a && b) ≡ true → b ≡ true
 and-right true b e = e
 and-right false b e = cc
 
-uncounted-none : (line : ChannelState) (acts : List Act) (v : View) → counts line ≡ false → ViewOf line acts v → v ≡ NoChannel
+uncounted-none : (line : ChannelState) (acts : List RelayAct) (v : View) → counts line ≡ false → ViewOf line acts v → v ≡ NoChannel
 uncounted-none (Dialing dialog) acts v e h = h.0
 uncounted-none (Asked host port version) acts v e h = cc
 uncounted-none (Opened version) acts v e h = cc
@@ -91,7 +91,7 @@ uncounted-none (Live live) acts v e h = cc
 uncounted-none Over acts v e h = h
 
 pub gone-none : (l : Life) (v : View) → is_gone l.relay ≡ true → ViewOf l.relay.line l.acts v → v ≡ NoChannel
-gone-none l v e h = uncounted-none l.relay.line l.acts v (not-true (counts l.relay.line) (and-right (is_closed l.relay.socket) (not (counts l.relay.line)) e)) h
+gone-none l v e h = uncounted-none l.relay.line l.acts v (not-true (counts l.relay.line) (and-right (is_socket_closed l.relay.socket) (not (counts l.relay.line)) e)) h
 
 -- the entries of those that are left
 record Sweeps (relay_traces : List Life) (es : List Entry) : Type 0 where
@@ -174,7 +174,7 @@ abbrev with-line : ChannelState → Relay → Relay
 with-line line r = record r { line = line }
 
 -- the view goes on by what is sent, and is that of the channel state after it
-record Does (line : ChannelState) (r : Relay) (s : Outgoing) (acts : List Act) (v : View) : Type 0 where
+record Does (line : ChannelState) (r : Relay) (s : Outgoing) (acts : List RelayAct) (v : View) : Type 0 where
   now : View
   does : SentAs line s v now
   next : ViewOf (sent_of s (with-line line r)).line (sent_act s (with-line line r) ∷ acts) now
@@ -185,11 +185,11 @@ eof-unsaid held true none some = absurd (let e : length held ≡ 0 = ap length (
 eof-unsaid held false none some = refl
 
 -- CLOSE is sent, and the channel is over where it was received
-over-both : (b : Bool) (live : LiveState) (acts : List Act) (a : Acct) → LiveIs live acts a → ViewOf (over_if b live) acts (unless-over b a)
+over-both : (b : Bool) (live : LiveState) (acts : List RelayAct) (a : Acct) → LiveIs live acts a → ViewOf (over_if b live) acts (unless-over b a)
 over-both true live acts a h = refl
 over-both false live acts a h = (a, refl, h)
 
-live-close : (live : LiveState) (r : Relay) (acts : List Act) (a : Acct) → live.close_sent ≡ false → LiveIs live acts a → Does (Live live) r Close acts (IsLive a)
+live-close : (live : LiveState) (r : Relay) (acts : List RelayAct) (a : Acct) → live.close_sent ≡ false → LiveIs live acts a → Does (Live live) r Close acts (IsLive a)
 live-close live r acts a unclosed h = record {
   now = said-view summary.Closes a;
   does = record { acct = a; was = refl; remote = sym h.remote; may = sym h.close_sent ∙ unclosed; now = refl };
@@ -207,7 +207,7 @@ live-close live r acts a unclosed h = record {
       }));
 }
 
-live-failure : (live : LiveState) (r : Relay) (acts : List Act) (a : Acct) → live.close_sent ≡ false → 0 < live.failures → LiveIs live acts a → Does (Live live) r Failure acts (IsLive a)
+live-failure : (live : LiveState) (r : Relay) (acts : List RelayAct) (a : Acct) → live.close_sent ≡ false → 0 < live.failures → LiveIs live acts a → Does (Live live) r Failure acts (IsLive a)
 live-failure live r acts a unclosed some h =
     let same : live.failures ≡ a.failures = h.failures unclosed in
     record {
@@ -230,7 +230,7 @@ live-failure live r acts a unclosed some h =
       );
     }
 
-live-data : (n : ℕ) (live : LiveState) (r : Relay) (acts : List Act) (a : Acct) → live.close_sent ≡ false → live.eof_sent ≡ false → n ≤ live.room → n ≤ live.maximum → LiveIs live acts a → Does (Live live) r (Data n) acts (IsLive a)
+live-data : (n : ℕ) (live : LiveState) (r : Relay) (acts : List RelayAct) (a : Acct) → live.close_sent ≡ false → live.eof_sent ≡ false → n ≤ live.room → n ≤ live.maximum → LiveIs live acts a → Does (Live live) r (Data n) acts (IsLive a)
 live-data n live r acts a unclosed more room most h = record {
   now = said-view (summary.Carries n) a;
   does = record { acct = a; was = refl; remote = sym h.remote; may = (sym h.close_sent ∙ unclosed, sym h.eof_sent ∙ more, subst (λ (k : ℕ). n ≤ k) h.room room, subst (λ (k : ℕ). n ≤ k) h.maximum most); now = refl };
@@ -251,7 +251,7 @@ live-data n live r acts a unclosed more room most h = record {
   );
 }
 
-live-eof : (live : LiveState) (r : Relay) (acts : List Act) (a : Acct) → live.close_sent ≡ false → live.eof_sent ≡ false → LiveIs live acts a → Does (Live live) r Eof acts (IsLive a)
+live-eof : (live : LiveState) (r : Relay) (acts : List RelayAct) (a : Acct) → live.close_sent ≡ false → live.eof_sent ≡ false → LiveIs live acts a → Does (Live live) r Eof acts (IsLive a)
 live-eof live r acts a unclosed more h = record {
   now = said-view summary.Ends a;
   does = record { acct = a; was = refl; remote = sym h.remote; may = (sym h.close_sent ∙ unclosed, sym h.eof_sent ∙ more); now = refl };
@@ -273,7 +273,7 @@ live-eof live r acts a unclosed more h = record {
 }
 
 -- no more room is given back than data came
-live-adjust : (n : ℕ) (live : LiveState) (r : Relay) (dials : Bool) (acts : List Act) (a : Acct) → live.close_sent ≡ false → n ≤ live.owed → StandsLive live dials acts → taken acts ≤ length (to_take dials acts) → LiveIs live acts a → Does (Live live) r (Adjust n) acts (IsLive a)
+live-adjust : (n : ℕ) (live : LiveState) (r : Relay) (dials : Bool) (acts : List RelayAct) (a : Acct) → live.close_sent ≡ false → n ≤ live.owed → StandsLive live dials acts → taken acts ≤ length (to_take dials acts) → LiveIs live acts a → Does (Live live) r (Adjust n) acts (IsLive a)
 live-adjust n live r dials acts a unclosed owes stands fits h =
     let owed : adjusted acts + live.owed ≡ taken acts - length (replies dials acts) = stands.owed unclosed in
     let size : length (to_take dials acts) ≡ length (replies dials acts) + length (delivered acts) = length-append (replies dials acts) (delivered acts) in
@@ -299,7 +299,7 @@ live-adjust n live r dials acts a unclosed owes stands fits h =
       );
     }
 
-live-does : (s : Outgoing) (live : LiveState) (r : Relay) (dials : Bool) (acts : List Act) (a : Acct) → LiveSends r live (Some s) → StandsLive live dials acts → taken acts ≤ length (to_take dials acts) → (IsTrue (sent_eof acts) → r.held.waiting ≡ []) → LiveIs live acts a → Does (Live live) r s acts (IsLive a)
+live-does : (s : Outgoing) (live : LiveState) (r : Relay) (dials : Bool) (acts : List RelayAct) (a : Acct) → LiveSends r live (Some s) → StandsLive live dials acts → taken acts ≤ length (to_take dials acts) → (IsTrue (sent_eof acts) → r.held.waiting ≡ []) → LiveIs live acts a → Does (Live live) r s acts (IsLive a)
 live-does Open live r dials acts a l stands fits last h = absurd l
 live-does Confirmation live r dials acts a l stands fits last h = absurd l
 live-does OpenFailure live r dials acts a l stands fits last h = absurd l
@@ -311,7 +311,7 @@ live-does (Adjust n) live r dials acts a l stands fits last h = live-adjust n li
 
 -- ---- an offer of the server is answered
 
-offer-does : (s : Outgoing) (remote window maximum : ℕ) (r : Relay) (acts : List Act) → OfferSends (Some s) → Untouched acts → Does (Offered remote window maximum) r s acts (IsOffered remote window maximum)
+offer-does : (s : Outgoing) (remote window maximum : ℕ) (r : Relay) (acts : List RelayAct) → OfferSends (Some s) → Untouched acts → Does (Offered remote window maximum) r s acts (IsOffered remote window maximum)
 offer-does Open remote window maximum r acts o h = absurd o
 offer-does Confirmation remote window maximum r acts o h =
     let none : length (delivered acts) ≡ 0 = ap length h.1 in
@@ -343,14 +343,14 @@ offer-does (Adjust n) remote window maximum r acts o h = absurd o
 
 -- ---- a channel is opened
 
-unclosed-does : (s : Outgoing) (host : List ℕ) (port : ℕ) (version : Option ℕ) (r : Relay) (acts : List Act) → Some Open ≡ Some s → Untouched acts → Does (Asked host port version) r s acts NoChannel
+unclosed-does : (s : Outgoing) (host : List ℕ) (port : ℕ) (version : Option ℕ) (r : Relay) (acts : List RelayAct) → Some Open ≡ Some s → Untouched acts → Does (Asked host port version) r s acts NoChannel
 unclosed-does s host port version r acts e h =
     let same : Open ≡ s = cc in
     subst (λ (s : Outgoing). Does (Asked host port version) r s acts NoChannel) same (record { now = IsOpened; does = (refl, refl); next = (refl, h) })
 
 -- ---- any
 
-does-in : (line : ChannelState) (r : Relay) (dials : Bool) (acts : List Act) (s : Outgoing) (v : View) → sends_in line r ≡ Some s → LineStands line dials acts → taken acts ≤ length (to_take dials acts) → (IsTrue (sent_eof acts) → r.held.waiting ≡ []) → ViewOf line acts v → Does line r s acts v
+does-in : (line : ChannelState) (r : Relay) (dials : Bool) (acts : List RelayAct) (s : Outgoing) (v : View) → sends_in line r ≡ Some s → LineStands line dials acts → taken acts ≤ length (to_take dials acts) → (IsTrue (sent_eof acts) → r.held.waiting ≡ []) → ViewOf line acts v → Does line r s acts v
 does-in (Dialing dialog) r dials acts s v e stands fits last h = absurd (cc)
 does-in (Asked host port version) r dials acts s v e stands fits last h =
     subst (λ (v : View). Does (Asked host port version) r s acts v) (sym h.0) (unclosed-does s host port version r acts e h.1)
@@ -363,7 +363,7 @@ does-in (Live live) r dials acts s v e stands fits last h =
     (live-does s live r dials acts h.0 (subst (LiveSends r live) e (live-says r live)) stands fits last h.2)
 does-in Over r dials acts s v e stands fits last h = absurd (cc)
 
-relay-does : (r : Relay) (dials : Bool) (acts : List Act) (s : Outgoing) (v : View) → sends_of r ≡ Some s → Stands dials acts r → ViewOf r.line acts v → Does r.line r s acts v
+relay-does : (r : Relay) (dials : Bool) (acts : List RelayAct) (s : Outgoing) (v : View) → sends_of r ≡ Some s → RelayRepresents dials acts r → ViewOf r.line acts v → Does r.line r s acts v
 relay-does r dials acts s v e stands h = does-in r.line r dials acts s v e stands.line (relays dials acts r stands).fits (λ said. (stands.last said).1) h
 
 -- ---- the first that has something to send sends it
@@ -383,7 +383,7 @@ next-view bytes a b s v e goes d =
     record {
       number = ap (λ (n : ℕ). Some n) (sym (ap (λ (r : Relay). r.number) relay ∙ number-said s a.relay));
       view = subst (λ (r : Relay). ViewOf r.line b.acts d.now) (sym relay)
-          (subst (λ (l : List Act). ViewOf (sent_of s a.relay).line l d.now) (sym acts) d.next);
+          (subst (λ (l : List RelayAct). ViewOf (sent_of s a.relay).line l d.now) (sym acts) d.next);
     }
 
 pub spoken : (hs : List Channel) (bytes : List ℕ) (old new : Trace) → EachLife Sound old.relay_traces → SendsBy true None bytes old new → Seen hs old.relay_traces [] → Spoken hs bytes new.relay_traces

@@ -16,7 +16,7 @@ use Rattle.ssh_grammar.specs.Said.{Payload}
 use Rattle.ssh_grammar.specs.SpellMessage.{not_permitted, open_failure, too_many_channels, with_sender}
 use Rattle.ssh_grammar.proofs.MessageSpelled.{spelled_reads}
 use Rattle.mux_history.specs.declared.limits.TheConstants.{HOUSE, MAX_CHANNELS}
-use Rattle.mux_history.specs.Channels.{Channel, any_act, any_by, held_of, is_closes, is_confirmed, is_fails, is_held, is_number, is_up, with_own}
+use Rattle.mux_history.specs.Channels.{Channel, any_act, any_by, held_of, is_closes, is_confirmed, is_fails, is_channel_held, is_number, is_up, with_own}
 use Rattle.mux_history.specs.Summary.{Act, Answers, Asks, Carries, Closes, Confirmation, Confirms, Ends, Fails, Summary, Grants, Open, Within, read_summary, reading}
 use Rattle.mux_history.specs.Laws.{IsAccounted, with_act}
 use Rattle.mux_history.specs.Policy.{Policy, permits}
@@ -284,7 +284,7 @@ says-refusal policy own pick p given n s w m front behind reads good mine fit =
 -- ---- a channel that is confirmed
 
 -- it isn't over, unless both have closed it
-not-failed : (x : Channel) → is_held x ≡ true → any_act is_fails x.acts ≡ false
+not-failed : (x : Channel) → is_channel_held x ≡ true → any_act is_fails x.acts ≡ false
 not-failed x h = go (any_act is_fails x.acts) (any_by Up is_closes x.acts && any_by Down is_closes x.acts) h
   where
     go : (a b : Bool) → not (a || b) ≡ true → a ≡ false
@@ -292,10 +292,10 @@ not-failed x h = go (any_act is_fails x.acts) (any_by Up is_closes x.acts && any
     go false b h = refl
 
 abbrev HeldIs : Act → Channel → Type 0
-HeldIs Closes x = is_held (with_act Up Closes x) ≡ not (any_by Down is_closes x.acts)
-HeldIs act x = is_held (with_act Up act x) ≡ true
+HeldIs Closes x = is_channel_held (with_act Up Closes x) ≡ not (any_by Down is_closes x.acts)
+HeldIs act x = is_channel_held (with_act Up act x) ≡ true
 
-held-is : (act : Act) (x : Channel) (a : Acct) → MaySend act a → is_held x ≡ true → HeldIs act x
+held-is : (act : Act) (x : Channel) (a : Acct) → MaySend act a → is_channel_held x ≡ true → HeldIs act x
 held-is Closes x a may h = rw (not-failed x h) refl
 held-is (Carries n) x a may h = h
 held-is Ends x a may h = h
@@ -306,19 +306,19 @@ held-is Fails x a may h = absurd may
 held-is (Asks wants) x a may h = absurd may
 
 -- after what is sent it is as that has it
-fits-said : (act : Act) (x : Channel) (a : Acct) (fs bs : List Channel) (front behind : List Entry) (n : ℕ) → x.own ≡ Some n → IsAccount x a → MaySend act a → is_held x ≡ true
+fits-said : (act : Act) (x : Channel) (a : Acct) (fs bs : List Channel) (front behind : List Entry) (n : ℕ) → x.own ≡ Some n → IsAccount x a → MaySend act a → is_channel_held x ≡ true
     → Each (λ (y : Channel). owned-at n y ≡ false) fs → Each (λ (y : Channel). owned-at n y ≡ false) bs
     → Fit (fs ++ x ∷ bs) (front ++ (Some n, IsLive a) ∷ behind) → Fit (fs ++ kept (with_act Up act x) bs) (front ++ (Some n, said-view act a) ∷ behind)
 fits-said act x a fs bs front behind n own is may held none more fit = by_act act may (says-account act x a is may) (held-is act x a may held)
   where
-    goes : (act : Act) → IsAccount (with_act Up act x) (says act a) → is_held (with_act Up act x) ≡ true → Fit (fs ++ kept (with_act Up act x) bs) (front ++ (Some n, IsLive (says act a)) ∷ behind)
+    goes : (act : Act) → IsAccount (with_act Up act x) (says act a) → is_channel_held (with_act Up act x) ≡ true → Fit (fs ++ kept (with_act Up act x) bs) (front ++ (Some n, IsLive (says act a)) ∷ behind)
     goes act is' h =
         subst (λ (l : List Channel). Fit (fs ++ l) (front ++ (Some n, IsLive (says act a)) ∷ behind)) (sym (kept-held (with_act Up act x) bs h))
         (live-on fs bs x (with_act Up act x) front behind n a (says act a) own is.confirmed own is' none fit)
 
-    closes : (b : Bool) → a.close_received ≡ b → IsAccount (with_act Up Closes x) (says Closes a) → is_held (with_act Up Closes x) ≡ not (any_by Down is_closes x.acts) → Fit (fs ++ kept (with_act Up Closes x) bs) (front ++ (Some n, unless-over a.close_received (says Closes a)) ∷ behind)
+    closes : (b : Bool) → a.close_received ≡ b → IsAccount (with_act Up Closes x) (says Closes a) → is_channel_held (with_act Up Closes x) ≡ not (any_by Down is_closes x.acts) → Fit (fs ++ kept (with_act Up Closes x) bs) (front ++ (Some n, unless-over a.close_received (says Closes a)) ∷ behind)
     closes true e is' h =
-        let over : is_held (with_act Up Closes x) ≡ false = h ∙ ap (λ (b : Bool). not b) (is.heard ∙ e) in
+        let over : is_channel_held (with_act Up Closes x) ≡ false = h ∙ ap (λ (b : Bool). not b) (is.heard ∙ e) in
         subst (λ (b : Bool). Fit (fs ++ kept (with_act Up Closes x) bs) (front ++ (Some n, unless-over b (says Closes a)) ∷ behind)) (sym e)
         (subst (λ (l : List Channel). Fit (fs ++ l) (front ++ (Some n, NoChannel) ∷ behind)) (sym (kept-over (with_act Up Closes x) bs over))
         (live-over fs bs x front behind n (IsLive a) (λ s. unoffered s) own none more fit))
@@ -380,7 +380,7 @@ says-live policy own pick p given n s act a front behind reads remote may good m
     ∙ (ap (λ (o : Option Channel). on_confirmed p s act o) confirmed
     ∙ ap (λ (b : Option Breach). on_breach p s b) (no-breach act x a account may)) in
     let its-own : x.own ≡ Some n = own-is x.own n f.is in
-    let held : is_held x ≡ true = (each-behind (λ (y : Channel). is_held y ≡ true) f.before (x ∷ f.behind) (subst (λ (l : List Channel). Each (λ (y : Channel). is_held y ≡ true) l) f.are good.held)).0 in
+    let held : is_channel_held x ≡ true = (each-behind (λ (y : Channel). is_channel_held y ≡ true) f.before (x ∷ f.behind) (subst (λ (l : List Channel). Each (λ (y : Channel). is_channel_held y ≡ true) l) f.are good.held)).0 in
     let more : Each (λ (y : Channel). owned-at n y ≡ false) f.behind = each-of (Far x) (λ (y : Channel). owned-at n y ≡ false) (λ y far. far.owns n f.is) f.behind (far-behind f.before f.behind x (subst AllFar f.are good.far)) in
     says-as policy own pick p given n (said-view act a) front behind (Within s act) (sends p) reads is
     (says-quiet p own p given n (said-view act a) front behind (λ down.

@@ -1,4 +1,5 @@
--- What the house takes of what waits for it, and its calls by which nothing is said or heard: the run goes on with it.
+-- What the forwarder accepts of what waits for it, and its calls by which nothing is sent or
+-- received: the run goes on with it.
 use Rattle.std.proofs.Common.{◌≡◌, ◌+◌, ◌-◌, ℕ, Bool, true, false, Option, List, [], ◌∷◌, ◌++◌, refl, sym, ap, ◌∙◌, subst, arith, map, append-nil, length, take, drop}
 use Rattle.std.proofs.lemmas.List.{map-append}
 use Rattle.mux_outside.specs.HouseCalls.{HouseCall, Begins, Marks, Receives, Turns, Takes as TakesBytes}
@@ -27,9 +28,9 @@ use Rattle.house_history.proofs.ForwardingStates.{forwarding_state-heard}
 use Rattle.house_history.proofs.Calm.{Distinct, IsCalm, IsCalmMark, calm, heard-all}
 use Rattle.house_history.proofs.Going.{After, Going, IsOn, IsYoung, Phase, own-more}
 
--- ---- calls by which nothing is said or heard
+-- ---- calls by which nothing is sent or received
 
--- they leave what was heard, how it is read, and what was said
+-- they leave what was received, how it is read, and what was sent
 pub record CalmRest (old new : Trace) : Type 0 where
   pub framer : new.framer ≡ old.framer
   pub stage : new.stage ≡ old.stage
@@ -74,7 +75,7 @@ calm-rest (Receives bytes) old new c h = absurd c
 calm-rest (Turns happening) old new c h = rest-is old new _ h.2 (record { framer = refl; stage = refl; greeted = refl; requests = refl })
 calm-rest (TakesBytes t bytes) old new c h = rest-is old new _ h.2 (record { framer = refl; stage = refl; greeted = refl; requests = refl })
 
--- where the relays are sound a run goes on behind such a call
+-- where the relays are sound a run goes on after such a call
 pub calm-step : (rows : List Row) (trace new : Trace) (call : HouseCall) (recorded : Recorded) → All Sound trace → IsCalm call → Follows call trace new → Going rows trace recorded → Going rows new recorded
 calm-step rows trace new call recorded sound c h g =
     let rest = calm-rest call trace new c h in
@@ -90,12 +91,12 @@ calm-step rows trace new call recorded sound c h g =
           (subst (λ (s : Stage). Phase trace.forwarding_state.greeted s recorded own) (sym rest.stage) g.phase);
     }
 
--- ---- what it takes
+-- ---- what it accepts
 
 abbrev took_row : ℕ → Row
 took_row n = plain_row (Took HOUSE n) HOUSE [] []
 
--- nothing is said by it
+-- nothing is sent by it
 pub young-took : (n : ℕ) (own : List Row) → IsYoung own → IsYoung (plain_row (Took HOUSE n) HOUSE [] [] ∷ own)
 young-took n own y = record {
   channels = ap (λ (xs : List Channel). map (after_farewell (took_row n)) (map (after_item (took_row n)) xs ++ [])) y.channels;
@@ -154,7 +155,7 @@ took-going rows trace new n recorded apart g h =
           (took-phase trace.forwarding_state.greeted n trace new (drop n (pending HOUSE rows)) recorded own h g.phase));
     }
 
--- a run goes on behind what the house takes, once it has heard it
+-- a run goes on after what the forwarder accepts, once it has received it
 pub took-step : (setting : Setting) (rows : List Row) (trace new : Trace) (n : ℕ) (recorded : Recorded) → Distinct trace.relay_traces → Going rows trace recorded
     → Follows (Receives (take n (pending HOUSE rows))) trace new → After (more_all setting rows (Took HOUSE n ∷ [])) new
 took-step setting rows trace new n recorded apart g h =

@@ -4,7 +4,7 @@ use Rattle.std.specs.Prelude.{◌==◌, find}
 use Rattle.std.proofs.lemmas.Bool.Decides.{nat_tests}
 use Rattle.ssh_grammar.specs.declared.side.Side.{Side}
 use Rattle.ssh_grammar.specs.declared.side.Side.TheVariants.{Up}
-use Rattle.mux_history.specs.Channels.{Channel, is_confirmed, is_held, is_number, is_up}
+use Rattle.mux_history.specs.Channels.{Channel, is_confirmed, is_channel_held, is_number, is_up}
 use Rattle.mux_history.specs.Rows.{any_of}
 use Rattle.house_history.proofs.Lists.{Each, Found, each-behind, each-front, each-of, find-at, find-none, found, none-pass}
 use Rattle.house_history.proofs.Views.{Acct, IsAccount, IsLive, IsOffered, IsOpened, NoChannel, View}
@@ -33,7 +33,7 @@ AllFar [] = Unit {0}
 AllFar (x ∷ xs) = Each (Far x) xs × AllFar xs
 
 pub record Good (hs : List Channel) : Type 0 where
-  pub held : Each (λ (x : Channel). is_held x ≡ true) hs
+  pub held : Each (λ (x : Channel). is_channel_held x ≡ true) hs
   pub far : AllFar hs
 
 pub far-front : (fs bs : List Channel) (x : Channel) → AllFar (fs ++ x ∷ bs) → Each (Far x) fs

@@ -1,4 +1,4 @@
--- The house asks nothing of itself: it says the greeting, and behind it messages of SSH alone.
+-- The forwarder asks nothing of itself: it sends the greeting, and after it messages of SSH alone.
 use Rattle.std.proofs.Common.{◌≡◌, ℕ, Bool, true, false, List, [], ◌∷◌, ◌++◌, length, map, drop, Some, refl, ap, ◌∙◌, subst, inl, inr, ◌⊎◌, ◌||◌, ◌&&◌}
 use Rattle.std.specs.Prelude.{◌==◌, find, if◌then◌else◌, Result, Ok}
 use Rattle.std.specs.List.{list_any}
@@ -29,20 +29,20 @@ use Rattle.mux_history.specs.Promises.{Throughout}
 use Rattle.mux_history.specs.Rows.{Item, Row, Says, Gone, ServerFailed}
 use Rattle.mux_history.proofs.LawfulItems.{treat-item}
 use Rattle.mux_bounds.proofs.Entries.{EachItem, by-more, each-unless, lists, next, setting, with-reply}
-use Rattle.mux_peers.specs.Asked.{ask_of, asked_by, asked_of, item_asks, reading_asks}
-use Rattle.mux_engine.specs.Answers.{is_deferred}
+use Rattle.mux_peers.specs.Asked.{ask_of, asked_by, asks_of_rows, item_asks, reading_asks}
 use Rattle.mux_engine.specs.Called.{calls_at, calls_in}
 use Rattle.mux_engine.specs.Places.{IsOfOthers}
 use Rattle.mux_engine.proofs.Greeting.{AllSo, greets-before, journal-greets, so-drop, so-said}
+use Rattle.mux_engine.proofs.Deferred.{is_deferred}
 use Rattle.house_forward.specs.ForwardingState.{ForwardingState}
 use Rattle.house_forward.specs.Forwardings.{has_request}
-use Rattle.house_forward.specs.RelayTraces.{Trace, ReceivesFrame, ReceivesFrames, Reaches, SendsBy, is_grant, with_received}
+use Rattle.house_forward.specs.RelayTraces.{Trace, ReceivesFrame, RelaysReceiveFrames, TraceReaches, SendsBy, is_grant, with_received}
 use Rattle.house_forward.specs.declared.forwarder_state.Stage.{Stage}
 use Rattle.house_forward.specs.declared.forwarder_state.Stage.TheVariants.{Control as InControlStage, Proxy as InProxyStage}
 use Rattle.house_history.proofs.ForwardingStates.{reading-heard}
 use Rattle.house_history.proofs.Takes.{calm-rest}
 
--- ---- the calls of a course greet first
+-- ---- the calls of a trace greet first
 
 if-forwarding_state : (b : Bool) (x y : Trace) → x.forwarding_state ≡ y.forwarding_state → (if b then x else y).forwarding_state ≡ y.forwarding_state
 if-forwarding_state true x y e = e
@@ -53,11 +53,11 @@ frame-greeted InControlStage content old new h =
     ap (λ (c : Trace). c.forwarding_state.greeted) h ∙ ap (λ (d : ForwardingState). d.greeted) (if-forwarding_state (is_grant (take_u32 content)) (record old { stage = InProxyStage; framer = switched framing.Proxy old.framer }) old refl)
 frame-greeted InProxyStage content old new h = (reading-heard content (reading content) refl old new h).greeted
 
-frames-greeted : (contents : List (List ℕ)) (old new : Trace) → ReceivesFrames contents old new → new.forwarding_state.greeted ≡ old.forwarding_state.greeted
+frames-greeted : (contents : List (List ℕ)) (old new : Trace) → RelaysReceiveFrames contents old new → new.forwarding_state.greeted ≡ old.forwarding_state.greeted
 frames-greeted [] old new h = ap (λ (c : Trace). c.forwarding_state.greeted) h.1
 frames-greeted (content ∷ more) old new h = frames-greeted more h.2.0 new h.2.2 ∙ frame-greeted old.stage content _ h.2.0 h.2.1
 
-pub trace-greets : (calls : List HouseCall) (old new : Trace) → old.forwarding_state.greeted ≡ false → Reaches old calls new → GreetsFirst calls
+pub trace-greets : (calls : List HouseCall) (old new : Trace) → old.forwarding_state.greeted ≡ false → TraceReaches old calls new → GreetsFirst calls
 trace-greets [] old new e h = tt
 trace-greets (Begins starts ∷ calls) old new e h = trace-greets calls h.0 new ((calm-rest (Begins starts) old h.0 tt h.1).greeted ∙ e) h.2
 trace-greets (Marks HouseIn ∷ calls) old new e h = trace-greets calls h.0 new ((calm-rest (Marks HouseIn) old h.0 tt h.1).greeted ∙ e) h.2
@@ -72,7 +72,7 @@ trace-greets (TakesBytes t bytes ∷ calls) old new e h = trace-greets calls h.0
 
 -- ---- what asks nothing
 
--- no ask of the house is among these
+-- no request of the forwarder is among these
 abbrev pub NoneOfHouse : List HouseMark → Type 0
 NoneOfHouse asks = (id : ℕ) → list_any (is_deferred HOUSE id) asks ≡ false
 
@@ -81,7 +81,7 @@ abbrev Mild : Outgoing → Type 0
 Mild (Body body) = (k : ℕ) (reply : HouseReply) → reading_asks k reply (read_control body) ≡ []
 Mild outgoing = Unit {0}
 
--- another client says it, or it asks nothing
+-- another client sends it, or it asks nothing
 abbrev Spares : Item → Type 0
 Spares (Says k outgoing reply) = ((k == HOUSE) ≡ false) ⊎ Mild outgoing
 Spares item = Unit {0}
@@ -103,9 +103,9 @@ spares-asks (Says k (Body body) (Some reply)) (inr mild) id = ap (list_any (is_d
 spares-asks item h id = refl
 
 module _ (policy : Policy) (pid : ℕ) (picks : List ℕ) (given : List HouseReply) where
-  spares-one : (rows : List Row) (item : Item) → Spares item → NoneOfHouse (asked_of rows) → NoneOfHouse (asked_of (more_of (setting policy pid picks given) rows item))
-  spares-one rows item spares none id = by-more policy pid picks given (λ (rs : List Row). list_any (is_deferred HOUSE id) (asked_of rs) ≡ false) rows item (λ e. none id)
-      (λ e. list_any-append (is_deferred HOUSE id) (asked_of rows) (asked_by (next policy pid picks given rows item)) ∙ (ap (λ b. b || list_any (is_deferred HOUSE id) (asked_by (next policy pid picks given rows item))) (none id) ∙ last))
+  spares-one : (rows : List Row) (item : Item) → Spares item → NoneOfHouse (asks_of_rows rows) → NoneOfHouse (asks_of_rows (more_of (setting policy pid picks given) rows item))
+  spares-one rows item spares none id = by-more policy pid picks given (λ (rs : List Row). list_any (is_deferred HOUSE id) (asks_of_rows rs) ≡ false) rows item (λ e. none id)
+      (λ e. list_any-append (is_deferred HOUSE id) (asks_of_rows rows) (asked_by (next policy pid picks given rows item)) ∙ (ap (λ b. b || list_any (is_deferred HOUSE id) (asked_by (next policy pid picks given rows item))) (none id) ∙ last))
     where
       replied : Item
       replied = with_reply (lists policy pid picks given) rows item
@@ -114,7 +114,7 @@ module _ (policy : Policy) (pid : ℕ) (picks : List ℕ) (given : List HouseRep
       last = ap (λ (i : Item). list_any (is_deferred HOUSE id) (item_asks i)) (treat-item policy pid (pick_of (lists policy pid picks given) rows item) rows replied)
           ∙ spares-asks replied (with-reply policy pid picks given Spares (λ k body a b h. h) rows item spares) id
 
-  spares-all : (rows : List Row) (items : List Item) → EachItem Spares items → NoneOfHouse (asked_of rows) → NoneOfHouse (asked_of (more_all (setting policy pid picks given) rows items))
+  spares-all : (rows : List Row) (items : List Item) → EachItem Spares items → NoneOfHouse (asks_of_rows rows) → NoneOfHouse (asks_of_rows (more_all (setting policy pid picks given) rows items))
   spares-all rows [] each none = none
   spares-all rows (item ∷ items) each none = spares-all (more_of (setting policy pid picks given) rows item) items each.1 (spares-one rows item each.0 none)
 
@@ -149,9 +149,9 @@ mark-spares before (Gets k bytes) other mild = by-server (is_server k) (new_rece
 mark-spares before (Ends k) other mild = by-server (is_server k) (server_end (parse InProxy (bytes_of 0 before)).rest ∷ []) (unless_own k (Gone k ∷ [])) (end-spares (parse InProxy (bytes_of 0 before)).rest) (each-unless Spares k (Gone k ∷ []) (λ e. (tt, tt)))
 mark-spares before (Fails k) other mild = by-server (is_server k) (ServerFailed ∷ []) (unless_own k (Gone k ∷ [])) (tt, tt) (each-unless Spares k (Gone k ∷ []) (λ e. (tt, tt)))
 mark-spares before (WriteFails k) other mild = by-server (is_server k) (ServerFailed ∷ []) (unless_own k (Gone k ∷ [])) (tt, tt) (each-unless Spares k (Gone k ∷ []) (λ e. (tt, tt)))
-mark-spares before (Takes k bytes) other mild = each-unless Spares k _ (λ e. (tt, tt))
+mark-spares before (Takes k bytes accepts) other mild = each-unless Spares k _ (λ e. (tt, tt))
 mark-spares before (Accepts k) other mild = (tt, tt)
-mark-spares before (Waits waiting want streams listens) other mild = tt
+mark-spares before (Waits waiting want streams shown) other mild = tt
 mark-spares before (Frees k) other mild = tt
 mark-spares before (Holds k) other mild = tt
 mark-spares before (Joins l k) other mild = tt
@@ -166,8 +166,8 @@ module _ (policy : Policy) (pid : ℕ) (picks : List ℕ) (given : List HouseRep
   mild-in : (journal : List Mark) → Throughout IsOfOthers journal → GreetsFirst (calls_in (setting policy pid picks given) journal) → AllSo Mild (said (bytes_of HOUSE journal))
   mild-in journal others greets = so-said Mild (λ k reply. refl) (λ k reply. refl) (λ p. tt) (λ fault. tt) (bytes_of HOUSE journal) (journal-greets (setting policy pid picks given) journal others greets)
 
-  -- where its calls greet first, no row of the house asks anything
-  pub house-unasked : (journal : List Mark) → Throughout IsOfOthers journal → GreetsFirst (calls_in (setting policy pid picks given) journal) → NoneOfHouse (asked_of (log_of_journal (setting policy pid picks given) journal))
+  -- where its calls greet first, no row of the forwarder asks anything
+  pub house-unasked : (journal : List Mark) → Throughout IsOfOthers journal → GreetsFirst (calls_in (setting policy pid picks given) journal) → NoneOfHouse (asks_of_rows (log_of_journal (setting policy pid picks given) journal))
   house-unasked [] others greets = λ id. refl
   house-unasked (mark ∷ before) others greets =
       spares-all policy pid picks given (log_of_journal (setting policy pid picks given) before) (items_in before mark) (mark-spares before mark others.0 (mild-in (mark ∷ before) others greets))

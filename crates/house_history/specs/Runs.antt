@@ -18,11 +18,11 @@ use Rattle.mux_history.specs.Right.{AreFresh}
 use Rattle.mux_history.specs.Rows.{is_lost, rows_of}
 use Rattle.mux_history.specs.Settings.{by_lists}
 use Rattle.mux_history.specs.Wires.{ReadsWhenAsked}
-use Rattle.mux_engine.specs.Answers.{AnswersDeferred}
+use Rattle.mux_engine.specs.Answers.{AnswersOpen}
 use Rattle.mux_engine.specs.Called.{calls_in}
 use Rattle.mux_engine.specs.Places.{IsOfOthers}
-use Rattle.mux_engine.specs.Run.{IsRun}
-use Rattle.house_forward.specs.RelayTraces.{Trace, Reaches, first_trace, taken_in}
+use Rattle.mux_engine.specs.Run.{IsRun, setting_of}
+use Rattle.house_forward.specs.RelayTraces.{Trace, TraceReaches, first_trace, taken_in}
 use Rattle.ssh_mux.specs.Starts.{BeganWith, BegunRests}
 
 -- ---- journals
@@ -36,11 +36,11 @@ pub record IsHoused (setting : Setting) (journal : List Mark) (trace : Trace) : 
   pub asked : Throughout ReadsWhenAsked journal
   pub waits : Throughout (WaitsAt setting) journal
   pub speaks : Throughout (SpeaksInTime setting) journal
-  pub answered : Throughout (AnswersDeferred setting) journal
+  pub answered : Throughout (AnswersOpen setting) journal
   pub others : Throughout IsOfOthers journal
   pub fresh : AreFresh (log_of_journal setting journal)
   pub starts : Starts
-  pub reached : Reaches first_trace (Begins starts ∷ calls_in setting journal) trace
+  pub reached : TraceReaches first_trace (Begins starts ∷ calls_in setting journal) trace
 
 -- then no row drops the forwarder, whatever is permitted, numbers are picked, clients and the
 -- server send
@@ -55,7 +55,7 @@ HouseStays = (policy : Policy) (pid : ℕ) (picks : List ℕ) (replies : List Ho
 -- 2^64 bytes or more in all
 abbrev pub LeadsOn : (List HouseCall → Type 0) → Type 0
 LeadsOn stands = (calls : List HouseCall) → stands calls → taken_in calls < 2 ^ 64
-    → (trace : Trace) × Reaches first_trace calls trace
+    → (trace : Trace) × TraceReaches first_trace calls trace
 
 -- no row drops the forwarder in a run that it began with some forwardings, unless memory ran out or
 -- its own streams accepted so much
@@ -64,8 +64,8 @@ RunsKeep May state house = (present : Bool) (starts : Starts) (policy : Policy) 
     (before : Option (List HouseMark)) (start : Option (List Mark)) (seen : Seen)
     (refused : Option ℕ) (answer : Ended)
     → (run : IsRun May (BegunRests state present starts).rests (BeganWith starts)
-    (state house).stands present policy pid turns before (state house).recorded start seen refused
+    (state house) present policy pid turns before (state house).recorded start seen refused
     answer)
     → answer ≢ OutOfMemory
-    → taken_in (calls_in (by_lists policy pid run.picks run.replies) run.journal) < 2 ^ 64
-    → is_lost (rows_of HOUSE run.rows) ≡ false
+    → taken_in (calls_in (setting_of policy pid run.choices) run.wire.journal) < 2 ^ 64
+    → is_lost (rows_of HOUSE run.log.rows) ≡ false

@@ -1,6 +1,7 @@
 //! What holds of a run with a forwarder. Each function's contract is the law.
 
 ghost use Rattle.house_history.specs.Runs.{HouseStays, LeadsOn, RunsKeep};
+ghost use Rattle.house_history.specs.RunsRelay.{RunsRelay};
 
 use house_forward::Forwarder;
 use mux_outside::{Asks, House, Notes};
@@ -21,4 +22,15 @@ pub fn no_run_drops_the_house<H: House>(house: &H)
 /// The calls of this forwarder do, whatever it notes.
 pub fn its_calls_lead_on<N: Notes + Drop>(house: &Forwarder<N>)
     ensures { LeadsOn (⟦<Forwarder<N> as Asks>⟧.state house.now).stands }
+{}
+
+/// What a run of the program with this forwarder does for its relays and for the requests of its
+/// clients, whatever it notes, unless its own streams accepted 2^64 bytes or more.
+///
+/// At each moment of the run, what was sent in each relay's channel is, in order, a prefix of what
+/// its socket gave after its dialog; what its socket accepted, and then what waits for it, are the
+/// dialog's replies and then what was delivered in its channel. Opens, connects, closes and replies
+/// have their causes. At each wait at which more is read all is at rest. No row drops the forwarder.
+pub fn a_run_relays<N: Notes + Drop>(house: &Forwarder<N>)
+    ensures { RunsRelay ⟦<Forwarder<N> as Asks>⟧.may ⟦<Forwarder<N> as Asks>⟧.state (⟦<Forwarder<N> as Asks>⟧.state house.now) }
 {}

@@ -5,28 +5,28 @@ use Rattle.std.proofs.lemmas.List.{append-nil}
 use Rattle.std.specs.List.{concat}
 use Rattle.proxy_frames.specs.Queued.{with_bytes}
 use Rattle.socks_dialog.specs.declared.outcome.Outcome.TheVariants.{Connects}
-use Rattle.house_relay.specs.Acts.{Act, Confirms, Refuses, Answer, Unanswered, Confirmed, Refused, read, delivered, took, taken, adjusted, before_in, last_reply, replies_in, replies_if, replies}
-use Rattle.house_relay.specs.Dialing.{grant_of, refusal_of}
+use Rattle.house_relay.specs.Acts.{RelayAct, Confirms, Refuses, OpenAnswer, Unanswered, Confirmed, Refused, read, delivered, took, taken, adjusted, before_in, last_reply, replies_in, replies_if, replies}
+use Rattle.house_relay.specs.Dialing.{grant_of, dialog_refusal_of}
 use Rattle.house_relay.specs.ChannelState.{fresh_live}
-use Rattle.house_relay.specs.Relay.{Stands, LineStands, IsOpened, WaitsFor}
+use Rattle.house_relay.specs.Relay.{RelayRepresents, LineStands, IsChannelOpened, DialogWaitsFor}
 use Rattle.house_relay.specs.declared.line.ChannelState.TheVariants.{Opened, Live, Over}
 use Rattle.house_relay.specs.declared.relay.Relay.{Relay}
 use Rattle.house_relay.proofs.Readings.{settled-waits, asked-waits}
 use Rattle.house_relay.proofs.Taken.{took-length}
 
 -- the last reply by an answer
-abbrev reply_of : Option ℕ → Answer → List ℕ
+abbrev reply_of : Option ℕ → OpenAnswer → List ℕ
 reply_of None a = []
 reply_of (Some version) Unanswered = []
 reply_of (Some version) Confirmed = grant_of (Some version)
-reply_of (Some version) (Refused reason) = refusal_of (Some version) reason
+reply_of (Some version) (Refused reason) = dialog_refusal_of (Some version) reason
 
 true_is : (P : Type 0) → true ≡ false → P
 true_is P e = cc
 
--- it comes behind the others
-one-more : (version : Option ℕ) (host : List ℕ) (port : ℕ) (a : Answer) (dials : Bool) (acts : List Act)
-    → WaitsFor version (Connects host port) dials acts
+-- it comes after the others
+one-more : (version : Option ℕ) (host : List ℕ) (port : ℕ) (a : OpenAnswer) (dials : Bool) (acts : List RelayAct)
+    → DialogWaitsFor version (Connects host port) dials acts
     → replies_if dials (read acts) a ≡ replies_if dials (read acts) Unanswered ++ reply_of version a
 unfolding replies_in
 one-more None host port a false acts s = refl
@@ -46,19 +46,19 @@ one-more (Some version) host port a true acts s =
     first : ℕ
     first = slice_index (read acts) 0
 
-    last : (b : Answer) → last_reply (Connects host port) first b ≡ reply_of (Some version) b
+    last : (b : OpenAnswer) → last_reply (Connects host port) first b ≡ reply_of (Some version) b
     last Unanswered = refl
     last Confirmed = ap (λ n. grant_of (Some n)) (sym s.1)
-    last (Refused reason) = ap (λ n. refusal_of (Some n) reason) (sym s.1)
+    last (Refused reason) = ap (λ n. dialog_refusal_of (Some n) reason) (sym s.1)
 
 -- what the socket is to take then
-record Answered (r : Relay) (more : List ℕ) (a : Answer) (dials : Bool) (acts : List Act) : Type 0 where
+record Answered (r : Relay) (more : List ℕ) (a : OpenAnswer) (dials : Bool) (acts : List RelayAct) : Type 0 where
   pub whole : took acts ++ (r.queue.waiting ++ more) ≡ replies_if dials (read acts) a ++ delivered acts
   pub size : length (r.queue.waiting ++ more) ≡ length (replies_if dials (read acts) a) - taken acts
   pub within : taken acts ≤ length (replies_if dials (read acts) a)
 
-answered : (r : Relay) (version : Option ℕ) (a : Answer) (dials : Bool) (acts : List Act) → IsOpened version dials acts
-    → Stands dials acts r → Answered r (reply_of version a) a dials acts
+answered : (r : Relay) (version : Option ℕ) (a : OpenAnswer) (dials : Bool) (acts : List RelayAct) → IsChannelOpened version dials acts
+    → RelayRepresents dials acts r → Answered r (reply_of version a) a dials acts
 answered r version a dials acts o s =
     let more = reply_of version a in
     let front = replies_if dials (read acts) Unanswered in
@@ -86,23 +86,23 @@ grants : (version : Option ℕ) → reply_of version Confirmed ≡ grant_of vers
 grants None = refl
 grants (Some version) = refl
 
-refusals : (version : Option ℕ) (reason : ℕ) → reply_of version (Refused reason) ≡ refusal_of version reason
+refusals : (version : Option ℕ) (reason : ℕ) → reply_of version (Refused reason) ≡ dialog_refusal_of version reason
 refusals None reason = refl
 refusals (Some version) reason = refl
 
 -- it is confirmed
-pub confirms : (r : Relay) (version : Option ℕ) (remote window maximum : ℕ) (dials : Bool) (acts : List Act)
-    → r.line ≡ Opened version → Stands dials acts r
-    → Stands dials (Confirms ∷ acts) (record r {
+pub confirms : (r : Relay) (version : Option ℕ) (remote window maximum : ℕ) (dials : Bool) (acts : List RelayAct)
+    → r.line ≡ Opened version → RelayRepresents dials acts r
+    → RelayRepresents dials (Confirms ∷ acts) (record r {
       line = Live (fresh_live remote window maximum (length (r.queue.waiting ++ grant_of version)));
       queue = with_bytes (grant_of version) r.queue;
     })
 confirms r version remote window maximum dials acts is s =
-    subst (λ more. Stands dials (Confirms ∷ acts) (record r {
+    subst (λ more. RelayRepresents dials (Confirms ∷ acts) (record r {
       line = Live (fresh_live remote window maximum (length (r.queue.waiting ++ more)));
       queue = with_bytes more r.queue;
     })) (grants version) (
-    let o : IsOpened version dials acts = subst (λ l. LineStands l dials acts) is s.line in
+    let o : IsChannelOpened version dials acts = subst (λ l. LineStands l dials acts) is s.line in
     let n = o.nothing in
     let a = answered r version Confirmed dials acts o s in
     let within : taken acts ≤ length (replies_if dials (read acts) Confirmed) = a.within in
@@ -127,14 +127,14 @@ confirms r version remote window maximum dials acts is s =
     })
 
 -- it is refused
-pub refuses : (r : Relay) (version : Option ℕ) (reason : ℕ) (dials : Bool) (acts : List Act)
-    → r.line ≡ Opened version → Stands dials acts r
-    → Stands dials (Refuses reason ∷ acts)
-    (record r { line = Over; queue = with_bytes (refusal_of version reason) r.queue })
+pub refuses : (r : Relay) (version : Option ℕ) (reason : ℕ) (dials : Bool) (acts : List RelayAct)
+    → r.line ≡ Opened version → RelayRepresents dials acts r
+    → RelayRepresents dials (Refuses reason ∷ acts)
+    (record r { line = Over; queue = with_bytes (dialog_refusal_of version reason) r.queue })
 refuses r version reason dials acts is s =
-    subst (λ more. Stands dials (Refuses reason ∷ acts) (record r { line = Over; queue = with_bytes more r.queue }))
+    subst (λ more. RelayRepresents dials (Refuses reason ∷ acts) (record r { line = Over; queue = with_bytes more r.queue }))
     (refusals version reason) (
-    let o : IsOpened version dials acts = subst (λ l. LineStands l dials acts) is s.line in
+    let o : IsChannelOpened version dials acts = subst (λ l. LineStands l dials acts) is s.line in
     let a = answered r version (Refused reason) dials acts o s in
     let no_room : adjusted acts ≡ 0 = o.nothing.no_room in
     record {

@@ -4,11 +4,11 @@ use Rattle.proxy_frames.specs.State.{QueueState}
 use Rattle.socks_dialog.specs.State.{State}
 use Rattle.socks_dialog.specs.declared.outcome.Outcome.{Outcome}
 use Rattle.house_relay.specs.Acts.{outcome_in}
-use Rattle.house_relay.specs.Dialing.{CameTo, IsReceived, IsReading}
-use Rattle.house_relay.specs.Steps.{IsToDial, IsAskedFor, ComesOf, DialsIn, no_channel_left_of}
+use Rattle.house_relay.specs.Dialing.{DialogCameTo, AreBytesReceived, IsDialogReading}
+use Rattle.house_relay.specs.Steps.{IsToDial, IsOpenAskedFor, ComesOf, DialsIn, no_channel_left_of}
 use Rattle.house_relay.specs.declared.dialing.Came.{Came}
 use Rattle.house_relay.specs.declared.dialing.Came.TheVariants.{Nothing, Connect, Fault}
-use Rattle.house_relay.specs.declared.dialing.Heard.{Heard}
+use Rattle.house_relay.specs.declared.dialing.DialogReceived.{DialogReceived}
 use Rattle.house_relay.specs.declared.line.ChannelState.{ChannelState}
 use Rattle.house_relay.specs.declared.line.ChannelState.TheVariants.{Dialing, Asked, Over}
 use Rattle.house_relay.specs.declared.relay.Relay.{Relay}
@@ -23,20 +23,20 @@ SidesAfter (Connect host port version) free new socket line socket' =
 SidesAfter Fault free new socket line socket' = (line ≡ Over) × (socket' ≡ socket)
 
 by-outcome : (came : Came) (free : Bool) (bytes : List ℕ) (dialog : State) (old new : Relay)
-    → CameTo came bytes dialog → SidesAfter came free dialog old.socket new.line new.socket
+    → DialogCameTo came bytes dialog → SidesAfter came free dialog old.socket new.line new.socket
     → ComesOf (outcome_in bytes) free old new
 by-outcome Nothing free bytes dialog old new came sides =
     subst (λ (o : Outcome). ComesOf o free old new) (sym came.0) (subst IsToDial (sym sides.0) tt, sides.1)
 by-outcome (Connect host port version) true bytes dialog old new came sides =
     subst (λ (o : Outcome). ComesOf o true old new) (sym came.0)
-    (subst (IsAskedFor host port) (sym sides.0) (refl, refl), sides.1)
+    (subst (IsOpenAskedFor host port) (sym sides.0) (refl, refl), sides.1)
 by-outcome (Connect host port version) false bytes dialog old new came sides =
     subst (λ (o : Outcome). ComesOf o false old new) (sym came.0) (sides.0, sides.1)
 by-outcome Fault free bytes dialog old new came sides =
     subst (λ (o : Outcome). ComesOf o free old new) (sym came.1) (sides.0, sides.1)
 
-pub comes : (heard : Heard) (free : Bool) (piece : List ℕ) (dialog dialog' : State) (queue' : QueueState) (old new : Relay)
-    → old.line ≡ Dialing dialog → (IsReading dialog → IsReceived dialog dialog' piece heard old.queue queue')
+pub comes : (heard : DialogReceived) (free : Bool) (piece : List ℕ) (dialog dialog' : State) (queue' : QueueState) (old new : Relay)
+    → old.line ≡ Dialing dialog → (IsDialogReading dialog → AreBytesReceived dialog dialog' piece heard old.queue queue')
     → SidesAfter heard.came free dialog' old.socket new.line new.socket
     → DialsIn old.line free piece old new
 comes heard free piece dialog dialog' queue' old new is receives sides =

@@ -8,16 +8,16 @@ use Rattle.std.specs.Prelude.{slice_index}
 use Rattle.proxy_frames.specs.Queued.{with_bytes}
 use Rattle.proxy_frames.specs.State.{QueueState}
 use Rattle.socks_dialog.specs.Socks.{Dialog, socks}
-use Rattle.socks_dialog.specs.State.{State, dialog_bytes, pushed, step_in, step_to, step_of, stepped, gives_in, version_of, History, Represents, RestIs}
+use Rattle.socks_dialog.specs.State.{State, dialog_bytes, pushed, step_in, step_to, step_of, stepped, gives_in, version_of, DialogHistory, DialogRepresents, RestIs}
 use Rattle.socks_dialog.specs.declared.outcome.Outcome.{Outcome}
 use Rattle.socks_dialog.specs.declared.outcome.Outcome.TheVariants.{Wants, Connects, Breaks}
-use Rattle.socks_dialog.specs.declared.step.Step.{Step}
-use Rattle.socks_dialog.specs.declared.step.Step.TheVariants as step
+use Rattle.socks_dialog.specs.declared.step.DialogStep.{DialogStep}
+use Rattle.socks_dialog.specs.declared.step.DialogStep.TheVariants as step
 use Rattle.socks_dialog.proofs.Dialogs.{ended, socks-parse}
 use Rattle.socks_dialog.proofs.Few.{socks-few}
 use Rattle.socks_dialog.proofs.Kept.{kept_alone, kept_wanting, kept_outcome, kept_whole}
 use Rattle.house_relay.specs.Acts.{Unanswered, outcome_in, before_in, behind_in, last_reply, replies_in}
-use Rattle.house_relay.specs.Dialing.{left_in, GivesAll, GaveSome, IsCame, IsReading, CameTo, IsReceived}
+use Rattle.house_relay.specs.Dialing.{replies_left_in, GivesAll, GaveSome, IsCame, IsDialogReading, DialogCameTo, AreBytesReceived}
 use Rattle.house_relay.specs.declared.dialing.Came.{Came}
 
 -- ---- replies
@@ -117,25 +117,25 @@ came_to : (o : Outcome) (version first : ℕ) (came : Came) (bytes : List ℕ) (
     → outcome_in bytes ≡ o → IsCame (step_to o) version came queue queue'
     → (o ≢ Wants → version ≡ slice_index bytes 0)
     → (o ≡ Wants → (new.bytes ≡ bytes) × (new.given ≡ length (before_in bytes)))
-    → CameTo came bytes new × (queue'.waiting ≡ queue.waiting ++ last_reply o first Unanswered)
+    → DialogCameTo came bytes new × (queue'.waiting ≡ queue.waiting ++ last_reply o first Unanswered)
 came_to Wants version first came bytes new queue queue' e is speaks reads = (
-  subst (λ (c : Came). CameTo c bytes new) (sym is.0) (e, (reads refl).0, (reads refl).1),
+  subst (λ (c : Came). DialogCameTo c bytes new) (sym is.0) (e, (reads refl).0, (reads refl).1),
   ap (λ (q : QueueState). q.waiting) is.1 ∙ sym (append-nil queue.waiting),
 )
 came_to (Connects host port) version first came bytes new queue queue' e is speaks reads = (
-  subst (λ (c : Came). CameTo c bytes new) (sym is.0) (e, speaks (λ f. not_wanting bytes host port e (e ∙ f))),
+  subst (λ (c : Came). DialogCameTo c bytes new) (sym is.0) (e, speaks (λ f. not_wanting bytes host port e (e ∙ f))),
   ap (λ (q : QueueState). q.waiting) is.1 ∙ sym (append-nil queue.waiting),
 )
 came_to (Breaks reply) version first came bytes new queue queue' e is speaks reads = (
-  subst (λ (c : Came). CameTo c bytes new) (sym is.0) (reply, e),
+  subst (λ (c : Came). DialogCameTo c bytes new) (sym is.0) (reply, e),
   ap (λ (q : QueueState). q.waiting) is.1,
 )
 
-pub receives : (old mid new : State) (piece : List ℕ) (count : ℕ) (s : Step) (came : Came) (queue queue1 queue2 : QueueState)
+pub receives : (old mid new : State) (piece : List ℕ) (count : ℕ) (s : DialogStep) (came : Came) (queue queue1 queue2 : QueueState)
     → mid ≡ pushed piece old → RestIs old piece count
     → (GaveSome mid → GivesAll mid new s queue queue1)
-    → IsCame s (version_of new) came queue1 queue2 → IsReading old
-    → IsReceived old new piece (record { count = count; came = came }) queue queue2
+    → IsCame s (version_of new) came queue1 queue2 → IsDialogReading old
+    → AreBytesReceived old new piece (record { count = count; came = came }) queue queue2
 unfolding before_in outcome_in behind_in replies_in
 receives old mid new piece count s came queue queue1 queue2 is rest gives comes reads =
     let all = old.bytes ++ piece in
@@ -149,7 +149,7 @@ receives old mid new piece count s came queue queue1 queue2 is rest gives comes 
     let sizes : length (socks all).replies ≡ length (socks old.bytes).replies + length later =
     ap length grown.is ∙ length-append (socks old.bytes).replies later in
     let given = gives (omega (arith, ap length every)) in
-    let left : left_in mid ≡ concat later =
+    let left : replies_left_in mid ≡ concat later =
     ap (λ n. concat (drop n (socks mid.bytes).replies)) had
     ∙ ap (λ r. concat (drop (length (socks old.bytes).replies) r)) (every ∙ grown.is)
     ∙ ap concat (drop-append_seam (socks old.bytes).replies later) in
@@ -158,13 +158,13 @@ receives old mid new piece count s came queue queue1 queue2 is rest gives comes 
     let stepped_to : s ≡ step_to (socks all).outcome = given.outcome ∙ ap step_to came_out in
     let new_kept : new.bytes ≡ dialog_bytes all = given.bytes ∙ kept in
     let then = came_to (socks all).outcome (version_of new) (slice_index all 0) came all new queue1 queue2 refl
-    (subst (λ (t : Step). IsCame t (version_of new) came queue1 queue2) stepped_to comes)
+    (subst (λ (t : DialogStep). IsCame t (version_of new) came queue1 queue2) stepped_to comes)
     (λ ne. ap (λ bytes. slice_index bytes 0) new_kept
     ∙ first_in (dialog_bytes all) (socks all).rest all (kept_whole all) (λ w. ne (sym (kept_outcome all) ∙ w)))
     (λ w. (new_kept ∙ kept_wanting all w, given.given ∙ ap length every)) in
     let last = last_reply (socks all).outcome (slice_index all 0) Unanswered in
-    let history : History = record { bytes = old.bytes; given = (socks old.bytes).replies } in
-    let stands : Represents history old = record {
+    let history : DialogHistory = record { bytes = old.bytes; given = (socks old.bytes).replies } in
+    let stands : DialogRepresents history old = record {
       bytes = sym (kept_wanting old.bytes reads.wants);
       given = sym (ap (λ n. take n (socks old.bytes).replies) reads.given ∙ take-length (socks old.bytes).replies);
       some = omega (arith, reads.given);

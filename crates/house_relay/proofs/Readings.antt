@@ -11,19 +11,19 @@ use Rattle.socks_dialog.specs.State.{State, IsConnect}
 use Rattle.socks_dialog.specs.declared.outcome.Outcome.{Outcome}
 use Rattle.socks_dialog.specs.declared.outcome.Outcome.TheVariants.{Wants, Connects, Breaks}
 use Rattle.socks_dialog.proofs.Dialogs.{socks-parse}
-use Rattle.house_relay.specs.Acts.{Act, Reads, Answer, Unanswered, answer, read, sent, delivered, took, taken, adjusted, has_ended, sent_eof, outcome_in, before_in, behind_in, last_reply, replies_in, replies_if, replies, behind_if}
-use Rattle.house_relay.specs.Dialing.{CameTo, IsReceived, IsReading}
-use Rattle.house_relay.specs.Relay.{Stands, LineStands, IsDialing, IsSettled, HasAsked, WaitsFor, NothingYet, MayRead, holding}
+use Rattle.house_relay.specs.Acts.{RelayAct, Reads, OpenAnswer, Unanswered, answer, read, sent, delivered, took, taken, adjusted, socket_has_ended, sent_eof, outcome_in, before_in, behind_in, last_reply, replies_in, replies_if, replies, behind_if}
+use Rattle.house_relay.specs.Dialing.{DialogCameTo, AreBytesReceived, IsDialogReading}
+use Rattle.house_relay.specs.Relay.{RelayRepresents, LineStands, IsDialing, IsDialogSettled, HasAsked, DialogWaitsFor, NothingYet, RelayMayRead, holding}
 use Rattle.house_relay.specs.declared.dialing.Came.{Came}
 use Rattle.house_relay.specs.declared.dialing.Came.TheVariants.{Nothing, Connect, Fault}
-use Rattle.house_relay.specs.declared.dialing.Heard.{Heard}
+use Rattle.house_relay.specs.declared.dialing.DialogReceived.{DialogReceived}
 use Rattle.house_relay.specs.declared.line.ChannelState.{ChannelState}
 use Rattle.house_relay.specs.declared.line.ChannelState.TheVariants.{Dialing, Asked, Opened, Offered, Live, Over}
 use Rattle.house_relay.specs.declared.relay.Relay.{Relay}
 use Rattle.house_relay.specs.declared.relay.Socket.{Socket}
 use Rattle.house_relay.proofs.Comings.{LineAfter}
 
--- ---- a dialog that came to something
+-- ---- a dialog that has an outcome
 
 true_is : (P : Type 0) → true ≡ false → P
 true_is P e = cc
@@ -40,15 +40,15 @@ no_breaks o reply e w = clash (sym e ∙ w)
     clash : Breaks reply ≡ Wants → ⊥
     clash f = cc
 
-pub settled-waits : (version : Option ℕ) (host : List ℕ) (port : ℕ) (dials : Bool) (acts : List Act)
-    → WaitsFor version (Connects host port) dials acts → IsSettled dials (read acts)
+pub settled-waits : (version : Option ℕ) (host : List ℕ) (port : ℕ) (dials : Bool) (acts : List RelayAct)
+    → DialogWaitsFor version (Connects host port) dials acts → IsDialogSettled dials (read acts)
 settled-waits version host port false acts s = tt
-settled-waits None host port true acts s = true_is (IsSettled true (read acts)) s
+settled-waits None host port true acts s = true_is (IsDialogSettled true (read acts)) s
 settled-waits (Some version) host port true acts s = no_connects (outcome_in (read acts)) host port s.2
 
 -- a channel of a dialog has its end
-pub asked-waits : (version : Option ℕ) (host : List ℕ) (port : ℕ) (dials : Bool) (acts : List Act)
-    → WaitsFor version (Connects host port) dials acts → HasAsked dials (read acts)
+pub asked-waits : (version : Option ℕ) (host : List ℕ) (port : ℕ) (dials : Bool) (acts : List RelayAct)
+    → DialogWaitsFor version (Connects host port) dials acts → HasAsked dials (read acts)
 asked-waits version host port false acts s = tt
 asked-waits None host port true acts s = true_is (HasAsked true (read acts)) s
 asked-waits (Some version) host port true acts s = subst IsConnect (sym s.2) tt
@@ -58,22 +58,22 @@ asked-more : (dials : Bool) (bytes piece : List ℕ) → (dials ≡ true → out
 asked-more false bytes piece same s = tt
 asked-more true bytes piece same s = subst IsConnect (sym (same refl)) s
 
-settled-in : (line : ChannelState) (dials : Bool) (acts : List Act) → ((dialog : State) → line ≡ Dialing dialog → ⊥)
-    → LineStands line dials acts → IsSettled dials (read acts)
+settled-in : (line : ChannelState) (dials : Bool) (acts : List RelayAct) → ((dialog : State) → line ≡ Dialing dialog → ⊥)
+    → LineStands line dials acts → IsDialogSettled dials (read acts)
 settled-in (Dialing dialog) dials acts other s = absurd (other dialog refl)
 settled-in (Asked host port version) dials acts other s = settled-waits version host port dials acts s.waits
 settled-in (Opened version) dials acts other s = settled-waits version s.host s.port dials acts s.waits
 settled-in (Offered remote window maximum) dials acts other s = plain dials s.plain
   where
-    plain : (b : Bool) → b ≡ false → IsSettled b (read acts)
+    plain : (b : Bool) → b ≡ false → IsDialogSettled b (read acts)
     plain false e = tt
-    plain true e = true_is (IsSettled true (read acts)) e
+    plain true e = true_is (IsDialogSettled true (read acts)) e
 settled-in (Live live) dials acts other s = s.settled
 settled-in Over dials acts other s = s.settled
 
--- bytes behind it change nothing of it
+-- bytes after it change nothing of it
 record SameDialog (dials : Bool) (bytes piece : List ℕ) : Type 0 where
-  pub replies : (a : Answer) → replies_if dials (bytes ++ piece) a ≡ replies_if dials bytes a
+  pub replies : (a : OpenAnswer) → replies_if dials (bytes ++ piece) a ≡ replies_if dials bytes a
   pub behind : behind_if dials (bytes ++ piece) ≡ behind_if dials bytes ++ piece
   pub outcome : dials ≡ true → outcome_in (bytes ++ piece) ≡ outcome_in bytes
   pub first : dials ≡ true → slice_index (bytes ++ piece) 0 ≡ slice_index bytes 0
@@ -83,7 +83,7 @@ unfolding outcome_in
 same-first [] piece ne = absurd (ne refl)
 same-first (byte ∷ bytes) piece ne = refl
 
-same-dialog : (dials : Bool) (bytes piece : List ℕ) → IsSettled dials bytes → SameDialog dials bytes piece
+same-dialog : (dials : Bool) (bytes piece : List ℕ) → IsDialogSettled dials bytes → SameDialog dials bytes piece
 unfolding outcome_in before_in behind_in replies_in
 same-dialog false bytes piece s = record {
   replies = λ a. refl;
@@ -103,19 +103,19 @@ same-dialog true bytes piece s =
       first = λ e. first;
     }
 
-settled-more : (dials : Bool) (bytes piece : List ℕ) → SameDialog dials bytes piece → IsSettled dials bytes
-    → IsSettled dials (bytes ++ piece)
+settled-more : (dials : Bool) (bytes piece : List ℕ) → SameDialog dials bytes piece → IsDialogSettled dials bytes
+    → IsDialogSettled dials (bytes ++ piece)
 settled-more false bytes piece same s = tt
 settled-more true bytes piece same s = λ w. s (sym (same.outcome refl) ∙ w)
 
-waits-more : (version : Option ℕ) (outcome : Outcome) (dials : Bool) (acts : List Act) (piece : List ℕ)
-    → SameDialog dials (read acts) piece → WaitsFor version outcome dials acts
-    → WaitsFor version outcome dials (Reads piece ∷ acts)
+waits-more : (version : Option ℕ) (outcome : Outcome) (dials : Bool) (acts : List RelayAct) (piece : List ℕ)
+    → SameDialog dials (read acts) piece → DialogWaitsFor version outcome dials acts
+    → DialogWaitsFor version outcome dials (Reads piece ∷ acts)
 waits-more None outcome dials acts piece same s = s
 waits-more (Some version) outcome dials acts piece same s =
     (s.0, s.1 ∙ sym (same.first s.0), same.outcome s.0 ∙ s.2)
 
-nothing-more : (dials : Bool) (acts : List Act) (piece : List ℕ)
+nothing-more : (dials : Bool) (acts : List RelayAct) (piece : List ℕ)
     → length (replies dials acts) ≤ length (replies dials (Reads piece ∷ acts)) → NothingYet dials acts
     → NothingYet dials (Reads piece ∷ acts)
 nothing-more dials acts piece most s = record {
@@ -129,8 +129,8 @@ nothing-more dials acts piece most s = record {
   none_closed = s.none_closed;
 }
 
-line-more : (line : ChannelState) (dials : Bool) (acts : List Act) (piece : List ℕ) → SameDialog dials (read acts) piece
-    → IsSettled dials (read acts) → ((dialog : State) → line ≡ Dialing dialog → ⊥)
+line-more : (line : ChannelState) (dials : Bool) (acts : List RelayAct) (piece : List ℕ) → SameDialog dials (read acts) piece
+    → IsDialogSettled dials (read acts) → ((dialog : State) → line ≡ Dialing dialog → ⊥)
     → LineStands line dials acts → LineStands line dials (Reads piece ∷ acts)
 line-more (Dialing dialog) dials acts piece same settled other s = absurd (other dialog refl)
 line-more (Asked host port version) dials acts piece same settled other s = record {
@@ -170,18 +170,18 @@ line-more Over dials acts piece same settled other s =
     }
 
 -- what hasn't ended has said no end
-unsaid : (r : Relay) (dials : Bool) (acts : List Act) → r.ended ≡ false → Stands dials acts r
+unsaid : (r : Relay) (dials : Bool) (acts : List RelayAct) → r.ended ≡ false → RelayRepresents dials acts r
     → IsTrue (sent_eof acts) → ⊥
-unsaid r dials acts going s said = clash (has_ended acts) (sym s.ends ∙ going) (s.last said).0
+unsaid r dials acts going s said = clash (socket_has_ended acts) (sym s.ends ∙ going) (s.last said).0
   where
     clash : (b : Bool) → b ≡ false → IsTrue b → ⊥
     clash false e t = true_is ⊥ (sym t)
     clash true e t = true_is ⊥ e
 
 -- a channel's bytes
-pub reads-more : (r : Relay) (piece : List ℕ) (dials : Bool) (acts : List Act)
-    → ((dialog : State) → r.line ≡ Dialing dialog → ⊥) → MayRead piece r → Stands dials acts r
-    → Stands dials (Reads piece ∷ acts) (holding piece r)
+pub reads-more : (r : Relay) (piece : List ℕ) (dials : Bool) (acts : List RelayAct)
+    → ((dialog : State) → r.line ≡ Dialing dialog → ⊥) → RelayMayRead piece r → RelayRepresents dials acts r
+    → RelayRepresents dials (Reads piece ∷ acts) (holding piece r)
 reads-more r piece dials acts other may s =
     let settled = settled-in r.line dials acts other s.line in
     let same = same-dialog dials (read acts) piece settled in
@@ -197,13 +197,13 @@ reads-more r piece dials acts other may s =
 
 -- ---- a dialog that is read
 
-over-now : (acts : List Act) → NothingYet true acts → outcome_in (read acts) ≢ Wants → LineStands Over true acts
+over-now : (acts : List RelayAct) → NothingYet true acts → outcome_in (read acts) ≢ Wants → LineStands Over true acts
 over-now acts nothing ne = record {
   most = let a : adjusted acts ≡ 0 = nothing.no_room in omega arith;
   settled = ne;
 }
 
-line-after : (came : Came) (new : State) (line : ChannelState) (acts : List Act) → CameTo came (read acts) new
+line-after : (came : Came) (new : State) (line : ChannelState) (acts : List RelayAct) → DialogCameTo came (read acts) new
     → NothingYet true acts → LineAfter came new line → LineStands line true acts
 line-after Nothing new line acts came nothing is = subst (λ l. LineStands l true acts) (sym is) (record {
   socks = refl;
@@ -220,14 +220,14 @@ line-after (Connect host port version) new line acts came nothing (inr is) =
 line-after Fault new line acts came nothing is =
     subst (λ l. LineStands l true acts) (sym is) (over-now acts nothing (no_breaks (outcome_in (read acts)) came.0 came.1))
 
--- what IsReceived says, where the dialog's bytes are all that were read
-same-bytes : (old new : State) (piece : List ℕ) (heard : Heard) (q q' : QueueState) (bytes : List ℕ)
-    → old.bytes ≡ bytes → IsReceived old new piece heard q q'
-    → CameTo heard.came (bytes ++ piece) new × (behind_in (bytes ++ piece) ≡ drop heard.count piece)
+-- what AreBytesReceived says, where the dialog's bytes are all that were read
+same-bytes : (old new : State) (piece : List ℕ) (heard : DialogReceived) (q q' : QueueState) (bytes : List ℕ)
+    → old.bytes ≡ bytes → AreBytesReceived old new piece heard q q'
+    → DialogCameTo heard.came (bytes ++ piece) new × (behind_in (bytes ++ piece) ≡ drop heard.count piece)
     × ((more : List ℕ) × (q'.waiting ≡ q.waiting ++ more)
     × (replies_in (bytes ++ piece) Unanswered ≡ replies_in bytes Unanswered ++ more))
 same-bytes old new piece heard q q' bytes is h = (
-  subst (λ b. CameTo heard.came (b ++ piece) new) is h.came,
+  subst (λ b. DialogCameTo heard.came (b ++ piece) new) is h.came,
   subst (λ b. behind_in (b ++ piece) ≡ drop heard.count piece) is h.behind,
   (h.more, h.waiting, subst (λ b. replies_in (b ++ piece) Unanswered ≡ replies_in b Unanswered ++ h.more) is h.replies),
 )
@@ -237,22 +237,22 @@ unfolding outcome_in behind_in
 none-behind bytes e = (socks-parse.front bytes).wanting e
 
 -- a dialog's bytes
-pub reads-dialog : (r : Relay) (old new : State) (piece : List ℕ) (heard : Heard) (q' : QueueState) (line' : ChannelState)
-    (socket' : Socket) (dials : Bool) (acts : List Act)
-    → r.line ≡ Dialing old → (IsReading old → IsReceived old new piece heard r.queue q')
-    → LineAfter heard.came new line' → MayRead piece r → Stands dials acts r
-    → Stands dials (Reads piece ∷ acts)
+pub reads-dialog : (r : Relay) (old new : State) (piece : List ℕ) (heard : DialogReceived) (q' : QueueState) (line' : ChannelState)
+    (socket' : Socket) (dials : Bool) (acts : List RelayAct)
+    → r.line ≡ Dialing old → (IsDialogReading old → AreBytesReceived old new piece heard r.queue q')
+    → LineAfter heard.came new line' → RelayMayRead piece r → RelayRepresents dials acts r
+    → RelayRepresents dials (Reads piece ∷ acts)
     (holding (drop heard.count piece) (record r { line = line'; socket = socket'; queue = q' }))
 reads-dialog r old new piece heard q' line' socket' dials acts is receives after may s =
     by_dials dials (subst (λ l. LineStands l dials acts) is s.line) s
   where
-    by_dials : (b : Bool) → IsDialing old b acts → Stands b acts r
-        → Stands b (Reads piece ∷ acts)
+    by_dials : (b : Bool) → IsDialing old b acts → RelayRepresents b acts r
+        → RelayRepresents b (Reads piece ∷ acts)
         (holding (drop heard.count piece) (record r { line = line'; socket = socket'; queue = q' }))
-    by_dials false d s = true_is (Stands false (Reads piece ∷ acts)
+    by_dials false d s = true_is (RelayRepresents false (Reads piece ∷ acts)
         (holding (drop heard.count piece) (record r { line = line'; socket = socket'; queue = q' }))) (sym d.socks)
     by_dials true d s =
-        let reading : IsReading old = record {
+        let reading : IsDialogReading old = record {
           given = d.given ∙ ap (λ b. length (before_in b)) (sym d.bytes);
           wants = ap outcome_in d.bytes ∙ d.wants;
         } in

@@ -6,7 +6,7 @@ use Rattle.mux_outside.specs.declared.order.Order.TheVariants as order
 use Rattle.mux_outside.specs.declared.own_streams.OwnStream.{OwnStream}
 use Rattle.house_relay.specs.ChannelState.{takes, has_no_more, receives_end}
 use Rattle.house_relay.specs.Next.{chunk, sends_held, sends_live, sends_offered, sends_in, sends_of, orders_open, orders_in, orders_of}
-use Rattle.house_relay.specs.Relay.{SilentIn, IsResting, is_broken, is_finished, is_stuck, stream_of}
+use Rattle.house_relay.specs.Relay.{SilentIn, IsResting, is_broken, is_finished, is_stuck, socket_stream_of}
 use Rattle.house_relay.specs.declared.line.ChannelState.{ChannelState}
 use Rattle.house_relay.specs.declared.line.ChannelState.TheVariants.{Dialing, Asked, Opened, Offered, Live, Over}
 use Rattle.house_relay.specs.declared.line.Live.{Live as LiveState}
@@ -84,7 +84,7 @@ silent r e = silent-in r.line r e
 -- ---- orders
 
 -- its socket is whole, and gets no order
-whole : (s : Socket) (r : Relay) (stream : OwnStream) → stream_of s ≡ Some stream.number → orders_in s r stream ≡ None
+whole : (s : Socket) (r : Relay) (stream : OwnStream) → socket_stream_of s ≡ Some stream.number → orders_in s r stream ≡ None
     → (is_broken s ≡ false) × (orders_open r stream ≡ None)
 whole (socket.Open t) r stream has e = (refl, e)
 whole socket.Unmade r stream has e = cc
@@ -108,7 +108,7 @@ not-both true false e is = cc
 not-both false b e is = refl
 
 -- it has nothing to order
-pub rests : (r : Relay) (stream : OwnStream) → stream_of r.socket ≡ Some stream.number → orders_of r stream ≡ None
+pub rests : (r : Relay) (stream : OwnStream) → socket_stream_of r.socket ≡ Some stream.number → orders_of r stream ≡ None
     → IsResting r stream
 rests r stream has e =
     let open_yet = whole r.socket r stream has e in

@@ -1,8 +1,8 @@
--- How many bytes the socket took.
+-- How many bytes the socket accepted.
 use Rattle.std.proofs.Common.{◌≡◌, ◌∙◌, refl, ap, ◌+◌, List, [], ◌∷◌, length, length-append}
-use Rattle.house_relay.specs.Acts.{Act, Reads, Ends, Takes, Fails, Confirms, Refuses, Delivers, ReceivesEof, ReceivesClose, SendsData, SendsAdjust, SendsEof, SendsClose, Other, took, taken}
+use Rattle.house_relay.specs.Acts.{RelayAct, Reads, Ends, Takes, Fails, Confirms, Refuses, Delivers, ReceivesEof, ReceivesClose, SendsData, SendsAdjust, SendsEof, SendsClose, Other, took, taken}
 
-pub took-length : (acts : List Act) → length (took acts) ≡ taken acts
+pub took-length : (acts : List RelayAct) → length (took acts) ≡ taken acts
 took-length [] = refl
 took-length (Takes bytes ∷ acts) =
     length-append (took acts) bytes ∙ ap (λ n. n + length bytes) (took-length acts)

@@ -1,21 +1,22 @@
--- A socket takes some of what waits for it.
+-- A socket accepts some of what waits for it.
 use Rattle.std.proofs.Common.{◌≡◌, ◌∙◌, refl, sym, ap, subst, arith, ℕ, ◌+◌, ◌-◌, ◌≤◌, Bool, true, false, if◌then◌else◌, List, ◌∷◌, ◌++◌, length, take, drop, length-take, length-append, Option, Some, None}
 use Rattle.std.proofs.lemmas.Grind.{common_steps}
 use Rattle.std.proofs.lemmas.List.{append_assoc, take-append-drop}
-use Rattle.house_relay.specs.Acts.{Act, Takes, took, taken, delivered, adjusted, replies, to_take, taken_data}
+use Rattle.house_relay.specs.Acts.{RelayAct, Takes, took, taken, delivered, adjusted, replies, to_take, taken_data}
 use Rattle.house_relay.specs.ChannelState.{takes_in, takes_more}
-use Rattle.house_relay.specs.Steps.{taken_of}
+use Rattle.house_relay.specs.Steps.{relay_taken_of}
 use Rattle.socks_dialog.specs.declared.outcome.Outcome.{Outcome}
 use Rattle.socks_dialog.specs.declared.outcome.Outcome.TheVariants.{Connects}
-use Rattle.house_relay.specs.Relay.{Stands, LineStands, IsLive, NothingYet, WaitsFor}
+use Rattle.house_relay.specs.Relay.{RelayRepresents, LineStands, IsLive, NothingYet, DialogWaitsFor}
 use Rattle.house_relay.specs.declared.line.Live.{Live as LiveState}
 use Rattle.house_relay.specs.declared.line.ChannelState.{ChannelState}
 use Rattle.house_relay.specs.declared.line.ChannelState.TheVariants.{Dialing, Asked, Opened, Offered, Live, Over}
 use Rattle.house_relay.specs.declared.relay.Relay.{Relay}
 use Rattle.house_relay.proofs.Taken.{took-length}
 
--- one that is confirmed owes as much more room as is taken behind the replies, until CLOSE is said
-pub live-takes : (live : LiveState) (bytes : List ℕ) (dials : Bool) (acts : List Act) → IsLive live dials acts
+-- one that is confirmed owes as much more room as is accepted after the replies, until CLOSE is
+-- sent
+pub live-takes : (live : LiveState) (bytes : List ℕ) (dials : Bool) (acts : List RelayAct) → IsLive live dials acts
     → IsLive (takes_more (length bytes) live) dials (Takes bytes ∷ acts)
 live-takes live bytes dials acts s = by_case live.close_sent refl
   where
@@ -50,8 +51,8 @@ live-takes live bytes dials acts s = by_case live.close_sent refl
       asked = s.asked;
     }
 
--- before the OPEN is answered no more than the replies is taken
-pub nothing-takes : (bytes : List ℕ) (dials : Bool) (acts : List Act) (queue : List ℕ) → NothingYet dials acts
+-- before the OPEN is answered no more than the replies is accepted
+pub nothing-takes : (bytes : List ℕ) (dials : Bool) (acts : List RelayAct) (queue : List ℕ) → NothingYet dials acts
     → took acts ++ queue ≡ to_take dials acts → length bytes ≤ length queue
     → NothingYet dials (Takes bytes ∷ acts)
 nothing-takes bytes dials acts queue s whole few =
@@ -71,12 +72,12 @@ nothing-takes bytes dials acts queue s whole few =
       none_closed = s.none_closed;
     }
 
-waits-takes : (bytes : List ℕ) (dials : Bool) (acts : List Act) (version : Option ℕ) (outcome : Outcome)
-    → WaitsFor version outcome dials acts → WaitsFor version outcome dials (Takes bytes ∷ acts)
+waits-takes : (bytes : List ℕ) (dials : Bool) (acts : List RelayAct) (version : Option ℕ) (outcome : Outcome)
+    → DialogWaitsFor version outcome dials acts → DialogWaitsFor version outcome dials (Takes bytes ∷ acts)
 waits-takes bytes dials acts None outcome s = s
 waits-takes bytes dials acts (Some version) outcome s = s
 
-pub line-takes : (line : ChannelState) (bytes : List ℕ) (dials : Bool) (acts : List Act) (queue : List ℕ)
+pub line-takes : (line : ChannelState) (bytes : List ℕ) (dials : Bool) (acts : List RelayAct) (queue : List ℕ)
     → took acts ++ queue ≡ to_take dials acts → length bytes ≤ length queue
     → LineStands line dials acts → LineStands (takes_in (length bytes) line) dials (Takes bytes ∷ acts)
 line-takes (Dialing dialog) bytes dials acts queue whole few s = record {
@@ -107,9 +108,9 @@ line-takes Over bytes dials acts queue whole few s = record {
 }
 
 -- the relay goes on
-goes-front : (r : Relay) (bytes rest : List ℕ) (dials : Bool) (acts : List Act) → r.queue.waiting ≡ bytes ++ rest
-    → drop (length bytes) r.queue.waiting ≡ rest → Stands dials acts r
-    → Stands dials (Takes bytes ∷ acts) (taken_of (length bytes) r)
+goes-front : (r : Relay) (bytes rest : List ℕ) (dials : Bool) (acts : List RelayAct) → r.queue.waiting ≡ bytes ++ rest
+    → drop (length bytes) r.queue.waiting ≡ rest → RelayRepresents dials acts r
+    → RelayRepresents dials (Takes bytes ∷ acts) (relay_taken_of (length bytes) r)
 goes-front r bytes rest dials acts front left s =
     let few : length bytes ≤ length r.queue.waiting = omega (arith, ap length front, length-append bytes rest) in
     record {
@@ -124,11 +125,11 @@ goes-front r bytes rest dials acts front left s =
       line = line-takes r.line bytes dials acts r.queue.waiting s.delivers few s.line;
     }
 
-pub goes : (r : Relay) (n : ℕ) (dials : Bool) (acts : List Act) → n ≤ length r.queue.waiting → Stands dials acts r
-    → Stands dials (Takes (take n r.queue.waiting) ∷ acts) (taken_of n r)
+pub goes : (r : Relay) (n : ℕ) (dials : Bool) (acts : List RelayAct) → n ≤ length r.queue.waiting → RelayRepresents dials acts r
+    → RelayRepresents dials (Takes (take n r.queue.waiting) ∷ acts) (relay_taken_of n r)
 goes r n dials acts few s =
     let queue = r.queue.waiting in
     let size : length (take n queue) ≡ n = grind (arith, common_steps, length-take) in
-    subst (λ k. Stands dials (Takes (take n queue) ∷ acts) (taken_of k r)) size
+    subst (λ k. RelayRepresents dials (Takes (take n queue) ∷ acts) (relay_taken_of k r)) size
     (goes-front r (take n queue) (drop n queue) dials acts (sym (take-append-drop n queue))
     (ap (λ k. drop k queue) size) s)

@@ -5,8 +5,8 @@ use Rattle.mux_outside.specs.declared.own_streams.OwnStream.{OwnStream}
 use Rattle.house_relay.specs.ChannelState.{takes}
 use Rattle.std.proofs.lemmas.List.{length-append}
 use Rattle.std.proofs.Math.Seq.{drop-append_seam}
-use Rattle.house_relay.specs.Acts.{Act, Relays, read, sent, took, taken, adjusted, held, waiting, to_take, taken_data, outcome_in}
-use Rattle.house_relay.specs.Relay.{Stands, Keeps, OwesRight, AsksRight, SilentIn, IsResting, stuck_in, is_stuck, LineStands, NothingYet, WaitsFor}
+use Rattle.house_relay.specs.Acts.{RelayAct, Relays, read, sent, took, taken, adjusted, held, waiting, to_take, taken_data, outcome_in}
+use Rattle.house_relay.specs.Relay.{RelayRepresents, RelayKeeps, OwesRight, AsksRight, SilentIn, IsResting, stuck_in, is_stuck, LineStands, NothingYet, DialogWaitsFor}
 use Rattle.mux_outside.specs.declared.piece.TheConstants.{LONGEST_PIECE}
 use Rattle.socks_dialog.specs.declared.outcome.Outcome.TheVariants.{Connects}
 use Rattle.house_relay.specs.declared.line.ChannelState.{ChannelState}
@@ -15,26 +15,26 @@ use Rattle.house_relay.specs.declared.line.ChannelState.TheVariants.{Dialing, As
 use Rattle.house_relay.specs.declared.relay.Relay.{Relay}
 use Rattle.house_relay.proofs.Taken.{took-length}
 
-pub holds : (dials : Bool) (acts : List Act) (r : Relay) → Stands dials acts r → r.held.waiting ≡ held dials acts
+pub holds : (dials : Bool) (acts : List RelayAct) (r : Relay) → RelayRepresents dials acts r → r.held.waiting ≡ held dials acts
 holds dials acts r s = sym (drop-append_seam (sent acts) r.held.waiting) ∙ ap (drop (length (sent acts))) s.sends
 
-pub waits : (dials : Bool) (acts : List Act) (r : Relay) → Stands dials acts r → r.queue.waiting ≡ waiting dials acts
+pub waits : (dials : Bool) (acts : List RelayAct) (r : Relay) → RelayRepresents dials acts r → r.queue.waiting ≡ waiting dials acts
 waits dials acts r s =
     sym (drop-append_seam (took acts) r.queue.waiting)
     ∙ ap (drop (length (took acts))) s.delivers
     ∙ ap (λ n. drop n (to_take dials acts)) (took-length acts)
 
-few : (dials : Bool) (acts : List Act) (r : Relay) → Stands dials acts r → taken acts ≤ length (to_take dials acts)
+few : (dials : Bool) (acts : List RelayAct) (r : Relay) → RelayRepresents dials acts r → taken acts ≤ length (to_take dials acts)
 few dials acts r s =
     let e : length (took acts) + length r.queue.waiting ≡ length (to_take dials acts) =
     sym (length-append (took acts) r.queue.waiting) ∙ ap length s.delivers in
     let t : length (took acts) ≡ taken acts = took-length acts in
     omega arith
 
-none-yet : (dials : Bool) (acts : List Act) → NothingYet dials acts → adjusted acts ≤ taken_data dials acts
+none-yet : (dials : Bool) (acts : List RelayAct) → NothingYet dials acts → adjusted acts ≤ taken_data dials acts
 none-yet dials acts s = let a : adjusted acts ≡ 0 = s.no_room in omega arith
 
-most : (line : ChannelState) (dials : Bool) (acts : List Act) → LineStands line dials acts → adjusted acts ≤ taken_data dials acts
+most : (line : ChannelState) (dials : Bool) (acts : List RelayAct) → LineStands line dials acts → adjusted acts ≤ taken_data dials acts
 most (Dialing dialog) dials acts s = none-yet dials acts s.nothing
 most (Asked host port version) dials acts s = none-yet dials acts s.nothing
 most (Opened version) dials acts s = none-yet dials acts s.nothing
@@ -42,7 +42,7 @@ most (Offered remote window maximum) dials acts s = none-yet dials acts s.nothin
 most (Live live) dials acts s = s.most
 most Over dials acts s = s.most
 
-owes : (line : ChannelState) (dials : Bool) (acts : List Act) → LineStands line dials acts → OwesRight line dials acts
+owes : (line : ChannelState) (dials : Bool) (acts : List RelayAct) → LineStands line dials acts → OwesRight line dials acts
 owes (Dialing dialog) dials acts s = tt
 owes (Asked host port version) dials acts s = tt
 owes (Opened version) dials acts s = tt
@@ -55,12 +55,12 @@ owes Over dials acts s = tt
 true_or : (P : Type 0) (b : Bool) → b ≡ false → b ≡ true → P
 true_or P b e f = let z : false ≡ true = sym e ∙ f in cc
 
-asks-end : (version : Option ℕ) (host : List ℕ) (port : ℕ) (dials : Bool) (acts : List Act)
-    → WaitsFor version (Connects host port) dials acts → dials ≡ true → outcome_in (read acts) ≡ Connects host port
+asks-end : (version : Option ℕ) (host : List ℕ) (port : ℕ) (dials : Bool) (acts : List RelayAct)
+    → DialogWaitsFor version (Connects host port) dials acts → dials ≡ true → outcome_in (read acts) ≡ Connects host port
 asks-end None host port dials acts s e = true_or (outcome_in (read acts) ≡ Connects host port) dials s e
 asks-end (Some version) host port dials acts s e = s.2
 
-asks : (line : ChannelState) (dials : Bool) (acts : List Act) → LineStands line dials acts → AsksRight line dials acts
+asks : (line : ChannelState) (dials : Bool) (acts : List RelayAct) → LineStands line dials acts → AsksRight line dials acts
 asks (Dialing dialog) dials acts s = s.wants
 asks (Asked host port version) dials acts s = asks-end version host port dials acts s.waits
 asks (Opened version) dials acts s = asked-waits version s.host s.port dials acts s.waits
@@ -68,7 +68,7 @@ asks (Offered remote window maximum) dials acts s = s.plain
 asks (Live live) dials acts s = s.asked
 asks Over dials acts s = s.settled
 
-pub relays : (dials : Bool) (acts : List Act) (r : Relay) → Stands dials acts r → Relays dials acts
+pub relays : (dials : Bool) (acts : List RelayAct) (r : Relay) → RelayRepresents dials acts r → Relays dials acts
 relays dials acts r s = record {
   prefix = ap (λ h. sent acts ++ h) (sym (holds dials acts r s)) ∙ s.sends;
   in_order = ap (λ w. took acts ++ w) (sym (waits dials acts r s)) ∙ s.delivers;
@@ -78,7 +78,7 @@ relays dials acts r s = record {
   few = subst (λ h. length h ≤ LONGEST_PIECE) (holds dials acts r s) s.few;
 }
 
-pub keeps : (dials : Bool) (acts : List Act) (r : Relay) → Stands dials acts r → Keeps dials acts r
+pub keeps : (dials : Bool) (acts : List RelayAct) (r : Relay) → RelayRepresents dials acts r → RelayKeeps dials acts r
 keeps dials acts r s = record {
   holds = holds dials acts r s;
   waits = waits dials acts r s;

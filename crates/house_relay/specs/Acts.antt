@@ -1,5 +1,5 @@
--- What happens in one relay, the newest first, and what comes of it. Some begin with a dialog of
--- SOCKS, which says to which end the channel is.
+-- What happens in one relay, the newest first, and the outcome of it. Some begin with a dialog of
+-- SOCKS, which specifies the end of the channel.
 use Rattle.std.specs.Prelude.{◌≡◌, ◌+◌, ◌-◌, ◌≤◌, ℕ, Bool, true, false, List, [], ◌∷◌, ◌++◌, length, drop, slice_index, IsTrue}
 use Rattle.std.specs.List.{concat}
 use Rattle.mux_outside.specs.declared.piece.TheConstants.{LONGEST_PIECE}
@@ -9,86 +9,86 @@ use Rattle.socks_dialog.specs.declared.outcome.Outcome.{Outcome}
 use Rattle.socks_dialog.specs.declared.outcome.Outcome.TheVariants.{Wants, Connects, Breaks}
 
 -- the socket gave bytes, or its end, or took bytes of those that waited for it, or failed; the OPEN
--- was confirmed, or refused for a reason; data was delivered in the channel; EOF or CLOSE was heard
--- there; data, room for so many bytes, EOF or CLOSE was said there; or nothing of this
-pub data Act : Type 0 where
-  Reads : (bytes : List ℕ) → Act
-  Ends : Act
-  Takes : (bytes : List ℕ) → Act
-  Fails : Act
-  Confirms : Act
-  Refuses : (reason : ℕ) → Act
-  Delivers : (bytes : List ℕ) → Act
-  ReceivesEof : Act
-  ReceivesClose : Act
-  SendsData : (bytes : List ℕ) → Act
-  SendsAdjust : (n : ℕ) → Act
-  SendsEof : Act
-  SendsClose : Act
-  Other : Act
+-- was confirmed, or refused for a reason; data was delivered in the channel; EOF or CLOSE was
+-- received there; data, room for so many bytes, EOF or CLOSE was sent there; or nothing of this
+pub data RelayAct : Type 0 where
+  Reads : (bytes : List ℕ) → RelayAct
+  Ends : RelayAct
+  Takes : (bytes : List ℕ) → RelayAct
+  Fails : RelayAct
+  Confirms : RelayAct
+  Refuses : (reason : ℕ) → RelayAct
+  Delivers : (bytes : List ℕ) → RelayAct
+  ReceivesEof : RelayAct
+  ReceivesClose : RelayAct
+  SendsData : (bytes : List ℕ) → RelayAct
+  SendsAdjust : (n : ℕ) → RelayAct
+  SendsEof : RelayAct
+  SendsClose : RelayAct
+  Other : RelayAct
 
 -- all bytes read from the socket
-abbrev pub read : List Act → List ℕ
+abbrev pub read : List RelayAct → List ℕ
 read [] = []
 read (Reads bytes ∷ acts) = read acts ++ bytes
 read (_ ∷ acts) = read acts
 
 -- all data said in the channel
-abbrev pub sent : List Act → List ℕ
+abbrev pub sent : List RelayAct → List ℕ
 sent [] = []
 sent (SendsData bytes ∷ acts) = sent acts ++ bytes
 sent (_ ∷ acts) = sent acts
 
 -- all data delivered in the channel
-abbrev pub delivered : List Act → List ℕ
+abbrev pub delivered : List RelayAct → List ℕ
 delivered [] = []
 delivered (Delivers bytes ∷ acts) = delivered acts ++ bytes
 delivered (_ ∷ acts) = delivered acts
 
--- all bytes that the socket took
-abbrev pub took : List Act → List ℕ
+-- all bytes that the socket accepted
+abbrev pub took : List RelayAct → List ℕ
 took [] = []
 took (Takes bytes ∷ acts) = took acts ++ bytes
 took (_ ∷ acts) = took acts
 
 -- how many they are
-abbrev pub taken : List Act → ℕ
+abbrev pub taken : List RelayAct → ℕ
 taken [] = 0
 taken (Takes bytes ∷ acts) = taken acts + length bytes
 taken (_ ∷ acts) = taken acts
 
 -- for how many bytes room was given back
-abbrev pub adjusted : List Act → ℕ
+abbrev pub adjusted : List RelayAct → ℕ
 adjusted [] = 0
 adjusted (SendsAdjust n ∷ acts) = adjusted acts + n
 adjusted (_ ∷ acts) = adjusted acts
 
 -- whether the socket gave its end
-abbrev pub has_ended : List Act → Bool
-has_ended [] = false
-has_ended (Ends ∷ acts) = true
-has_ended (_ ∷ acts) = has_ended acts
+abbrev pub socket_has_ended : List RelayAct → Bool
+socket_has_ended [] = false
+socket_has_ended (Ends ∷ acts) = true
+socket_has_ended (_ ∷ acts) = socket_has_ended acts
 
--- whether EOF was heard
-abbrev pub received_eof : List Act → Bool
+-- whether EOF was received
+abbrev pub received_eof : List RelayAct → Bool
 received_eof [] = false
 received_eof (ReceivesEof ∷ acts) = true
 received_eof (_ ∷ acts) = received_eof acts
 
--- whether CLOSE was heard
-abbrev pub received_close : List Act → Bool
+-- whether CLOSE was received
+abbrev pub received_close : List RelayAct → Bool
 received_close [] = false
 received_close (ReceivesClose ∷ acts) = true
 received_close (_ ∷ acts) = received_close acts
 
--- whether EOF was said
-abbrev pub sent_eof : List Act → Bool
+-- whether EOF was sent
+abbrev pub sent_eof : List RelayAct → Bool
 sent_eof [] = false
 sent_eof (SendsEof ∷ acts) = true
 sent_eof (_ ∷ acts) = sent_eof acts
 
--- whether CLOSE was said
-abbrev pub sent_close : List Act → Bool
+-- whether CLOSE was sent
+abbrev pub sent_close : List RelayAct → Bool
 sent_close [] = false
 sent_close (SendsClose ∷ acts) = true
 sent_close (_ ∷ acts) = sent_close acts
@@ -96,18 +96,18 @@ sent_close (_ ∷ acts) = sent_close acts
 -- ---- the dialog in front
 
 -- what the server answered to the OPEN
-pub data Answer : Type 0 where
-  Unanswered : Answer
-  Confirmed : Answer
-  Refused : (reason : ℕ) → Answer
+pub data OpenAnswer : Type 0 where
+  Unanswered : OpenAnswer
+  Confirmed : OpenAnswer
+  Refused : (reason : ℕ) → OpenAnswer
 
-abbrev pub answer : List Act → Answer
+abbrev pub answer : List RelayAct → OpenAnswer
 answer [] = Unanswered
 answer (Confirms ∷ acts) = Confirmed
 answer (Refuses reason ∷ acts) = Refused reason
 answer (_ ∷ acts) = answer acts
 
--- what the dialog of these bytes comes to
+-- the outcome of the dialog of these bytes
 unfoldable pub outcome_in : List ℕ → Outcome
 outcome_in bytes = (socks bytes).outcome
 
@@ -115,13 +115,13 @@ outcome_in bytes = (socks bytes).outcome
 unfoldable pub before_in : List ℕ → List (List ℕ)
 before_in bytes = (socks bytes).replies
 
--- the bytes behind it
+-- the bytes after it
 unfoldable pub behind_in : List ℕ → List ℕ
 behind_in bytes = (socks bytes).rest
 
 -- its last reply: where it breaks the reply to that, and where it asks for an end that the end is
 -- reached once the OPEN is confirmed, or that it isn't once it is refused
-abbrev pub last_reply : Outcome → ℕ → Answer → List ℕ
+abbrev pub last_reply : Outcome → ℕ → OpenAnswer → List ℕ
 last_reply Wants version a = []
 last_reply (Breaks reply) version a = reply
 last_reply (Connects host port) version Unanswered = []
@@ -129,53 +129,54 @@ last_reply (Connects host port) version Confirmed = granted_to version
 last_reply (Connects host port) version (Refused reason) = refused_to version reason
 
 -- all its replies
-unfoldable pub replies_in : List ℕ → Answer → List ℕ
+unfoldable pub replies_in : List ℕ → OpenAnswer → List ℕ
 replies_in bytes a =
     concat (before_in bytes) ++ last_reply (outcome_in bytes) (slice_index bytes 0) a
 
 -- where a relay begins with a dialog, the replies to it
-abbrev pub replies_if : Bool → List ℕ → Answer → List ℕ
+abbrev pub replies_if : Bool → List ℕ → OpenAnswer → List ℕ
 replies_if false bytes a = []
 replies_if true bytes a = replies_in bytes a
 
-abbrev pub replies : Bool → List Act → List ℕ
+abbrev pub replies : Bool → List RelayAct → List ℕ
 replies dials acts = replies_if dials (read acts) (answer acts)
 
--- and what is for the channel are the bytes behind it
+-- and what is for the channel are the bytes after it
 abbrev pub behind_if : Bool → List ℕ → List ℕ
 behind_if false bytes = bytes
 behind_if true bytes = behind_in bytes
 
-abbrev pub behind : Bool → List Act → List ℕ
+abbrev pub behind : Bool → List RelayAct → List ℕ
 behind dials acts = behind_if dials (read acts)
 
 -- ---- what is left
 
 -- the bytes for the channel that were read and not sent
-abbrev pub held : Bool → List Act → List ℕ
+abbrev pub held : Bool → List RelayAct → List ℕ
 held dials acts = drop (length (sent acts)) (behind dials acts)
 
 -- what the socket is to take: the replies, and then what was delivered
-abbrev pub to_take : Bool → List Act → List ℕ
+abbrev pub to_take : Bool → List RelayAct → List ℕ
 to_take dials acts = replies dials acts ++ delivered acts
 
 -- that of it which the socket didn't take
-abbrev pub waiting : Bool → List Act → List ℕ
+abbrev pub waiting : Bool → List RelayAct → List ℕ
 waiting dials acts = drop (taken acts) (to_take dials acts)
 
--- how many bytes of data the socket took: those that it took behind the replies
-abbrev pub taken_data : Bool → List Act → ℕ
+-- how many bytes of data the socket accepted: those that it accepted after the replies
+abbrev pub taken_data : Bool → List RelayAct → ℕ
 taken_data dials acts = taken acts - length (replies dials acts)
 
 -- ---- what holds at every moment
 
--- what is sent was read before it, behind the dialog; what the socket takes are the replies to the
+-- what is sent was read before it, after the dialog; what the socket accepts are the replies to the
 -- dialog, and then what was delivered before it; all is in order; no more room is given back than
--- data was taken; EOF goes on behind everything alone; and no more is held than one piece has at most
-pub record Relays (dials : Bool) (acts : List Act) : Type 0 where
+-- data was accepted; EOF goes on after everything alone; and no more is held than one piece has at
+-- most
+pub record Relays (dials : Bool) (acts : List RelayAct) : Type 0 where
   pub prefix : sent acts ++ held dials acts ≡ behind dials acts
   pub in_order : took acts ++ waiting dials acts ≡ to_take dials acts
   pub fits : taken acts ≤ length (to_take dials acts)
   pub granted : adjusted acts ≤ taken_data dials acts
-  pub last : IsTrue (sent_eof acts) → IsTrue (has_ended acts) × (held dials acts ≡ [])
+  pub last : IsTrue (sent_eof acts) → IsTrue (socket_has_ended acts) × (held dials acts ≡ [])
   pub few : length (held dials acts) ≤ LONGEST_PIECE

@@ -6,30 +6,30 @@ use Rattle.proxy_frames.specs.State.{QueueState}
 use Rattle.socks_dialog.specs.Replies.{granted_to, refused_to}
 use Rattle.socks_dialog.specs.State.{State, step_to}
 use Rattle.socks_dialog.specs.declared.outcome.Outcome.TheVariants.{Wants, Connects, Breaks}
-use Rattle.socks_dialog.specs.declared.step.Step.{Step}
-use Rattle.socks_dialog.specs.declared.step.Step.TheVariants as step
+use Rattle.socks_dialog.specs.declared.step.DialogStep.{DialogStep}
+use Rattle.socks_dialog.specs.declared.step.DialogStep.TheVariants as step
 use Rattle.house_relay.specs.Acts.{Unanswered, outcome_in, before_in, behind_in, replies_in}
 use Rattle.house_relay.specs.declared.dialing.Came.{Came}
 use Rattle.house_relay.specs.declared.dialing.Came.TheVariants.{Nothing, Connect, Fault}
-use Rattle.house_relay.specs.declared.dialing.Heard.{Heard}
+use Rattle.house_relay.specs.declared.dialing.DialogReceived.{DialogReceived}
 
 -- the replies that weren't given
-abbrev pub left_in : State → List ℕ
-left_in dialog = concat (drop dialog.given (before_in dialog.bytes))
+abbrev pub replies_left_in : State → List ℕ
+replies_left_in dialog = concat (drop dialog.given (before_in dialog.bytes))
 
 -- all of them are given, into a queue, and the outcome is the next step
-pub record GivesAll (old new : State) (step : Step) (queue queue' : QueueState) : Type 0 where
+pub record GivesAll (old new : State) (step : DialogStep) (queue queue' : QueueState) : Type 0 where
   pub outcome : step ≡ step_to (outcome_in old.bytes)
   pub bytes : new.bytes ≡ old.bytes
   pub given : new.given ≡ length (before_in old.bytes)
-  pub waiting : queue' ≡ with_bytes (left_in old) queue
+  pub waiting : queue' ≡ with_bytes (replies_left_in old) queue
 
 -- no more replies were given than there are
 abbrev pub GaveSome : State → Type 0
 GaveSome dialog = dialog.given ≤ length (before_in dialog.bytes)
 
 -- its outcome by a step, in this version; the reply to a fault goes into the queue
-abbrev pub IsCame : Step → ℕ → Came → QueueState → QueueState → Type 0
+abbrev pub IsCame : DialogStep → ℕ → Came → QueueState → QueueState → Type 0
 IsCame step.More version came queue queue' = (came ≡ Nothing) × (queue' ≡ queue)
 IsCame (step.Reply reply) version came queue queue' = (came ≡ Nothing) × (queue' ≡ queue)
 IsCame (step.Connect host port) version came queue queue' =
@@ -38,22 +38,22 @@ IsCame (step.Bad reply) version came queue queue' =
     (came ≡ Fault) × (queue' ≡ with_bytes reply queue)
 
 -- a dialog that has given all replies, and wants more bytes
-pub record IsReading (dialog : State) : Type 0 where
+pub record IsDialogReading (dialog : State) : Type 0 where
   pub given : dialog.given ≡ length (before_in dialog.bytes)
   pub wants : outcome_in dialog.bytes ≡ Wants
 
 -- its outcome by all bytes
-abbrev pub CameTo : Came → List ℕ → State → Type 0
-CameTo Nothing bytes new =
+abbrev pub DialogCameTo : Came → List ℕ → State → Type 0
+DialogCameTo Nothing bytes new =
     (outcome_in bytes ≡ Wants) × (new.bytes ≡ bytes) × (new.given ≡ length (before_in bytes))
-CameTo (Connect host port version) bytes new =
+DialogCameTo (Connect host port version) bytes new =
     (outcome_in bytes ≡ Connects host port) × (version ≡ slice_index bytes 0)
-CameTo Fault bytes new = (reply : List ℕ) × (outcome_in bytes ≡ Breaks reply)
+DialogCameTo Fault bytes new = (reply : List ℕ) × (outcome_in bytes ≡ Breaks reply)
 
 -- more bytes were received: its outcome is that, all bytes but so many of them are after it, and as
 -- many bytes wait in the queue as there are more of its replies
-pub record IsReceived (old new : State) (bytes : List ℕ) (heard : Heard) (queue queue' : QueueState) : Type 0 where
-  pub came : CameTo heard.came (old.bytes ++ bytes) new
+pub record AreBytesReceived (old new : State) (bytes : List ℕ) (heard : DialogReceived) (queue queue' : QueueState) : Type 0 where
+  pub came : DialogCameTo heard.came (old.bytes ++ bytes) new
   pub behind : behind_in (old.bytes ++ bytes) ≡ drop heard.count bytes
   pub more : List ℕ
   pub waiting : queue'.waiting ≡ queue.waiting ++ more
@@ -67,6 +67,6 @@ grant_of None = []
 grant_of (Some version) = granted_to version
 
 -- and where it isn't, for a reason
-abbrev pub refusal_of : Option ℕ → ℕ → List ℕ
-refusal_of None reason = []
-refusal_of (Some version) reason = refused_to version reason
+abbrev pub dialog_refusal_of : Option ℕ → ℕ → List ℕ
+dialog_refusal_of None reason = []
+dialog_refusal_of (Some version) reason = refused_to version reason

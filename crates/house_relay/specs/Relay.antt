@@ -1,7 +1,7 @@
 -- How a relay stands, for what happened in it.
 use Rattle.std.specs.Prelude.{◌≡◌, ◌≢◌, ◌+◌, ◌-◌, ◌≤◌, ◌<◌, ◌&&◌, ◌||◌, ◌==◌, ℕ, Bool, true, false, not, is_some, List, [], ◌∷◌, ◌++◌, length, take, slice_index, IsTrue, Option, Some, None}
-use Rattle.house_relay.specs.Acts.{Act, SendsData, SendsAdjust, SendsEof, SendsClose, Other}
-use Rattle.house_relay.specs.Acts.{read, sent, delivered, took, taken, adjusted, has_ended, received_eof, received_close, sent_eof, sent_close}
+use Rattle.house_relay.specs.Acts.{RelayAct, SendsData, SendsAdjust, SendsEof, SendsClose, Other}
+use Rattle.house_relay.specs.Acts.{read, sent, delivered, took, taken, adjusted, socket_has_ended, received_eof, received_close, sent_eof, sent_close}
 use Rattle.house_relay.specs.Acts.{Unanswered, answer, outcome_in, before_in, replies, behind, held, to_take, waiting, taken_data}
 use Rattle.mux_outside.specs.declared.order.Order.{Order}
 use Rattle.mux_outside.specs.declared.order.Order.TheVariants.{Listen, Connect, Unlisten, Pause, Resume, Finish}
@@ -33,21 +33,21 @@ InLive (Offered remote window maximum) P = ⊥
 InLive (Live live) P = P live
 InLive Over P = ⊥
 
-abbrev pub IsAsked : ChannelState → Type 0
-IsAsked (Dialing dialog) = ⊥
-IsAsked (Asked host port version) = Unit {0}
-IsAsked (Opened version) = ⊥
-IsAsked (Offered remote window maximum) = ⊥
-IsAsked (Live live) = ⊥
-IsAsked Over = ⊥
+abbrev pub IsChannelAsked : ChannelState → Type 0
+IsChannelAsked (Dialing dialog) = ⊥
+IsChannelAsked (Asked host port version) = Unit {0}
+IsChannelAsked (Opened version) = ⊥
+IsChannelAsked (Offered remote window maximum) = ⊥
+IsChannelAsked (Live live) = ⊥
+IsChannelAsked Over = ⊥
 
-abbrev pub IsOffered : ChannelState → Type 0
-IsOffered (Dialing dialog) = ⊥
-IsOffered (Asked host port version) = ⊥
-IsOffered (Opened version) = ⊥
-IsOffered (Offered remote window maximum) = Unit {0}
-IsOffered (Live live) = ⊥
-IsOffered Over = ⊥
+abbrev pub IsChannelOffered : ChannelState → Type 0
+IsChannelOffered (Dialing dialog) = ⊥
+IsChannelOffered (Asked host port version) = ⊥
+IsChannelOffered (Opened version) = ⊥
+IsChannelOffered (Offered remote window maximum) = Unit {0}
+IsChannelOffered (Live live) = ⊥
+IsChannelOffered Over = ⊥
 
 -- its socket is connected
 abbrev pub IsConnected : Socket → Type 0
@@ -67,18 +67,18 @@ is_broken (socket.Failed t) = true
 is_broken (socket.NoChannelLeft t) = true
 is_broken socket.Closed = true
 
--- whether a channel is to be closed: its socket is broken, or CLOSE was heard, or EOF went both ways
--- and nothing waits for the socket
+-- whether a channel is to be closed: its socket is broken, or CLOSE was received, or EOF went both
+-- ways and nothing waits for the socket
 abbrev pub is_finished : Socket → List ℕ → LiveState → Bool
 is_finished s queue live = is_broken s
     || (live.close_received || (live.eof_sent && (live.eof_received && (length queue == 0))))
 
--- ---- what may be said
+-- ---- what may be sent
 
 abbrev pub IsSending : Outgoing → Relay → Type 0
-IsSending Open r = IsAsked r.line
-IsSending Confirmation r = IsOffered r.line × IsConnected r.socket
-IsSending OpenFailure r = IsOffered r.line
+IsSending Open r = IsChannelAsked r.line
+IsSending Confirmation r = IsChannelOffered r.line × IsConnected r.socket
+IsSending OpenFailure r = IsChannelOffered r.line
 IsSending Close r = InLive r.line (λ live. (live.close_sent ≡ false)
     × IsTrue (is_finished r.socket r.queue.waiting live))
 IsSending Failure r = InLive r.line (λ live. (live.close_sent ≡ false) × (0 < live.failures))
@@ -88,8 +88,8 @@ IsSending Eof r = InLive r.line (λ live. (live.close_sent ≡ false) × (live.e
     × IsTrue r.ended × (r.held.waiting ≡ []))
 IsSending (Adjust n) r = InLive r.line (λ live. (live.close_sent ≡ false) × (0 < n) × (n ≤ live.owed))
 
--- what happens as that is said
-abbrev pub sent_act : Outgoing → Relay → Act
+-- what happens as that is sent
+abbrev pub sent_act : Outgoing → Relay → RelayAct
 sent_act Open r = Other
 sent_act Confirmation r = Other
 sent_act OpenFailure r = Other
@@ -99,8 +99,8 @@ sent_act (Data n) r = SendsData (take n r.held.waiting)
 sent_act Eof r = SendsEof
 sent_act (Adjust n) r = SendsAdjust n
 
--- what is heard in a channel that is confirmed; in another nothing is
-abbrev pub received_in : ChannelState → Act → Act
+-- what is received in a channel that is confirmed; in another nothing is
+abbrev pub received_in : ChannelState → RelayAct → RelayAct
 received_in (Dialing dialog) act = Other
 received_in (Asked host port version) act = Other
 received_in (Opened version) act = Other
@@ -108,8 +108,8 @@ received_in (Offered remote window maximum) act = Other
 received_in (Live live) act = act
 received_in Over act = Other
 
--- an answer to the OPEN is heard while it is said and unanswered
-abbrev pub answered_in : ChannelState → Act → Act
+-- an answer to the OPEN is received while it is sent and unanswered
+abbrev pub answered_in : ChannelState → RelayAct → RelayAct
 answered_in (Dialing dialog) act = Other
 answered_in (Asked host port version) act = Other
 answered_in (Opened version) act = act
@@ -117,10 +117,10 @@ answered_in (Offered remote window maximum) act = Other
 answered_in (Live live) act = Other
 answered_in Over act = Other
 
--- ---- what it stands for
+-- ---- what it represents
 
 -- the OPEN is unanswered, and nothing went through the channel
-pub record NothingYet (dials : Bool) (acts : List Act) : Type 0 where
+pub record NothingYet (dials : Bool) (acts : List RelayAct) : Type 0 where
   pub no_answer : answer acts ≡ Unanswered
   pub no_data : delivered acts ≡ []
   pub no_take : taken acts ≤ length (replies dials acts)
@@ -130,8 +130,9 @@ pub record NothingYet (dials : Bool) (acts : List Act) : Type 0 where
   pub none_received : received_eof acts ≡ false
   pub none_closed : received_close acts ≡ false
 
--- a dialog that is read has all bytes that were read, has given all its replies, and wants more bytes
-pub record IsDialing (dialog : State) (dials : Bool) (acts : List Act) : Type 0 where
+-- a dialog that is read has all bytes that were read, has given all its replies, and wants more
+-- bytes
+pub record IsDialing (dialog : State) (dials : Bool) (acts : List RelayAct) : Type 0 where
   pub socks : dials ≡ true
   pub bytes : dialog.bytes ≡ read acts
   pub given : dialog.given ≡ length (before_in (read acts))
@@ -139,41 +140,41 @@ pub record IsDialing (dialog : State) (dials : Bool) (acts : List Act) : Type 0 
   pub nothing : NothingYet dials acts
 
 -- where a dialog waits for the answer, it spoke this version, and asked for an end
-abbrev pub WaitsFor : Option ℕ → Outcome → Bool → List Act → Type 0
-WaitsFor None outcome dials acts = dials ≡ false
-WaitsFor (Some version) outcome dials acts =
+abbrev pub DialogWaitsFor : Option ℕ → Outcome → Bool → List RelayAct → Type 0
+DialogWaitsFor None outcome dials acts = dials ≡ false
+DialogWaitsFor (Some version) outcome dials acts =
     (dials ≡ true) × (version ≡ slice_index (read acts) 0) × (outcome_in (read acts) ≡ outcome)
 
--- an OPEN to this end is to be said
-pub record IsToAsk (host : List ℕ) (port : ℕ) (version : Option ℕ) (dials : Bool) (acts : List Act) : Type 0 where
-  pub waits : WaitsFor version (Connects host port) dials acts
+-- an OPEN to this end is to be sent
+pub record IsToAsk (host : List ℕ) (port : ℕ) (version : Option ℕ) (dials : Bool) (acts : List RelayAct) : Type 0 where
+  pub waits : DialogWaitsFor version (Connects host port) dials acts
   pub nothing : NothingYet dials acts
 
--- an OPEN is said and unanswered
-pub record IsOpened (version : Option ℕ) (dials : Bool) (acts : List Act) : Type 0 where
+-- an OPEN is sent and unanswered
+pub record IsChannelOpened (version : Option ℕ) (dials : Bool) (acts : List RelayAct) : Type 0 where
   pub host : List ℕ
   pub port : ℕ
-  pub waits : WaitsFor version (Connects host port) dials acts
+  pub waits : DialogWaitsFor version (Connects host port) dials acts
   pub nothing : NothingYet dials acts
 
 -- an OPEN of the server is unanswered; it has no dialog
-pub record IsToAnswer (dials : Bool) (acts : List Act) : Type 0 where
+pub record IsToAnswer (dials : Bool) (acts : List RelayAct) : Type 0 where
   pub plain : dials ≡ false
   pub nothing : NothingYet dials acts
 
--- a dialog, if there is one, came to something
-abbrev pub IsSettled : Bool → List ℕ → Type 0
-IsSettled false bytes = Unit {0}
-IsSettled true bytes = outcome_in bytes ≢ Wants
+-- a dialog, if there is one, has an outcome
+abbrev pub IsDialogSettled : Bool → List ℕ → Type 0
+IsDialogSettled false bytes = Unit {0}
+IsDialogSettled true bytes = outcome_in bytes ≢ Wants
 
 -- a dialog, if there is one, asked for an end
 abbrev pub HasAsked : Bool → List ℕ → Type 0
 HasAsked false bytes = Unit {0}
 HasAsked true bytes = IsConnect (outcome_in bytes)
 
--- what a channel that is confirmed keeps: what was said and heard, and, until CLOSE is said, how many
--- bytes of replies wait, and how much room is to be given back
-pub record IsLive (live : LiveState) (dials : Bool) (acts : List Act) : Type 0 where
+-- what a channel that is confirmed keeps: what was sent and received, and, until CLOSE is sent, how
+-- many bytes of replies wait, and how much room is to be given back
+pub record IsLive (live : LiveState) (dials : Bool) (acts : List RelayAct) : Type 0 where
   pub eof_sent : live.eof_sent ≡ sent_eof acts
   pub eof_received : live.eof_received ≡ received_eof acts
   pub close_sent : live.close_sent ≡ sent_close acts
@@ -181,38 +182,38 @@ pub record IsLive (live : LiveState) (dials : Bool) (acts : List Act) : Type 0 w
   pub replies : live.close_sent ≡ false → live.replies ≡ length (replies dials acts) - taken acts
   pub owed : live.close_sent ≡ false → adjusted acts + live.owed ≡ taken_data dials acts
   pub most : adjusted acts ≤ taken_data dials acts
-  pub settled : IsSettled dials (read acts)
+  pub settled : IsDialogSettled dials (read acts)
   pub asked : HasAsked dials (read acts)
 
 -- what is left of a channel that has ended
-pub record IsOver (dials : Bool) (acts : List Act) : Type 0 where
+pub record IsChannelOver (dials : Bool) (acts : List RelayAct) : Type 0 where
   pub most : adjusted acts ≤ taken_data dials acts
-  pub settled : IsSettled dials (read acts)
+  pub settled : IsDialogSettled dials (read acts)
 
-abbrev pub LineStands : ChannelState → Bool → List Act → Type 0
+abbrev pub LineStands : ChannelState → Bool → List RelayAct → Type 0
 LineStands (Dialing dialog) dials acts = IsDialing dialog dials acts
 LineStands (Asked host port version) dials acts = IsToAsk host port version dials acts
-LineStands (Opened version) dials acts = IsOpened version dials acts
+LineStands (Opened version) dials acts = IsChannelOpened version dials acts
 LineStands (Offered remote window maximum) dials acts = IsToAnswer dials acts
 LineStands (Live live) dials acts = IsLive live dials acts
-LineStands Over dials acts = IsOver dials acts
+LineStands Over dials acts = IsChannelOver dials acts
 
--- a relay stands for what happened in it; it began with a dialog, or not
-pub record Stands (dials : Bool) (acts : List Act) (r : Relay) : Type 0 where
+-- a relay represents what happened in it; it began with a dialog, or not
+pub record RelayRepresents (dials : Bool) (acts : List RelayAct) (r : Relay) : Type 0 where
   pub sends : sent acts ++ r.held.waiting ≡ behind dials acts
   pub delivers : took acts ++ r.queue.waiting ≡ to_take dials acts
-  pub ends : r.ended ≡ has_ended acts
-  pub last : IsTrue (sent_eof acts) → IsTrue (has_ended acts) × (r.held.waiting ≡ [])
+  pub ends : r.ended ≡ socket_has_ended acts
+  pub last : IsTrue (sent_eof acts) → IsTrue (socket_has_ended acts) × (r.held.waiting ≡ [])
   pub few : length r.held.waiting ≤ LONGEST_PIECE
   pub line : LineStands r.line dials acts
 
--- from all that it stood for, it stands for one thing more
-abbrev pub GoesOn : Relay → Relay → Act → Type 0
-GoesOn old new act =
-    (dials : Bool) (acts : List Act) → Stands dials acts old → Stands dials (act ∷ acts) new
+-- from all that it represented, it represents one thing more
+abbrev pub RelayGoesOn : Relay → Relay → RelayAct → Type 0
+RelayGoesOn old new act =
+    (dials : Bool) (acts : List RelayAct) → RelayRepresents dials acts old → RelayRepresents dials (act ∷ acts) new
 
 -- its socket may give these bytes: it hasn't ended, and they are no more than may be held
-pub record MayRead (bytes : List ℕ) (r : Relay) : Type 0 where
+pub record RelayMayRead (bytes : List ℕ) (r : Relay) : Type 0 where
   pub unended : r.ended ≡ false
   pub room : length r.held.waiting + length bytes ≤ LONGEST_PIECE
 
@@ -222,7 +223,7 @@ holding bytes r = record r { held = with_bytes bytes r.held }
 
 -- ---- at rest
 
--- nothing is to be said
+-- nothing is to be sent
 abbrev pub SilentIn : ChannelState → Relay → Type 0
 SilentIn (Dialing dialog) r = Unit {0}
 SilentIn (Asked host port version) r = ⊥
@@ -235,13 +236,13 @@ SilentIn (Live live) r = live.close_sent ≡ false
 SilentIn Over r = Unit {0}
 
 -- its stream, if it has one
-abbrev pub stream_of : Socket → Option ℕ
-stream_of (socket.Open t) = Some t
-stream_of socket.Unmade = None
-stream_of (socket.Connecting t) = Some t
-stream_of (socket.Failed t) = Some t
-stream_of (socket.NoChannelLeft t) = Some t
-stream_of socket.Closed = None
+abbrev pub socket_stream_of : Socket → Option ℕ
+socket_stream_of (socket.Open t) = Some t
+socket_stream_of socket.Unmade = None
+socket_stream_of (socket.Connecting t) = Some t
+socket_stream_of (socket.Failed t) = Some t
+socket_stream_of (socket.NoChannelLeft t) = Some t
+socket_stream_of socket.Closed = None
 
 -- whether data that comes in the channel is for the socket
 abbrev pub delivers_in : ChannelState → Socket → Bool
@@ -249,7 +250,7 @@ delivers_in (Dialing dialog) s = false
 delivers_in (Asked host port version) s = false
 delivers_in (Opened version) s = false
 delivers_in (Offered remote window maximum) s = false
-delivers_in (Live live) s = not live.eof_received && is_some (stream_of s)
+delivers_in (Live live) s = not live.eof_received && is_some (socket_stream_of s)
 delivers_in Over s = false
 
 abbrev pub delivers : Relay → Bool
@@ -286,19 +287,19 @@ OrdersRight (Finish t) r stream = (t ≡ stream.number) × (stream.finished ≡ 
     × IsTrue (receives_end r.line) × (r.queue.waiting ≡ [])
 OrdersRight (close.Close t) r stream = (t ≡ stream.number) × IsTrue (is_done r)
 
--- nothing is to be ordered of its stream: it isn't to be closed; where EOF was heard and nothing waits
--- it is finished; where bytes are held that the channel doesn't take it is paused; and it is paused
--- only where bytes are held
+-- nothing is to be ordered of its stream: it isn't to be closed; where EOF was received and nothing
+-- waits it is finished; where bytes are held that the channel doesn't take it is paused; and it is
+-- paused only where bytes are held
 pub record IsResting (r : Relay) (stream : OwnStream) : Type 0 where
   pub stays : is_done r ≡ false
   pub finished : IsTrue (receives_end r.line) → r.queue.waiting ≡ [] → IsTrue stream.finished
   pub paused : IsTrue (is_stuck r.line r.held.waiting) → IsTrue stream.paused
   pub holds : IsTrue stream.paused → 0 < length r.held.waiting
 
--- what a relay keeps is what is left: of the bytes for the channel those not sent, and of the bytes for
--- the socket those not taken; and, until CLOSE is said, what it owes is the room that wasn't given
--- back
-abbrev pub OwesRight : ChannelState → Bool → List Act → Type 0
+-- what a relay keeps is what is left: of the bytes for the channel those not sent, and of the bytes
+-- for the socket those not written; and, until CLOSE is sent, what it owes is the room that wasn't
+-- given back
+abbrev pub OwesRight : ChannelState → Bool → List RelayAct → Type 0
 OwesRight (Dialing dialog) dials acts = Unit {0}
 OwesRight (Asked host port version) dials acts = Unit {0}
 OwesRight (Opened version) dials acts = Unit {0}
@@ -307,18 +308,18 @@ OwesRight (Live live) dials acts =
     sent_close acts ≡ false → live.owed ≡ 0 → adjusted acts ≡ taken_data dials acts
 OwesRight Over dials acts = Unit {0}
 
--- a channel is that of a dialog that asked for its end, if there is a dialog; one that wants more bytes
--- is read, and behind one that broke it is over
-abbrev pub AsksRight : ChannelState → Bool → List Act → Type 0
+-- a channel is that of a dialog that asked for its end, if there is a dialog; one that wants more
+-- bytes is read, and after one that broke it is over
+abbrev pub AsksRight : ChannelState → Bool → List RelayAct → Type 0
 AsksRight (Dialing dialog) dials acts = outcome_in (read acts) ≡ Wants
 AsksRight (Asked host port version) dials acts =
     dials ≡ true → outcome_in (read acts) ≡ Connects host port
 AsksRight (Opened version) dials acts = HasAsked dials (read acts)
 AsksRight (Offered remote window maximum) dials acts = dials ≡ false
 AsksRight (Live live) dials acts = HasAsked dials (read acts)
-AsksRight Over dials acts = IsSettled dials (read acts)
+AsksRight Over dials acts = IsDialogSettled dials (read acts)
 
-pub record Keeps (dials : Bool) (acts : List Act) (r : Relay) : Type 0 where
+pub record RelayKeeps (dials : Bool) (acts : List RelayAct) (r : Relay) : Type 0 where
   pub holds : r.held.waiting ≡ held dials acts
   pub waits : r.queue.waiting ≡ waiting dials acts
   pub owes : OwesRight r.line dials acts

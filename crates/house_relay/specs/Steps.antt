@@ -1,11 +1,11 @@
 -- What each call leaves of a relay.
 use Rattle.std.specs.Prelude.{◌≡◌, ◌&&◌, ℕ, Bool, true, false, not, List, ◌++◌, length, Option, Some, None}
-use Rattle.proxy_frames.specs.Queued.{empty_queue, with_bytes, without_first}
+use Rattle.proxy_frames.specs.Queued.{empty_queue, with_bytes, without_first_bytes}
 use Rattle.socks_dialog.specs.declared.outcome.Outcome.{Outcome}
 use Rattle.socks_dialog.specs.declared.outcome.Outcome.TheVariants.{Wants, Connects, Breaks}
 use Rattle.socks_dialog.specs.State.{new_dialog}
 use Rattle.house_relay.specs.Acts.{outcome_in}
-use Rattle.house_relay.specs.Dialing.{IsReading, grant_of, refusal_of}
+use Rattle.house_relay.specs.Dialing.{IsDialogReading, grant_of, dialog_refusal_of}
 use Rattle.house_relay.specs.ChannelState.{counts, in_live, fresh_live, closes, answers, sends, ends, grants, receives_room, receives_eof, receives_close, receives_request, takes_in}
 use Rattle.house_relay.specs.declared.line.ChannelState.{ChannelState}
 use Rattle.house_relay.specs.declared.line.ChannelState.TheVariants.{Dialing, Asked, Opened, Offered, Live, Over}
@@ -31,16 +31,16 @@ abbrev pub fresh_dialing : ChannelState
 fresh_dialing = Dialing new_dialog
 
 -- whether nothing is left of it
-abbrev pub is_closed : Socket → Bool
-is_closed (socket.Connecting stream) = false
-is_closed (socket.Open stream) = false
-is_closed socket.Unmade = false
-is_closed (socket.Failed stream) = false
-is_closed (socket.NoChannelLeft stream) = false
-is_closed socket.Closed = true
+abbrev pub is_socket_closed : Socket → Bool
+is_socket_closed (socket.Connecting stream) = false
+is_socket_closed (socket.Open stream) = false
+is_socket_closed socket.Unmade = false
+is_socket_closed (socket.Failed stream) = false
+is_socket_closed (socket.NoChannelLeft stream) = false
+is_socket_closed socket.Closed = true
 
 abbrev pub is_gone : Relay → Bool
-is_gone r = is_closed r.socket && not (counts r.line)
+is_gone r = is_socket_closed r.socket && not (counts r.line)
 
 -- ---- the channel
 
@@ -74,7 +74,7 @@ sent_of Close r = on_line (in_live closes) r
 sent_of Failure r = on_line (in_live (λ live. Live (answers live))) r
 sent_of (Data n) r = record r {
   line = in_live (λ live. Live (sends n live)) r.line;
-  held = without_first n r.held;
+  held = without_first_bytes n r.held;
 }
 sent_of Eof r = on_line (in_live (λ live. Live (ends live))) r
 sent_of (Adjust n) r = on_line (in_live (λ live. Live (grants n live))) r
@@ -109,7 +109,7 @@ abbrev pub refused_in : ChannelState → ℕ → Relay → Relay
 refused_in (Dialing dialog) reason r = r
 refused_in (Asked host port version) reason r = r
 refused_in (Opened version) reason r =
-    record r { line = Over; queue = with_bytes (refusal_of version reason) r.queue }
+    record r { line = Over; queue = with_bytes (dialog_refusal_of version reason) r.queue }
 refused_in (Offered remote window maximum) reason r = r
 refused_in (Live live) reason r = r
 refused_in Over reason r = r
@@ -122,10 +122,10 @@ data_received false bytes r = r
 -- ---- the socket
 
 -- the socket accepted so many bytes
-abbrev pub taken_of : ℕ → Relay → Relay
-taken_of n r = record r {
+abbrev pub relay_taken_of : ℕ → Relay → Relay
+relay_taken_of n r = record r {
   line = takes_in n r.line;
-  queue = without_first n r.queue;
+  queue = without_first_bytes n r.queue;
 }
 
 -- it is made, or couldn't be
@@ -171,20 +171,20 @@ IsToDial (Live live) = ⊥
 IsToDial Over = ⊥
 
 -- an OPEN to this end is to be sent
-abbrev pub IsAskedFor : List ℕ → ℕ → ChannelState → Type 0
-IsAskedFor host port (Dialing dialog) = ⊥
-IsAskedFor host port (Asked host' port' version) = (host' ≡ host) × (port' ≡ port)
-IsAskedFor host port (Opened version) = ⊥
-IsAskedFor host port (Offered remote window maximum) = ⊥
-IsAskedFor host port (Live live) = ⊥
-IsAskedFor host port Over = ⊥
+abbrev pub IsOpenAskedFor : List ℕ → ℕ → ChannelState → Type 0
+IsOpenAskedFor host port (Dialing dialog) = ⊥
+IsOpenAskedFor host port (Asked host' port' version) = (host' ≡ host) × (port' ≡ port)
+IsOpenAskedFor host port (Opened version) = ⊥
+IsOpenAskedFor host port (Offered remote window maximum) = ⊥
+IsOpenAskedFor host port (Live live) = ⊥
+IsOpenAskedFor host port Over = ⊥
 
 -- it goes on while the dialog wants more bytes; where that asks for an end, it is asked for in a
 -- channel, if one is free; and where it breaks, nothing more comes from it
 abbrev pub ComesOf : Outcome → Bool → Relay → Relay → Type 0
 ComesOf Wants free old new = IsToDial new.line × (new.socket ≡ old.socket)
 ComesOf (Connects host port) true old new =
-    IsAskedFor host port new.line × (new.socket ≡ old.socket)
+    IsOpenAskedFor host port new.line × (new.socket ≡ old.socket)
 ComesOf (Connects host port) false old new =
     (new.line ≡ Over) × (new.socket ≡ no_channel_left_of old.socket)
 ComesOf (Breaks reply) free old new = (new.line ≡ Over) × (new.socket ≡ old.socket)
@@ -196,7 +196,7 @@ SameChannel old new = (new.line ≡ old.line) × (new.socket ≡ old.socket) × 
 -- bytes go into the dialog that is read, and where none is they change nothing of the channel
 abbrev pub DialsIn : ChannelState → Bool → List ℕ → Relay → Relay → Type 0
 DialsIn (Dialing dialog) free bytes old new =
-    IsReading dialog → ComesOf (outcome_in (dialog.bytes ++ bytes)) free old new
+    IsDialogReading dialog → ComesOf (outcome_in (dialog.bytes ++ bytes)) free old new
 DialsIn (Asked host port version) free bytes old new = SameChannel old new
 DialsIn (Opened version) free bytes old new = SameChannel old new
 DialsIn (Offered remote window maximum) free bytes old new = SameChannel old new

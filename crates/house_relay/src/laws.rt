@@ -1,9 +1,9 @@
 //! What holds of every relay, whatever happened in it: the function's contract is the law.
 
 ghost use Rattle.std.specs.Prelude.{◌≡◌, [], false, Bool, List, Some, None};
-ghost use Rattle.house_relay.specs.Acts.{Act, Relays};
+ghost use Rattle.house_relay.specs.Acts.{RelayAct, Relays};
 ghost use Rattle.house_relay.specs.Next.{sends_of, orders_of};
-ghost use Rattle.house_relay.specs.Relay.{Stands, Keeps, SilentIn, IsResting, stream_of};
+ghost use Rattle.house_relay.specs.Relay.{RelayRepresents, RelayKeeps, SilentIn, IsResting, socket_stream_of};
 ghost use Rattle.mux_outside.specs.declared.own_streams.OwnStream.{OwnStream as TheStream};
 ghost use Rattle.house_relay.specs.declared.relay.Relay.{Relay as TheRelay};
 
@@ -15,16 +15,16 @@ ghost use Rattle.house_relay.specs.declared.relay.Relay.{Relay as TheRelay};
 /// - No more is held than one piece has at most, the dialog's own bytes left aside.
 /// - What is held and what waits are exactly the rest.
 pub fn relays_relay()
-    ensures relays { (dials : Bool) (acts : List Act) (r : TheRelay)
-        → Stands dials acts r → Relays dials acts }
-    ensures keeps { (dials : Bool) (acts : List Act) (r : TheRelay)
-        → Stands dials acts r → Keeps dials acts r }
+    ensures relays { (dials : Bool) (acts : List RelayAct) (r : TheRelay)
+        → RelayRepresents dials acts r → Relays dials acts }
+    ensures keeps { (dials : Bool) (acts : List RelayAct) (r : TheRelay)
+        → RelayRepresents dials acts r → RelayKeeps dials acts r }
 {}
 
 /// A relay that has nothing to say, and nothing to order of its stream, is at rest.
 pub fn relays_that_want_nothing_rest()
     ensures silent { (r : TheRelay) → sends_of r ≡ None → SilentIn r.line r }
-    ensures rests { (r : TheRelay) (stream : TheStream) → stream_of r.socket ≡ Some stream.number
+    ensures rests { (r : TheRelay) (stream : TheStream) → socket_stream_of r.socket ≡ Some stream.number
         → orders_of r stream ≡ None → IsResting r stream }
 {}
 

@@ -1,15 +1,15 @@
 //! One relay: a channel and a socket.
 ghost use Rattle.std.specs.Prelude.{◌≡◌, ◌+◌, ◌≤◌, ◌<◌, ◌^◌, ◌++◌, ℕ, List, [], true, false, if◌then◌else◌, length, take, drop, min, IfSome, OnOk, IfOk, None, Some, IsTrue};
-ghost use Rattle.house_relay.specs.Acts.{Act, Reads, Ends, Takes, Fails, Confirms, Refuses, Delivers, ReceivesEof, ReceivesClose, SendsData, SendsAdjust, SendsEof, SendsClose, Other};
+ghost use Rattle.house_relay.specs.Acts.{RelayAct, Reads, Ends, Takes, Fails, Confirms, Refuses, Delivers, ReceivesEof, ReceivesClose, SendsData, SendsAdjust, SendsEof, SendsClose, Other};
 ghost use Rattle.house_relay.specs.Next.{sends_of, sends_offered, sends_live, orders_of};
-ghost use Rattle.house_relay.specs.Relay.{Stands, GoesOn, IsSending, sent_act, SilentIn, is_broken, is_finished, stream_of, delivers, IsOffered, OrdersRight, IsResting, is_stuck, stuck_in, received_in, answered_in, MayRead, holding};
+ghost use Rattle.house_relay.specs.Relay.{RelayRepresents, RelayGoesOn, IsSending, sent_act, SilentIn, is_broken, is_finished, socket_stream_of, delivers, IsChannelOffered, OrdersRight, IsResting, is_stuck, stuck_in, received_in, answered_in, RelayMayRead, holding};
 ghost use Rattle.house_relay.specs.ChannelState.{owed_in};
-ghost use Rattle.house_relay.specs.Steps.{sent_of, made_as, connected, failing, taken_of, confirmed_in, refused_in, on_line, room_received, eof_received, close_received, request_received, data_received, no_channel_left_of, Dials, fresh_relay, is_gone};
-ghost use Rattle.proxy_frames.specs.Queued.{without_first};
+ghost use Rattle.house_relay.specs.Steps.{sent_of, made_as, connected, failing, relay_taken_of, confirmed_in, refused_in, on_line, room_received, eof_received, close_received, request_received, data_received, no_channel_left_of, Dials, fresh_relay, is_gone};
+ghost use Rattle.proxy_frames.specs.Queued.{without_first_bytes};
 ghost use Rattle.socks_dialog.specs.State.{new_dialog};
 
 use crate::MAXIMUM;
-use crate::dialing::{Came, Heard, grant, receive, refuse};
+use crate::dialing::{Came, DialogReceived, grant, receive, refuse};
 use crate::line::{ChannelState, Live};
 use mux_outside::{Order, OwnStream};
 use proxy_frames::Queue;
@@ -52,7 +52,7 @@ pub enum Outgoing {
 /// A channel and a socket, and what is under way between them.
 #[derive(Drop)]
 pub struct Relay {
-    /// The house's own number of the channel.
+    /// The forwarder's own number of the channel.
     pub number: u32,
     pub line: ChannelState,
     pub socket: Socket,
@@ -65,7 +65,7 @@ pub struct Relay {
 }
 
 impl Relay {
-    /// A relay in which nothing happened yet.
+    // A relay in which nothing happened yet.
     fn begun(alloc: Global, number: u32, line: ChannelState, socket: Socket) -> Relay
         ensures { result ≡ fresh_relay number line socket }
     {
@@ -81,7 +81,7 @@ impl Relay {
 
     /// A socket that was joined, and is to be a channel to this end.
     pub fn joined(alloc: Global, number: u32, stream: u64, host: Text, port: u32) -> Relay
-        ensures stands { Stands false [] result }
+        ensures stands { RelayRepresents false [] result }
         ensures exact { result
             ≡ fresh_relay number (ChannelState.Asked host port None) (Socket.Open stream) }
     {
@@ -97,9 +97,9 @@ impl Relay {
         )
     }
 
-    /// A socket that was joined, whose client says in a dialog to which end the channel is to be.
+    /// A socket that was joined, whose client requests the channel's end in a dialog.
     pub fn dynamic(alloc: Global, number: u32, stream: u64) -> Relay
-        ensures stands { Stands true [] result }
+        ensures stands { RelayRepresents true [] result }
         ensures exact { result
             ≡ fresh_relay number (ChannelState.Dialing new_dialog) (Socket.Open stream) }
     {
@@ -113,7 +113,7 @@ impl Relay {
 
     /// A socket that was joined, and for which there is no channel.
     pub fn no_channel_left(alloc: Global, number: u32, stream: u64) -> Relay
-        ensures stands { Stands false [] result }
+        ensures stands { RelayRepresents false [] result }
         ensures exact { result ≡ fresh_relay number ChannelState.Over (Socket.NoChannelLeft stream) }
     {
         Relay::begun(
@@ -126,7 +126,7 @@ impl Relay {
 
     /// An OPEN of the server, for which a socket is to be connected.
     pub fn offered(alloc: Global, number: u32, remote: u32, window: u32, maximum: u32) -> Relay
-        ensures stands { Stands false [] result }
+        ensures stands { RelayRepresents false [] result }
         ensures exact { result
             ≡ fresh_relay number (ChannelState.Offered remote window maximum) Socket.Unmade }
     {
@@ -144,7 +144,7 @@ impl Relay {
 
     /// Its stream, if it has one.
     pub fn stream(&self) -> Option<u64>
-        ensures { result ≡ stream_of self.now.socket }
+        ensures { result ≡ socket_stream_of self.now.socket }
     {
         match self.socket {
             Socket::Connecting(stream)
@@ -169,7 +169,7 @@ impl Relay {
         }
     }
 
-    /// Whether its socket failed, or couldn't be made, or is closed.
+    // Whether its socket failed, or couldn't be made, or is closed.
     fn is_broken(&self) -> bool
         ensures { result ≡ is_broken self.now.socket }
     {
@@ -179,9 +179,9 @@ impl Relay {
         }
     }
 
-    // ---- what it says
+    // ---- what it sends
 
-    /// What it says next.
+    /// What it sends next.
     pub fn says(&self) -> Option<Outgoing>
         ensures may { IfSome result (λ outgoing. IsSending outgoing self.now) }
         ensures silent { result ≡ None → SilentIn self.now.line self.now }
@@ -197,9 +197,9 @@ impl Relay {
         }
     }
 
-    /// What it says to an OPEN of the server.
+    // What it sends to an OPEN of the server.
     fn sends_offered(&self) -> Option<Outgoing>
-        requires { IsOffered self.now.line }
+        requires { IsChannelOffered self.now.line }
         ensures may { IfSome result (λ outgoing. IsSending outgoing self.now) }
         ensures silent { result ≡ None → is_broken self.now.socket ≡ false }
         ensures exact { result ≡ sends_offered self.now.socket }
@@ -213,7 +213,7 @@ impl Relay {
         }
     }
 
-    /// What it says in a channel that is confirmed.
+    // What it sends in a channel that is confirmed.
     fn sends_live(&self, live: Live) -> Option<Outgoing>
         requires { self.now.line ≡ ChannelState.Live live }
         ensures may { IfSome result (λ outgoing. IsSending outgoing self.now) }
@@ -247,7 +247,7 @@ impl Relay {
         None
     }
 
-    /// Whether its channel is to be closed.
+    // Whether its channel is to be closed.
     fn is_finished(&self, live: Live) -> bool
         ensures { result ≡ is_finished self.now.socket self.now.queue.waiting live }
     {
@@ -256,10 +256,10 @@ impl Relay {
             || (live.eof_sent && live.eof_received && self.queue.is_empty())
     }
 
-    /// It said this.
+    /// It sent this.
     pub fn said(&mut self, outgoing: Outgoing)
         requires { IsSending outgoing self.old }
-        ensures stands { GoesOn self.old self.new (sent_act outgoing self.old) }
+        ensures stands { RelayGoesOn self.old self.new (sent_act outgoing self.old) }
         ensures exact { self.new ≡ sent_of outgoing self.old }
     {
         match outgoing {
@@ -275,7 +275,7 @@ impl Relay {
     }
 
     fn sent_open(&mut self)
-        ensures stands { IsSending Outgoing.Open self.old → GoesOn self.old self.new Other }
+        ensures stands { IsSending Outgoing.Open self.old → RelayGoesOn self.old self.new Other }
         ensures exact { self.new ≡ sent_of Outgoing.Open self.old }
     {
         if let ChannelState::Asked { version, .. } = self.line {
@@ -284,7 +284,7 @@ impl Relay {
     }
 
     fn sent_confirmation(&mut self)
-        ensures stands { IsSending Outgoing.Confirmation self.old → GoesOn self.old self.new Other }
+        ensures stands { IsSending Outgoing.Confirmation self.old → RelayGoesOn self.old self.new Other }
         ensures exact { self.new ≡ sent_of Outgoing.Confirmation self.old }
     {
         if let ChannelState::Offered {
@@ -298,7 +298,7 @@ impl Relay {
     }
 
     fn sent_close(&mut self)
-        ensures stands { IsSending Outgoing.Close self.old → GoesOn self.old self.new SendsClose }
+        ensures stands { IsSending Outgoing.Close self.old → RelayGoesOn self.old self.new SendsClose }
         ensures exact { self.new ≡ sent_of Outgoing.Close self.old }
     {
         if let ChannelState::Live(live) = self.line {
@@ -307,7 +307,7 @@ impl Relay {
     }
 
     fn sent_failure(&mut self)
-        ensures stands { IsSending Outgoing.Failure self.old → GoesOn self.old self.new Other }
+        ensures stands { IsSending Outgoing.Failure self.old → RelayGoesOn self.old self.new Other }
         ensures exact { self.new ≡ sent_of Outgoing.Failure self.old }
     {
         if let ChannelState::Live(live) = &mut self.line {
@@ -317,7 +317,7 @@ impl Relay {
 
     fn sent_data(&mut self, count: u32)
         requires { IsSending (Outgoing.Data count) self.old }
-        ensures stands { GoesOn self.old self.new (SendsData (take count self.old.held.waiting)) }
+        ensures stands { RelayGoesOn self.old self.new (SendsData (take count self.old.held.waiting)) }
         ensures exact { self.new ≡ sent_of (Outgoing.Data count) self.old }
     {
         if let ChannelState::Live(live) = &mut self.line {
@@ -327,7 +327,7 @@ impl Relay {
     }
 
     fn sent_eof(&mut self)
-        ensures stands { IsSending Outgoing.Eof self.old → GoesOn self.old self.new SendsEof }
+        ensures stands { IsSending Outgoing.Eof self.old → RelayGoesOn self.old self.new SendsEof }
         ensures exact { self.new ≡ sent_of Outgoing.Eof self.old }
     {
         if let ChannelState::Live(live) = &mut self.line {
@@ -337,7 +337,7 @@ impl Relay {
 
     fn sent_adjust(&mut self, n: u32)
         requires { IsSending (Outgoing.Adjust n) self.old }
-        ensures stands { GoesOn self.old self.new (SendsAdjust n) }
+        ensures stands { RelayGoesOn self.old self.new (SendsAdjust n) }
         ensures exact { self.new ≡ sent_of (Outgoing.Adjust n) self.old }
     {
         if let ChannelState::Live(live) = &mut self.line {
@@ -349,7 +349,7 @@ impl Relay {
 
     /// What it orders next of its stream, which stands so.
     pub fn orders(&self, stream: &OwnStream) -> Option<Order>
-        requires { stream_of self.now.socket ≡ Some stream.now.number }
+        requires { socket_stream_of self.now.socket ≡ Some stream.now.number }
         ensures may { IfSome result (λ order. OrdersRight order self.now stream.now) }
         ensures rests { result ≡ None → IsResting self.now stream.now }
         ensures exact { result ≡ orders_of self.now stream.now }
@@ -375,7 +375,7 @@ impl Relay {
         None
     }
 
-    /// Whether bytes are held that the channel doesn't take now.
+    // Whether bytes are held that the channel doesn't take now.
     fn is_stuck(&self) -> bool
         ensures { result ≡ is_stuck self.now.line self.now.held.waiting }
     {
@@ -394,17 +394,17 @@ impl Relay {
 
     /// Its stream was ordered to close.
     pub fn closed(&mut self)
-        ensures stands { GoesOn self.old self.new Other }
+        ensures stands { RelayGoesOn self.old self.new Other }
         ensures exact { self.new ≡ record self.old { socket = Socket.Closed } }
     {
         self.socket = Socket::Closed;
     }
 
-    // ---- what comes of its socket
+    // ---- the outcome of its socket
 
     /// Its stream is made, or couldn't be.
     pub fn made(&mut self, stream: Option<u64>)
-        ensures stands { GoesOn self.old self.new Other }
+        ensures stands { RelayGoesOn self.old self.new Other }
         ensures exact { self.new ≡ record self.old { socket = made_as stream } }
     {
         self.socket = match stream {
@@ -416,7 +416,7 @@ impl Relay {
     /// It gave bytes. A dialog that asks for a channel gets one where one is free.
     pub fn got(&mut self, alloc: Global, bytes: &[u8], free: bool) -> Result<(), OutOfMemory>
         ensures stands { OnOk result
-            (MayRead bytes.now self.old → GoesOn self.old self.new (Reads bytes.now)) }
+            (RelayMayRead bytes.now self.old → RelayGoesOn self.old self.new (Reads bytes.now)) }
         ensures dials { OnOk result (Dials free bytes.now self.old self.new) }
         ensures few { length self.new.held.waiting
             ≤ length self.old.held.waiting + length bytes.now }
@@ -431,11 +431,11 @@ impl Relay {
         self.held.push_bytes(&bytes[count..])
     }
 
-    /// Its dialog, if one is read, hears the bytes first: how many of them belong to it.
+    // Its dialog, if one is read, receives the bytes first: how many of them belong to it.
     fn dials(&mut self, alloc: Global, bytes: &[u8], free: bool) -> Result<usize, OutOfMemory>
         ensures within { IfOk result (λ count. count ≤ length bytes.now) }
-        ensures stands { IfOk result (λ count. MayRead bytes.now self.old
-            → GoesOn self.old (holding (drop count bytes.now) self.new) (Reads bytes.now)) }
+        ensures stands { IfOk result (λ count. RelayMayRead bytes.now self.old
+            → RelayGoesOn self.old (holding (drop count bytes.now) self.new) (Reads bytes.now)) }
         ensures dials { OnOk result (Dials free bytes.now self.old self.new) }
         ensures others { self.new ≡ record self.old {
           line = self.new.line;
@@ -446,7 +446,7 @@ impl Relay {
         let ChannelState::Dialing(dialog) = &mut self.line else {
             return Ok(0);
         };
-        let Heard { count, came } = receive(dialog, bytes, &mut self.queue)?;
+        let DialogReceived { count, came } = receive(dialog, bytes, &mut self.queue)?;
         match came {
             Came::Nothing => {}
             Came::Connect {
@@ -462,7 +462,7 @@ impl Relay {
         Ok(count)
     }
 
-    /// Its dialog asks for a channel to this end, and one is free or not.
+    // Its dialog asks for a channel to this end, and one is free or not.
     fn asks(&mut self, host: Text, port: u32, version: u8, free: bool)
         ensures line { self.new.line
             ≡ (if free then ChannelState.Asked host port (Some version) else ChannelState.Over) }
@@ -487,15 +487,15 @@ impl Relay {
 
     /// It gave its end.
     pub fn ends(&mut self)
-        ensures stands { GoesOn self.old self.new Ends }
+        ensures stands { RelayGoesOn self.old self.new Ends }
         ensures exact { self.new ≡ record self.old { ended = true } }
     {
         self.ended = true;
     }
 
-    /// It takes bytes, or is connected.
+    /// Its socket gives bytes, or is connected.
     pub fn writable(&mut self)
-        ensures stands { GoesOn self.old self.new Other }
+        ensures stands { RelayGoesOn self.old self.new Other }
         ensures exact { self.new ≡ record self.old { socket = connected self.old.socket } }
     {
         if let Socket::Connecting(stream) = self.socket {
@@ -505,7 +505,7 @@ impl Relay {
 
     /// It failed.
     pub fn failed(&mut self)
-        ensures stands { GoesOn self.old self.new Fails }
+        ensures stands { RelayGoesOn self.old self.new Fails }
         ensures exact { self.new ≡ record self.old { socket = failing self.old.socket } }
     {
         if let Some(stream) = self.stream() {
@@ -513,28 +513,28 @@ impl Relay {
         }
     }
 
-    /// It took the first bytes of those that wait.
+    /// It accepted the first bytes of those that wait.
     pub fn took(&mut self, n: usize)
         requires { n ≤ length self.old.queue.waiting }
         ensures stands { owed_in self.old.line + n < 2 ^ 64
-            → GoesOn self.old self.new (Takes (take n self.old.queue.waiting)) }
-        ensures exact { owed_in self.old.line + n < 2 ^ 64 → self.new ≡ taken_of n self.old }
+            → RelayGoesOn self.old self.new (Takes (take n self.old.queue.waiting)) }
+        ensures exact { owed_in self.old.line + n < 2 ^ 64 → self.new ≡ relay_taken_of n self.old }
         ensures stuck { stuck_in self.new.line ≡ stuck_in self.old.line }
         ensures others { self.new ≡ record self.old {
           line = self.new.line;
-          queue = without_first n self.old.queue;
+          queue = without_first_bytes n self.old.queue;
         } }
     {
         self.queue.took(n);
         self.line.takes_more(n);
     }
 
-    // ---- what comes of its channel
+    // ---- the outcome of its channel
 
     /// The server confirmed its OPEN: a dialog is granted what it asked for.
     pub fn confirmed(&mut self, remote: u32, window: u32, maximum: u32) -> Result<(), OutOfMemory>
         ensures stands { OnOk result
-            (GoesOn self.old self.new (answered_in self.old.line Confirms)) }
+            (RelayGoesOn self.old self.new (answered_in self.old.line Confirms)) }
         ensures exact { OnOk result
             (self.new ≡ confirmed_in self.old.line remote window maximum self.old) }
         ensures held { self.new.held ≡ self.old.held }
@@ -548,10 +548,11 @@ impl Relay {
         Ok(())
     }
 
-    /// The server refused its OPEN for this reason (RFC 4254, section 5.1): a dialog is told so.
+    /// The server refused its OPEN for this reason (RFC 4254, section 5.1): its dialog gets the
+    /// reply for that.
     pub fn refused(&mut self, reason: u32) -> Result<(), OutOfMemory>
         ensures stands { OnOk result
-            (GoesOn self.old self.new (answered_in self.old.line (Refuses reason))) }
+            (RelayGoesOn self.old self.new (answered_in self.old.line (Refuses reason))) }
         ensures exact { OnOk result (self.new ≡ refused_in self.old.line reason self.old) }
         ensures held { self.new.held ≡ self.old.held }
     {
@@ -565,7 +566,7 @@ impl Relay {
 
     /// Room for more bytes in the channel.
     pub fn receives_room(&mut self, n: u32)
-        ensures stands { GoesOn self.old self.new Other }
+        ensures stands { RelayGoesOn self.old self.new Other }
         ensures exact { self.new ≡ on_line (room_received n) self.old }
     {
         if let ChannelState::Live(live) = &mut self.line {
@@ -573,8 +574,8 @@ impl Relay {
         }
     }
 
-    /// Whether data that comes in the channel is for the socket: it is confirmed, its end wasn't
-    /// heard, and there is a socket.
+    // Whether data that comes in the channel is for the socket: it is confirmed, its end wasn't
+    // received, and there is a socket.
     fn delivers(&self) -> bool
         ensures { result ≡ delivers self.now }
     {
@@ -590,7 +591,7 @@ impl Relay {
 
     /// Data in the channel; whether it is delivered to the socket.
     pub fn receives_data(&mut self, bytes: &[u8]) -> Result<bool, OutOfMemory>
-        ensures stands { IfOk result (λ is. GoesOn self.old self.new
+        ensures stands { IfOk result (λ is. RelayGoesOn self.old self.new
             (if is then Delivers bytes.now else Other)) }
         ensures exact { IfOk result (λ is. is ≡ delivers self.old) }
         ensures queue { IfOk result (λ is. self.new ≡ data_received is bytes.now self.old) }
@@ -605,7 +606,7 @@ impl Relay {
 
     /// The server ends its data.
     pub fn receives_eof(&mut self)
-        ensures stands { GoesOn self.old self.new (received_in self.old.line ReceivesEof) }
+        ensures stands { RelayGoesOn self.old self.new (received_in self.old.line ReceivesEof) }
         ensures exact { self.new ≡ on_line eof_received self.old }
     {
         match &mut self.line {
@@ -620,7 +621,7 @@ impl Relay {
 
     /// The server closes the channel.
     pub fn receives_close(&mut self)
-        ensures stands { GoesOn self.old self.new (received_in self.old.line ReceivesClose) }
+        ensures stands { RelayGoesOn self.old self.new (received_in self.old.line ReceivesClose) }
         ensures exact { self.new ≡ on_line close_received self.old }
     {
         match self.line {
@@ -635,7 +636,7 @@ impl Relay {
 
     /// A channel request of the server.
     pub fn receives_request(&mut self, want: bool)
-        ensures stands { GoesOn self.old self.new Other }
+        ensures stands { RelayGoesOn self.old self.new Other }
         ensures exact { self.new ≡ on_line (request_received want) self.old }
     {
         if let ChannelState::Live(live) = &mut self.line {
@@ -644,7 +645,7 @@ impl Relay {
     }
 }
 
-/// The lesser of both.
+// The lesser of both.
 fn at_most(n: u32, len: usize) -> u32
     ensures { result ≡ min n len }
 {

@@ -2,7 +2,7 @@
 use Rattle.std.proofs.Common.{◌≡◌, ℕ, ◌+◌, ◌≤◌, List, [], ◌∷◌, ◌++◌, map, length, length-append, true, false, Bool, refl, ◌∙◌, ap, arith, sym, Some, None, Ok, Err}
 use Rattle.std.specs.Prelude.{◌==◌, Result, filter, find}
 use Rattle.std.proofs.lemmas.List.{length-map}
-use Rattle.mux_history.specs.Channels.{Channel, after_farewell, after_item, begun_by, held_of, is_held, opened_down}
+use Rattle.mux_history.specs.Channels.{Channel, after_farewell, after_item, begun_by, held_of, is_channel_held, opened_down}
 use Rattle.mux_history.specs.Forwardings.{Forwarding, current, forwardings_of, live_at}
 use Rattle.mux_history.specs.Summary.{Confirmation, Summary, Open, Refuses, Requests, Succeeds, Transport, Within, read_summary, reading}
 use Rattle.mux_history.specs.Heard.{ToClient, dest_open}
@@ -31,9 +31,9 @@ length-filter test (x ∷ xs) = by_case (length-filter test xs) (test x) refl
 pub held-count : (row : Row) (own : List Row) → length (held_of (row ∷ own)) ≤ length (held_of own) + length (begun_by row.client row.up row.item)
 held-count row own =
     let a = ap length (held-step row own) in
-    let b = length-filter is_held (map (after_farewell row) (filter is_held (map (after_item row) (held_of own) ++ begun_by row.client row.up row.item))) in
-    let c = length-map (filter is_held (map (after_item row) (held_of own) ++ begun_by row.client row.up row.item)) (after_farewell row) in
-    let d = length-filter is_held (map (after_item row) (held_of own) ++ begun_by row.client row.up row.item) in
+    let b = length-filter is_channel_held (map (after_farewell row) (filter is_channel_held (map (after_item row) (held_of own) ++ begun_by row.client row.up row.item))) in
+    let c = length-map (filter is_channel_held (map (after_item row) (held_of own) ++ begun_by row.client row.up row.item)) (after_farewell row) in
+    let d = length-filter is_channel_held (map (after_item row) (held_of own) ++ begun_by row.client row.up row.item) in
     let e = length-append (map (after_item row) (held_of own)) (begun_by row.client row.up row.item) in
     let f = length-map (held_of own) (after_item row) in
     omega arith

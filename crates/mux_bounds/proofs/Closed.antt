@@ -2,7 +2,7 @@
 use Rattle.std.proofs.Common.{◌≡◌, ℕ, ◌≤◌, List, [], ◌∷◌, length, true, false, Bool, refl, ◌∙◌, ap, arith, map, sym, Some, None, subst, Ok, Err}
 use Rattle.std.specs.Prelude.{◌==◌, ◌||◌, ◌&&◌, filter, not, Result, nat_lt}
 use Rattle.std.proofs.lemmas.Bool.Decides.{nat_tests}
-use Rattle.mux_history.specs.Channels.{Channel, channels_of, held_of, is_held, is_number}
+use Rattle.mux_history.specs.Channels.{Channel, channels_of, held_of, is_channel_held, is_number}
 use Rattle.mux_history.specs.Farewell.{has_open_matters}
 use Rattle.mux_history.specs.Forwardings.{Forwarding, forwarded, forwardings_of, is_request, of_client, replied}
 use Rattle.mux_history.specs.Summary.{Summary, Refuses, Succeeds, read_summary}
@@ -118,13 +118,13 @@ lost-done policy pid k (row ∷ before) each lost = by_case (λ h. lost-done pol
 
 -- ---- closed matters
 
-none-held : (xs : List Channel) → any_of is_held (filter is_held xs) ≡ false → filter is_held xs ≡ []
+none-held : (xs : List Channel) → any_of is_channel_held (filter is_channel_held xs) ≡ false → filter is_channel_held xs ≡ []
 none-held [] none = refl
-none-held (x ∷ xs) none = by_case (λ h. none-held xs h) (is_held x) refl
+none-held (x ∷ xs) none = by_case (λ h. none-held xs h) (is_channel_held x) refl
   where
-    by_case : (any_of is_held (filter is_held xs) ≡ false → filter is_held xs ≡ []) → (b : Bool) → is_held x ≡ b → filter is_held (x ∷ xs) ≡ []
-    by_case ih true e = let found = sym (ap (any_of is_held) (filter-yes is_held x xs e) ∙ ap (λ b. b || any_of is_held (filter is_held xs)) e) ∙ none in absurd (let bad : true ≡ false = found in cc)
-    by_case ih false e = filter-no is_held x xs e ∙ ih (sym (ap (any_of is_held) (filter-no is_held x xs e)) ∙ none)
+    by_case : (any_of is_channel_held (filter is_channel_held xs) ≡ false → filter is_channel_held xs ≡ []) → (b : Bool) → is_channel_held x ≡ b → filter is_channel_held (x ∷ xs) ≡ []
+    by_case ih true e = let found = sym (ap (any_of is_channel_held) (filter-yes is_channel_held x xs e) ∙ ap (λ b. b || any_of is_channel_held (filter is_channel_held xs)) e) ∙ none in absurd (let bad : true ≡ false = found in cc)
+    by_case ih false e = filter-no is_channel_held x xs e ∙ ih (sym (ap (any_of is_channel_held) (filter-no is_channel_held x xs e)) ∙ none)
 
 not-less : (a b : ℕ) → nat_lt a b ≡ false → b ≤ a
 not-less a b e = grind (arith, nat_tests)
@@ -137,10 +137,10 @@ is-lost false b e n = cc
 pub nothing-left : (policy : Policy) (pid : ℕ) (rows : List Row) → LogKnown policy pid rows → (k : ℕ) → IsAdmitted k rows → has_open_matters (rows_of k rows) ≡ false → HasNothing (rows_of k rows)
 nothing-left policy pid rows known k admitted closed =
     let lost : is_lost (rows_of k rows) ≡ true = is-lost (any_of is_admit (rows_of k rows)) (is_lost (rows_of k rows)) admitted (or-left (any_of is_admit (rows_of k rows) && not (is_lost (rows_of k rows))) _ closed) in
-    let rest = or-right (any_of is_admit (rows_of k rows) && not (is_lost (rows_of k rows))) (any_of is_held (held_of (rows_of k rows)) || nat_lt (length (replies (rows_of k rows))) (length (asks (rows_of k rows)))) closed in
+    let rest = or-right (any_of is_admit (rows_of k rows) && not (is_lost (rows_of k rows))) (any_of is_channel_held (held_of (rows_of k rows)) || nat_lt (length (replies (rows_of k rows))) (length (asks (rows_of k rows)))) closed in
     record {
-      channels = none-held (channels_of (rows_of k rows)) (or-left (any_of is_held (held_of (rows_of k rows))) (nat_lt (length (replies (rows_of k rows))) (length (asks (rows_of k rows)))) rest);
-      requests = not-less (length (replies (rows_of k rows))) (length (asks (rows_of k rows))) (or-right (any_of is_held (held_of (rows_of k rows))) (nat_lt (length (replies (rows_of k rows))) (length (asks (rows_of k rows)))) rest);
+      channels = none-held (channels_of (rows_of k rows)) (or-left (any_of is_channel_held (held_of (rows_of k rows))) (nat_lt (length (replies (rows_of k rows))) (length (asks (rows_of k rows)))) rest);
+      requests = not-less (length (replies (rows_of k rows))) (length (asks (rows_of k rows))) (or-right (any_of is_channel_held (held_of (rows_of k rows))) (nat_lt (length (replies (rows_of k rows))) (length (asks (rows_of k rows)))) rest);
       forwardings = none-current (forwardings_of (rows_of k rows)) (lost-done policy pid k rows known.each lost);
     }
 

@@ -3,7 +3,7 @@ use Rattle.std.proofs.Common.{◌≡◌, ℕ, ◌≤◌, List, [], ◌∷◌, le
 use Rattle.std.specs.Prelude.{◌==◌, ◌&&◌, ◌||◌, not, nat_lt}
 use Rattle.std.proofs.lemmas.Bool.Decides.{nat_tests}
 use Rattle.mux_history.specs.Controls.{house_sends}
-use Rattle.mux_history.specs.Channels.{Channel, begun_by, held_of, is_held}
+use Rattle.mux_history.specs.Channels.{Channel, begun_by, held_of, is_channel_held}
 use Rattle.mux_history.specs.Farewell.{has_open_matters}
 use Rattle.mux_history.specs.Summary.{Open}
 use Rattle.mux_history.specs.Heard.{Breaks, Dest, Disconnects, ToClient, ToMaster, dest, received_for}
@@ -88,7 +88,7 @@ stays-closed row own nothing lost begins wants =
     let r = length-append (replies own) (reply_in row.item) in
     let before = nothing.requests in
     let fewer : length (asks (row ∷ own)) ≤ length (replies (row ∷ own)) = omega (arith, before) in
-    all-closed (any_of is_admit (row ∷ own)) (is_lost (row ∷ own)) (any_of is_held (held_of (row ∷ own))) (nat_lt (length (replies (row ∷ own))) (length (asks (row ∷ own)))) (or-yes (loses row) (is_lost own) lost) (ap (any_of is_held) held) (no-less (length (replies (row ∷ own))) (length (asks (row ∷ own))) fewer)
+    all-closed (any_of is_admit (row ∷ own)) (is_lost (row ∷ own)) (any_of is_channel_held (held_of (row ∷ own))) (nat_lt (length (replies (row ∷ own))) (length (asks (row ∷ own)))) (or-yes (loses row) (is_lost own) lost) (ap (any_of is_channel_held) held) (no-less (length (replies (row ∷ own))) (length (asks (row ∷ own))) fewer)
 
 -- lost, where the matters of one that was admitted are closed
 lost-of : (a l r : Bool) → a ≡ true → ((a && not l) || r) ≡ false → l ≡ true

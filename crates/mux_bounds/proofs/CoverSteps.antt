@@ -5,7 +5,7 @@ use Rattle.std.specs.Prelude.{◌==◌, ◌&&◌, ◌||◌, not, is_none}
 use Rattle.std.proofs.lemmas.Bool.Decides.{nat_tests}
 use Rattle.ssh_grammar.specs.Messages.{Key}
 use Rattle.mux_history.specs.Channels.{is_number}
-use Rattle.mux_history.specs.Forwardings.{Forwarding, change_first, is_free_at, is_request, of_client, replied, stopped}
+use Rattle.mux_history.specs.Forwardings.{Forwarding, change_first, is_forwarding_free_at, is_request, of_client, replied, stopped}
 use Rattle.mux_history.specs.Summary.{Summary, Refuses, Succeeds}
 use Rattle.mux_history.specs.Keys.{bound, has_key}
 use Rattle.mux_history.specs.Requests.{Ask}
@@ -78,7 +78,7 @@ some-key : (o : Option Key) (key : Key) → has_key o key ≡ true → is_none o
 some-key None key e = cc
 some-key (Some k) key e = refl
 
-pub free-is : (k : ℕ) (key : Key) (f : Forwarding) → is_free_at k key f ≡ true → IsFree f
+pub free-is : (k : ℕ) (key : Key) (f : Forwarding) → is_forwarding_free_at k key f ≡ true → IsFree f
 free-is k key f e =
     let mine = and-right (f.client == k) (not f.over && (is_none f.cancel && has_key f.live key)) e in
     let rest = and-right (not f.over) (is_none f.cancel && has_key f.live key) mine in

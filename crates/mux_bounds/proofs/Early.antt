@@ -5,13 +5,13 @@ use Rattle.mux_history.specs.Policy.{Policy}
 use Rattle.mux_history.specs.Requests.{replies, wanted}
 use Rattle.mux_history.specs.Rows.{Row, is_ended, rows_of}
 use Rattle.mux_bounds.specs.Awaited.{RepliesAwaited}
-use Rattle.mux_isolation.specs.View.{left_of}
+use Rattle.mux_isolation.specs.LogView.{waiting_left_of}
 use Rattle.mux_history.proofs.Askers.{Orderly}
 use Rattle.mux_history.proofs.RightLogs.{RowKnown}
 use Rattle.mux_bounds.proofs.Asked.{asks-trues, trues}
 use Rattle.mux_bounds.proofs.OwedFew.{within-own}
 
-none-early : (flags : List Bool) (heard : List (List ℕ)) → length heard ≤ trues flags → (left_of flags heard).early ≡ []
+none-early : (flags : List Bool) (heard : List (List ℕ)) → length heard ≤ trues flags → (waiting_left_of flags heard).early ≡ []
 none-early [] [] le = refl
 none-early [] (p ∷ heard) le = absurd (omega (arith, le))
 none-early (false ∷ flags) heard le = none-early flags heard le

@@ -249,7 +249,7 @@ module _ (policy : Policy) (pid : ℕ) (picks : List ℕ) (given : List HouseRep
   mark-own before (wire.Ends stream) known = gone-own before stream (server_end (parse InProxy (bytes_of 0 before)).rest) (end-own (log_of_journal setting before) (parse InProxy (bytes_of 0 before)).rest) known
   mark-own before (wire.Fails stream) known = gone-own before stream ServerFailed tt known
   mark-own before (wire.WriteFails stream) known = gone-own before stream ServerFailed tt known
-  mark-own before (wire.Takes stream bytes) known = each-unless (OwnKnown (log_of_journal setting before)) stream (Took stream (length bytes) ∷ []) (λ client. (tt, tt))
+  mark-own before (wire.Takes stream bytes accepts) known = each-unless (OwnKnown (log_of_journal setting before)) stream (Took stream (length bytes) ∷ []) (λ client. (tt, tt))
   mark-own before (wire.Joins listener stream) known = tt
   mark-own before (wire.House HouseIn) known = (tt, tt)
   mark-own before (wire.House (HouseSaid bytes)) known = said-own (log_of_journal setting before) HOUSE _ (accepted-entered before HOUSE known.0)
@@ -259,7 +259,7 @@ module _ (policy : Policy) (pid : ℕ) (picks : List ℕ) (given : List HouseRep
   mark-own before (wire.House (HouseOrder order number)) known = tt
   mark-own before (wire.Holds stream) known = tt
   mark-own before (wire.Frees stream) known = tt
-  mark-own before (wire.Waits waiting want streams listening) known = tt
+  mark-own before (wire.Waits waiting want streams shown) known = tt
 
   pub log-first : (marks : List Mark) → ForEach (RowKnown policy pid) (log_of_journal setting marks) → IsLawful marks → ForEach LetFirst (log_of_journal setting marks)
   log-first [] each known = tt

@@ -4,7 +4,7 @@ use Rattle.std.specs.Prelude.{◌==◌, ◌||◌, not, filter, find, slice_get, 
 use Rattle.std.proofs.lemmas.Bool.Decides.{nat_tests}
 use Rattle.ssh_grammar.specs.Messages.{Opens}
 use Rattle.ssh_grammar.specs.declared.fault.Bad.{Bad}
-use Rattle.mux_history.specs.Channels.{Channel, after_farewell, after_item, begun_by, channels_of, is_held, is_number}
+use Rattle.mux_history.specs.Channels.{Channel, after_farewell, after_item, begun_by, channels_of, is_channel_held, is_number}
 use Rattle.mux_history.specs.Controls.{greeted, house_sends, is_sends}
 use Rattle.mux_history.specs.Forwardings.{Forwarding, dropped, forwarded, forwardings_of, live_at, of_client, replied}
 use Rattle.mux_history.specs.Summary.{Confirmation, Summary, Open, Refuses, Requests, Succeeds, Transport, Within, read_summary}
@@ -131,8 +131,8 @@ never-asked before k quiet asked =
 
 never-reached : (policy : Policy) (pid : ℕ) (before : List Row) (n k : ℕ) → ForEach (RowKnown policy pid) before → greeted (rows_of k before) ≡ false → Reached before n k → ⊥
 never-reached policy pid before n k each quiet there =
-    let found = find-part is_held (is_of k) (λ (x : Channel). is_number x.number n) there.channel (channels_of before) there.is (ap (λ c. c == k) there.client ∙ self k) in
-    let none = ap (λ xs. find (λ (x : Channel). is_number x.number n) (filter is_held xs)) (channels-local k before ∙ quiet-channels policy pid k before each quiet) in
+    let found = find-part is_channel_held (is_of k) (λ (x : Channel). is_number x.number n) there.channel (channels_of before) there.is (ap (λ c. c == k) there.client ∙ self k) in
+    let none = ap (λ xs. find (λ (x : Channel). is_number x.number n) (filter is_channel_held xs)) (channels-local k before ∙ quiet-channels policy pid k before each quiet) in
     let bad : None ≡ Some there.channel = sym none ∙ found in absurd (let h = bad in cc)
 
 pub to-greeted : (policy : Policy) (pid : ℕ) (before : List Row) (p : List ℕ) (k : ℕ) → ForEach (RowKnown policy pid) before → dest before p ≡ ToClient k → greeted (rows_of k before) ≡ true

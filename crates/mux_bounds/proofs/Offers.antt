@@ -2,7 +2,7 @@
 use Rattle.std.proofs.Common.{◌≡◌, ℕ, ◌+◌, ◌≤◌, List, [], ◌∷◌, ◌++◌, map, length, true, false, Bool, refl, ap, arith, sym, Option, None, subst, Ok, Err}
 use Rattle.std.specs.Prelude.{◌==◌, ◌&&◌, Result, nat_lt}
 use Rattle.std.proofs.lemmas.Bool.Decides.{nat_tests}
-use Rattle.mux_history.specs.Forwardings.{Forwarding, change_first, current, forwarded, forwardings_of, is_free_at, of_client, replied, requested, stopped}
+use Rattle.mux_history.specs.Forwardings.{Forwarding, change_first, current, forwarded, forwardings_of, is_forwarding_free_at, of_client, replied, requested, stopped}
 use Rattle.mux_history.specs.Controls.{house_sends, sent_body}
 use Rattle.mux_history.specs.Controls.{greeted}
 use Rattle.mux_history.specs.Summary.{Summary, Requests, read_summary}
@@ -82,8 +82,8 @@ said-fits policy before k pick p reply fw down fate le = by_case (read_summary p
     by_summary : (m : Summary) → count (if_sent (sent_summary policy k (rows_of k before) pick p m).sent (requested k (length (asks (rows_of k (rows_of k before)))) m (forwardings_of (rows_of k before))) (forwardings_of (rows_of k before))) ≤ 64
     by_summary (Requests (Forward key) wants) = by_request key wants
     by_summary (Requests (Cancel key) wants) =
-        let fewer = count-first (is_free_at k key) (stopped wants (length (asks (rows_of k (rows_of k before))))) (stopped-ends wants (length (asks (rows_of k (rows_of k before))))) (forwardings_of (rows_of k before)) in
-        both-ways (sent_summary policy k (rows_of k before) pick p (Requests (Cancel key) wants)).sent (change_first (is_free_at k key) (stopped wants (length (asks (rows_of k (rows_of k before))))) (forwardings_of (rows_of k before))) (forwardings_of (rows_of k before)) (omega (arith, le)) le
+        let fewer = count-first (is_forwarding_free_at k key) (stopped wants (length (asks (rows_of k (rows_of k before))))) (stopped-ends wants (length (asks (rows_of k (rows_of k before))))) (forwardings_of (rows_of k before)) in
+        both-ways (sent_summary policy k (rows_of k before) pick p (Requests (Cancel key) wants)).sent (change_first (is_forwarding_free_at k key) (stopped wants (length (asks (rows_of k (rows_of k before))))) (forwardings_of (rows_of k before))) (forwardings_of (rows_of k before)) (omega (arith, le)) le
     by_summary (Requests KeepAlive wants) = both-ways (sent_summary policy k (rows_of k before) pick p (Requests KeepAlive wants)).sent (forwardings_of (rows_of k before)) (forwardings_of (rows_of k before)) le le
     by_summary (Requests OtherName wants) = both-ways (sent_summary policy k (rows_of k before) pick p (Requests OtherName wants)).sent (forwardings_of (rows_of k before)) (forwardings_of (rows_of k before)) le le
     by_summary m = both-ways (sent_summary policy k (rows_of k before) pick p m).sent (forwardings_of (rows_of k before)) (forwardings_of (rows_of k before)) le le

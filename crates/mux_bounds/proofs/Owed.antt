@@ -7,7 +7,7 @@ use Rattle.mux_outside.specs.declared.house.HouseReply.{HouseReply}
 use Rattle.ssh_grammar.specs.Messages.{Cancel, Forward, Global, KeepAlive, Key, OtherName}
 use Rattle.ssh_grammar.specs.Said.{BadFraming, Body, Payload}
 use Rattle.ssh_grammar.specs.declared.fault.Bad.{Bad}
-use Rattle.mux_history.specs.Forwardings.{Forwarding, change_first, current, forwarded, forwardings_of, is_free_at, of_client, replied, requested, stopped}
+use Rattle.mux_history.specs.Forwardings.{Forwarding, change_first, current, forwarded, forwardings_of, is_forwarding_free_at, of_client, replied, requested, stopped}
 use Rattle.mux_history.specs.Summary.{Summary, Refuses, Requests, Succeeds, read_summary}
 use Rattle.mux_history.specs.Keys.{is_askable}
 use Rattle.mux_history.specs.Policy.{Policy, permits}
@@ -34,20 +34,20 @@ forward-wants policy k own p key wants sent =
     and-left wants (is_askable key && (permits policy.listens key && nat_lt (length (current own)) 64))
     (sends-yes (wants && (is_askable key && (permits policy.listens key && nat_lt (length (current own)) 64))) p sent)
 
-pub cancel-free : (policy : Policy) (k : ℕ) (own : List Row) (p : List ℕ) (key : Key) (wants : Bool) → flag (sent_request policy k own p (Cancel key) wants).sent ≡ true → any_of (is_free_at k key) (forwardings_of own) ≡ true
-cancel-free policy k own p key wants sent = part (forwardings_of own) (sends-yes (any_of (is_free_at k key) (current own)) p sent)
+pub cancel-free : (policy : Policy) (k : ℕ) (own : List Row) (p : List ℕ) (key : Key) (wants : Bool) → flag (sent_request policy k own p (Cancel key) wants).sent ≡ true → any_of (is_forwarding_free_at k key) (forwardings_of own) ≡ true
+cancel-free policy k own p key wants sent = part (forwardings_of own) (sends-yes (any_of (is_forwarding_free_at k key) (current own)) p sent)
   where
-    part : (fs : List Forwarding) → any_of (is_free_at k key) (filter is_on fs) ≡ true → any_of (is_free_at k key) fs ≡ true
+    part : (fs : List Forwarding) → any_of (is_forwarding_free_at k key) (filter is_on fs) ≡ true → any_of (is_forwarding_free_at k key) fs ≡ true
     part [] e = cc
     part (f ∷ fs) e = by_case (λ h. part fs h) (is_on f) refl
       where
-        by_case : (any_of (is_free_at k key) (filter is_on fs) ≡ true → any_of (is_free_at k key) fs ≡ true) → (b : Bool) → is_on f ≡ b → any_of (is_free_at k key) (f ∷ fs) ≡ true
-        by_case ih true on = by_head (is_free_at k key f) refl (sym (ap (any_of (is_free_at k key)) (filter-yes is_on f fs on)) ∙ e) ih
+        by_case : (any_of (is_forwarding_free_at k key) (filter is_on fs) ≡ true → any_of (is_forwarding_free_at k key) fs ≡ true) → (b : Bool) → is_on f ≡ b → any_of (is_forwarding_free_at k key) (f ∷ fs) ≡ true
+        by_case ih true on = by_head (is_forwarding_free_at k key f) refl (sym (ap (any_of (is_forwarding_free_at k key)) (filter-yes is_on f fs on)) ∙ e) ih
           where
-            by_head : (b : Bool) → is_free_at k key f ≡ b → (b || any_of (is_free_at k key) (filter is_on fs)) ≡ true → (any_of (is_free_at k key) (filter is_on fs) ≡ true → any_of (is_free_at k key) fs ≡ true) → (b || any_of (is_free_at k key) fs) ≡ true
+            by_head : (b : Bool) → is_forwarding_free_at k key f ≡ b → (b || any_of (is_forwarding_free_at k key) (filter is_on fs)) ≡ true → (any_of (is_forwarding_free_at k key) (filter is_on fs) ≡ true → any_of (is_forwarding_free_at k key) fs ≡ true) → (b || any_of (is_forwarding_free_at k key) fs) ≡ true
             by_head true he some ih = refl
             by_head false he some ih = ih some
-        by_case ih false on = or-yes (is_free_at k key f) (any_of (is_free_at k key) fs) (ih (sym (ap (any_of (is_free_at k key)) (filter-no is_on f fs on)) ∙ e))
+        by_case ih false on = or-yes (is_forwarding_free_at k key f) (any_of (is_forwarding_free_at k key) fs) (ih (sym (ap (any_of (is_forwarding_free_at k key)) (filter-no is_on f fs on)) ∙ e))
           where
             or-yes : (a b : Bool) → b ≡ true → (a || b) ≡ true
             or-yes true b e = refl
@@ -83,22 +83,22 @@ held-changed : (place : ℕ) (us : List Ask) (fs gs : List Forwarding) → ((j :
 held-changed place us fs gs stays sound held = held-still place us [] gs refl (record { cover = cover-from place us fs gs (λ j le. stays j) held.cover; sound = sound })
 
 -- what is asked, where it is sent
-asked-held : (place last k : ℕ) (us : List Ask) (fs : List Forwarding) (what : Global) (wants : Bool) → place + length us ≡ last → ((key : Key) → what ≡ Forward key → wants ≡ true) → ((key : Key) → what ≡ Cancel key → any_of (is_free_at k key) fs ≡ true) → Held place us fs → Held (place + 0) (us ++ asks_of k true (wanted_in (Requests what wants))) (requested k last (Requests what wants) fs)
+asked-held : (place last k : ℕ) (us : List Ask) (fs : List Forwarding) (what : Global) (wants : Bool) → place + length us ≡ last → ((key : Key) → what ≡ Forward key → wants ≡ true) → ((key : Key) → what ≡ Cancel key → any_of (is_forwarding_free_at k key) fs ≡ true) → Held place us fs → Held (place + 0) (us ++ asks_of k true (wanted_in (Requests what wants))) (requested k last (Requests what wants) fs)
 asked-held place last k us fs (Forward key) true here wanted free held = held-more place last k us (Forward key) fs (fs ++ new ∷ []) here (λ j. covered-append j fs (new ∷ [])) (λ is. covered-last last fs (new ∷ []) (ap (λ b. ((b && true) || false) || false) (self last))) (sound-append fs (new ∷ []) held.sound ((λ none. refl), tt)) held
   where
     new : Forwarding
     new = record { client = k; key = key; request = last; live = None; cancel = None; over = false }
 asked-held place last k us fs (Forward key) false here wanted free held = let bad : false ≡ true = wanted key refl in absurd (let h = bad in cc)
 asked-held place last k us fs (Cancel key) true here wanted free held =
-    held-more place last k us (Cancel key) fs (change_first (is_free_at k key) (stopped true last) fs) here
-    (λ j. covered-first j (is_free_at k key) (stopped true last) fs (λ f e. free-waits-not f j (free-is k key f e)))
-    (λ is. covered-hit last (is_free_at k key) (stopped true last) fs (free key refl) (λ f e. stopped-waits last f (free-is k key f e)))
-    (sound-first (is_free_at k key) (stopped true last) (λ f e. stopped-sound true last f (free-is k key f e)) fs held.sound)
+    held-more place last k us (Cancel key) fs (change_first (is_forwarding_free_at k key) (stopped true last) fs) here
+    (λ j. covered-first j (is_forwarding_free_at k key) (stopped true last) fs (λ f e. free-waits-not f j (free-is k key f e)))
+    (λ is. covered-hit last (is_forwarding_free_at k key) (stopped true last) fs (free key refl) (λ f e. stopped-waits last f (free-is k key f e)))
+    (sound-first (is_forwarding_free_at k key) (stopped true last) (λ f e. stopped-sound true last f (free-is k key f e)) fs held.sound)
     held
 asked-held place last k us fs (Cancel key) false here wanted free held =
-    held-changed place us fs (change_first (is_free_at k key) (stopped false last) fs)
-    (λ j. covered-first j (is_free_at k key) (stopped false last) fs (λ f e. free-waits-not f j (free-is k key f e)))
-    (sound-first (is_free_at k key) (stopped false last) (λ f e. stopped-sound false last f (free-is k key f e)) fs held.sound)
+    held-changed place us fs (change_first (is_forwarding_free_at k key) (stopped false last) fs)
+    (λ j. covered-first j (is_forwarding_free_at k key) (stopped false last) fs (λ f e. free-waits-not f j (free-is k key f e)))
+    (sound-first (is_forwarding_free_at k key) (stopped false last) (λ f e. stopped-sound false last f (free-is k key f e)) fs held.sound)
     held
 asked-held place last k us fs KeepAlive true here wanted free held = held-more place last k us KeepAlive fs fs here (λ j e. e) (λ is. cc) held.sound held
 asked-held place last k us fs KeepAlive false here wanted free held = held-still place us [] fs refl held
@@ -135,7 +135,7 @@ Next row own us fs = Held (length (replies own) + length (reply_in row.item)) (d
 -- what is known of the request of a row
 pub record Asks (row : Row) (fs : List Forwarding) : Type 0 where
   pub wants : (j : ℕ) (p : List ℕ) (given : Option HouseReply) (key : Key) (want : Bool) → row.item ≡ Says j (Payload p) given → read_summary p ≡ Ok (Requests (Forward key) want) → is_sent row ≡ true → want ≡ true
-  pub free : (j : ℕ) (p : List ℕ) (given : Option HouseReply) (key : Key) (want : Bool) → row.item ≡ Says j (Payload p) given → read_summary p ≡ Ok (Requests (Cancel key) want) → is_sent row ≡ true → any_of (is_free_at row.client key) fs ≡ true
+  pub free : (j : ℕ) (p : List ℕ) (given : Option HouseReply) (key : Key) (want : Bool) → row.item ≡ Says j (Payload p) given → read_summary p ≡ Ok (Requests (Cancel key) want) → is_sent row ≡ true → any_of (is_forwarding_free_at row.client key) fs ≡ true
 
 pub next-held : (row : Row) (own : List Row) (us : List Ask) (fs : List Forwarding) → length (replies own) + length us ≡ length (asks own) → Asks row fs → Held (length (replies own)) us fs → Next row own us fs
 next-held row own us fs here known held = by_item row.item refl

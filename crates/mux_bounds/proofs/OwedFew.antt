@@ -3,7 +3,7 @@ use Rattle.std.proofs.Common.{◌≡◌, ℕ, zero, suc, ◌+◌, ◌≤◌, Lis
 use Rattle.std.specs.Prelude.{◌==◌, ◌||◌, filter}
 use Rattle.std.proofs.lemmas.List.{append-nil, length-drop}
 use Rattle.ssh_grammar.specs.Messages.{Cancel, Forward}
-use Rattle.mux_history.specs.Forwardings.{Forwarding, dropped, forwarded, forwardings_of, is_free_at, of_client}
+use Rattle.mux_history.specs.Forwardings.{Forwarding, dropped, forwarded, forwardings_of, is_forwarding_free_at, of_client}
 use Rattle.mux_history.specs.Kept.{ForEach}
 use Rattle.mux_history.specs.Log.{bare, treat}
 use Rattle.mux_history.specs.Policy.{Policy}
@@ -65,7 +65,7 @@ asks-of-row policy before row said = record {
   wants = λ j p given key want item reads sent. forward-wants policy j (rows_of j before) p key want (said j p given (Forward key) want item reads sent).1;
   free = λ j p given key want item reads sent.
       let s = said j p given (Cancel key) want item reads sent in
-      subst (λ (i : ℕ). any_of (is_free_at i key) (forwardings_of (rows_of i before)) ≡ true) (sym s.0) (cancel-free policy j (rows_of j before) p key want s.1);
+      subst (λ (i : ℕ). any_of (is_forwarding_free_at i key) (forwardings_of (rows_of i before)) ≡ true) (sym s.0) (cancel-free policy j (rows_of j before) p key want s.1);
 }
 
 not-dropped : (row : Row) (fs : List Forwarding) → loses row ≡ false → dropped row fs ≡ fs

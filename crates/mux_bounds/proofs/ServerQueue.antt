@@ -151,7 +151,7 @@ module _ (policy : Policy) (pid : ℕ) (picks : List ℕ) (given : List HouseRep
   moves before (wire.Ends stream) n lawful facts = inl (still-mark before (wire.Ends stream) n facts (gone-mute stream (server_end (parse InProxy (bytes_of 0 before)).rest) (server-mute (parse InProxy (bytes_of 0 before)).rest)) (gone-free stream (server_end (parse InProxy (bytes_of 0 before)).rest) (server-free (parse InProxy (bytes_of 0 before)).rest)))
   moves before (wire.Fails stream) n lawful facts = inl (still-mark before (wire.Fails stream) n facts (gone-mute stream ServerFailed (tt, tt)) (gone-free stream ServerFailed refl))
   moves before (wire.WriteFails stream) n lawful facts = inl (still-mark before (wire.WriteFails stream) n facts (gone-mute stream ServerFailed (tt, tt)) (gone-free stream ServerFailed refl))
-  moves before (wire.Takes stream bytes) n lawful facts = inl (still-mark before (wire.Takes stream bytes) n facts (each-unless IsMute stream (Took stream (length bytes) ∷ []) (λ client. (tt, tt))) (unless-free stream (Took stream (length bytes) ∷ []) refl))
+  moves before (wire.Takes stream bytes accepts) n lawful facts = inl (still-mark before (wire.Takes stream bytes accepts) n facts (each-unless IsMute stream (Took stream (length bytes) ∷ []) (λ client. (tt, tt))) (unless-free stream (Took stream (length bytes) ∷ []) refl))
   moves before (wire.Joins listener stream) n lawful facts = inl (still-mark before (wire.Joins listener stream) n facts tt refl)
   moves before (wire.House HouseIn) n lawful facts = inr (inr (record { reads = refl; grows = let g = live-grows policy pid picks given (log before) (take n (Admit HOUSE ∷ [])) facts in let t = total-take live_cost n (Admit HOUSE ∷ []) in omega (arith, g, t) }))
   moves before (wire.House (HouseSaid bytes)) n lawful facts = house-mark before bytes n lawful.2 facts
@@ -161,7 +161,7 @@ module _ (policy : Policy) (pid : ℕ) (picks : List ℕ) (given : List HouseRep
   moves before (wire.House (HouseOrder order number)) n lawful facts = inl (still-mark before (wire.House (HouseOrder order number)) n facts tt refl)
   moves before (wire.Holds stream) n lawful facts = inl (still-mark before (wire.Holds stream) n facts tt refl)
   moves before (wire.Frees stream) n lawful facts = inl (still-mark before (wire.Frees stream) n facts tt refl)
-  moves before (wire.Waits waiting want streams listening) n lawful facts = inl (still-mark before (wire.Waits waiting want streams listening) n facts tt refl)
+  moves before (wire.Waits waiting want streams shown) n lawful facts = inl (still-mark before (wire.Waits waiting want streams shown) n facts tt refl)
 
   -- ---- what one mark adds
 

@@ -7,7 +7,7 @@ use Rattle.ssh_grammar.specs.Messages.{Cancel, Forward, Global, KeepAlive, Key, 
 use Rattle.ssh_grammar.specs.Said.{BadFraming, Body, Payload}
 use Rattle.ssh_grammar.specs.declared.fault.Bad.{Bad}
 use Rattle.mux_history.specs.Channels.{is_number}
-use Rattle.mux_history.specs.Forwardings.{Forwarding, change_first, current, dropped, forwarded, forwardings_of, is_free_at, is_request, of_client, replied, requested, stopped}
+use Rattle.mux_history.specs.Forwardings.{Forwarding, change_first, current, dropped, forwarded, forwardings_of, is_forwarding_free_at, is_request, of_client, replied, requested, stopped}
 use Rattle.mux_history.specs.Summary.{Summary, Refuses, Requests, Succeeds, read_summary, reading}
 use Rattle.mux_history.specs.Kept.{ForEach}
 use Rattle.mux_history.specs.Keys.{bound, has_key, is_askable}
@@ -94,11 +94,11 @@ live-brief None key e short = cc
 live-brief (Some k) key e short = subst IsBriefKey (key-is k key e) short
 
 -- one that is free has the key
-free-short : (k : ℕ) (key : Key) (fs : List Forwarding) → EachOf IsShort fs → any_of (is_free_at k key) fs ≡ true → IsBriefKey key
+free-short : (k : ℕ) (key : Key) (fs : List Forwarding) → EachOf IsShort fs → any_of (is_forwarding_free_at k key) fs ≡ true → IsBriefKey key
 free-short k key [] all some = cc
-free-short k key (f ∷ fs) all some = by_case (λ h. free-short k key fs all.1 h) (is_free_at k key f) refl some
+free-short k key (f ∷ fs) all some = by_case (λ h. free-short k key fs all.1 h) (is_forwarding_free_at k key f) refl some
   where
-    by_case : (any_of (is_free_at k key) fs ≡ true → IsBriefKey key) → (b : Bool) → is_free_at k key f ≡ b → (b || any_of (is_free_at k key) fs) ≡ true → IsBriefKey key
+    by_case : (any_of (is_forwarding_free_at k key) fs ≡ true → IsBriefKey key) → (b : Bool) → is_forwarding_free_at k key f ≡ b → (b || any_of (is_forwarding_free_at k key) fs) ≡ true → IsBriefKey key
     by_case ih true e some =
         let mine = and-right (f.client == k) (not f.over && (is_none f.cancel && has_key f.live key)) e in
         let on = and-right (not f.over) (is_none f.cancel && has_key f.live key) mine in
@@ -111,9 +111,9 @@ request-short policy k own p (Forward key) wants all sent = by_case (wants && (i
     by_case : (b : Bool) → (wants && (is_askable key && (permits policy.listens key && nat_lt (length (current own)) 64))) ≡ b → flag (sends_if b p).sent ≡ true → IsBriefKey key
     by_case true e sent = askable-brief key (and-left (is_askable key) (permits policy.listens key && nat_lt (length (current own)) 64) (and-right wants _ e))
     by_case false e sent = cc
-request-short policy k own p (Cancel key) wants all sent = by_case (any_of (is_free_at k key) (current own)) refl sent
+request-short policy k own p (Cancel key) wants all sent = by_case (any_of (is_forwarding_free_at k key) (current own)) refl sent
   where
-    by_case : (b : Bool) → any_of (is_free_at k key) (current own) ≡ b → flag (sends_if b p).sent ≡ true → IsBriefKey key
+    by_case : (b : Bool) → any_of (is_forwarding_free_at k key) (current own) ≡ b → flag (sends_if b p).sent ≡ true → IsBriefKey key
     by_case true e sent = free-short k key (current own) all e
     by_case false e sent = cc
 request-short policy k own p KeepAlive wants all sent = tt
@@ -126,7 +126,7 @@ Asked row = (k : ℕ) (p : List ℕ) (given : Option HouseReply) (what : Global)
 
 requested-short : (k n : ℕ) (m : Summary) (fs : List Forwarding) → ((what : Global) (wants : Bool) → m ≡ Requests what wants → AskShort what) → EachOf IsShort fs → EachOf IsShort (requested k n m fs)
 requested-short k n (Requests (Forward key) wants) fs new all = each-append fs _ all ((new (Forward key) wants refl, tt), tt)
-requested-short k n (Requests (Cancel key) wants) fs new all = each-first (is_free_at k key) (stopped wants n) (stopped-stays wants n) fs all
+requested-short k n (Requests (Cancel key) wants) fs new all = each-first (is_forwarding_free_at k key) (stopped wants n) (stopped-stays wants n) fs all
 requested-short k n (Requests KeepAlive wants) fs new all = all
 requested-short k n (Requests OtherName wants) fs new all = all
 requested-short k n m fs new all = all

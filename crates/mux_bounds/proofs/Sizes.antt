@@ -145,7 +145,7 @@ mark-items before (wire.Gets stream bytes) = by_stream (stream == 0)
 mark-items before (wire.Ends stream) = gone-items stream (server_end (parse InProxy (bytes_of 0 before)).rest) (end-item (parse InProxy (bytes_of 0 before)).rest)
 mark-items before (wire.Fails stream) = gone-items stream ServerFailed tt
 mark-items before (wire.WriteFails stream) = gone-items stream ServerFailed tt
-mark-items before (wire.Takes stream bytes) = unless-items stream _ (tt, tt)
+mark-items before (wire.Takes stream bytes accepts) = unless-items stream _ (tt, tt)
 mark-items before (wire.Joins listener stream) = tt
 mark-items before (wire.House HouseIn) = (tt, tt)
 mark-items before (wire.House (HouseSaid bytes)) = says-items HOUSE (drop (length (said (bytes_of HOUSE before))) (said (bytes_of HOUSE before ++ bytes))) (small-drop (length (said (bytes_of HOUSE before))) (said (bytes_of HOUSE before ++ bytes)) (parse-small (length (bytes_of HOUSE before ++ bytes)) InControl (bytes_of HOUSE before ++ bytes)))
@@ -155,7 +155,7 @@ mark-items before (wire.House (HouseAsked k id opening ask given)) = tt
 mark-items before (wire.House (HouseOrder order number)) = tt
 mark-items before (wire.Holds stream) = tt
 mark-items before (wire.Frees stream) = tt
-mark-items before (wire.Waits waiting want streams listening) = tt
+mark-items before (wire.Waits waiting want streams shown) = tt
 
 all-items : (marks : List Mark) → SmallItems (items marks)
 all-items [] = tt

@@ -4,7 +4,7 @@ use Rattle.std.specs.Prelude.{◌==◌, ◌&&◌, ◌||◌, not, filter, nat_lt}
 use Rattle.std.proofs.lemmas.Bool.Decides.{nat_tests}
 use Rattle.std.proofs.lemmas.List.{drop_all}
 use Rattle.ssh_grammar.specs.Messages.{Global}
-use Rattle.mux_history.specs.Channels.{held_of, is_held}
+use Rattle.mux_history.specs.Channels.{held_of, is_channel_held}
 use Rattle.mux_history.specs.Farewell.{has_open_matters}
 use Rattle.mux_history.specs.Kept.{AtEach, ForEach}
 use Rattle.mux_history.specs.Log.{entered, matters_of, open_matters}
@@ -54,8 +54,8 @@ live-matters rows [] ins = omega arith
 live-matters rows (k ∷ ks) ins = add-le (is_live (rows_of k rows)) (has_open_matters (rows_of k rows)) (counts is_live rows ks) (matters_of rows ks) opens (live-matters rows ks ins.1)
   where
     opens : is_live (rows_of k rows) ≡ true → has_open_matters (rows_of k rows) ≡ true
-    opens on = ap (λ b. (b && not (is_lost (rows_of k rows))) || (any_of is_held (held_of (rows_of k rows)) || nat_lt (length (replies (rows_of k rows))) (length (asks (rows_of k rows))))) ins.0
-        ∙ ap (λ b. b || (any_of is_held (held_of (rows_of k rows)) || nat_lt (length (replies (rows_of k rows))) (length (asks (rows_of k rows))))) on
+    opens on = ap (λ b. (b && not (is_lost (rows_of k rows))) || (any_of is_channel_held (held_of (rows_of k rows)) || nat_lt (length (replies (rows_of k rows))) (length (asks (rows_of k rows))))) ins.0
+        ∙ ap (λ b. b || (any_of is_channel_held (held_of (rows_of k rows)) || nat_lt (length (replies (rows_of k rows))) (length (asks (rows_of k rows))))) on
 
 -- ---- requests, client by client
 
@@ -124,7 +124,7 @@ not-less a b e = grind (arith, nat_tests)
 
 closed-none : (own : List Row) → has_open_matters own ≡ false → unreplied own ≡ []
 closed-none own closed = drop_all (length (replies own)) (asks own) (not-less (length (replies own)) (length (asks own))
-    (or-right (any_of is_held (held_of own)) (nat_lt (length (replies own)) (length (asks own))) (or-right (any_of is_admit own && not (is_lost own)) _ closed)))
+    (or-right (any_of is_channel_held (held_of own)) (nat_lt (length (replies own)) (length (asks own))) (or-right (any_of is_admit own && not (is_lost own)) _ closed)))
 
 sum-few : (g : ℕ → ℕ) (rows : List Row) (ks : List ℕ) → ((k : ℕ) → g k ≤ 64) → ((k : ℕ) → has_open_matters (rows_of k rows) ≡ false → g k ≡ 0) → sum_over g ks ≤ 64 * matters_of rows ks
 sum-few g rows [] few none = omega arith

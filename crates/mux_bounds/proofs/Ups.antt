@@ -7,7 +7,7 @@ use Rattle.ssh_fields.proofs.Fields.{length-with_u32}
 use Rattle.ssh_grammar.specs.Frames.{frame_payload}
 use Rattle.ssh_grammar.specs.Messages.{Cancel, Forward, Global, KeepAlive, OtherName}
 use Rattle.ssh_grammar.specs.Said.{BadFraming, Body, Payload}
-use Rattle.ssh_grammar.specs.SpellMessage.{not_permitted, open_failure, sender_at, too_many_channels, with_number, with_sender}
+use Rattle.ssh_grammar.specs.SpellMessage.{not_permitted, open_failure, sender_at, too_many_channels, payload_with_number, with_sender}
 use Rattle.ssh_grammar.specs.declared.fault.Bad.{Bad}
 use Rattle.ssh_grammar.specs.declared.numbers.TheConstants.{ADMINISTRATIVELY_PROHIBITED, RESOURCE_SHORTAGE}
 use Rattle.ssh_grammar.proofs.Renumbered.{sender_within}
@@ -35,7 +35,7 @@ use Rattle.mux_bounds.proofs.Weights.{bound-brief, cancel-weight, close-weight, 
 
 -- ---- what a client sends
 
-with-length : (p : List ℕ) (o : Option ℕ) (n : ℕ) → IfSome o (λ at. at + 4 ≤ length p) → length (with_number p o n) ≡ length p
+with-length : (p : List ℕ) (o : Option ℕ) (n : ℕ) → IfSome o (λ at. at + 4 ≤ length p) → length (payload_with_number p o n) ≡ length p
 with-length p None n fits = refl
 with-length p (Some at) n fits = length-with_u32 p at n fits
 

@@ -31,8 +31,8 @@ module _ (policy : Policy) (pid : ℕ) (picks : List ℕ) (given : List HouseRep
   room-after (mark ∷ before) follows waits = by_mark mark follows waits.0
     where
       by_mark : (m : Mark) → FollowsRead (m ∷ before) → WaitsAt setting before m → waiting_up setting (m ∷ before) < 4194304
-      by_mark (wire.Waits waiting want.Read streams accepts) follows right = not-less (waiting_up setting before) 4194304 (λ le. absurd (let bad = right.write_only.1 le in let h : want.Read ≡ want.WriteOnly = bad in cc))
-      by_mark (wire.Waits waiting want.WriteOnly streams accepts) follows right = absurd follows
+      by_mark (wire.Waits waiting want.Read streams shown) follows right = not-less (waiting_up setting before) 4194304 (λ le. absurd (let bad = right.write_only.1 le in let h : want.Read ≡ want.WriteOnly = bad in cc))
+      by_mark (wire.Waits waiting want.WriteOnly streams shown) follows right = absurd follows
       by_mark m follows right = absurd follows
 
   room-house : (mark : HouseMark) (before : List Mark) → LawfulHouse before mark → SpeaksInTime setting before (wire.House mark) → ReadsWithRoom setting before (wire.House mark)

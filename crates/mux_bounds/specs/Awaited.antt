@@ -3,7 +3,7 @@ use Rattle.std.specs.Prelude.{ℕ, ◌≡◌, List, [], false}
 use Rattle.mux_history.specs.Rows.{Row, is_ended}
 use Rattle.mux_history.specs.Kept.{AtEach}
 use Rattle.mux_history.specs.Laws.{OverRight}
-use Rattle.mux_isolation.specs.View.{view_of}
+use Rattle.mux_isolation.specs.LogView.{view_of}
 
 -- while the run goes on no reply of a client came before its request
 abbrev pub RepliesAwaited : List Row → Type 0

@@ -10,9 +10,9 @@ use Rattle.mux_client.specs.declared.stage.TalkStage.{TalkStage}
 use Rattle.mux_client.specs.declared.stage.TalkStage.TheVariants as stage
 use Rattle.mux_client.specs.declared.talked.Talked.{Talked}
 use Rattle.mux_client.specs.declared.talked.Talked.TheVariants as talked
-use Rattle.mux_client.specs.Client.{ClientState}
+use Rattle.mux_client.specs.Client.{TalkState}
 use Rattle.mux_client.specs.Counted.{AnsweredBy, CameTo, Counts, HasReceived, Waited, Well, WentUp}
-use Rattle.mux_client.specs.Talking.{BreaksOff, IsAnswerAt, IsDecided, IsOfSink, IsOfWire, talked_of}
+use Rattle.mux_client.specs.Talking.{BreaksOff, IsAnswerAt, IsTalkDecided, IsOfSink, IsOfTransport, talked_of}
 
 waited-none : (n : ℕ) → Waited 0 n n
 waited-none n = record { most = omega arith; least = omega arith; fits = λ h. h }
@@ -86,7 +86,7 @@ piece-came k c zero = up-if (k == 0) c.server_pieces (eq-eqb k 0 zero)
 pub end-came : (k : ℕ) (c : CallCounts) → k ≡ 0 → WentUp c.server_ends (calls_after_wait (turn.End k) c).server_ends
 end-came k c zero = up-if (k == 0) c.server_ends (eq-eqb k 0 zero)
 
-pub wire-answered : (answer : Talked) (a b : CallCounts) → IsOfWire answer → AnsweredBy answer a b
+pub wire-answered : (answer : Talked) (a b : CallCounts) → IsOfTransport answer → AnsweredBy answer a b
 wire-answered talked.ServerFailed a b h = tt
 wire-answered talked.OutOfMemory a b h = tt
 wire-answered talked.Done a b h = absurd h
@@ -109,7 +109,7 @@ pub came-read : {A : Type 0} (r : Result A Talked) (before now : TalkStage) (a b
 came-read (Ok x) before now a b h up = inr up
 came-read (Err answer) before now a b h up = sink-answered answer a b h up
 
-pub came-off : (s : ClientState) (r : Result (Unit {0}) Talked) (a b : CallCounts) → BreaksOff s r → WentUp a.server_ends b.server_ends → CameTo r s.stage s.stage a b
+pub came-off : (s : TalkState) (r : Result (Unit {0}) Talked) (a b : CallCounts) → BreaksOff s r → WentUp a.server_ends b.server_ends → CameTo r s.stage s.stage a b
 came-off s (Ok x) a b h up = inl refl
 came-off s (Err answer) a b h up = subst (λ (x : Talked). AnsweredBy x a b) (sym h.2) (inr up)
 
@@ -126,7 +126,7 @@ at-answered talked.ServerFailed at queue a b h heard = absurd h
 at-answered talked.Spent at queue a b h heard = absurd h
 at-answered talked.OutOfMemory at queue a b h heard = absurd h
 
-pub decided-answered : (s : ClientState) (r : Result (Unit {0}) Talked) (a b : CallCounts) → IsDecided s r → HasReceived stage.Greets s.stage a b → AnsweredBy (talked_of r) a b
+pub decided-answered : (s : TalkState) (r : Result (Unit {0}) Talked) (a b : CallCounts) → IsTalkDecided s r → HasReceived stage.Greets s.stage a b → AnsweredBy (talked_of r) a b
 decided-answered s (Ok x) a b h heard = tt
 decided-answered s (Err answer) a b h heard = at-answered answer s.stage s.queue a b h heard
 

@@ -2,12 +2,13 @@
 use Rattle.std.proofs.Common.{◌≡◌, ◌∙◌, refl, sym, ap, subst, Bool, true, false, ◌||◌, List, [], ◌∷◌, ◌++◌, Option, Some, None, append_assoc}
 use Rattle.std.specs.Option.{option_map}
 use Rattle.std.proofs.lemmas.List.{append-nil}
+use Rattle.std.proofs.lemmas.List.Elements.{All-push}
 use Rattle.std.proofs.lemmas.List.Folds.{list_any-append}
 use Rattle.std.proofs.lemmas.Grind.{flat_map-append}
 use Rattle.mux_outside.specs.Marks.{bytes_taken, taken_at}
 use Rattle.mux_outside.specs.declared.mark.Mark.{Mark}
 use Rattle.mux_client.specs.declared.asks.Asks.{Asks}
-use Rattle.mux_client.specs.Journal.{given_at, bytes_given, ends_at, has_ended, held_by, is_held_from, is_held, TookFront, WaitsRight, Throughout, WaitOpen, AtEach}
+use Rattle.mux_client.specs.Journal.{given_at, bytes_given, talk_ends_at, talk_has_ended, held_by, is_held_from, is_reply_held, TookFront, TalkWaitsRight, ThroughoutTalk, WaitOpen, AtEachMark, is_of_house}
 use Rattle.mux_client.specs.Talking.{IsJournal}
 
 -- ---- what the marks say
@@ -22,37 +23,38 @@ given-more marks m = flat_map-append given_at marks (m ∷ []) ∙ ap (λ b. byt
 pub taken-more : (marks : List Mark) (m : Mark) → bytes_taken 0 (marks ++ m ∷ []) ≡ bytes_taken 0 marks ++ taken_at 0 m
 taken-more marks m = flat_map-append (taken_at 0) marks (m ∷ []) ∙ ap (λ b. bytes_taken 0 marks ++ b) (append-nil (taken_at 0 m))
 
-pub ended-more : (marks : List Mark) (m : Mark) → has_ended (marks ++ m ∷ []) ≡ (has_ended marks || ends_at m)
-ended-more marks m = list_any-append ends_at marks (m ∷ []) ∙ ap (λ b. has_ended marks || b) (or-false (ends_at m))
+pub ended-more : (marks : List Mark) (m : Mark) → talk_has_ended (marks ++ m ∷ []) ≡ (talk_has_ended marks || talk_ends_at m)
+ended-more marks m = list_any-append talk_ends_at marks (m ∷ []) ∙ ap (λ b. talk_has_ended marks || b) (or-false (talk_ends_at m))
 
 held-from : (held : Bool) (marks : List Mark) (m : Mark) → is_held_from held (marks ++ m ∷ []) ≡ held_by (is_held_from held marks) m
 held-from held [] m = refl
 held-from held (mark ∷ marks) m = held-from (held_by held mark) marks m
 
-pub held-more : (marks : List Mark) (m : Mark) → is_held (marks ++ m ∷ []) ≡ held_by (is_held marks) m
+pub held-more : (marks : List Mark) (m : Mark) → is_reply_held (marks ++ m ∷ []) ≡ held_by (is_reply_held marks) m
 held-more marks m = held-from false marks m
 
 -- ---- what holds at each mark
 
-throughout-more : (asks : Asks) (before marks : List Mark) (m : Mark) → Throughout asks before marks → WaitsRight asks (before ++ marks) m → TookFront asks (before ++ (marks ++ m ∷ []))
-    → Throughout asks before (marks ++ m ∷ [])
-throughout-more asks before [] m t right front = (subst (λ l. WaitsRight asks l m) (append-nil before) right, front, tt)
+throughout-more : (asks : Asks) (before marks : List Mark) (m : Mark) → ThroughoutTalk asks before marks → TalkWaitsRight asks (before ++ marks) m → TookFront asks (before ++ (marks ++ m ∷ []))
+    → ThroughoutTalk asks before (marks ++ m ∷ [])
+throughout-more asks before [] m t right front = (subst (λ l. TalkWaitsRight asks l m) (append-nil before) right, front, tt)
 throughout-more asks before (x ∷ marks) m t right front = (
   t.0,
   t.1,
   throughout-more asks (before ++ x ∷ []) marks m t.2
-      (subst (λ l. WaitsRight asks l m) (sym (append_assoc before (x ∷ []) marks)) right)
+      (subst (λ l. TalkWaitsRight asks l m) (sym (append_assoc before (x ∷ []) marks)) right)
       (subst (TookFront asks) (sym (append_assoc before (x ∷ []) (marks ++ m ∷ []))) front),
 )
 
-each-more : (P : List Mark → Mark → Type 0) (before marks : List Mark) (m : Mark) → AtEach P before marks → P (before ++ marks) m → AtEach P before (marks ++ m ∷ [])
+each-more : (P : List Mark → Mark → Type 0) (before marks : List Mark) (m : Mark) → AtEachMark P before marks → P (before ++ marks) m → AtEachMark P before (marks ++ m ∷ [])
 each-more P before [] m t p = (subst (λ l. P l m) (append-nil before) p, tt)
 each-more P before (x ∷ marks) m t p = (t.0, each-more P (before ++ x ∷ []) marks m t.1 (subst (λ l. P l m) (sym (append_assoc before (x ∷ []) marks)) p))
 
-pub journal-more : (asks : Asks) (marks : List Mark) (m : Mark) → IsJournal asks marks → WaitsRight asks marks m → WaitOpen asks marks m → TookFront asks (marks ++ m ∷ []) → IsJournal asks (marks ++ m ∷ [])
-journal-more asks marks m j right opens front = record {
+pub journal-more : (asks : Asks) (marks : List Mark) (m : Mark) → IsJournal asks marks → TalkWaitsRight asks marks m → WaitOpen asks marks m → is_of_house m ≡ false → TookFront asks (marks ++ m ∷ []) → IsJournal asks (marks ++ m ∷ [])
+journal-more asks marks m j right opens alone front = record {
   throughout = throughout-more asks [] marks m j.throughout right front;
   opens = each-more (WaitOpen asks) [] marks m j.opens opens;
+  no_house = All-push (λ (mark : Mark). is_of_house mark ≡ false) marks m j.no_house alone;
 }
 
 -- ---- what is recorded

@@ -15,7 +15,7 @@ use Rattle.mux_client.specs.Replies.{ReplyVerdict, Grants, Refuses, Breaks, verd
 use Rattle.mux_client.specs.Verdicts.{text_of_line}
 use Rattle.mux_client.specs.Talk.{BrokenAt, Talk, stops, sending, showing, behind, broken_by, tail_outcome, on_reply, on_hello, talk_on}
 use Rattle.mux_client.proofs.Talks.{cut-fault}
-use Rattle.mux_client.specs.Client.{ClientState, place_of, after_cut, stage_due, asked, replied, later_at, later_by, later, HasRequest, Stands, IsSettledAt, ReadsNextTo}
+use Rattle.mux_client.specs.Client.{TalkState, place_of, after_cut, stage_due, asked, replied, later_at, later_by, later, HasRequest, TalkRepresents, IsSettledAt, ReadsNextTo}
 
 -- ---- from one client to the next
 
@@ -28,9 +28,9 @@ regroup a b c d t =
     stop s o = record { sent = s; out = o; outcome = t.outcome }
 
 -- where what is still to come for the old client begins with what the new one has added
-pub stands-on : (asks : Asks) (bytes taken shown added line : List ℕ) (old new : ClientState) → new.queue ≡ old.queue ++ added
+pub stands-on : (asks : Asks) (bytes taken shown added line : List ℕ) (old new : TalkState) → new.queue ≡ old.queue ++ added
     → ((more : List ℕ) (ended : Bool) → later old asks more ended ≡ sending added (showing line (later new asks more ended)))
-    → HasRequest asks new.stage → Stands asks bytes taken shown old → Stands asks bytes taken (shown ++ line) new
+    → HasRequest asks new.stage → TalkRepresents asks bytes taken shown old → TalkRepresents asks bytes taken (shown ++ line) new
 stands-on asks bytes taken shown added line old new queue step request h = record {
   goes = λ more ended.
       h.goes more ended ∙ ap (λ t. sending (taken ++ old.queue) (showing shown t)) (step more ended)
@@ -51,24 +51,24 @@ shorter [] content behind e = absurd (let z : More ≡ Frame content behind = e 
 shorter (x ∷ rest) content behind e = let s : length behind ≤ length (x ∷ rest) - 4 = subst (IsShorter (length (x ∷ rest) - 4)) e (first-shorter Control (x ∷ rest)) in omega arith
 
 -- a frame was cut: its body is the current frame now
-pub record IsCut (old new : ClientState) (body : List ℕ) : Type 0 where
+pub record IsCut (old new : TalkState) (body : List ℕ) : Type 0 where
   pub front : first_frame Control old.framer.rest ≡ Frame body new.framer.rest
   pub queue : new.queue ≡ old.queue
   pub stage : new.stage ≡ old.stage
 
-pub cut-frame : (old new : ClientState) (at : ℕ) (body : List ℕ) → new ≡ after_cut (first_frame Control old.framer.rest) at old → new.framer.current ≡ Some body → IsCut old new body
+pub cut-frame : (old new : TalkState) (at : ℕ) (body : List ℕ) → new ≡ after_cut (first_frame Control old.framer.rest) at old → new.framer.current ≡ Some body → IsCut old new body
 cut-frame old new at body e current = by_front (first_frame Control old.framer.rest) refl e
   where
     by_front : (f : Front) → first_frame Control old.framer.rest ≡ f → new ≡ after_cut f at old → IsCut old new body
     by_front (Frame content rest) is e =
-        let same : content ≡ body = let z : Some content ≡ Some body = ap (λ (s : ClientState). s.framer.current) (sym e) ∙ current in cc in
+        let same : content ≡ body = let z : Some content ≡ Some body = ap (λ (s : TalkState). s.framer.current) (sym e) ∙ current in cc in
         record {
-          front = is ∙ ap (λ b. Frame b rest) same ∙ ap (λ (s : ClientState). Frame body s.framer.rest) (sym e);
-          queue = ap (λ (s : ClientState). s.queue) e;
-          stage = ap (λ (s : ClientState). s.stage) e;
+          front = is ∙ ap (λ b. Frame b rest) same ∙ ap (λ (s : TalkState). Frame body s.framer.rest) (sym e);
+          queue = ap (λ (s : TalkState). s.queue) e;
+          stage = ap (λ (s : TalkState). s.stage) e;
         }
-    by_front More is e = absurd (let z : None ≡ Some body = ap (λ (s : ClientState). s.framer.current) (sym e) ∙ current in cc)
-    by_front (Faulty f) is e = absurd (let z : None ≡ Some body = ap (λ (s : ClientState). s.framer.current) (sym e) ∙ current in cc)
+    by_front More is e = absurd (let z : None ≡ Some body = ap (λ (s : TalkState). s.framer.current) (sym e) ∙ current in cc)
+    by_front (Faulty f) is e = absurd (let z : None ≡ Some body = ap (λ (s : TalkState). s.framer.current) (sym e) ∙ current in cc)
 
 -- ---- requests in order
 
@@ -135,10 +135,10 @@ no-line : {P : Type 0} → IsSome {T = OutLine} None → P
 no-line h = absurd (let z : false ≡ true = h in cc)
 
 -- no frame was cut
-pub not-cut : (asks : Asks) (old new : ClientState) (at : ℕ) → place_of old.stage ≡ Some at → new ≡ after_cut (first_frame Control old.framer.rest) at old
+pub not-cut : (asks : Asks) (old new : TalkState) (at : ℕ) → place_of old.stage ≡ Some at → new ≡ after_cut (first_frame Control old.framer.rest) at old
     → (IsSome new.framer.current → ⊥) → ReadsNextTo asks old new None
 not-cut asks old new at place e none = subst (λ s. ReadsNextTo asks old s None) (sym e)
-    (by_front (first_frame Control old.framer.rest) refl (subst (λ (s : ClientState). IsSome s.framer.current → ⊥) e none))
+    (by_front (first_frame Control old.framer.rest) refl (subst (λ (s : TalkState). IsSome s.framer.current → ⊥) e none))
   where
     by_front : (f : Front) → first_frame Control old.framer.rest ≡ f → (IsSome (after_cut f at old).framer.current → ⊥) → ReadsNextTo asks old (after_cut f at old) None
     by_front (Frame content rest) is none = absurd (none refl)
@@ -157,7 +157,7 @@ not-cut asks old new at place e none = subst (λ s. ReadsNextTo asks old s None)
     }
 
 -- the same, as the code has it
-pub none-cut : (asks : Asks) (old new : ClientState) (at : ℕ) (b : Bool) → place_of old.stage ≡ Some at → new ≡ after_cut (first_frame Control old.framer.rest) at old
+pub none-cut : (asks : Asks) (old new : TalkState) (at : ℕ) (b : Bool) → place_of old.stage ≡ Some at → new ≡ after_cut (first_frame Control old.framer.rest) at old
     → IsTrue b ↔ IsSome new.framer.current → b ≡ false → ReadsNextTo asks old new None
 none-cut asks old new at true place e frame empty = absurd (let z : true ≡ false = empty in cc)
 none-cut asks old new at false place e frame empty = not-cut asks old new at place e (λ some. let z : false ≡ true = frame.1 some in cc)
@@ -165,14 +165,14 @@ none-cut asks old new at false place e frame empty = not-cut asks old new at pla
 -- ---- a frame was cut
 
 -- and the talk is over with it
-pub record Stops (asks : Asks) (old : ClientState) (body : List ℕ) (stage : TalkStage) : Type 0 where
+pub record TalkStops (asks : Asks) (old : TalkState) (body : List ℕ) (stage : TalkStage) : Type 0 where
   pub over : (bodies : List (List ℕ)) (broken : Bool) → HasRequest asks old.stage → later_at old.stage (requests_of asks) (body ∷ bodies) broken ≡ later_at stage (requests_of asks) [] broken
   pub stays : (bodies : List (List ℕ)) (broken : Bool) → later_at stage (requests_of asks) bodies broken ≡ later_at stage (requests_of asks) [] broken
   pub request : HasRequest asks stage
   pub settled : (rest : List ℕ) → IsSettledAt stage rest
   pub ends : place_of stage ≡ None
 
-pub cut-stops : (asks : Asks) (old new : ClientState) (body : List ℕ) (stage : TalkStage) → IsCut old new body → Stops asks old body stage → ReadsNextTo asks old (record new { stage = stage }) None
+pub cut-stops : (asks : Asks) (old new : TalkState) (body : List ℕ) (stage : TalkStage) → IsCut old new body → TalkStops asks old body stage → ReadsNextTo asks old (record new { stage = stage }) None
 cut-stops asks old new body stage k s = record {
   stands = λ bytes taken shown h. stands-on asks bytes taken shown [] [] old (record new { stage = stage }) (k.queue ∙ sym (append-nil old.queue))
       (λ more ended. let c = cut Control (new.framer.rest ++ more) in
@@ -184,7 +184,7 @@ cut-stops asks old new body stage k s = record {
 }
 
 -- no hello
-pub bad-hello : (asks : Asks) (old : ClientState) (body : List ℕ) → old.stage ≡ Greets → is_hello body ≡ false → Stops asks old body (Broken 0)
+pub bad-hello : (asks : Asks) (old : TalkState) (body : List ℕ) → old.stage ≡ Greets → is_hello body ≡ false → TalkStops asks old body (Broken 0)
 bad-hello asks old body greets other = record {
   over = λ bodies broken h. ap (λ g. later_at g (requests_of asks) (body ∷ bodies) broken) greets ∙ ap (λ b. on_hello b (talk_on (requests_of asks) 0 (behind 0 body) bodies broken)) other;
   stays = λ bodies broken. refl;
@@ -209,7 +209,7 @@ reply-at asks stage id at body bodies broken v is h means =
     let r : HasRequest asks (Asked id at) = subst (HasRequest asks) is h in
     ap (λ g. later_at g (requests_of asks) (body ∷ bodies) broken) is ∙ reply-is asks id at body bodies broken r.0 v r.1 (means r.0 r.1)
 
-pub refuses : (asks : Asks) (old : ClientState) (id at : ℕ) (body : List ℕ) → old.stage ≡ Asked id at → MeansTo asks id body Refuses → Stops asks old body (Refused id)
+pub refuses : (asks : Asks) (old : TalkState) (id at : ℕ) (body : List ℕ) → old.stage ≡ Asked id at → MeansTo asks id body Refuses → TalkStops asks old body (Refused id)
 refuses asks old id at body is means = record {
   over = λ bodies broken h. reply-at asks old.stage id at body bodies broken Refuses is h means;
   stays = λ bodies broken. refl;
@@ -218,7 +218,7 @@ refuses asks old id at body is means = record {
   ends = refl;
 }
 
-pub breaks : (asks : Asks) (old : ClientState) (id at : ℕ) (body : List ℕ) → old.stage ≡ Asked id at → MeansTo asks id body Breaks → Stops asks old body (Broken at)
+pub breaks : (asks : Asks) (old : TalkState) (id at : ℕ) (body : List ℕ) → old.stage ≡ Asked id at → MeansTo asks id body Breaks → TalkStops asks old body (Broken at)
 breaks asks old id at body is means = record {
   over = λ bodies broken h. reply-at asks old.stage id at body bodies broken Breaks is h means;
   stays = λ bodies broken. refl;
@@ -230,12 +230,12 @@ breaks asks old id at body is means = record {
 -- ---- the next request is due
 
 -- where the talk goes on with it, after this line
-pub record Goes (asks : Asks) (old : ClientState) (body : List ℕ) (id at : ℕ) (line : List ℕ) : Type 0 where
+pub record Goes (asks : Asks) (old : TalkState) (body : List ℕ) (id at : ℕ) (line : List ℕ) : Type 0 where
   pub on : (bodies : List (List ℕ)) (broken : Bool) → HasRequest asks old.stage
       → later_at old.stage (requests_of asks) (body ∷ bodies) broken ≡ showing line (talk_on (drop id (requests_of asks)) id at bodies broken)
   pub awaits : place_of old.stage ≢ None
 
-pub cut-goes : (asks : Asks) (old cutoff new : ClientState) (body : List ℕ) (id at : ℕ) (line : OutLine) → IsCut old cutoff body → Goes asks old body id at (text_of_line line)
+pub cut-goes : (asks : Asks) (old cutoff new : TalkState) (body : List ℕ) (id at : ℕ) (line : OutLine) → IsCut old cutoff body → Goes asks old body id at (text_of_line line)
     → new ≡ asked (request_at asks id) id at cutoff → ReadsNextTo asks old new (Some line)
 cut-goes asks old cutoff new body id at line k g e = subst (λ s. ReadsNextTo asks old s (Some line)) (sym e) (record {
   stands = λ bytes taken shown h. stands-on asks bytes taken shown (frame_due id (request_at asks id)) (text_of_line line) old (asked (request_at asks id) id at cutoff)
@@ -250,7 +250,7 @@ cut-goes asks old cutoff new body id at line k g e = subst (λ s. ReadsNextTo as
   over = λ z. absurd (g.awaits z);
 })
 
-pub hello-goes : (asks : Asks) (old : ClientState) (body : List ℕ) (at : ℕ) → old.stage ≡ Greets → is_hello body ≡ true → at ≡ behind 0 body → Goes asks old body 0 at (text_of_line Nothing)
+pub hello-goes : (asks : Asks) (old : TalkState) (body : List ℕ) (at : ℕ) → old.stage ≡ Greets → is_hello body ≡ true → at ≡ behind 0 body → Goes asks old body 0 at (text_of_line Nothing)
 hello-goes asks old body at greets hello place = record {
   on = λ bodies broken h. ap (λ g. later_at g (requests_of asks) (body ∷ bodies) broken) greets
       ∙ ap (λ b. on_hello b (talk_on (requests_of asks) 0 (behind 0 body) bodies broken)) hello
@@ -258,7 +258,7 @@ hello-goes asks old body at greets hello place = record {
   awaits = λ z. let w : Some 0 ≡ None = sym (ap place_of greets) ∙ z in cc;
 }
 
-pub reply-goes : (asks : Asks) (old : ClientState) (body : List ℕ) (id next at behind_it : ℕ) (line : OutLine) → old.stage ≡ Asked id at → MeansTo asks id body (Grants (text_of_line line))
+pub reply-goes : (asks : Asks) (old : TalkState) (body : List ℕ) (id next at behind_it : ℕ) (line : OutLine) → old.stage ≡ Asked id at → MeansTo asks id body (Grants (text_of_line line))
     → next ≡ id + 1 → behind_it ≡ behind at body → Goes asks old body next behind_it (text_of_line line)
 reply-goes asks old body id next at behind_it line is means one place = record {
   on = λ bodies broken h. reply-at asks old.stage id at body bodies broken (Grants (text_of_line line)) is h means

@@ -6,7 +6,7 @@ use Rattle.mux_outside.specs.declared.mark.Mark.{Mark}
 use Rattle.mux_client.specs.declared.asks.Asks.{Asks}
 use Rattle.mux_client.specs.declared.talked.Talked.{Talked}
 use Rattle.mux_client.specs.declared.talked.Talked.TheVariants as talked
-use Rattle.mux_client.specs.Client.{ClientState}
+use Rattle.mux_client.specs.Client.{TalkState}
 use Rattle.mux_client.specs.Talking.{Talking, IsTalk, IsCutLine, ShowsOn, ShowsLast}
 use Rattle.mux_client.proofs.TalkSteps.{talk-faulted, talk-starved}
 
@@ -81,7 +81,7 @@ last-here f t = record { more = f.more; due = f.more; put = f.put; quiet = f.qui
 some-more : (shown due : List ℕ) → due ≢ [] → shown ++ due ≢ []
 some-more shown due some e = some (append-empty-right shown due e)
 
-cut-line : {asks : Asks} {start recorded : Option (List Mark)} {held : List ℕ} {s : ClientState} (shown : List ℕ) (answer : Talked) (line more due : List ℕ) → Talking asks start recorded held (shown ++ line) s → IsCutLine answer line more due
+cut-line : {asks : Asks} {start recorded : Option (List Mark)} {held : List ℕ} {s : TalkState} (shown : List ℕ) (answer : Talked) (line more due : List ℕ) → Talking asks start recorded held (shown ++ line) s → IsCutLine answer line more due
     → IsTalk asks answer start recorded (shown ++ more) (shown ++ due)
 cut-line {asks} {start} {recorded} {held} {s} shown talked.WriteFault line more due v k =
     subst (λ d. IsTalk asks talked.WriteFault start recorded (shown ++ more) (shown ++ d)) (sym k.0)
@@ -96,11 +96,11 @@ cut-line shown (talked.BadMaster at) line more due v k = absurd k
 cut-line shown talked.ServerFailed line more due v k = absurd k
 cut-line shown talked.Spent line more due v k = absurd k
 
-pub cut-off : {V : Type 0} {a b : Option (List ℕ)} {x y : V} {asks : Asks} {start recorded : Option (List Mark)} {held : List ℕ} {s : ClientState} (shown : List ℕ) (answer : Talked) (line : List ℕ) → Talking asks start recorded held (shown ++ line) s
+pub cut-off : {V : Type 0} {a b : Option (List ℕ)} {x y : V} {asks : Asks} {start recorded : Option (List Mark)} {held : List ℕ} {s : TalkState} (shown : List ℕ) (answer : Talked) (line : List ℕ) → Talking asks start recorded held (shown ++ line) s
     → ShowsLast a b x y (IsCutLine answer line) → ShowsLast a b x y (λ more due. IsTalk asks answer start recorded (shown ++ more) (shown ++ due))
 cut-off shown answer line v k = record { more = k.more; due = k.due; put = k.put; quiet = k.quiet; holds = cut-line shown answer line k.more k.due v k.holds }
 
-pub shown-line : {V : Type 0} {a b : Option (List ℕ)} {x y : V} {asks : Asks} {start recorded : Option (List Mark)} {held : List ℕ} {s : ClientState} (shown line : List ℕ) → Talking asks start recorded held (shown ++ line) s
+pub shown-line : {V : Type 0} {a b : Option (List ℕ)} {x y : V} {asks : Asks} {start recorded : Option (List Mark)} {held : List ℕ} {s : TalkState} (shown line : List ℕ) → Talking asks start recorded held (shown ++ line) s
     → ShowsOn a b x y (λ more. more ≡ line) → ShowsOn a b x y (λ more. Talking asks start recorded held (shown ++ more) s)
 shown-line {asks = asks} {start} {recorded} {held} {s} shown line v k = record { more = k.more; put = k.put; quiet = k.quiet; holds = subst (λ m. Talking asks start recorded held (shown ++ m) s) (sym k.holds) v }
 

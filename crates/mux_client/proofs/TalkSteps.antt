@@ -9,6 +9,7 @@ use Rattle.ssh_grammar.proofs.Cuts.{cut-at}
 use Rattle.mux_outside.specs.Marks.{bytes_taken, taken_at}
 use Rattle.mux_outside.specs.declared.mark.Mark.{Mark}
 use Rattle.mux_outside.specs.declared.mark.Mark.TheVariants.{Waits, Accepts, Gets, Ends, Frees, Fails, Takes, Holds, WriteFails, Joins, House}
+use Rattle.mux_outside.specs.declared.shown.Shown.{Shown}
 use Rattle.mux_outside.specs.declared.turn.Want.TheVariants.{Read}
 use Rattle.mux_client.specs.declared.asks.Asks.{Asks}
 use Rattle.mux_client.specs.declared.stage.TalkStage.{TalkStage}
@@ -18,10 +19,10 @@ use Rattle.mux_client.specs.declared.talked.Talked.TheVariants as talked
 use Rattle.mux_client.specs.declared.verdict.OutLine.{OutLine}
 use Rattle.mux_client.specs.Verdicts.{text_of_some}
 use Rattle.mux_client.specs.Requests.{requests_of}
-use Rattle.mux_client.specs.Talk.{Outcome, BrokenAt, Talk, talk, stops, sending, showing, tail_outcome}
-use Rattle.mux_client.specs.Journal.{given_at, bytes_given, ends_at, has_ended, held_by, is_held, held_streams, talk_of, TookFront, TookAll, WaitsRight, WaitOpen, Answers, Shows}
-use Rattle.mux_client.specs.Client.{ClientState, heard, without_sent, place_of, later_by, later, HasRequest, Stands, IsSettled, IsSettledAt, outcome_of, ReadsNextTo}
-use Rattle.mux_client.specs.Talking.{IsGoing, IsAnswerAt, IsOffered, IsJournal, Talking, IsTalk, TalksOn}
+use Rattle.mux_client.specs.Talk.{TalkOutcome, BrokenAt, Talk, talk, stops, sending, showing, tail_outcome}
+use Rattle.mux_client.specs.Journal.{given_at, bytes_given, talk_ends_at, talk_has_ended, held_by, is_reply_held, held_streams, talk_of, TookFront, TookAll, TalkWaitsRight, WaitOpen, Answers, TalkShows, is_of_house}
+use Rattle.mux_client.specs.Client.{TalkState, heard, without_sent, place_of, later_by, later, HasRequest, TalkRepresents, IsTalkSettled, IsSettledAt, talk_outcome_of, ReadsNextTo}
+use Rattle.mux_client.specs.Talking.{IsGoing, IsAnswerAt, IsTalkOffered, IsJournal, Talking, IsTalk, TalksOn}
 use Rattle.mux_client.proofs.JournalGrows.{given-more, taken-more, ended-more, held-more, journal-more, recorded-one}
 use Rattle.mux_client.proofs.ReadFrames.{replied-none}
 
@@ -37,7 +38,7 @@ handed-on (Err e) answer On Over h o = subst Over (sym h) o
 
 -- ---- the talk that a client represents
 
-pub talk-now : {asks : Asks} {bytes taken shown : List ℕ} {s : ClientState} (h : Stands asks bytes taken shown s) (ended : Bool)
+pub talk-now : {asks : Asks} {bytes taken shown : List ℕ} {s : TalkState} (h : TalkRepresents asks bytes taken shown s) (ended : Bool)
     → talk asks bytes ended ≡ sending (taken ++ s.queue) (showing shown (later s asks [] ended))
 talk-now {asks} {bytes} h ended = ap (λ b. talk asks b ended) (sym (append-nil bytes)) ∙ h.goes [] ended
 
@@ -46,14 +47,14 @@ nothing-cut rest e = ap (cut Control) (append-nil rest) ∙ cut-at Control rest 
 
 -- nothing is to come once all frames were read
 later-settled : (asks : Asks) (stage : TalkStage) (rest : List ℕ) (ended : Bool) → IsSettledAt stage rest → HasRequest asks stage → (ended ≡ true → place_of stage ≡ None)
-    → later_by stage (requests_of asks) (cut Control (rest ++ [])) ended ≡ stops (outcome_of stage)
+    → later_by stage (requests_of asks) (cut Control (rest ++ [])) ended ≡ stops (talk_outcome_of stage)
 later-settled asks stage rest ended settled request over = by_stage stage settled request over
   where
     by_end : (ended : Bool) (at : ℕ) → (ended ≡ true → Some at ≡ None) → tail_outcome ended at ≡ None
     by_end true at over = absurd (let z : Some at ≡ None = over refl in cc)
     by_end false at over = refl
 
-    by_stage : (stage : TalkStage) → IsSettledAt stage rest → HasRequest asks stage → (ended ≡ true → place_of stage ≡ None) → later_by stage (requests_of asks) (cut Control (rest ++ [])) ended ≡ stops (outcome_of stage)
+    by_stage : (stage : TalkStage) → IsSettledAt stage rest → HasRequest asks stage → (ended ≡ true → place_of stage ≡ None) → later_by stage (requests_of asks) (cut Control (rest ++ [])) ended ≡ stops (talk_outcome_of stage)
     by_stage Greets e h over = ap (λ c. later_by Greets (requests_of asks) c ended) (nothing-cut rest e) ∙ ap stops (by_end ended 0 over)
     by_stage (Asked id at) e h over = ap (λ c. later_by (Asked id at) (requests_of asks) c ended) (nothing-cut rest e) ∙ replied-none asks id at ended h.0 h.1 ∙ ap stops (by_end ended at over)
     by_stage Granted e h over = refl
@@ -61,28 +62,28 @@ later-settled asks stage rest ended settled request over = by_stage stage settle
     by_stage (Broken at) e h over = refl
 
 -- what was sent, what was shown and the outcome then
-abbrev pub talk_at : List ℕ → List ℕ → Option Outcome → Talk
+abbrev pub talk_at : List ℕ → List ℕ → Option TalkOutcome → Talk
 talk_at sent out outcome = record { sent = sent; out = out; outcome = outcome }
 
-stopped : (sent out : List ℕ) (outcome : Option Outcome) → sending sent (showing out (stops outcome)) ≡ talk_at sent out outcome
+stopped : (sent out : List ℕ) (outcome : Option TalkOutcome) → sending sent (showing out (stops outcome)) ≡ talk_at sent out outcome
 stopped sent out outcome = ap (λ s. talk_at s (out ++ []) outcome) (append-nil sent) ∙ ap (λ o. talk_at sent o outcome) (append-nil out)
 
-pub settled-talk : {asks : Asks} {bytes taken shown : List ℕ} {s : ClientState} (h : Stands asks bytes taken shown s) (ended : Bool) → IsSettled s → (ended ≡ true → place_of s.stage ≡ None)
-    → talk asks bytes ended ≡ talk_at (taken ++ s.queue) shown (outcome_of s.stage)
+pub settled-talk : {asks : Asks} {bytes taken shown : List ℕ} {s : TalkState} (h : TalkRepresents asks bytes taken shown s) (ended : Bool) → IsTalkSettled s → (ended ≡ true → place_of s.stage ≡ None)
+    → talk asks bytes ended ≡ talk_at (taken ++ s.queue) shown (talk_outcome_of s.stage)
 settled-talk {asks} {bytes} {taken} {shown} {s} h ended settled over =
     talk-now h ended ∙ ap (λ t. sending (taken ++ s.queue) (showing shown t)) (later-settled asks s.stage s.framer.rest ended settled h.request over)
-    ∙ stopped (taken ++ s.queue) shown (outcome_of s.stage)
+    ∙ stopped (taken ++ s.queue) shown (talk_outcome_of s.stage)
 
 -- ---- the calls of a client
 
-pub stands-receives : {asks : Asks} {bytes taken shown : List ℕ} {s : ClientState} (piece : List ℕ) → Stands asks bytes taken shown s → Stands asks (bytes ++ piece) taken shown (heard piece s)
+pub stands-receives : {asks : Asks} {bytes taken shown : List ℕ} {s : TalkState} (piece : List ℕ) → TalkRepresents asks bytes taken shown s → TalkRepresents asks (bytes ++ piece) taken shown (heard piece s)
 stands-receives {asks} {bytes} {taken} {shown} {s} piece h = record {
   goes = λ more ended. ap (λ b. talk asks b ended) (append_assoc bytes piece more) ∙ h.goes (piece ++ more) ended
       ∙ ap (λ r. sending (taken ++ s.queue) (showing shown (later_by s.stage (requests_of asks) (cut Control r) ended))) (sym (append_assoc s.framer.rest piece more));
   request = h.request;
 }
 
-pub stands-took : {asks : Asks} {bytes taken shown : List ℕ} {s : ClientState} (n : ℕ) → Stands asks bytes taken shown s → Stands asks bytes (taken ++ take n s.queue) shown (without_sent n s)
+pub stands-took : {asks : Asks} {bytes taken shown : List ℕ} {s : TalkState} (n : ℕ) → TalkRepresents asks bytes taken shown s → TalkRepresents asks bytes (taken ++ take n s.queue) shown (without_sent n s)
 stands-took {asks} {bytes} {taken} {shown} {s} n h = record {
   goes = λ more ended. h.goes more ended
       ∙ ap (λ q. sending q (showing shown (later s asks more ended)))
@@ -93,29 +94,30 @@ stands-took {asks} {bytes} {taken} {shown} {s} n h = record {
 -- ---- one mark more
 
 -- what holds of it
-pub record NextMark (asks : Asks) (marks : List Mark) (shown : List ℕ) (s : ClientState) (m : Mark) : Type 0 where
-  pub right : WaitsRight asks marks m
+pub record NextMark (asks : Asks) (marks : List Mark) (shown : List ℕ) (s : TalkState) (m : Mark) : Type 0 where
+  pub right : TalkWaitsRight asks marks m
   pub opens : WaitOpen asks marks m
-  pub stands : Stands asks (bytes_given marks ++ given_at m) (bytes_taken 0 marks ++ taken_at 0 m) shown s
+  pub no_house : is_of_house m ≡ false
+  pub stands : TalkRepresents asks (bytes_given marks ++ given_at m) (bytes_taken 0 marks ++ taken_at 0 m) shown s
 
-stands-there : {asks : Asks} {marks : List Mark} {shown : List ℕ} {s : ClientState} {m : Mark} → NextMark asks marks shown s m
-    → Stands asks (bytes_given (marks ++ m ∷ [])) (bytes_taken 0 (marks ++ m ∷ [])) shown s
+stands-there : {asks : Asks} {marks : List Mark} {shown : List ℕ} {s : TalkState} {m : Mark} → NextMark asks marks shown s m
+    → TalkRepresents asks (bytes_given (marks ++ m ∷ [])) (bytes_taken 0 (marks ++ m ∷ [])) shown s
 stands-there {asks} {marks} {shown} {s} {m} n =
-    subst (λ b. Stands asks b (bytes_taken 0 (marks ++ m ∷ [])) shown s) (sym (given-more marks m))
-    (subst (λ t. Stands asks (bytes_given marks ++ given_at m) t shown s) (sym (taken-more marks m)) n.stands)
+    subst (λ b. TalkRepresents asks b (bytes_taken 0 (marks ++ m ∷ [])) shown s) (sym (given-more marks m))
+    (subst (λ t. TalkRepresents asks (bytes_given marks ++ given_at m) t shown s) (sym (taken-more marks m)) n.stands)
 
-front-of : {asks : Asks} {marks : List Mark} {shown : List ℕ} {s : ClientState} → Stands asks (bytes_given marks) (bytes_taken 0 marks) shown s → TookFront asks marks
-front-of {asks} {marks} {shown} {s} h = let l = later s asks [] (has_ended marks) in record {
+front-of : {asks : Asks} {marks : List Mark} {shown : List ℕ} {s : TalkState} → TalkRepresents asks (bytes_given marks) (bytes_taken 0 marks) shown s → TookFront asks marks
+front-of {asks} {marks} {shown} {s} h = let l = later s asks [] (talk_has_ended marks) in record {
   rest = s.queue ++ l.sent;
-  whole = ap (λ (t : Talk). t.sent) (talk-now h (has_ended marks)) ∙ append_assoc (bytes_taken 0 marks) s.queue l.sent;
+  whole = ap (λ (t : Talk). t.sent) (talk-now h (talk_has_ended marks)) ∙ append_assoc (bytes_taken 0 marks) s.queue l.sent;
 }
 
-journal-next : {asks : Asks} {marks : List Mark} {shown : List ℕ} {s : ClientState} {m : Mark} → IsJournal asks marks → NextMark asks marks shown s m → IsJournal asks (marks ++ m ∷ [])
-journal-next {asks} {marks} {shown} {s} {m} j n = journal-more asks marks m j n.right n.opens (front-of (stands-there n))
+journal-next : {asks : Asks} {marks : List Mark} {shown : List ℕ} {s : TalkState} {m : Mark} → IsJournal asks marks → NextMark asks marks shown s m → IsJournal asks (marks ++ m ∷ [])
+journal-next {asks} {marks} {shown} {s} {m} j n = journal-more asks marks m j n.right n.opens n.no_house (front-of (stands-there n))
 
 -- the talk goes on with it
-pub talking-next : {asks : Asks} {start recorded : Option (List Mark)} {held shown : List ℕ} {s : ClientState} (v : Talking asks start recorded held shown s) (held' shown' : List ℕ) (s' : ClientState) (m : Mark)
-    → NextMark asks v.marks shown' s' m → ((has_ended v.marks || ends_at m) ≡ true → place_of s'.stage ≡ None) → held' ≡ held_streams (held_by (is_held v.marks) m)
+pub talking-next : {asks : Asks} {start recorded : Option (List Mark)} {held shown : List ℕ} {s : TalkState} (v : Talking asks start recorded held shown s) (held' shown' : List ℕ) (s' : TalkState) (m : Mark)
+    → NextMark asks v.marks shown' s' m → ((talk_has_ended v.marks || talk_ends_at m) ≡ true → place_of s'.stage ≡ None) → held' ≡ held_streams (held_by (is_reply_held v.marks) m)
     → Talking asks start (option_map (λ l. l ++ m ∷ []) recorded) held' shown' s'
 talking-next {asks} {start} {recorded} v held' shown' s' m n ended held = record {
   marks = v.marks ++ m ∷ [];
@@ -128,35 +130,40 @@ talking-next {asks} {start} {recorded} v held' shown' s' m n ended held = record
 
 -- a mark that is no wait and of which the client receives nothing
 abbrev IsOther : Mark → Type 0
-IsOther (Waits waiting want streams listens) = ⊥
+IsOther (Waits waiting want streams shown) = ⊥
 IsOther (Accepts k) = Unit {0}
 IsOther (Gets k bytes) = Unit {0}
 IsOther (Ends k) = Unit {0}
 IsOther (Frees k) = Unit {0}
 IsOther (Fails k) = Unit {0}
-IsOther (Takes k bytes) = Unit {0}
+IsOther (Takes k bytes accepts) = Unit {0}
 IsOther (Holds k) = Unit {0}
 IsOther (WriteFails k) = Unit {0}
 IsOther (Joins l t) = Unit {0}
-IsOther (House mark) = Unit {0}
+IsOther (House mark) = ⊥
 
-right-other : (asks : Asks) (marks : List Mark) (m : Mark) → IsOther m → WaitsRight asks marks m
-right-other asks marks (Waits waiting want streams listens) o = absurd o
+right-other : (asks : Asks) (marks : List Mark) (m : Mark) → IsOther m → TalkWaitsRight asks marks m
+right-other asks marks (Waits waiting want streams shown) o = absurd o
 right-other asks marks (Accepts k) o = tt
 right-other asks marks m o = tt
 
 open-other : (asks : Asks) (marks : List Mark) (m : Mark) → IsOther m → WaitOpen asks marks m
-open-other asks marks (Waits waiting want streams listens) o = absurd o
+open-other asks marks (Waits waiting want streams shown) o = absurd o
 open-other asks marks (Accepts k) o = tt
 open-other asks marks m o = tt
 
-pub next-other : {asks : Asks} {marks : List Mark} {shown : List ℕ} {s : ClientState} (m : Mark) → IsOther m → Stands asks (bytes_given marks ++ given_at m) (bytes_taken 0 marks ++ taken_at 0 m) shown s → NextMark asks marks shown s m
-next-other {asks} {marks} m o h = record { right = right-other asks marks m o; opens = open-other asks marks m o; stands = h }
+alone-other : (m : Mark) → IsOther m → is_of_house m ≡ false
+alone-other (House mark) o = absurd o
+alone-other (Waits waiting want streams shown) o = absurd o
+alone-other m o = refl
+
+pub next-other : {asks : Asks} {marks : List Mark} {shown : List ℕ} {s : TalkState} (m : Mark) → IsOther m → TalkRepresents asks (bytes_given marks ++ given_at m) (bytes_taken 0 marks ++ taken_at 0 m) shown s → NextMark asks marks shown s m
+next-other {asks} {marks} m o h = record { right = right-other asks marks m o; opens = open-other asks marks m o; no_house = alone-other m o; stands = h }
 
 -- nothing came, and nothing was accepted
-pub same-stands : {asks : Asks} {bytes taken shown : List ℕ} {s : ClientState} → Stands asks bytes taken shown s → Stands asks (bytes ++ []) (taken ++ []) shown s
+pub same-stands : {asks : Asks} {bytes taken shown : List ℕ} {s : TalkState} → TalkRepresents asks bytes taken shown s → TalkRepresents asks (bytes ++ []) (taken ++ []) shown s
 same-stands {asks} {bytes} {taken} {shown} {s} h =
-    subst (λ b. Stands asks b (taken ++ []) shown s) (sym (append-nil bytes)) (subst (λ t. Stands asks bytes t shown s) (sym (append-nil taken)) h)
+    subst (λ b. TalkRepresents asks b (taken ++ []) shown s) (sym (append-nil bytes)) (subst (λ t. TalkRepresents asks bytes t shown s) (sym (append-nil taken)) h)
 
 or-none : {P : Type 0} (b : Bool) → (b ≡ true → P) → (b || false) ≡ true → P
 or-none true f e = f refl
@@ -164,23 +171,23 @@ or-none false f e = absurd (let z : false ≡ true = e in cc)
 
 -- ---- a write
 
-pub talk-takes : {asks : Asks} {start recorded : Option (List Mark)} {held shown : List ℕ} {s : ClientState} (n : ℕ) → Talking asks start recorded held shown s
-    → Talking asks start (option_map (λ l. l ++ Takes 0 (take n s.queue) ∷ []) recorded) held shown (without_sent n s)
-talk-takes {asks = asks} {held = held} {shown = shown} {s = s} n v = talking-next v held shown (without_sent n s) (Takes 0 (take n s.queue))
-    (next-other (Takes 0 (take n s.queue)) tt (subst (λ b. Stands asks b (bytes_taken 0 v.marks ++ take n s.queue) shown (without_sent n s)) (sym (append-nil (bytes_given v.marks))) (stands-took n v.stands)))
-    (or-none (has_ended v.marks) v.ended) v.held_is
+pub talk-takes : {asks : Asks} {start recorded : Option (List Mark)} {held shown : List ℕ} {s : TalkState} (n : ℕ) (accepts : Bool) → Talking asks start recorded held shown s
+    → Talking asks start (option_map (λ l. l ++ Takes 0 (take n s.queue) accepts ∷ []) recorded) held shown (without_sent n s)
+talk-takes {asks = asks} {held = held} {shown = shown} {s = s} n accepts v = talking-next v held shown (without_sent n s) (Takes 0 (take n s.queue) accepts)
+    (next-other (Takes 0 (take n s.queue) accepts) tt (subst (λ b. TalkRepresents asks b (bytes_taken 0 v.marks ++ take n s.queue) shown (without_sent n s)) (sym (append-nil (bytes_given v.marks))) (stands-took n v.stands)))
+    (or-none (talk_has_ended v.marks) v.ended) v.held_is
 
-pub talk-holds : {asks : Asks} {start recorded : Option (List Mark)} {held shown : List ℕ} {s : ClientState} → Talking asks start recorded held shown s
+pub talk-holds : {asks : Asks} {start recorded : Option (List Mark)} {held shown : List ℕ} {s : TalkState} → Talking asks start recorded held shown s
     → Talking asks start (option_map (λ l. l ++ Holds 0 ∷ []) recorded) (0 ∷ []) shown s
-talk-holds {shown = shown} {s = s} v = talking-next v (0 ∷ []) shown s (Holds 0) (next-other (Holds 0) tt (same-stands v.stands)) (or-none (has_ended v.marks) v.ended) refl
+talk-holds {shown = shown} {s = s} v = talking-next v (0 ∷ []) shown s (Holds 0) (next-other (Holds 0) tt (same-stands v.stands)) (or-none (talk_has_ended v.marks) v.ended) refl
 
 -- ---- it is over
 
 -- if memory runs out, whatever was shown of what was due
-pub talk-starved : {asks : Asks} {start recorded : Option (List Mark)} {held shown : List ℕ} {s : ClientState} → Talking asks start recorded held shown s → (more rest : List ℕ) → shown ≡ more ++ rest
+pub talk-starved : {asks : Asks} {start recorded : Option (List Mark)} {held shown : List ℕ} {s : TalkState} → Talking asks start recorded held shown s → (more rest : List ℕ) → shown ≡ more ++ rest
     → IsTalk asks talked.OutOfMemory start recorded more shown
-talk-starved {asks} {shown = shown} {s = s} v more rest e = let l = later s asks [] (has_ended v.marks) in
-    let out : (talk_of asks v.marks).out ≡ shown ++ l.out = ap (λ (t : Talk). t.out) (talk-now v.stands (has_ended v.marks)) in record {
+talk-starved {asks} {shown = shown} {s = s} v more rest e = let l = later s asks [] (talk_has_ended v.marks) in
+    let out : (talk_of asks v.marks).out ≡ shown ++ l.out = ap (λ (t : Talk). t.out) (talk-now v.stands (talk_has_ended v.marks)) in record {
       marks = v.marks;
       records = v.records;
       journal = v.journal;
@@ -192,10 +199,10 @@ talk-starved {asks} {shown = shown} {s = s} v more rest e = let l = later s asks
     }
 
 -- for a fault of the sink
-pub talk-faulted : {asks : Asks} {start recorded : Option (List Mark)} {held shown : List ℕ} {s : ClientState} → Talking asks start recorded held shown s → (more rest : List ℕ) → shown ≡ more ++ rest → shown ≢ []
+pub talk-faulted : {asks : Asks} {start recorded : Option (List Mark)} {held shown : List ℕ} {s : TalkState} → Talking asks start recorded held shown s → (more rest : List ℕ) → shown ≡ more ++ rest → shown ≢ []
     → IsTalk asks talked.WriteFault start recorded more shown
-talk-faulted {asks} {shown = shown} {s = s} v more rest e some = let l = later s asks [] (has_ended v.marks) in
-    let out : (talk_of asks v.marks).out ≡ shown ++ l.out = ap (λ (t : Talk). t.out) (talk-now v.stands (has_ended v.marks)) in record {
+talk-faulted {asks} {shown = shown} {s = s} v more rest e some = let l = later s asks [] (talk_has_ended v.marks) in
+    let out : (talk_of asks v.marks).out ≡ shown ++ l.out = ap (λ (t : Talk). t.out) (talk-now v.stands (talk_has_ended v.marks)) in record {
       marks = v.marks;
       records = v.records;
       journal = v.journal;
@@ -207,9 +214,9 @@ talk-faulted {asks} {shown = shown} {s = s} v more rest e some = let l = later s
     }
 
 -- for a fault of the stream
-pub talk-failed : {asks : Asks} {start recorded : Option (List Mark)} {held shown : List ℕ} {s : ClientState} → Talking asks start recorded held shown s → IsSettled s → IsTalk asks talked.ServerFailed start recorded shown shown
+pub talk-failed : {asks : Asks} {start recorded : Option (List Mark)} {held shown : List ℕ} {s : TalkState} → Talking asks start recorded held shown s → IsTalkSettled s → IsTalk asks talked.ServerFailed start recorded shown shown
 talk-failed {asks} {shown = shown} {s = s} v settled =
-    let out : (talk_of asks v.marks).out ≡ shown = ap (λ (t : Talk). t.out) (settled-talk v.stands (has_ended v.marks) settled v.ended) in record {
+    let out : (talk_of asks v.marks).out ≡ shown = ap (λ (t : Talk). t.out) (settled-talk v.stands (talk_has_ended v.marks) settled v.ended) in record {
       marks = v.marks;
       records = v.records;
       journal = v.journal;
@@ -221,21 +228,21 @@ talk-failed {asks} {shown = shown} {s = s} v settled =
     }
 
 -- by what the master sent
-answers-at : (asks : Asks) (marks : List Mark) (answer : Talked) (queue shown : List ℕ) (stage : TalkStage) → talk_of asks marks ≡ talk_at (bytes_taken 0 marks ++ queue) shown (outcome_of stage) → IsAnswerAt answer stage queue
-    → Answers answer asks marks × (Shows answer shown (talk_of asks marks).out) × (answer ≢ talked.WriteFault) × (answer ≢ talked.Spent)
+answers-at : (asks : Asks) (marks : List Mark) (answer : Talked) (queue shown : List ℕ) (stage : TalkStage) → talk_of asks marks ≡ talk_at (bytes_taken 0 marks ++ queue) shown (talk_outcome_of stage) → IsAnswerAt answer stage queue
+    → Answers answer asks marks × (TalkShows answer shown (talk_of asks marks).out) × (answer ≢ talked.WriteFault) × (answer ≢ talked.Spent)
 answers-at asks marks talked.Done queue shown stage t a =
-    ((ap (λ (k : Talk). k.outcome) t ∙ ap outcome_of a.0, sym (ap (λ (k : Talk). k.sent) t ∙ ap (λ q. bytes_taken 0 marks ++ q) a.1 ∙ append-nil (bytes_taken 0 marks))), sym (ap (λ (k : Talk). k.out) t), (λ z. cc), (λ z. cc))
-answers-at asks marks (talked.Refused id) queue shown stage t a = (ap (λ (k : Talk). k.outcome) t ∙ ap outcome_of a, sym (ap (λ (k : Talk). k.out) t), (λ z. cc), (λ z. cc))
-answers-at asks marks (talked.BadMaster at) queue shown stage t a = (ap (λ (k : Talk). k.outcome) t ∙ ap outcome_of a, sym (ap (λ (k : Talk). k.out) t), (λ z. cc), (λ z. cc))
+    ((ap (λ (k : Talk). k.outcome) t ∙ ap talk_outcome_of a.0, sym (ap (λ (k : Talk). k.sent) t ∙ ap (λ q. bytes_taken 0 marks ++ q) a.1 ∙ append-nil (bytes_taken 0 marks))), sym (ap (λ (k : Talk). k.out) t), (λ z. cc), (λ z. cc))
+answers-at asks marks (talked.Refused id) queue shown stage t a = (ap (λ (k : Talk). k.outcome) t ∙ ap talk_outcome_of a, sym (ap (λ (k : Talk). k.out) t), (λ z. cc), (λ z. cc))
+answers-at asks marks (talked.BadMaster at) queue shown stage t a = (ap (λ (k : Talk). k.outcome) t ∙ ap talk_outcome_of a, sym (ap (λ (k : Talk). k.out) t), (λ z. cc), (λ z. cc))
 answers-at asks marks talked.WriteFault queue shown stage t a = absurd a
 answers-at asks marks talked.ServerFailed queue shown stage t a = absurd a
 answers-at asks marks talked.Spent queue shown stage t a = absurd a
 answers-at asks marks talked.OutOfMemory queue shown stage t a = absurd a
 
-pub talk-decided : {asks : Asks} {start recorded : Option (List Mark)} {held shown : List ℕ} {s : ClientState} → Talking asks start recorded held shown s → IsSettled s → (answer : Talked) → IsAnswerAt answer s.stage s.queue
+pub talk-decided : {asks : Asks} {start recorded : Option (List Mark)} {held shown : List ℕ} {s : TalkState} → Talking asks start recorded held shown s → IsTalkSettled s → (answer : Talked) → IsAnswerAt answer s.stage s.queue
     → IsTalk asks answer start recorded shown shown
 talk-decided {asks} {shown = shown} {s = s} v settled answer a =
-    let t : talk_of asks v.marks ≡ talk_at (bytes_taken 0 v.marks ++ s.queue) shown (outcome_of s.stage) = settled-talk v.stands (has_ended v.marks) settled v.ended in
+    let t : talk_of asks v.marks ≡ talk_at (bytes_taken 0 v.marks ++ s.queue) shown (talk_outcome_of s.stage) = settled-talk v.stands (talk_has_ended v.marks) settled v.ended in
     let k = answers-at asks v.marks answer s.queue shown s.stage t a in record {
       marks = v.marks;
       records = v.records;
@@ -248,7 +255,7 @@ talk-decided {asks} {shown = shown} {s = s} v settled answer a =
     }
 
 -- with all turns given
-open-at : (asks : Asks) (marks : List Mark) (queue shown : List ℕ) (stage : TalkStage) → talk_of asks marks ≡ talk_at (bytes_taken 0 marks ++ queue) shown (outcome_of stage) → IsGoing stage queue → Answers talked.Spent asks marks
+open-at : (asks : Asks) (marks : List Mark) (queue shown : List ℕ) (stage : TalkStage) → talk_of asks marks ≡ talk_at (bytes_taken 0 marks ++ queue) shown (talk_outcome_of stage) → IsGoing stage queue → Answers talked.Spent asks marks
 open-at asks marks queue shown Greets t g = inl (ap (λ (k : Talk). k.outcome) t)
 open-at asks marks queue shown (Asked id at) t g = inl (ap (λ (k : Talk). k.outcome) t)
 open-at asks marks queue shown Granted t g =
@@ -256,23 +263,23 @@ open-at asks marks queue shown Granted t g =
 open-at asks marks queue shown (Refused id) t g = absurd g
 open-at asks marks queue shown (Broken at) t g = absurd g
 
-pub talk-open : {asks : Asks} {start recorded : Option (List Mark)} {held shown : List ℕ} {s : ClientState} (v : Talking asks start recorded held shown s) → IsSettled s → IsGoing s.stage s.queue → Answers talked.Spent asks v.marks
-talk-open {asks} {shown = shown} {s = s} v settled going = open-at asks v.marks s.queue shown s.stage (settled-talk v.stands (has_ended v.marks) settled v.ended) going
+pub talk-open : {asks : Asks} {start recorded : Option (List Mark)} {held shown : List ℕ} {s : TalkState} (v : Talking asks start recorded held shown s) → IsTalkSettled s → IsGoing s.stage s.queue → Answers talked.Spent asks v.marks
+talk-open {asks} {shown = shown} {s = s} v settled going = open-at asks v.marks s.queue shown s.stage (settled-talk v.stands (talk_has_ended v.marks) settled v.ended) going
 
 held-true : (b : Bool) → held_streams b ≡ 0 ∷ [] → b ≡ true
 held-true true e = refl
 held-true false e = absurd (let z : [] ≡ 0 ∷ [] = e in cc)
 
 -- what was offered was accepted, or stream 0 is blocked
-talk-offered : {asks : Asks} {start recorded : Option (List Mark)} {held shown : List ℕ} {s : ClientState} (v : Talking asks start recorded held shown s) → IsSettled s → IsOffered held s → TookAll asks v.marks ⊎ (is_held v.marks ≡ true)
+talk-offered : {asks : Asks} {start recorded : Option (List Mark)} {held shown : List ℕ} {s : TalkState} (v : Talking asks start recorded held shown s) → IsTalkSettled s → IsTalkOffered held s → TookAll asks v.marks ⊎ (is_reply_held v.marks ≡ true)
 talk-offered v settled (inl none) =
-    inl (sym (ap (λ (k : Talk). k.sent) (settled-talk v.stands (has_ended v.marks) settled v.ended) ∙ ap (λ q. bytes_taken 0 v.marks ++ q) none ∙ append-nil (bytes_taken 0 v.marks)))
-talk-offered v settled (inr blocked) = inr (held-true (is_held v.marks) (sym v.held_is ∙ blocked))
+    inl (sym (ap (λ (k : Talk). k.sent) (settled-talk v.stands (talk_has_ended v.marks) settled v.ended) ∙ ap (λ q. bytes_taken 0 v.marks ++ q) none ∙ append-nil (bytes_taken 0 v.marks)))
+talk-offered v settled (inr blocked) = inr (held-true (is_reply_held v.marks) (sym v.held_is ∙ blocked))
 
-pub talk-spent : {asks : Asks} {start recorded : Option (List Mark)} {held shown : List ℕ} {s : ClientState} (v : Talking asks start recorded held shown s) → IsSettled s → IsGoing s.stage s.queue → (v.marks ≢ [] → IsOffered held s)
+pub talk-spent : {asks : Asks} {start recorded : Option (List Mark)} {held shown : List ℕ} {s : TalkState} (v : Talking asks start recorded held shown s) → IsTalkSettled s → IsGoing s.stage s.queue → (v.marks ≢ [] → IsTalkOffered held s)
     → IsTalk asks talked.Spent start recorded shown shown
 talk-spent {asks} {shown = shown} {s = s} v settled going offered =
-    let t : talk_of asks v.marks ≡ talk_at (bytes_taken 0 v.marks ++ s.queue) shown (outcome_of s.stage) = settled-talk v.stands (has_ended v.marks) settled v.ended in record {
+    let t : talk_of asks v.marks ≡ talk_at (bytes_taken 0 v.marks ++ s.queue) shown (talk_outcome_of s.stage) = settled-talk v.stands (talk_has_ended v.marks) settled v.ended in record {
       marks = v.marks;
       records = v.records;
       journal = v.journal;
@@ -283,40 +290,41 @@ talk-spent {asks} {shown = shown} {s = s} v settled going offered =
       offered = λ z some. talk-offered v settled (offered some);
     }
 
-pub talk-write-fails : {asks : Asks} {start recorded : Option (List Mark)} {held shown : List ℕ} {s : ClientState} → Talking asks start recorded held shown s → IsSettled s
+pub talk-write-fails : {asks : Asks} {start recorded : Option (List Mark)} {held shown : List ℕ} {s : TalkState} → Talking asks start recorded held shown s → IsTalkSettled s
     → IsTalk asks talked.ServerFailed start (option_map (λ l. l ++ WriteFails 0 ∷ []) recorded) shown shown
 talk-write-fails {held = held} {shown = shown} {s = s} v settled =
-    talk-failed (talking-next v held shown s (WriteFails 0) (next-other (WriteFails 0) tt (same-stands v.stands)) (or-none (has_ended v.marks) v.ended) v.held_is) settled
+    talk-failed (talking-next v held shown s (WriteFails 0) (next-other (WriteFails 0) tt (same-stands v.stands)) (or-none (talk_has_ended v.marks) v.ended) v.held_is) settled
 
 -- ---- a turn
 
 -- what it waits for
-pub talk-waits : {asks : Asks} {start recorded : Option (List Mark)} {held shown : List ℕ} {s : ClientState} → Talking asks start recorded held shown s → IsSettled s → IsOffered held s → IsGoing s.stage s.queue
-    → (streams : List ℕ) (listens : Bool) → Talking asks start (option_map (λ l. l ++ Waits held Read streams listens ∷ []) recorded) held shown s
-talk-waits {asks} {held = held} {shown = shown} {s = s} v settled offered going streams listens =
-    talking-next v held shown s (Waits held Read streams listens) (record {
+pub talk-waits : {asks : Asks} {start recorded : Option (List Mark)} {held shown : List ℕ} {s : TalkState} → Talking asks start recorded held shown s → IsTalkSettled s → IsTalkOffered held s → IsGoing s.stage s.queue
+    → (streams : List ℕ) (of_wire : Shown) → Talking asks start (option_map (λ l. l ++ Waits held Read streams of_wire ∷ []) recorded) held shown s
+talk-waits {asks} {held = held} {shown = shown} {s = s} v settled offered going streams of_wire =
+    talking-next v held shown s (Waits held Read streams of_wire) (record {
       right = talk-offered v settled offered;
       opens = record { opens = talk-open v settled going; reads = refl; waits_for = v.held_is };
+      no_house = refl;
       stands = same-stands v.stands;
-    }) (or-none (has_ended v.marks) v.ended) v.held_is
+    }) (or-none (talk_has_ended v.marks) v.ended) v.held_is
 
-pub talk-gets : {asks : Asks} {start recorded : Option (List Mark)} {held shown : List ℕ} {s : ClientState} → Talking asks start recorded held shown s → (bytes : List ℕ)
+pub talk-gets : {asks : Asks} {start recorded : Option (List Mark)} {held shown : List ℕ} {s : TalkState} → Talking asks start recorded held shown s → (bytes : List ℕ)
     → Talking asks start (option_map (λ l. l ++ Gets 0 bytes ∷ []) recorded) held shown (heard bytes s)
 talk-gets {asks = asks} {held = held} {shown = shown} {s = s} v bytes = talking-next v held shown (heard bytes s) (Gets 0 bytes)
-    (next-other (Gets 0 bytes) tt (subst (λ t. Stands asks (bytes_given v.marks ++ bytes) t shown (heard bytes s)) (sym (append-nil (bytes_taken 0 v.marks))) (stands-receives bytes v.stands)))
-    (or-none (has_ended v.marks) v.ended) v.held_is
+    (next-other (Gets 0 bytes) tt (subst (λ t. TalkRepresents asks (bytes_given v.marks ++ bytes) t shown (heard bytes s)) (sym (append-nil (bytes_taken 0 v.marks))) (stands-receives bytes v.stands)))
+    (or-none (talk_has_ended v.marks) v.ended) v.held_is
 
-pub talk-frees : {asks : Asks} {start recorded : Option (List Mark)} {held shown : List ℕ} {s : ClientState} → Talking asks start recorded held shown s
+pub talk-frees : {asks : Asks} {start recorded : Option (List Mark)} {held shown : List ℕ} {s : TalkState} → Talking asks start recorded held shown s
     → Talking asks start (option_map (λ l. l ++ Frees 0 ∷ []) recorded) [] shown s
-talk-frees {shown = shown} {s = s} v = talking-next v [] shown s (Frees 0) (next-other (Frees 0) tt (same-stands v.stands)) (or-none (has_ended v.marks) v.ended) refl
+talk-frees {shown = shown} {s = s} v = talking-next v [] shown s (Frees 0) (next-other (Frees 0) tt (same-stands v.stands)) (or-none (talk_has_ended v.marks) v.ended) refl
 
-pub talk-fails : {asks : Asks} {start recorded : Option (List Mark)} {held shown : List ℕ} {s : ClientState} → Talking asks start recorded held shown s → IsSettled s
+pub talk-fails : {asks : Asks} {start recorded : Option (List Mark)} {held shown : List ℕ} {s : TalkState} → Talking asks start recorded held shown s → IsTalkSettled s
     → IsTalk asks talked.ServerFailed start (option_map (λ l. l ++ Fails 0 ∷ []) recorded) shown shown
 talk-fails {held = held} {shown = shown} {s = s} v settled =
-    talk-failed (talking-next v held shown s (Fails 0) (next-other (Fails 0) tt (same-stands v.stands)) (or-none (has_ended v.marks) v.ended) v.held_is) settled
+    talk-failed (talking-next v held shown s (Fails 0) (next-other (Fails 0) tt (same-stands v.stands)) (or-none (talk_has_ended v.marks) v.ended) v.held_is) settled
 
 -- the master's bytes end, and the last reply came before
-pub talk-ends : {asks : Asks} {start recorded : Option (List Mark)} {held shown : List ℕ} {s : ClientState} → Talking asks start recorded held shown s → place_of s.stage ≡ None
+pub talk-ends : {asks : Asks} {start recorded : Option (List Mark)} {held shown : List ℕ} {s : TalkState} → Talking asks start recorded held shown s → place_of s.stage ≡ None
     → Talking asks start (option_map (λ l. l ++ Ends 0 ∷ []) recorded) held shown s
 talk-ends {held = held} {shown = shown} {s = s} v none = talking-next v held shown s (Ends 0) (next-other (Ends 0) tt (same-stands v.stands)) (λ e. none) v.held_is
 
@@ -336,13 +344,13 @@ later-broken asks stage rest at settled request place = by_stage stage settled r
     by_stage (Broken n) e h p = absurd (let z : None ≡ Some at = p in cc)
 
 -- they end before it
-pub talk-breaks-off : {asks : Asks} {start recorded : Option (List Mark)} {held shown : List ℕ} {s : ClientState} → Talking asks start recorded held shown s → IsSettled s → (at : ℕ) → place_of s.stage ≡ Some at
+pub talk-breaks-off : {asks : Asks} {start recorded : Option (List Mark)} {held shown : List ℕ} {s : TalkState} → Talking asks start recorded held shown s → IsTalkSettled s → (at : ℕ) → place_of s.stage ≡ Some at
     → IsTalk asks (talked.BadMaster at) start (option_map (λ l. l ++ Ends 0 ∷ []) recorded) shown shown
 talk-breaks-off {asks} {start} {recorded} {shown = shown} {s = s} v settled at place =
     let m : Mark = Ends 0 in
     let n : NextMark asks v.marks shown s m = next-other m tt (same-stands v.stands) in
     let stands = stands-there n in
-    let over : has_ended (v.marks ++ m ∷ []) ≡ true = ended-more v.marks m ∙ or-true (has_ended v.marks) in
+    let over : talk_has_ended (v.marks ++ m ∷ []) ≡ true = ended-more v.marks m ∙ or-true (talk_has_ended v.marks) in
     let t : talk_of asks (v.marks ++ m ∷ []) ≡ talk_at (bytes_taken 0 (v.marks ++ m ∷ []) ++ s.queue) shown (Some (BrokenAt at)) =
     ap (talk asks (bytes_given (v.marks ++ m ∷ []))) over ∙ talk-now stands true
     ∙ ap (λ k. sending (bytes_taken 0 (v.marks ++ m ∷ []) ++ s.queue) (showing shown k)) (later-broken asks s.stage s.framer.rest at settled v.stands.request place)
@@ -359,7 +367,7 @@ talk-breaks-off {asks} {start} {recorded} {shown = shown} {s = s} v settled at p
 
 -- ---- a frame is read
 
-pub talk-reads : {asks : Asks} {start recorded : Option (List Mark)} {held shown : List ℕ} {s s' : ClientState} {line : Option OutLine} → Talking asks start recorded held shown s → ReadsNextTo asks s s' line
+pub talk-reads : {asks : Asks} {start recorded : Option (List Mark)} {held shown : List ℕ} {s s' : TalkState} {line : Option OutLine} → Talking asks start recorded held shown s → ReadsNextTo asks s s' line
     → Talking asks start recorded held (shown ++ text_of_some line) s'
 talk-reads v r = record {
   marks = v.marks;

@@ -12,7 +12,7 @@ use Rattle.ssh_grammar.proofs.Frames.{cut-is}
 use Rattle.mux_client.specs.declared.asks.Asks.{Asks}
 use Rattle.mux_client.specs.Requests.{Request, requests_of, request_frame, hello_frame}
 use Rattle.mux_client.specs.Replies.{ReplyVerdict, Grants, Refuses, Breaks, verdict, is_hello}
-use Rattle.mux_client.specs.Talk.{Outcome, Finished, RefusedAt, BrokenAt, Talk, stops, sending, showing, behind, broken_by, tail_outcome, on_reply, talk_on, on_hello, greeted, talk_by, talk}
+use Rattle.mux_client.specs.Talk.{TalkOutcome, Finished, RefusedAt, BrokenAt, Talk, stops, sending, showing, behind, broken_by, tail_outcome, on_reply, talk_on, on_hello, greeted, talk_by, talk}
 use Rattle.mux_client.specs.Laws.{Adds}
 
 adds-itself : (t : Talk) → Adds t t
@@ -75,7 +75,7 @@ stays-on (request ∷ requests) id at (f ∷ fs) gs x ne =
     (talk_on requests (id + 1) (behind at f) (fs ++ gs) x) ne
     (stays-on requests (id + 1) (behind at f) fs gs x))
 
-some_outcome : (o : Outcome) → Some o ≢ None
+some_outcome : (o : TalkOutcome) → Some o ≢ None
 some_outcome o e = cc
 
 ends-reply : (v : ReplyVerdict) (id at : ℕ) (a : Talk) → a.outcome ≢ None → (on_reply v id at a).outcome ≢ None

@@ -10,7 +10,7 @@ use Rattle.mux_client.specs.declared.asks.Asks.{Asks}
 use Rattle.mux_client.specs.declared.asks.Asks.TheVariants.{Check, Exit, Stop, Forwards}
 use Rattle.mux_client.specs.declared.answer.Answer.{Answer as Read}
 use Rattle.mux_client.specs.declared.verdict.ReplyVerdict.{ReplyVerdict as TheVerdict}
-use Rattle.mux_client.specs.Requests.{Request, Checks, Exits, Stops, Opens, Closes, forward_of, forward_request, request_at}
+use Rattle.mux_client.specs.Requests.{Request, Checks, Exits, TalkStops, Opens, Closes, forward_of, forward_request, request_at}
 use Rattle.mux_client.specs.Replies.{verdict, verdict_on}
 use Rattle.mux_client.specs.Answers.{GivesAnswer, shown_of}
 use Rattle.mux_client.specs.Verdicts.{meant_by, verdict_by}
@@ -23,7 +23,7 @@ IsForward false r = (what : ForwardAsk) × (r ≡ Closes what)
 abbrev IsOf : Asks → Request → Type 0
 IsOf Check r = r ≡ Checks
 IsOf Exit r = r ≡ Exits
-IsOf Stop r = r ≡ Stops
+IsOf Stop r = r ≡ TalkStops
 IsOf (Forwards opening what) r = IsForward opening r
 
 only : (x r : Request) (id : ℕ) → slice_get (x ∷ []) id ≡ Some r → r ≡ x
@@ -41,7 +41,7 @@ mapped opening (Some a) r e = is-forward opening a r e
 is-of : (asks : Asks) (id : ℕ) (r : Request) → request_at asks id ≡ Some r → IsOf asks r
 is-of Check id r e = only Checks r id e
 is-of Exit id r e = only Exits r id e
-is-of Stop id r e = only Stops r id e
+is-of Stop id r e = only TalkStops r id e
 is-of (Forwards opening what) id r e =
     mapped opening (slice_get what id) r (sym (slice_get-map (forward_request opening) what id) ∙ e)
 
@@ -57,7 +57,7 @@ on-exit : (id : ℕ) (answer : Answer) → Same Exit Exits id answer
 on-exit id (Greets version) = refl
 on-exit id answer = refl
 
-on-stop : (id : ℕ) (answer : Answer) → Same Stop Stops id answer
+on-stop : (id : ℕ) (answer : Answer) → Same Stop TalkStops id answer
 on-stop id (Greets version) = refl
 on-stop id answer = refl
 

@@ -2,15 +2,16 @@
 use Rattle.std.proofs.Common.{◌≡◌, ◌∙◌, refl, sym, subst, ℕ, true, false, List, [], Option, ◌++◌, Some, None}
 use Rattle.std.specs.Option.{option_map}
 use Rattle.std.specs.Prelude.{Result, Ok, Err, IsErrAnd}
+use Rattle.std.proofs.lemmas.List.Elements.{All-nil}
 use Rattle.mux_outside.specs.declared.mark.Mark.{Mark}
 use Rattle.mux_outside.specs.Seen.{Seen}
 use Rattle.mux_outside.specs.WireState.{WireState}
 use Rattle.mux_client.specs.declared.asks.Asks.{Asks}
 use Rattle.mux_client.specs.declared.talked.Talked.{Talked}
 use Rattle.mux_client.specs.declared.talked.Talked.TheVariants as talked
-use Rattle.mux_client.specs.Client.{ClientState, new_client, Stands, IsSettled}
-use Rattle.mux_client.specs.Talking.{AcceptsNone, HasTalked, IsDecided, IsOffered, SameWire, Talking, IsTalk, WholeTalk, talked_of}
-use Rattle.mux_client.specs.Journal.{TalksRecorded, ShowsRecorded}
+use Rattle.mux_client.specs.Client.{TalkState, new_talk, TalkRepresents, IsTalkSettled}
+use Rattle.mux_client.specs.Talking.{AcceptsNone, HasTalked, IsTalkDecided, IsTalkOffered, SameWire, Talking, IsTalk, WholeTalk, talked_of}
+use Rattle.mux_client.specs.Journal.{TalksRecorded, ShowsRecorded, is_of_house}
 use Rattle.mux_client.proofs.JournalGrows.{recorded-none}
 use Rattle.mux_client.proofs.TalkSteps.{talk-decided, talk-spent, talk-starved}
 
@@ -29,14 +30,14 @@ wire-none s = record { none_accepted = record { streams = refl; listens = refl; 
 pub wire-then : {a b c : WireState} → SameWire a b → SameWire b c → SameWire a c
 wire-then x y = record { none_accepted = accepts-then x.none_accepted y.none_accepted; openings = y.openings ∙ x.openings; joinings = y.joinings ∙ x.joinings }
 
-stands-new : (asks : Asks) → Stands asks [] [] [] new_client
+stands-new : (asks : Asks) → TalkRepresents asks [] [] [] new_talk
 stands-new asks = record { goes = λ more ended. refl; request = tt }
 
-pub talk-starts : (asks : Asks) (start : Option (List Mark)) → Talking asks start start [] [] new_client
+pub talk-starts : (asks : Asks) (start : Option (List Mark)) → Talking asks start start [] [] new_talk
 talk-starts asks start = record {
   marks = [];
   records = sym (recorded-none start);
-  journal = record { throughout = tt; opens = tt };
+  journal = record { throughout = tt; opens = tt; no_house = All-nil (λ (mark : Mark). is_of_house mark ≡ false) };
   stands = stands-new asks;
   ended = λ e. absurd (let z : false ≡ true = e in cc);
   held_is = refl;
@@ -51,7 +52,7 @@ unfolding talk-starts
 starts-spent asks start = talk-spent (talk-starts asks start) refl tt (λ some. absurd (some refl))
 
 -- what was decided, and what wasn't with all turns given
-pub decided-talk : {asks : Asks} {start recorded : Option (List Mark)} {held shown : List ℕ} {s : ClientState} → Talking asks start recorded held shown s → IsSettled s → IsOffered held s → (r : Result (Unit {0}) Talked) → IsDecided s r
+pub decided-talk : {asks : Asks} {start recorded : Option (List Mark)} {held shown : List ℕ} {s : TalkState} → Talking asks start recorded held shown s → IsTalkSettled s → IsTalkOffered held s → (r : Result (Unit {0}) Talked) → IsTalkDecided s r
     → IsTalk asks (talked_of r) start recorded shown shown
 decided-talk v settled offered (Ok x) d = talk-spent v settled d (λ some. offered)
 decided-talk v settled offered (Err answer) d = talk-decided v settled answer d
@@ -66,7 +67,10 @@ talks-recorded asks answer (Some old) (Some new) shown due t = record {
   marks = t.marks;
   added = let z : Some new ≡ Some (old ++ t.marks) = t.records in cc;
   throughout = t.journal.throughout;
+  opens = t.journal.opens;
+  no_house = t.journal.no_house;
   answers = t.answers;
+  offered = t.offered;
 }
 
 shows-recorded : (asks : Asks) (answer : Talked) (start recorded : Option (List Mark)) (before now : Option (List ℕ)) (shown due : List ℕ) → IsTalk asks answer start recorded shown due → now ≡ option_map (λ b. b ++ shown) before → ShowsRecorded asks answer start recorded before now

@@ -20,9 +20,9 @@ GivesAnswer None reading = reading ≡ None
 GivesAnswer (Some r) reading = (answer : Answer) × (reading ≡ Some answer) × (r ≡ shown_of answer)
 
 -- the fields that were read, seen by view, are what reading gives
-abbrev pub Reads : {X : Type 0} → (X → Answer) → Option X → Option Answer → Type 0
-Reads view None reading = reading ≡ None
-Reads view (Some x) reading = reading ≡ Some (view x)
+abbrev pub ReadsAnswer : {X : Type 0} → (X → Answer) → Option X → Option Answer → Type 0
+ReadsAnswer view None reading = reading ≡ None
+ReadsAnswer view (Some x) reading = reading ≡ Some (view x)
 
 -- the same of a number and a text, of which the code keeps the number
 abbrev pub ReadsReason : (ℕ → List ℕ → Answer) → Option ℕ → Option Answer → Type 0

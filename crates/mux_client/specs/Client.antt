@@ -13,10 +13,10 @@ use Rattle.mux_client.specs.declared.verdict.OutLine.{OutLine}
 use Rattle.mux_client.specs.Requests.{Request, requests_of, request_at, frame_due, hello_frame}
 use Rattle.mux_client.specs.Replies.{verdict}
 use Rattle.mux_client.specs.Verdicts.{text_of_some}
-use Rattle.mux_client.specs.Talk.{Outcome, Finished, RefusedAt, BrokenAt, Talk, talk, talk_on, stops, sending, showing, behind, broken_by, tail_outcome, on_reply, greeted}
+use Rattle.mux_client.specs.Talk.{TalkOutcome, Finished, RefusedAt, BrokenAt, Talk, talk, talk_on, stops, sending, showing, behind, broken_by, tail_outcome, on_reply, greeted}
 
 -- the master's bytes that aren't read yet, what is still to be sent, and how far the talk is
-pub record ClientState : Type 0 where
+pub record TalkState : Type 0 where
   pub framer : FramerState
   pub queue : List ℕ
   pub stage : TalkStage
@@ -24,12 +24,12 @@ pub record ClientState : Type 0 where
 -- ---- each client
 
 -- while a reply is awaited its place is not far from it: a frame has 262,148 bytes at most
-abbrev pub IsPlaced : TalkStage → Type 0
-IsPlaced (Asked id at) = at ≤ (id + 1) * 262148
-IsPlaced Greets = ⊤
-IsPlaced Granted = ⊤
-IsPlaced (Refused id) = ⊤
-IsPlaced (Broken at) = ⊤
+abbrev pub IsStagePlaced : TalkStage → Type 0
+IsStagePlaced (Asked id at) = at ≤ (id + 1) * 262148
+IsStagePlaced Greets = ⊤
+IsStagePlaced Granted = ⊤
+IsStagePlaced (Refused id) = ⊤
+IsStagePlaced (Broken at) = ⊤
 
 -- and no fault was reported
 abbrev pub IsFaultless : TalkStage → Option BadFrame → Type 0
@@ -50,15 +50,15 @@ place_of (Broken at) = None
 -- ---- what the calls leave
 
 -- a client that received nothing
-abbrev pub new_client : ClientState
-new_client = record { framer = new_framer Control; queue = hello_frame; stage = Greets }
+abbrev pub new_talk : TalkState
+new_talk = record { framer = new_framer Control; queue = hello_frame; stage = Greets }
 
 -- with more bytes of the master
-abbrev pub heard : List ℕ → ClientState → ClientState
+abbrev pub heard : List ℕ → TalkState → TalkState
 heard piece s = record s { framer = pushed piece s.framer }
 
 -- without the first bytes of what is to be sent
-abbrev pub without_sent : ℕ → ClientState → ClientState
+abbrev pub without_sent : ℕ → TalkState → TalkState
 without_sent n s = record s { queue = drop n s.queue }
 
 -- the stage after a front: a fault breaks the talk at this place
@@ -68,7 +68,7 @@ stage_behind More at stage = stage
 stage_behind (Faulty fault) at stage = Broken at
 
 -- after the next front, whose place this is
-abbrev pub after_cut : Front → ℕ → ClientState → ClientState
+abbrev pub after_cut : Front → ℕ → TalkState → TalkState
 after_cut front at s = record s {
   framer = after_front front s.framer;
   stage = stage_behind front at s.stage;
@@ -80,7 +80,7 @@ stage_due (Some request) id at = Asked id at
 stage_due None id at = Granted
 
 -- it is sent
-abbrev pub asked : Option Request → ℕ → ℕ → ClientState → ClientState
+abbrev pub asked : Option Request → ℕ → ℕ → TalkState → TalkState
 asked request id at s = record s {
   queue = s.queue ++ frame_due id request;
   stage = stage_due request id at;
@@ -108,7 +108,7 @@ abbrev pub later_by : TalkStage → List Request → Cut → Bool → Talk
 later_by stage requests c ended = later_at stage requests c.frames (broken_by c.fault ended)
 
 -- the same with more bytes of the master
-abbrev pub later : ClientState → Asks → List ℕ → Bool → Talk
+abbrev pub later : TalkState → Asks → List ℕ → Bool → Talk
 later s asks more ended =
     later_by s.stage (requests_of asks) (cut Control (s.framer.rest ++ more)) ended
 
@@ -122,7 +122,7 @@ HasRequest asks (Broken at) = ⊤
 
 -- of a talk the master's bytes so far were these, these were sent and these were shown: whatever
 -- bytes follow, the others are sent and shown that the client has still to send and to show
-pub record Stands (asks : Asks) (bytes taken shown : List ℕ) (s : ClientState) : Type 0 where
+pub record TalkRepresents (asks : Asks) (bytes taken shown : List ℕ) (s : TalkState) : Type 0 where
   pub goes : (more : List ℕ) (ended : Bool)
       → talk asks (bytes ++ more) ended
       ≡ sending (taken ++ s.queue) (showing shown (later s asks more ended))
@@ -136,28 +136,28 @@ IsSettledAt Granted rest = ⊤
 IsSettledAt (Refused id) rest = ⊤
 IsSettledAt (Broken at) rest = ⊤
 
-abbrev pub IsSettled : ClientState → Type 0
-IsSettled s = IsSettledAt s.stage s.framer.rest
+abbrev pub IsTalkSettled : TalkState → Type 0
+IsTalkSettled s = IsSettledAt s.stage s.framer.rest
 
 -- how the talk is over at a stage, if it is
-abbrev pub outcome_of : TalkStage → Option Outcome
-outcome_of Greets = None
-outcome_of (Asked id at) = None
-outcome_of Granted = Some Finished
-outcome_of (Refused id) = Some (RefusedAt id)
-outcome_of (Broken at) = Some (BrokenAt at)
+abbrev pub talk_outcome_of : TalkStage → Option TalkOutcome
+talk_outcome_of Greets = None
+talk_outcome_of (Asked id at) = None
+talk_outcome_of Granted = Some Finished
+talk_outcome_of (Refused id) = Some (RefusedAt id)
+talk_outcome_of (Broken at) = Some (BrokenAt at)
 
 -- ---- a frame is read
 
 -- whatever came before: the line is shown, and where there is none no frame can be read now; with
 -- each frame less is left to be read, and no reply is awaited where none was
-pub record ReadsNextTo (asks : Asks) (old new : ClientState) (line : Option OutLine) : Type 0 where
-  pub stands : (bytes taken shown : List ℕ) → Stands asks bytes taken shown old
-      → Stands asks bytes taken (shown ++ text_of_some line) new
-  pub settled : line ≡ None → IsSettled new
+pub record ReadsNextTo (asks : Asks) (old new : TalkState) (line : Option OutLine) : Type 0 where
+  pub stands : (bytes taken shown : List ℕ) → TalkRepresents asks bytes taken shown old
+      → TalkRepresents asks bytes taken (shown ++ text_of_some line) new
+  pub settled : line ≡ None → IsTalkSettled new
   pub less : IsSome line → length new.framer.rest < length old.framer.rest
   pub over : place_of old.stage ≡ None → place_of new.stage ≡ None
 
-abbrev pub ReadsNext : Asks → ClientState → ClientState → Result (Option OutLine) OutOfMemory → Type 0
+abbrev pub ReadsNext : Asks → TalkState → TalkState → Result (Option OutLine) OutOfMemory → Type 0
 ReadsNext asks old new (Ok line) = ReadsNextTo asks old new line
 ReadsNext asks old new (Err e) = ⊤

@@ -45,7 +45,7 @@ Counts waits (Err answer) old new = Cut waits answer old new
 -- Of a whole talk: with its turns spent it made as many calls of `wait` as it has turns, and no
 -- answer of the master, no fault of the sink comes without one. If a call ran out of memory it was
 -- the last, and the talk ended out of memory. It opened nothing.
-pub record Stops (turns : ℕ) (answer : Talked) (old new : CallCounts) : Type 0 where
+pub record TalkStops (turns : ℕ) (answer : Talked) (old new : CallCounts) : Type 0 where
   pub few : new.waits ≤ old.waits + turns
   pub spent : answer ≡ Spent → old.waits < 2 ^ 64 → new.waits ≡ min (old.waits + turns) (2 ^ 64 - 1)
   pub ends : answer ≢ Spent → answer ≢ OutOfMemory → answer ≢ ServerFailed

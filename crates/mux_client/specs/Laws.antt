@@ -16,8 +16,8 @@ TalksGrow = (asks : Asks) (bytes more : List ℕ) (ended : Bool) → AreBytes by
     → Adds (talk asks bytes false) (talk asks (bytes ++ more) ended)
 
 -- what was decided stays, with all that was sent and shown, whatever bytes follow
-abbrev pub OutcomesStay : Type 0
-OutcomesStay = (asks : Asks) (bytes more : List ℕ) (ended : Bool) → AreBytes bytes
+abbrev pub TalkOutcomesStay : Type 0
+TalkOutcomesStay = (asks : Asks) (bytes more : List ℕ) (ended : Bool) → AreBytes bytes
     → (talk asks bytes false).outcome ≢ None
     → talk asks (bytes ++ more) ended ≡ talk asks bytes false
 

@@ -5,7 +5,7 @@ use Rattle.ssh_grammar.specs.declared.numbers.TheConstants.{VERSION}
 use Rattle.ssh_grammar.specs.Control.{Control, Hello, Answer, Okay, PermissionDenied, Failed, Alive, RemotePort}
 use Rattle.ssh_grammar.specs.ReadControl.{read_control}
 use Rattle.ssh_grammar.specs.ReadAnswer.{read_answer}
-use Rattle.mux_client.specs.Requests.{Request, Checks, Exits, Stops, Opens, Closes}
+use Rattle.mux_client.specs.Requests.{Request, Checks, Exits, TalkStops, Opens, Closes}
 
 -- ---- lines
 
@@ -48,7 +48,7 @@ for_id id n verdict = elim (nat_eq n id) [ true ↦ verdict | false ↦ Breaks ]
 abbrev pub grants : Request → Answer → ReplyVerdict
 grants Checks (Alive n pid) = Grants (running_line pid)
 grants Exits (Okay n) = Grants exit_line
-grants Stops (Okay n) = Grants stop_line
+grants TalkStops (Okay n) = Grants stop_line
 grants (Opens what) (Okay n) = Grants []
 grants (Opens what) (RemotePort n port) = Grants (port_line port)
 grants (Closes what) (Okay n) = Grants []

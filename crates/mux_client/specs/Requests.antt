@@ -15,7 +15,7 @@ use Rattle.mux_client.specs.declared.asks.Asks.TheVariants.{Check, Exit, Stop, F
 pub data Request : Type 0 where
   Checks : Request
   Exits : Request
-  Stops : Request
+  TalkStops : Request
   Opens : (what : ForwardAsk) → Request
   Closes : (what : ForwardAsk) → Request
 
@@ -37,20 +37,20 @@ forward_request false a = Closes (forward_of a)
 abbrev pub requests_of : Asks → List Request
 requests_of Check = Checks ∷ []
 requests_of Exit = Exits ∷ []
-requests_of Stop = Stops ∷ []
+requests_of Stop = TalkStops ∷ []
 requests_of (Forwards opening what) = map (forward_request opening) what
 
 -- a request with its id
-abbrev pub control_of : ℕ → Request → Control
-control_of id Checks = AliveCheck id
-control_of id Exits = Terminate id
-control_of id Stops = StopListening id
-control_of id (Opens what) = OpenForward id what
-control_of id (Closes what) = CloseForward id what
+abbrev pub control_of_request : ℕ → Request → Control
+control_of_request id Checks = AliveCheck id
+control_of_request id Exits = Terminate id
+control_of_request id TalkStops = StopListening id
+control_of_request id (Opens what) = OpenForward id what
+control_of_request id (Closes what) = CloseForward id what
 
 -- as a frame
 abbrev pub request_frame : ℕ → Request → List ℕ
-request_frame id request = frame_body (spell_control (control_of id request))
+request_frame id request = frame_body (spell_control (control_of_request id request))
 
 -- the first message, which has no extension
 abbrev pub hello_frame : List ℕ

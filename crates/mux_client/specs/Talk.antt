@@ -10,21 +10,21 @@ use Rattle.mux_client.specs.Replies.{ReplyVerdict, Grants, Refuses, Breaks, verd
 
 -- each request had its reply; the request with this id was refused; or the master broke the
 -- protocol at this place of its bytes
-pub data Outcome : Type 0 where
-  Finished : Outcome
-  RefusedAt : (id : ℕ) → Outcome
-  BrokenAt : (at : ℕ) → Outcome
+pub data TalkOutcome : Type 0 where
+  Finished : TalkOutcome
+  RefusedAt : (id : ℕ) → TalkOutcome
+  BrokenAt : (at : ℕ) → TalkOutcome
 
 -- what is sent, what is shown, and the outcome, if there is one yet
 pub record Talk : Type 0 where
   pub sent : List ℕ
   pub out : List ℕ
-  pub outcome : Option Outcome
+  pub outcome : Option TalkOutcome
 
 -- ---- parts
 
 -- it is over, or waits
-abbrev pub stops : Option Outcome → Talk
+abbrev pub stops : Option TalkOutcome → Talk
 stops outcome = record { sent = []; out = []; outcome = outcome }
 
 -- these bytes are sent first
@@ -47,7 +47,7 @@ abbrev pub broken_by : Option BadFrame → Bool → Bool
 broken_by (Some fault) ended = true
 broken_by None ended = ended
 
-abbrev pub tail_outcome : Bool → ℕ → Option Outcome
+abbrev pub tail_outcome : Bool → ℕ → Option TalkOutcome
 tail_outcome true at = Some (BrokenAt at)
 tail_outcome false at = None
 

@@ -10,13 +10,13 @@ use Rattle.mux_client.specs.declared.stage.TalkStage.{TalkStage}
 use Rattle.mux_client.specs.declared.stage.TalkStage.TheVariants as stage
 use Rattle.mux_client.specs.declared.talked.Talked.{Talked}
 use Rattle.mux_client.specs.declared.talked.Talked.TheVariants.{Done, Refused, BadMaster, WriteFault, ServerFailed, Spent, OutOfMemory}
-use Rattle.mux_client.specs.Journal.{bytes_given, has_ended, is_held, held_streams, talk_of, TookAll, Throughout, WaitOpen, AtEach, Answers, Shows, ShowsFront, ShowsRecorded, TalksRecorded}
-use Rattle.mux_client.specs.Client.{ClientState, IsSettled, Stands, place_of}
+use Rattle.mux_client.specs.Journal.{bytes_given, talk_has_ended, is_reply_held, held_streams, talk_of, TookAll, ThroughoutTalk, WaitOpen, AtEachMark, HasNoHouse, Answers, TalkShows, ShowsFront, ShowsRecorded, TalksRecorded}
+use Rattle.mux_client.specs.Client.{TalkState, IsTalkSettled, TalkRepresents, place_of}
 
 -- ---- the wire
 
 -- stream 0 alone is open, no client is accepted, and no listener is open
-pub record IsAlone (seen : Seen) : Type 0 where
+pub record TransportIsAlone (seen : Seen) : Type 0 where
   pub streams : seen.streams ≡ 0 ∷ []
   pub listens : seen.listens ≡ false
   pub listeners : seen.listeners ≡ []
@@ -35,8 +35,8 @@ abbrev pub IsHeld : List ℕ → Type 0
 IsHeld held = (held ≡ []) ⊎ (held ≡ 0 ∷ [])
 
 -- right after `join`: stream 0 alone is open, and it accepts bytes
-pub record IsJoined (seen : Seen) : Type 0 where
-  pub alone : IsAlone seen
+pub record IsTransportJoined (seen : Seen) : Type 0 where
+  pub alone : TransportIsAlone seen
   pub none_blocked : seen.blocked ≡ []
 
 -- it stays the same wire: no client came, and it was neither opened nor joined
@@ -48,10 +48,10 @@ pub record SameWire (old new : WireState) : Type 0 where
 -- ---- how far a talk is
 
 -- between two turns: all frames that came were read, and it is known whether stream 0 is blocked
-pub record IsBetween (s : ClientState) (held : List ℕ) (seen : Seen) : Type 0 where
-  pub settled : IsSettled s
+pub record IsBetween (s : TalkState) (held : List ℕ) (seen : Seen) : Type 0 where
+  pub settled : IsTalkSettled s
   pub blocked : seen.blocked ≡ held
-  pub is_held : IsHeld held
+  pub is_reply_held : IsHeld held
 
 -- the talk isn't over: a reply is awaited, or not all was accepted
 abbrev pub IsGoing : TalkStage → List ℕ → Type 0
@@ -71,33 +71,33 @@ IsAnswerAt ServerFailed at queue = ⊥
 IsAnswerAt Spent at queue = ⊥
 IsAnswerAt OutOfMemory at queue = ⊥
 
-abbrev pub IsDecided : ClientState → Result (Unit {0}) Talked → Type 0
-IsDecided s (Ok x) = IsGoing s.stage s.queue
-IsDecided s (Err answer) = IsAnswerAt answer s.stage s.queue
+abbrev pub IsTalkDecided : TalkState → Result (Unit {0}) Talked → Type 0
+IsTalkDecided s (Ok x) = IsGoing s.stage s.queue
+IsTalkDecided s (Err answer) = IsAnswerAt answer s.stage s.queue
 
 -- where the master's bytes end a talk breaks off at the place of the reply that is awaited
-abbrev pub BreaksOff : ClientState → Result (Unit {0}) Talked → Type 0
+abbrev pub BreaksOff : TalkState → Result (Unit {0}) Talked → Type 0
 BreaksOff s (Ok x) = place_of s.stage ≡ None
 BreaksOff s (Err answer) = (at : ℕ) × (place_of s.stage ≡ Some at) × (answer ≡ BadMaster at)
 
 -- all was accepted that is to be sent, or stream 0 accepts no more for now
-abbrev pub IsOffered : List ℕ → ClientState → Type 0
-IsOffered held s = (s.queue ≡ []) ⊎ (held ≡ 0 ∷ [])
+abbrev pub IsTalkOffered : List ℕ → TalkState → Type 0
+IsTalkOffered held s = (s.queue ≡ []) ⊎ (held ≡ 0 ∷ [])
 
 -- some of it was accepted, and stream 0 accepts more; or it was offered
-abbrev pub TookOrOffered : Bool → List ℕ → ClientState → ClientState → Type 0
-TookOrOffered true held old new = (held ≡ []) × (length new.queue < length old.queue)
-TookOrOffered false held old new = IsOffered held new
+abbrev pub TalkTookOrOffered : Bool → List ℕ → TalkState → TalkState → Type 0
+TalkTookOrOffered true held old new = (held ≡ []) × (length new.queue < length old.queue)
+TalkTookOrOffered false held old new = IsTalkOffered held new
 
 -- an answer that writes to the wire give, and one that the sink gives
-abbrev pub IsOfWire : Talked → Type 0
-IsOfWire ServerFailed = ⊤
-IsOfWire OutOfMemory = ⊤
-IsOfWire Done = ⊥
-IsOfWire (Refused id) = ⊥
-IsOfWire (BadMaster at) = ⊥
-IsOfWire WriteFault = ⊥
-IsOfWire Spent = ⊥
+abbrev pub IsOfTransport : Talked → Type 0
+IsOfTransport ServerFailed = ⊤
+IsOfTransport OutOfMemory = ⊤
+IsOfTransport Done = ⊥
+IsOfTransport (Refused id) = ⊥
+IsOfTransport (BadMaster at) = ⊥
+IsOfTransport WriteFault = ⊥
+IsOfTransport Spent = ⊥
 
 abbrev pub IsOfSink : Talked → Type 0
 IsOfSink WriteFault = ⊤
@@ -111,23 +111,24 @@ IsOfSink Spent = ⊥
 -- ---- the marks
 
 -- the wire recorded these marks more
-abbrev pub Records : Option (List Mark) → Option (List Mark) → List Mark → Type 0
-Records start recorded marks = recorded ≡ option_map (λ m. m ++ marks) start
+abbrev pub TalkRecords : Option (List Mark) → Option (List Mark) → List Mark → Type 0
+TalkRecords start recorded marks = recorded ≡ option_map (λ m. m ++ marks) start
 
 -- the marks so far are those of a talk
 pub record IsJournal (asks : Asks) (marks : List Mark) : Type 0 where
-  pub throughout : Throughout asks [] marks
-  pub opens : AtEach (WaitOpen asks) [] marks
+  pub throughout : ThroughoutTalk asks [] marks
+  pub opens : AtEachMark (WaitOpen asks) [] marks
+  pub no_house : HasNoHouse marks
 
 -- the client represents what the wire recorded since the start, and what was shown
 pub record Talking (asks : Asks) (start recorded : Option (List Mark)) (held shown : List ℕ)
-    (s : ClientState) : Type 0 where
+    (s : TalkState) : Type 0 where
   pub marks : List Mark
-  pub records : Records start recorded marks
+  pub records : TalkRecords start recorded marks
   pub journal : IsJournal asks marks
-  pub stands : Stands asks (bytes_given marks) (bytes_taken 0 marks) shown s
-  pub ended : has_ended marks ≡ true → place_of s.stage ≡ None
-  pub held_is : held ≡ held_streams (is_held marks)
+  pub stands : TalkRepresents asks (bytes_given marks) (bytes_taken 0 marks) shown s
+  pub ended : talk_has_ended marks ≡ true → place_of s.stage ≡ None
+  pub held_is : held ≡ held_streams (is_reply_held marks)
 
 -- a talk that is over: these bytes were shown, and these were to be shown until then; a fault of
 -- the sink comes at a line; and with its turns spent the master accepted all that is sent by then,
@@ -135,13 +136,13 @@ pub record Talking (asks : Asks) (start recorded : Option (List Mark)) (held sho
 pub record IsTalk (asks : Asks) (answer : Talked) (start recorded : Option (List Mark))
     (shown due : List ℕ) : Type 0 where
   pub marks : List Mark
-  pub records : Records start recorded marks
+  pub records : TalkRecords start recorded marks
   pub journal : IsJournal asks marks
   pub answers : Answers answer asks marks
-  pub shows : Shows answer shown (talk_of asks marks).out
+  pub shows : TalkShows answer shown (talk_of asks marks).out
   pub due_front : ShowsFront due (talk_of asks marks).out
   pub fault : answer ≡ WriteFault → due ≢ []
-  pub offered : answer ≡ Spent → marks ≢ [] → TookAll asks marks ⊎ (is_held marks ≡ true)
+  pub offered : answer ≡ Spent → marks ≢ [] → TookAll asks marks ⊎ (is_reply_held marks ≡ true)
 
 -- it goes on, or is over with an answer
 abbrev pub TalksOn : {A : Type 0} → Result A Talked → (A → Type 0) → (Talked → Type 0) → Type 0

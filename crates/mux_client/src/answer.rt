@@ -4,7 +4,7 @@ ghost use Rattle.mux_client.specs.Replies.{is_hello};
 ghost use Rattle.ssh_grammar.specs.Control as grammar;
 ghost use Rattle.ssh_grammar.specs.ReadAnswer.{read_one, read_two, read_reason, forms, read_answer as reading};
 ghost use Rattle.ssh_grammar.specs.Tables.{by_number};
-ghost use Rattle.mux_client.specs.Answers.{GivesAnswer, Reads, ReadsReason};
+ghost use Rattle.mux_client.specs.Answers.{GivesAnswer, ReadsAnswer, ReadsReason};
 
 use mux_messages::{Control, read_control};
 use ssh_fields::Cursor;
@@ -36,7 +36,7 @@ pub fn is_hello_of_4(body: &[u8]) -> bool
 
 // A number, and nothing after it.
 fn one(mut fields: Cursor<'_>) -> Option<u32>
-    ensures { (answer : ℕ → grammar.Answer) → Reads answer result (read_one answer fields.entry) }
+    ensures { (answer : ℕ → grammar.Answer) → ReadsAnswer answer result (read_one answer fields.entry) }
 {
     let n = fields.take_u32()?;
     if fields.is_empty() { Some(n) } else { None }
@@ -45,7 +45,7 @@ fn one(mut fields: Cursor<'_>) -> Option<u32>
 // Two numbers, and nothing after them.
 fn two(mut fields: Cursor<'_>) -> Option<(u32, u32)>
     ensures { (answer : ℕ → ℕ → grammar.Answer)
-        → Reads (λ p. answer p.0 p.1) result (read_two answer fields.entry) }
+        → ReadsAnswer (λ p. answer p.0 p.1) result (read_two answer fields.entry) }
 {
     let id = fields.take_u32()?;
     let n = fields.take_u32()?;

@@ -4,7 +4,7 @@ ghost use Rattle.ssh_grammar.specs.Frames.{first_frame};
 ghost use Rattle.mux_client.specs.declared.asks.Asks.{Asks as TheAsks};
 ghost use Rattle.mux_client.specs.declared.stage.TalkStage.TheVariants.{Greets, Asks as Asked};
 ghost use Rattle.mux_client.specs.Requests.{MayAsk, request_at};
-ghost use Rattle.mux_client.specs.Client.{new_client, heard, without_sent, place_of, after_cut, asked, Stands, IsSettled, ReadsNext};
+ghost use Rattle.mux_client.specs.Client.{new_talk, heard, without_sent, place_of, after_cut, asked, TalkRepresents, IsTalkSettled, ReadsNext};
 
 use crate::answer::is_hello_of_4;
 use crate::asks::Asks;
@@ -29,22 +29,22 @@ pub struct Client {
 impl Model for Client {
     ghost use Rattle.std.specs.Prelude.{◌≡◌};
     ghost use Rattle.ssh_grammar.specs.declared.framing.Framing.TheVariants.{Control};
-    ghost use Rattle.mux_client.specs.Client.{ClientState, IsPlaced, IsFaultless};
+    ghost use Rattle.mux_client.specs.Client.{TalkState, IsStagePlaced, IsFaultless};
 
-    ghost Value = { ClientState };
+    ghost Value = { TalkState };
 
     ghost view = { λ c. record { framer = c.framer; queue = c.queue.waiting; stage = c.stage } };
 
-    ghost invariant = { λ c. (c.framer.framing ≡ Control) × IsPlaced c.stage
+    ghost invariant = { λ c. (c.framer.framing ≡ Control) × IsStagePlaced c.stage
         × IsFaultless c.stage c.framer.fault };
 }
 
 impl Client {
     /// A client that has received nothing, and has the hello to send.
     pub fn new(alloc: Global) -> Result<Client, OutOfMemory>
-        ensures new { IfOk result (λ client. client ≡ new_client) }
-        ensures stands { IfOk result (λ client. (asks : TheAsks) → Stands asks [] [] [] client) }
-        ensures settled { IfOk result IsSettled }
+        ensures new { IfOk result (λ client. client ≡ new_talk) }
+        ensures stands { IfOk result (λ client. (asks : TheAsks) → TalkRepresents asks [] [] [] client) }
+        ensures settled { IfOk result IsTalkSettled }
     {
         let mut hello = Vec::new(alloc);
         put_hello(&mut hello)?;
@@ -77,8 +77,8 @@ impl Client {
         requires { n ≤ length self.old.queue }
         ensures exact { self.new ≡ without_sent n self.old }
         ensures stands { (asks : TheAsks) (bytes taken shown : List ℕ)
-            → Stands asks bytes taken shown self.old
-            → Stands asks bytes (taken ++ take n self.old.queue) shown self.new }
+            → TalkRepresents asks bytes taken shown self.old
+            → TalkRepresents asks bytes (taken ++ take n self.old.queue) shown self.new }
     {
         self.queue.took(n);
     }
@@ -88,8 +88,8 @@ impl Client {
         ensures exact { OnOk result (self.new ≡ heard piece.now self.old) }
         ensures unchanged { OnErr result (self.new ≡ self.old) }
         ensures stands { (asks : TheAsks) (bytes taken shown : List ℕ)
-            → Stands asks bytes taken shown self.old
-            → OnOk result (Stands asks (bytes ++ piece.now) taken shown self.new) }
+            → TalkRepresents asks bytes taken shown self.old
+            → OnOk result (TalkRepresents asks (bytes ++ piece.now) taken shown self.new) }
     {
         self.framer.push(piece)
     }

@@ -1,10 +1,10 @@
 ghost use Rattle.std.specs.Prelude.{◌≡◌, ◌≢◌, ◌++◌, ◌<◌, [], ℕ, List, length, true, false, IfOk, IfErr, OnOk};
 ghost use Rattle.std.specs.declared.option.Option.{Option};
 ghost use Rattle.mux_outside.specs.declared.mark.Mark.{Mark as TheMark};
-ghost use Rattle.mux_client.specs.Client.{IsSettled};
-ghost use Rattle.mux_client.specs.Counted.{AnsweredBy, CameTo, Counts, SinkFaults, StepFaults, StepSinkFaults, Stops, WireFaults};
+ghost use Rattle.mux_client.specs.Client.{IsTalkSettled};
+ghost use Rattle.mux_client.specs.Counted.{AnsweredBy, CameTo, Counts, SinkFaults, StepFaults, StepSinkFaults, TalkStops, WireFaults};
 ghost use Rattle.mux_client.specs.Requests.{MayAsk};
-ghost use Rattle.mux_client.specs.Talking.{BreaksOff, HasTalked, IsAlone, IsBetween, IsCutLine, IsDecided, IsGoing, IsJoined, IsOfSink, IsOfWire, IsOffered, IsTalk, SameWire, ShowsLast, ShowsOn, Talking, TalksOn, TookOrOffered, WholeTalk, talked_of};
+ghost use Rattle.mux_client.specs.Talking.{BreaksOff, HasTalked, TransportIsAlone, IsBetween, IsCutLine, IsTalkDecided, IsGoing, IsTransportJoined, IsOfSink, IsOfTransport, IsTalkOffered, IsTalk, SameWire, ShowsLast, ShowsOn, Talking, TalksOn, TalkTookOrOffered, WholeTalk, talked_of};
 ghost use Rattle.mux_client.specs.Verdicts.{text_of_line};
 ghost use Rattle.mux_client.specs.declared.asks.Asks.{Asks as TheAsks};
 ghost use Rattle.mux_client.specs.declared.talked.Talked.TheVariants.{Spent as SpentTurns};
@@ -25,7 +25,7 @@ fn offer_once<W: Wire>(
     wire: &mut W,
     held: &mut Streams,
 ) -> Result<bool, Talked>
-    requires alone { IsAlone (W.state wire.old).seen }
+    requires alone { TransportIsAlone (W.state wire.old).seen }
     requires between { IsBetween client.old held.old (W.state wire.old).seen }
     requires free { held.old ≡ [] }
     ensures talking { (asks : TheAsks) (start : Option (List TheMark)) (shown : List ℕ)
@@ -34,8 +34,8 @@ fn offer_once<W: Wire>(
         (λ more. Talking asks start (W.state wire.new).seen.recorded held.new shown client.new)
         (λ answer. IsTalk asks answer start (W.state wire.new).seen.recorded shown shown) }
     ensures between { OnOk result (IsBetween client.new held.new (W.state wire.new).seen) }
-    ensures offered { IfOk result (λ more. TookOrOffered more held.new client.old client.new) }
-    ensures own { IfErr result IsOfWire }
+    ensures offered { IfOk result (λ more. TalkTookOrOffered more held.new client.old client.new) }
+    ensures own { IfErr result IsOfTransport }
     ensures stage { OnOk result (client.new.stage ≡ client.old.stage) }
     ensures calls { Counts 0 result (W.state wire.old).calls (W.state wire.new).calls }
     ensures cause { StepFaults result (W.faults wire.old) (W.faults wire.new) }
@@ -62,7 +62,7 @@ fn offer_once<W: Wire>(
 // Offers the master what is to be sent, until all is accepted, or it accepts no more for now, or
 // its stream fails.
 fn offer<W: Wire>(client: &mut Client, wire: &mut W, held: &mut Streams) -> Result<(), Talked>
-    requires alone { IsAlone (W.state wire.old).seen }
+    requires alone { TransportIsAlone (W.state wire.old).seen }
     requires between { IsBetween client.old held.old (W.state wire.old).seen }
     ensures talking { (asks : TheAsks) (start : Option (List TheMark)) (shown : List ℕ)
         → Talking asks start (W.state wire.old).seen.recorded held.old shown client.old
@@ -70,8 +70,8 @@ fn offer<W: Wire>(client: &mut Client, wire: &mut W, held: &mut Streams) -> Resu
         (λ done. Talking asks start (W.state wire.new).seen.recorded held.new shown client.new)
         (λ answer. IsTalk asks answer start (W.state wire.new).seen.recorded shown shown) }
     ensures between { OnOk result (IsBetween client.new held.new (W.state wire.new).seen) }
-    ensures offered { OnOk result (IsOffered held.new client.new) }
-    ensures own { IfErr result IsOfWire }
+    ensures offered { OnOk result (IsTalkOffered held.new client.new) }
+    ensures own { IfErr result IsOfTransport }
     ensures stage { OnOk result (client.new.stage ≡ client.old.stage) }
     ensures calls { Counts 0 result (W.state wire.old).calls (W.state wire.new).calls }
     ensures cause { StepFaults result (W.faults wire.old) (W.faults wire.new) }
@@ -87,7 +87,7 @@ fn offer<W: Wire>(client: &mut Client, wire: &mut W, held: &mut Streams) -> Resu
 // How the talk is over, if it is: each request was granted and all was sent, or one was refused, or
 // the master broke the protocol.
 fn decided(client: &Client) -> Result<(), Talked>
-    ensures { IsDecided client.now result }
+    ensures { IsTalkDecided client.now result }
 {
     match client.stage() {
         TalkStage::Granted if client.front().is_empty() => Err(Talked::Done),
@@ -145,7 +145,7 @@ fn read_once<S: Sink>(
         (λ more. Talking asks.now start recorded held (shown ++ more) client.new))
         (λ answer. ShowsLast (S.recorded out.old) (S.recorded out.new) out.old out.new
         (λ more due. IsTalk asks.now answer start recorded (shown ++ more) (shown ++ due))) }
-    ensures settled { IfOk result (λ some. some ≡ false → IsSettled client.new) }
+    ensures settled { IfOk result (λ some. some ≡ false → IsTalkSettled client.new) }
     ensures less { IfOk result (λ some. some ≡ true
         → length client.new.framer.rest < length client.old.framer.rest) }
     ensures own { IfErr result IsOfSink }
@@ -170,7 +170,7 @@ fn read<S: Sink>(alloc: Global, client: &mut Client, asks: &Asks, out: &mut S) -
         (λ more. Talking asks.now start recorded held (shown ++ more) client.new))
         (λ answer. ShowsLast (S.recorded out.old) (S.recorded out.new) out.old out.new
         (λ more due. IsTalk asks.now answer start recorded (shown ++ more) (shown ++ due))) }
-    ensures settled { OnOk result (IsSettled client.new) }
+    ensures settled { OnOk result (IsTalkSettled client.new) }
     ensures own { IfErr result IsOfSink }
     ensures cause { StepSinkFaults result (S.faults out.old) (S.faults out.new) }
 {
@@ -189,9 +189,9 @@ fn turn<W: Wire, S: Sink>(
     piece: &mut Piece,
 ) -> Result<(), Talked>
     requires may { MayAsk asks.now }
-    requires alone { IsAlone (W.state wire.old).seen }
+    requires alone { TransportIsAlone (W.state wire.old).seen }
     requires between { IsBetween client.old held.old (W.state wire.old).seen }
-    requires offered { IsOffered held.old client.old }
+    requires offered { IsTalkOffered held.old client.old }
     requires going { IsGoing client.old.stage client.old.queue }
     ensures talking { (start : Option (List TheMark)) (shown : List ℕ)
         → Talking asks.now start (W.state wire.old).seen.recorded held.old shown client.old
@@ -235,10 +235,10 @@ fn converse<W: Wire, S: Sink>(
     turns: u64,
 ) -> Result<(), Talked>
     requires may { MayAsk asks.now }
-    requires joined { IsJoined (W.state wire.old).seen }
+    requires joined { IsTransportJoined (W.state wire.old).seen }
     ensures talks { WholeTalk asks.now (talked_of result) (W.state wire.old).seen.recorded
         (W.state wire.new).seen.recorded (S.recorded out.old) (S.recorded out.new) out.old out.new }
-    ensures calls { Stops turns (talked_of result) (W.state wire.old).calls
+    ensures calls { TalkStops turns (talked_of result) (W.state wire.old).calls
         (W.state wire.new).calls }
     ensures answered { AnsweredBy (talked_of result) (W.state wire.old).calls
         (W.state wire.new).calls }
@@ -269,10 +269,10 @@ pub fn talk<W: Wire, S: Sink>(
     turns: u64,
 ) -> Talked
     requires asks { MayAsk asks.now }
-    requires joined { IsJoined (W.state wire.old).seen }
+    requires joined { IsTransportJoined (W.state wire.old).seen }
     ensures talked { HasTalked asks.now result (W.state wire.old).seen.recorded
         (W.state wire.new).seen.recorded (S.recorded out.old) (S.recorded out.new) out.old out.new }
-    ensures calls { Stops turns result (W.state wire.old).calls (W.state wire.new).calls }
+    ensures calls { TalkStops turns result (W.state wire.old).calls (W.state wire.new).calls }
     ensures answered { AnsweredBy result (W.state wire.old).calls (W.state wire.new).calls }
     ensures cause { WireFaults result (W.faults wire.old) (W.faults wire.new) }
     ensures sink { SinkFaults result (S.faults out.old) (S.faults out.new) }

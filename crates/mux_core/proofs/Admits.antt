@@ -7,7 +7,7 @@ use Rattle.std.proofs.lemmas.List.Elements.{filter-append}
 use Rattle.std.proofs.lemmas.Bool.Decides.{nat_tests}
 use Rattle.mux_history.specs.declared.limits.TheConstants.{MAX_CLIENTS}
 use Rattle.mux_history.specs.Rows.{Admit, Refused, Row, any_of, is_admit, is_lost, rows_of}
-use Rattle.mux_history.specs.Channels.{Channel, after_item, held_of, is_held}
+use Rattle.mux_history.specs.Channels.{Channel, after_item, held_of, is_channel_held}
 use Rattle.mux_history.specs.Farewell.{has_open_matters}
 use Rattle.mux_history.specs.Forwardings.{current}
 use Rattle.mux_history.specs.Log.{bare, entered, matters_of, open_matters}
@@ -21,13 +21,13 @@ use Rattle.mux_core.specs.Calls.{AdmitsOn}
 use Rattle.mux_history.proofs.Bools.{same-number, self}
 use Rattle.mux_history.proofs.Finds.{filter-no, filter-yes}
 use Rattle.mux_history.proofs.OwnRows.{idle_row, own_row}
-use Rattle.mux_isolation.specs.View.{left_of}
+use Rattle.mux_isolation.specs.LogView.{waiting_left_of}
 use Rattle.mux_core.specs.State.{MemberState, CoreState, is_served}
-use Rattle.channel_table.specs.Entries.{Entry}
+use Rattle.channel_table.specs.Entries.{TableEntry}
 use Rattle.forward_rules.specs.State as kept
 use Rattle.forward_rules.specs.Stands.{AreFit, Places, places_of}
 use Rattle.mux_history.specs.Channels.{with_ups}
-use Rattle.mux_core.specs.Stands.{AreOnce, AsksFit, ClientFits, ClientsFit, Look, OwnRequests, Stands, TableFits, has_matters, is_known, look, unreplied_in}
+use Rattle.mux_core.specs.Stands.{AreOnce, AsksFit, ClientFits, ClientsFit, Look, OwnRequests, Stands, TableFits, has_matters, is_member_known, look, unreplied_in}
 use Rattle.mux_core.proofs.Bare.{held-bare}
 use Rattle.mux_core.proofs.Quiet.{IsQuiet, look-same, own-same}
 use Rattle.mux_core.proofs.Says.{held-held, map-same}
@@ -99,7 +99,7 @@ refused-quiet k = record { asks = refl; flags = refl; replies = refl; forwards =
 admit-held : (k : ℕ) (o : Outcome) (rows : List Row) → o.sent ≡ [] → held_of (bare (Admit k) k o ∷ rows) ≡ held_of rows
 admit-held k o rows none =
     held-bare (Admit k) k o rows
-    ∙ (ap (filter is_held) (append-nil (map (after_item (bare (Admit k) k o)) (held_of rows)) ∙ map-same (after_item (bare (Admit k) k o)) (λ x. same x) (held_of rows)) ∙ held-held rows)
+    ∙ (ap (filter is_channel_held) (append-nil (map (after_item (bare (Admit k) k o)) (held_of rows)) ∙ map-same (after_item (bare (Admit k) k o)) (λ x. same x) (held_of rows)) ∙ held-held rows)
   where
     same : (x : Channel) → after_item (bare (Admit k) k o) x ≡ x
     same x =
@@ -175,11 +175,11 @@ once-append k (c ∷ cs) all once = (each cs once.0, once-append k cs all.1 once
     each [] one = (all.0, tt)
     each (d ∷ ds) one = (one.0, each ds one.1)
 
-known-append : (k j : ℕ) (cs : List MemberState) → is_known cs j ≡ true → is_known (cs ++ new_client k ∷ []) j ≡ true
+known-append : (k j : ℕ) (cs : List MemberState) → is_member_known cs j ≡ true → is_member_known (cs ++ new_client k ∷ []) j ≡ true
 known-append k j [] h = absurd (cc)
 known-append k j (c ∷ cs) h = by_case (known-append k j cs) (c.number == j) h
   where
-    by_case : (is_known cs j ≡ true → is_known (cs ++ new_client k ∷ []) j ≡ true) → (b : Bool) → (b || is_known cs j) ≡ true → (b || is_known (cs ++ new_client k ∷ []) j) ≡ true
+    by_case : (is_member_known cs j ≡ true → is_member_known (cs ++ new_client k ∷ []) j ≡ true) → (b : Bool) → (b || is_member_known cs j) ≡ true → (b || is_member_known (cs ++ new_client k ∷ []) j) ≡ true
     by_case ih true h = refl
     by_case ih false h = ih h
 
@@ -215,7 +215,7 @@ stays k frame rows c other fits =
       nonzero = fits.nonzero;
       admitted = ap (any_of is_admit) same ∙ fits.admitted;
       lost = fits.lost ∙ sym (ap is_lost same);
-      answers = λ here. ap (λ own. left_of (wanted own) (replies own)) same ∙ fits.answers here;
+      answers = λ here. ap (λ own. waiting_left_of (wanted own) (replies own)) same ∙ fits.answers here;
     }
 
 comes : (k : ℕ) (frame : List ℕ) (rows : List Row) → k ≢ 0 → rows_of k rows ≡ [] → ClientFits (look (admit_row k frame ∷ rows)) (new_client k)
@@ -225,7 +225,7 @@ comes k frame rows nonzero new =
       nonzero = nonzero;
       admitted = ap (any_of is_admit) same;
       lost = sym (ap is_lost same);
-      answers = λ here. ap (λ own. left_of (wanted own) (replies own)) same;
+      answers = λ here. ap (λ own. waiting_left_of (wanted own) (replies own)) same;
     }
 
 nothing-asked : (k : ℕ) (frame : List ℕ) (own : List Row) → places_of (admit_row k frame ∷ own) ≡ places_of own
@@ -257,8 +257,8 @@ admitted-stands s k frame rows st nonzero new room =
         few = let e = length-append k s.clients in omega arith;
       };
       known = record {
-        channels = all-of (λ (f : Entry). is_known s.clients f.channel.client ≡ true) (λ (f : Entry). is_known (s.clients ++ new_client k ∷ []) f.channel.client ≡ true) (λ f h. known-append k f.channel.client s.clients h) s.channels st.known.channels;
-        asks = all-of (λ (a : Ask). is_known s.clients a.client ≡ true) (λ (a : Ask). is_known (s.clients ++ new_client k ∷ []) a.client ≡ true) (λ a h. known-append k a.client s.clients h) s.asks st.known.asks;
+        channels = all-of (λ (f : TableEntry). is_member_known s.clients f.channel.client ≡ true) (λ (f : TableEntry). is_member_known (s.clients ++ new_client k ∷ []) f.channel.client ≡ true) (λ f h. known-append k f.channel.client s.clients h) s.channels st.known.channels;
+        asks = all-of (λ (a : Ask). is_member_known s.clients a.client ≡ true) (λ (a : Ask). is_member_known (s.clients ++ new_client k ∷ []) a.client ≡ true) (λ a h. known-append k a.client s.clients h) s.asks st.known.asks;
         forwards = all-of (λ (f : kept.Forward). is_served s.clients f.client ≡ true) (λ (f : kept.Forward). is_served (s.clients ++ new_client k ∷ []) f.client ≡ true) (λ f h. served-append k f.client s.clients h) s.forwards st.known.forwards;
       };
     }

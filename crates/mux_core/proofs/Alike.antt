@@ -8,8 +8,8 @@ use Rattle.mux_history.specs.Rows.{any_of}
 use Rattle.mux_history.specs.Forwardings.{Forwarding}
 use Rattle.mux_history.proofs.Finds.{filter-no, filter-yes}
 use Rattle.forward_rules.specs.State.{Forward}
-use Rattle.forward_rules.specs.Step.{cancels, change_first, count_of, is_leaving, is_of}
-use Rattle.forward_rules.specs.Stands.{AreInOrder, AreTwo, EachTwo, HasAt, InOrder, InOrderWith, IsRanked, is_asked_at, is_leaving_at}
+use Rattle.forward_rules.specs.Step.{cancels, change_first_forward, forward_count_of, is_leaving, is_of}
+use Rattle.forward_rules.specs.Stands.{AreForwardingsInOrder, AreTwoPlaces, EachTwo, HasAt, InOrder, InOrderWith, IsRanked, is_asked_at, is_leaving_at}
 use Rattle.mux_core.proofs.Pairs.{find-any, or-first, or-found, or-second}
 
 -- ---- of the kept ones
@@ -28,11 +28,11 @@ alike-self : (fs : List Forward) → AreAlike fs fs
 alike-self [] = tt
 alike-self (f ∷ fs) = (record { client = refl; cancel = refl }, alike-self fs)
 
-pub alike-first : (test : Forward → Bool) (change : Forward → Forward) → ((f : Forward) → Alike f (change f)) → (fs : List Forward) → AreAlike fs (change_first test change fs)
+pub alike-first : (test : Forward → Bool) (change : Forward → Forward) → ((f : Forward) → Alike f (change f)) → (fs : List Forward) → AreAlike fs (change_first_forward test change fs)
 alike-first test change each [] = tt
 alike-first test change each (f ∷ fs) = by_test (alike-first test change each fs) (test f)
   where
-    by_test : AreAlike fs (change_first test change fs) → (b : Bool) → AreAlike (f ∷ fs) (elim b as (λ _. List Forward) [ true ↦ change f ∷ fs | false ↦ f ∷ change_first test change fs ])
+    by_test : AreAlike fs (change_first_forward test change fs) → (b : Bool) → AreAlike (f ∷ fs) (elim b as (λ _. List Forward) [ true ↦ change f ∷ fs | false ↦ f ∷ change_first_forward test change fs ])
     by_test ih true = (each f, alike-self fs)
     by_test ih false = (record { client = refl; cancel = refl }, ih)
 
@@ -53,7 +53,7 @@ count-alike test same (f ∷ fs) (f' ∷ fs') alike = by_test (count-alike test 
     by_test ih true h = ap length (filter-yes test f' fs' (same f f' alike.0 ∙ h)) ∙ (ap suc ih ∙ sym (ap length (filter-yes test f fs h)))
     by_test ih false h = ap length (filter-no test f' fs' (same f f' alike.0 ∙ h)) ∙ (ih ∙ sym (ap length (filter-no test f fs h)))
 
-pub few-alike : (k : ℕ) (fs fs' : List Forward) → AreAlike fs fs' → count_of fs' k ≡ count_of fs k
+pub few-alike : (k : ℕ) (fs fs' : List Forward) → AreAlike fs fs' → forward_count_of fs' k ≡ forward_count_of fs k
 few-alike k fs fs' alike = count-alike (is_of k) (λ f f' a. ap (λ i. i == k) a.client) fs fs' alike
 
 pub cancels-alike : (k : ℕ) (fs fs' : List Forward) → AreAlike fs fs' → cancels k fs' ≡ cancels k fs
@@ -79,7 +79,7 @@ with-order change each f f' g af (e ∷ es) [] gs alike all = absurd alike
 with-order change each f f' g af (e ∷ es) (e' ∷ es') [] alike all = tt
 with-order change each f f' g af (e ∷ es) (e' ∷ es') (h ∷ hs) alike all = (one-order f f' g (change g) e e' h (change h) af (each g) alike.0 (each h) all.0, with-order change each f f' g af es es' hs alike.1 all.1)
 
-pub order-alike : (change : Forwarding → Forwarding) → ((g : Forwarding) → Marked g (change g)) → (fs fs' : List Forward) (gs : List Forwarding) → AreAlike fs fs' → AreInOrder fs gs → AreInOrder fs' (map change gs)
+pub order-alike : (change : Forwarding → Forwarding) → ((g : Forwarding) → Marked g (change g)) → (fs fs' : List Forward) (gs : List Forwarding) → AreAlike fs fs' → AreForwardingsInOrder fs gs → AreForwardingsInOrder fs' (map change gs)
 order-alike change each [] [] gs alike all = tt
 order-alike change each [] (f' ∷ fs') gs alike all = absurd alike
 order-alike change each (f ∷ fs) [] gs alike all = absurd alike
@@ -88,11 +88,11 @@ order-alike change each (f ∷ fs) (f' ∷ fs') (g ∷ gs) alike all = (with-ord
 
 -- ---- no two at one place
 
-two-with : (change : Forwarding → Forwarding) → ((a b : Forwarding) → AreTwo a b → AreTwo (change a) (change b)) → (g : Forwarding) (hs : List Forwarding) → AllByRecursion (AreTwo g) hs → AllByRecursion (AreTwo (change g)) (map change hs)
+two-with : (change : Forwarding → Forwarding) → ((a b : Forwarding) → AreTwoPlaces a b → AreTwoPlaces (change a) (change b)) → (g : Forwarding) (hs : List Forwarding) → AllByRecursion (AreTwoPlaces g) hs → AllByRecursion (AreTwoPlaces (change g)) (map change hs)
 two-with change each g [] all = tt
 two-with change each g (h ∷ hs) all = (each g h all.0, two-with change each g hs all.1)
 
-pub two-map : (change : Forwarding → Forwarding) → ((a b : Forwarding) → AreTwo a b → AreTwo (change a) (change b)) → (gs : List Forwarding) → EachTwo gs → EachTwo (map change gs)
+pub two-map : (change : Forwarding → Forwarding) → ((a b : Forwarding) → AreTwoPlaces a b → AreTwoPlaces (change a) (change b)) → (gs : List Forwarding) → EachTwo gs → EachTwo (map change gs)
 two-map change each [] two = tt
 two-map change each (g ∷ gs) two = (two-with change each g gs two.0, two-map change each gs two.1)
 

@@ -16,8 +16,8 @@ use Rattle.mux_history.specs.Forwardings.{Forwarding}
 use Rattle.mux_history.proofs.Bools.{is-of, same-number, self}
 use Rattle.mux_history.proofs.Finds.{filter-no, filter-yes}
 use Rattle.forward_rules.specs.State.{Forward}
-use Rattle.forward_rules.specs.Step.{asked, cancels, count_of, is_leaving, is_of}
-use Rattle.forward_rules.specs.Stands.{AreFit, AreInOrder, AreListed, AreTwo, EachHas, EachTwo, Fits, HasAt, InOrderWith, IsAwaited, IsRanked, Places, is_asked_at, is_leaving_at}
+use Rattle.forward_rules.specs.Step.{asked, cancels, forward_count_of, is_leaving, is_of}
+use Rattle.forward_rules.specs.Stands.{AreFit, AreForwardingsInOrder, AreForwardsListed, AreTwoPlaces, EachHas, EachTwo, ForwardingFits, HasAt, InOrderWith, IsAwaited, IsRanked, Places, is_asked_at, is_leaving_at}
 use Rattle.mux_core.proofs.Answering.{asked_more}
 use Rattle.mux_core.proofs.Pairs.{any-append, find-any, or-first, or-second}
 use Rattle.mux_core.proofs.Requested.{all-last, awaited-more}
@@ -44,27 +44,27 @@ place-back (u ∷ us) a b (suc i) h = by_case (place-back us a b i h)
 abbrev pub new_forwarding : ℕ → Key → ℕ → Forwarding
 new_forwarding k key place = record { client = k; key = key; request = place; live = None; cancel = None; over = false }
 
-listed-last : (f : Forward) (g : Forwarding) (fs : List Forward) (gs : List Forwarding) → AreListed fs gs → Fits f g → AreListed (fs ++ f ∷ []) (gs ++ g ∷ [])
+listed-last : (f : Forward) (g : Forwarding) (fs : List Forward) (gs : List Forwarding) → AreForwardsListed fs gs → ForwardingFits f g → AreForwardsListed (fs ++ f ∷ []) (gs ++ g ∷ [])
 listed-last f g [] [] all one = (one, tt)
 listed-last f g [] (h ∷ hs) all one = absurd all
 listed-last f g (e ∷ es) [] all one = absurd all
 listed-last f g (e ∷ es) (h ∷ hs) all one = (all.0, listed-last f g es hs all.1 one)
 
-order-with-last : (f : Forward) (g : Forwarding) (e : Forward) (h : Forwarding) → e.cancel ≡ None → (fs : List Forward) (gs : List Forwarding) → AreListed fs gs → InOrderWith f g fs gs → InOrderWith f g (fs ++ e ∷ []) (gs ++ h ∷ [])
+order-with-last : (f : Forward) (g : Forwarding) (e : Forward) (h : Forwarding) → e.cancel ≡ None → (fs : List Forward) (gs : List Forwarding) → AreForwardsListed fs gs → InOrderWith f g fs gs → InOrderWith f g (fs ++ e ∷ []) (gs ++ h ∷ [])
 order-with-last f g e h none [] [] listed all = (λ r q r' q' c a b d i. absurd (let x : None ≡ Some r' = sym none ∙ d in cc), tt)
 order-with-last f g e h none [] (g' ∷ gs) listed all = absurd listed
 order-with-last f g e h none (f' ∷ fs) [] listed all = absurd listed
 order-with-last f g e h none (f' ∷ fs) (g' ∷ gs) listed all = (all.0, order-with-last f g e h none fs gs listed.1 all.1)
 
-order-last : (e : Forward) (h : Forwarding) → e.cancel ≡ None → (fs : List Forward) (gs : List Forwarding) → AreListed fs gs → AreInOrder fs gs → AreInOrder (fs ++ e ∷ []) (gs ++ h ∷ [])
+order-last : (e : Forward) (h : Forwarding) → e.cancel ≡ None → (fs : List Forward) (gs : List Forwarding) → AreForwardsListed fs gs → AreForwardingsInOrder fs gs → AreForwardingsInOrder (fs ++ e ∷ []) (gs ++ h ∷ [])
 order-last e h none [] [] listed all = (tt, tt)
 order-last e h none [] (g ∷ gs) listed all = absurd listed
 order-last e h none (f ∷ fs) [] listed all = absurd listed
 order-last e h none (f ∷ fs) (g ∷ gs) listed all = (order-with-last f g e h none fs gs listed.1 all.0, order-last e h none fs gs listed.1 all.1)
 
-two-last : (h : Forwarding) (gs : List Forwarding) → AllByRecursion (λ g. AreTwo g h) gs → EachTwo gs → EachTwo (gs ++ h ∷ [])
+two-last : (h : Forwarding) (gs : List Forwarding) → AllByRecursion (λ g. AreTwoPlaces g h) gs → EachTwo gs → EachTwo (gs ++ h ∷ [])
 two-last h [] before two = (tt, tt)
-two-last h (g ∷ gs) before two = (all-last (AreTwo g) h before.0 gs two.0, two-last h gs before.1 two.1)
+two-last h (g ∷ gs) before two = (all-last (AreTwoPlaces g) h before.0 gs two.0, two-last h gs before.1 two.1)
 
 pub all-map : {X : Type 0} (P Q : X → Type 0) → ((x : X) → P x → Q x) → (xs : List X) → AllByRecursion P xs → AllByRecursion Q xs
 all-map P Q each [] all = tt
@@ -86,12 +86,12 @@ has-append place (full.Cancel key) k gs hs h = find-any (λ (g : Forwarding). g.
 has-append place full.KeepAlive k gs hs h = tt
 has-append place full.OtherName k gs hs h = tt
 
-pub asked-fit : (k : ℕ) (key : Key) (fs : List Forward) (gs : List Forwarding) (own own' : ℕ → Places) (lost : ℕ → Bool) → AreFit fs gs own lost → count_of fs k < MAX_FORWARDINGS → (own k).replied ≤ length (own k).asked → ((j : ℕ) → (k == j) ≡ true → own' j ≡ asked_more (own j) (record { client = k; what = full.Forward key })) → ((j : ℕ) → (k == j) ≡ false → own' j ≡ own j) → AreFit (fs ++ asked k key ∷ []) (gs ++ new_forwarding k key (length (own k).asked) ∷ []) own' lost
+pub asked-fit : (k : ℕ) (key : Key) (fs : List Forward) (gs : List Forwarding) (own own' : ℕ → Places) (lost : ℕ → Bool) → AreFit fs gs own lost → forward_count_of fs k < MAX_FORWARDINGS → (own k).replied ≤ length (own k).asked → ((j : ℕ) → (k == j) ≡ true → own' j ≡ asked_more (own j) (record { client = k; what = full.Forward key })) → ((j : ℕ) → (k == j) ≡ false → own' j ≡ own j) → AreFit (fs ++ asked k key ∷ []) (gs ++ new_forwarding k key (length (own k).asked) ∷ []) own' lost
 asked-fit k key fs gs own own' lost fit room le mine others = record {
   listed = listed-last f new fs gs fit.listed (record { client = refl; key = refl; live = refl; cancel = refl; on = refl });
   in_order = order-last f new refl fs gs fit.listed fit.in_order;
   awaited = all-last (λ g. IsAwaited (own' g.client) g) new here gs (all-map (λ g. IsAwaited (own g.client) g) (λ g. IsAwaited (own' g.client) g) (λ g w. one g w (k == g.client) refl) gs fit.awaited);
-  two = two-last new gs (all-map (λ g. IsAwaited (own g.client) g) (λ g. AreTwo g new) before gs fit.awaited) fit.two;
+  two = two-last new gs (all-map (λ g. IsAwaited (own g.client) g) (λ g. AreTwoPlaces g new) before gs fit.awaited) fit.two;
   few = λ j. few j (k == j) refl;
   each = λ j lives. each j lives (k == j) refl;
   ranked = all-last (IsRanked (fs ++ f ∷ [])) f (λ r e. absurd (let x : None ≡ Some r = e in cc)) fs (all-map (IsRanked fs) (IsRanked (fs ++ f ∷ [])) (λ e is r h. subst (λ n. r < n) (sym (same-cancels e.client)) (is r h)) fs fit.ranked);
@@ -120,14 +120,14 @@ asked-fit k key fs gs own own' lost fit room le mine others = record {
     one g w true h = subst (λ x. IsAwaited x g) (sym (mine g.client h)) (awaited-more (own g.client) (record { client = k; what = full.Forward key }) g w)
     one g w false h = subst (λ x. IsAwaited x g) (sym (others g.client h)) w
 
-    before : (g : Forwarding) → IsAwaited (own g.client) g → AreTwo g (new_forwarding k key (length (own k).asked))
+    before : (g : Forwarding) → IsAwaited (own g.client) g → AreTwoPlaces g (new_forwarding k key (length (own k).asked))
     before g w = record {
       asked = λ same idle none. subst (λ j. g.request < length (own j).asked) same (slice_get_within (own g.client).asked g.request _ (w.asked idle).1);
       leaving = λ q same p n. absurd (let x : None ≡ Some q = n in cc);
     }
 
-    few : (j : ℕ) (b : Bool) → (k == j) ≡ b → count_of (fs ++ asked k key ∷ []) j ≤ MAX_FORWARDINGS
-    few j true h = subst (λ n. n ≤ MAX_FORWARDINGS) (sym (count-last (is_of j) (asked k key) fs true h)) (let r = subst (λ i. count_of fs i < MAX_FORWARDINGS) (same-number k j h) room in omega arith)
+    few : (j : ℕ) (b : Bool) → (k == j) ≡ b → forward_count_of (fs ++ asked k key ∷ []) j ≤ MAX_FORWARDINGS
+    few j true h = subst (λ n. n ≤ MAX_FORWARDINGS) (sym (count-last (is_of j) (asked k key) fs true h)) (let r = subst (λ i. forward_count_of fs i < MAX_FORWARDINGS) (same-number k j h) room in omega arith)
     few j false h = subst (λ n. n ≤ MAX_FORWARDINGS) (sym (count-last (is_of j) (asked k key) fs false h)) (fit.few j)
 
     never : (b : Bool) → (b && false) ≡ false

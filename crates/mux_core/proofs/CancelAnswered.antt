@@ -6,7 +6,7 @@ use Rattle.mux_history.specs.Channels.{is_number}
 use Rattle.mux_history.specs.Forwardings.{Forwarding}
 use Rattle.forward_rules.specs.State.{Forward}
 use Rattle.forward_rules.specs.Step.{is_of, moved_up, without_cancel_of}
-use Rattle.forward_rules.specs.Stands.{AreInOrder, AreListed, Fits, InOrder, InOrderWith, Places}
+use Rattle.forward_rules.specs.Stands.{AreForwardingsInOrder, AreForwardsListed, ForwardingFits, InOrder, InOrderWith, Places}
 use Rattle.mux_core.proofs.Ranking.{AllPairs, Known, leaves_at, same-cancelled}
 use Rattle.mux_core.proofs.Replied.{number-is}
 
@@ -57,12 +57,12 @@ pub moved-some : (rank : ℕ) (o : Option ℕ) → is_some (moved_up rank o) ≡
 moved-some rank None = refl
 moved-some rank (Some q) = elim (nat_lt rank q) as (λ b. is_some (elim b as (λ _. Option ℕ) [ true ↦ Some (q - 1) | false ↦ Some q ]) ≡ true) [ true ↦ refl | false ↦ refl ]
 
-fits-after : (k place rank : ℕ) (f : Forward) (g : Forwarding) → Seen k place rank f g → Fits f g → Fits (without_cancel_of k rank f) (released k place g)
-fits-after k place rank f g (Other h a b) fits = subst (λ e. Fits e (released k place g)) (sym a) (subst (Fits f) (sym b) fits)
-fits-after k place rank f g (Meant h x y a b) fits = subst (λ e. Fits e (released k place g)) (sym a) (subst (Fits (record f { cancel = None })) (sym b) (record { client = fits.client; key = fits.key; live = fits.live; cancel = refl; on = fits.on }))
-fits-after k place rank f g (Later h x y a b) fits = subst (λ e. Fits e (released k place g)) (sym a) (subst (Fits (record f { cancel = moved_up rank f.cancel })) (sym b) (record { client = fits.client; key = fits.key; live = fits.live; cancel = moved-some rank f.cancel ∙ fits.cancel; on = fits.on }))
+fits-after : (k place rank : ℕ) (f : Forward) (g : Forwarding) → Seen k place rank f g → ForwardingFits f g → ForwardingFits (without_cancel_of k rank f) (released k place g)
+fits-after k place rank f g (Other h a b) fits = subst (λ e. ForwardingFits e (released k place g)) (sym a) (subst (ForwardingFits f) (sym b) fits)
+fits-after k place rank f g (Meant h x y a b) fits = subst (λ e. ForwardingFits e (released k place g)) (sym a) (subst (ForwardingFits (record f { cancel = None })) (sym b) (record { client = fits.client; key = fits.key; live = fits.live; cancel = refl; on = fits.on }))
+fits-after k place rank f g (Later h x y a b) fits = subst (λ e. ForwardingFits e (released k place g)) (sym a) (subst (ForwardingFits (record f { cancel = moved_up rank f.cancel })) (sym b) (record { client = fits.client; key = fits.key; live = fits.live; cancel = moved-some rank f.cancel ∙ fits.cancel; on = fits.on }))
 
-pub listed-after : (k place rank : ℕ) (fs : List Forward) (gs : List Forwarding) → AllPairs (Seen k place rank) fs gs → AreListed fs gs → AreListed (map (without_cancel_of k rank) fs) (map (released k place) gs)
+pub listed-after : (k place rank : ℕ) (fs : List Forward) (gs : List Forwarding) → AllPairs (Seen k place rank) fs gs → AreForwardsListed fs gs → AreForwardsListed (map (without_cancel_of k rank) fs) (map (released k place) gs)
 listed-after k place rank [] [] all listed = tt
 listed-after k place rank [] (g ∷ gs) all listed = absurd listed
 listed-after k place rank (f ∷ fs) [] all listed = absurd listed
@@ -175,7 +175,7 @@ order-with k place rank f g sf [] gs all order = tt
 order-with k place rank f g sf (e ∷ es) [] all order = absurd all
 order-with k place rank f g sf (e ∷ es) (h ∷ hs) all order = (order-one k place rank f g e h sf all.0 order.0, order-with k place rank f g sf es hs all.1 order.1)
 
-pub order-after : (k place rank : ℕ) (fs : List Forward) (gs : List Forwarding) → AllPairs (Seen k place rank) fs gs → AreInOrder fs gs → AreInOrder (map (without_cancel_of k rank) fs) (map (released k place) gs)
+pub order-after : (k place rank : ℕ) (fs : List Forward) (gs : List Forwarding) → AllPairs (Seen k place rank) fs gs → AreForwardingsInOrder fs gs → AreForwardingsInOrder (map (without_cancel_of k rank) fs) (map (released k place) gs)
 order-after k place rank [] gs all order = tt
 order-after k place rank (f ∷ fs) [] all order = absurd all
 order-after k place rank (f ∷ fs) (g ∷ gs) all order = (order-with k place rank f g all.0 fs gs all.1 order.0, order-after k place rank fs gs all.1 order.1)

@@ -10,8 +10,8 @@ use Rattle.mux_history.proofs.Bools.{same-number}
 use Rattle.mux_history.proofs.Finds.{filter-no, filter-yes}
 use Rattle.mux_history.proofs.Sends.{and-left, and-right}
 use Rattle.forward_rules.specs.State.{Forward}
-use Rattle.forward_rules.specs.Step.{cancels, count_of, is_leaving, is_of, moved_up, without_cancel_of}
-use Rattle.forward_rules.specs.Stands.{AreListed, AreTwo, EachTwo, IsRanked}
+use Rattle.forward_rules.specs.Step.{cancels, forward_count_of, is_leaving, is_of, moved_up, without_cancel_of}
+use Rattle.forward_rules.specs.Stands.{AreForwardsListed, AreTwoPlaces, EachTwo, IsRanked}
 use Rattle.mux_core.proofs.CancelAnswered.{Later, Meant, Other, Seen, moved-some, some-is, up, up-some}
 use Rattle.mux_core.proofs.Pairs.{or-found}
 use Rattle.mux_core.proofs.Ranking.{AllPairs, leaves_at}
@@ -27,14 +27,14 @@ client-after k rank f = by_client (is_of k f) (is_number f.cancel rank)
     by_client true false = refl
     by_client false c = refl
 
-pub count-after : (j k rank : ℕ) (fs : List Forward) → count_of (map (without_cancel_of k rank) fs) j ≡ count_of fs j
+pub count-after : (j k rank : ℕ) (fs : List Forward) → forward_count_of (map (without_cancel_of k rank) fs) j ≡ forward_count_of fs j
 count-after j k rank [] = refl
 count-after j k rank (f ∷ fs) = by_test (count-after j k rank fs) (is_of j f) refl
   where
     mine : is_of j (without_cancel_of k rank f) ≡ is_of j f
     mine = ap (λ i. i == j) (client-after k rank f)
 
-    by_test : count_of (map (without_cancel_of k rank) fs) j ≡ count_of fs j → (b : Bool) → is_of j f ≡ b → count_of (map (without_cancel_of k rank) (f ∷ fs)) j ≡ count_of (f ∷ fs) j
+    by_test : forward_count_of (map (without_cancel_of k rank) fs) j ≡ forward_count_of fs j → (b : Bool) → is_of j f ≡ b → forward_count_of (map (without_cancel_of k rank) (f ∷ fs)) j ≡ forward_count_of (f ∷ fs) j
     by_test ih true h = ap length (filter-yes (is_of j) (without_cancel_of k rank f) (map (without_cancel_of k rank) fs) (mine ∙ h)) ∙ (ap suc ih ∙ sym (ap length (filter-yes (is_of j) f fs h)))
     by_test ih false h = ap length (filter-no (is_of j) (without_cancel_of k rank f) (map (without_cancel_of k rank) fs) (mine ∙ h)) ∙ (ih ∙ sym (ap length (filter-no (is_of j) f fs h)))
 
@@ -55,7 +55,7 @@ leaves-same j k place rank f g (Meant h x y a b) client apart =
 leaves-same j k place rank f g (Later h x y a b) client apart = ap (is_leaving j) a ∙ ap (λ b. (f.client == j) && b) (moved-some rank f.cancel)
 
 -- of another client as many as before
-pub cancels-other : (j k place rank : ℕ) → (k == j) ≡ false → (fs : List Forward) (gs : List Forwarding) → AllPairs (Seen k place rank) fs gs → AreListed fs gs → cancels j (map (without_cancel_of k rank) fs) ≡ cancels j fs
+pub cancels-other : (j k place rank : ℕ) → (k == j) ≡ false → (fs : List Forward) (gs : List Forwarding) → AllPairs (Seen k place rank) fs gs → AreForwardsListed fs gs → cancels j (map (without_cancel_of k rank) fs) ≡ cancels j fs
 cancels-other j k place rank apart [] gs all listed = refl
 cancels-other j k place rank apart (f ∷ fs) [] all listed = absurd all
 cancels-other j k place rank apart (f ∷ fs) (g ∷ gs) all listed = by_test (cancels-other j k place rank apart fs gs all.1 listed.1) (is_leaving j f) refl
@@ -68,11 +68,11 @@ cancels-other j k place rank apart (f ∷ fs) (g ∷ gs) all listed = by_test (c
     by_test ih false h = ap length (filter-no (is_leaving j) (without_cancel_of k rank f) (map (without_cancel_of k rank) fs) (same ∙ h)) ∙ (ih ∙ sym (ap length (filter-no (is_leaving j) f fs h)))
 
 -- of this client as many where the meant one isn't there, and one fewer where it is
-none-meant : (k place : ℕ) (g : Forwarding) (gs : List Forwarding) → leaves_at k place g ≡ true → AllByRecursion (AreTwo g) gs → AllByRecursion (λ h. leaves_at k place h ≡ false) gs
+none-meant : (k place : ℕ) (g : Forwarding) (gs : List Forwarding) → leaves_at k place g ≡ true → AllByRecursion (AreTwoPlaces g) gs → AllByRecursion (λ h. leaves_at k place h ≡ false) gs
 none-meant k place g [] at two = tt
 none-meant k place g (h ∷ hs) at two = (never (leaves_at k place h) (λ t. two.0.leaving place (same-number g.client k (and-left (g.client == k) _ at) ∙ sym (same-number h.client k (and-left (h.client == k) _ t))) (number-is g.cancel place (and-right (g.client == k) _ at)) (number-is h.cancel place (and-right (h.client == k) _ t))), none-meant k place g hs at two.1)
 
-cancels-none : (k place rank : ℕ) (fs : List Forward) (gs : List Forwarding) → AllPairs (Seen k place rank) fs gs → AreListed fs gs → AllByRecursion (λ h. leaves_at k place h ≡ false) gs → cancels k (map (without_cancel_of k rank) fs) ≡ cancels k fs
+cancels-none : (k place rank : ℕ) (fs : List Forward) (gs : List Forwarding) → AllPairs (Seen k place rank) fs gs → AreForwardsListed fs gs → AllByRecursion (λ h. leaves_at k place h ≡ false) gs → cancels k (map (without_cancel_of k rank) fs) ≡ cancels k fs
 cancels-none k place rank [] gs all listed miss = refl
 cancels-none k place rank (f ∷ fs) [] all listed miss = absurd all
 cancels-none k place rank (f ∷ fs) (g ∷ gs) all listed miss = by_test (cancels-none k place rank fs gs all.1 listed.1 miss.1) (is_leaving k f) refl
@@ -93,7 +93,7 @@ meant-leaves k place rank f g (Meant h x y a b) client at = (ap (λ i. (i == k) 
     no-one false = refl
 meant-leaves k place rank f g (Later h x y a b) client at = absurd (let z : true ≡ false = sym (and-right (g.client == k) _ at) ∙ y in cc)
 
-pub one-fewer : (k place rank : ℕ) (fs : List Forward) (gs : List Forwarding) → AllPairs (Seen k place rank) fs gs → AreListed fs gs → EachTwo gs → any_of (leaves_at k place) gs ≡ true → suc (cancels k (map (without_cancel_of k rank) fs)) ≡ cancels k fs
+pub one-fewer : (k place rank : ℕ) (fs : List Forward) (gs : List Forwarding) → AllPairs (Seen k place rank) fs gs → AreForwardsListed fs gs → EachTwo gs → any_of (leaves_at k place) gs ≡ true → suc (cancels k (map (without_cancel_of k rank) fs)) ≡ cancels k fs
 one-fewer k place rank [] [] all listed two there = absurd (cc)
 one-fewer k place rank [] (g ∷ gs) all listed two there = absurd all
 one-fewer k place rank (f ∷ fs) [] all listed two there = absurd all
@@ -116,7 +116,7 @@ one-fewer k place rank (f ∷ fs) (g ∷ gs) all listed two there = by_test (one
 -- ---- ranks
 
 -- the rank of the one that is meant
-pub rank-low : (k place rank : ℕ) (all fs : List Forward) (gs : List Forwarding) → AllPairs (Seen k place rank) fs gs → AreListed fs gs → AllByRecursion (IsRanked all) fs → any_of (leaves_at k place) gs ≡ true → rank < cancels k all
+pub rank-low : (k place rank : ℕ) (all fs : List Forward) (gs : List Forwarding) → AllPairs (Seen k place rank) fs gs → AreForwardsListed fs gs → AllByRecursion (IsRanked all) fs → any_of (leaves_at k place) gs ≡ true → rank < cancels k all
 rank-low k place rank all [] [] seen_ listed ranked there = absurd (cc)
 rank-low k place rank all [] (g ∷ gs) seen_ listed ranked there = absurd seen_
 rank-low k place rank all (f ∷ fs) [] seen_ listed ranked there = absurd seen_
@@ -141,7 +141,7 @@ up-low rank a n p la lr = by_test (nat_lt rank a) refl
     by_test true h = let l = above a h in subst (λ i. i < n) (sym (ap (λ (c : Bool). elim c as (λ _. ℕ) [ true ↦ a - 1 | false ↦ a ]) h)) (omega arith)
     by_test false h = let l = below a h p in subst (λ i. i < n) (sym (ap (λ (c : Bool). elim c as (λ _. ℕ) [ true ↦ a - 1 | false ↦ a ]) h)) (omega arith)
 
-pub ranked-after : (k place rank : ℕ) (all all' fs : List Forward) (gs : List Forwarding) → AllPairs (Seen k place rank) fs gs → AreListed fs gs → suc (cancels k all') ≡ cancels k all → ((j : ℕ) → (k == j) ≡ false → cancels j all' ≡ cancels j all) → rank < cancels k all → AllByRecursion (IsRanked all) fs → AllByRecursion (IsRanked all') (map (without_cancel_of k rank) fs)
+pub ranked-after : (k place rank : ℕ) (all all' fs : List Forward) (gs : List Forwarding) → AllPairs (Seen k place rank) fs gs → AreForwardsListed fs gs → suc (cancels k all') ≡ cancels k all → ((j : ℕ) → (k == j) ≡ false → cancels j all' ≡ cancels j all) → rank < cancels k all → AllByRecursion (IsRanked all) fs → AllByRecursion (IsRanked all') (map (without_cancel_of k rank) fs)
 ranked-after k place rank all all' [] gs seen_ listed mine others low ranked = tt
 ranked-after k place rank all all' (f ∷ fs) [] seen_ listed mine others low ranked = absurd seen_
 ranked-after k place rank all all' (f ∷ fs) (g ∷ gs) seen_ listed mine others low ranked = (by_seen seen_.0, ranked-after k place rank all all' fs gs seen_.1 listed.1 mine others low ranked.1)

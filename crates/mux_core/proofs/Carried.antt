@@ -2,7 +2,7 @@
 use Rattle.std.proofs.Common.{◌≡◌, ℕ, List, [], ◌∷◌, true, false, Bool, refl, ◌∙◌, ap, sym, Option, None, Result, Ok, Err, inl, inr}
 use Rattle.std.specs.Prelude.{◌&&◌, is_some}
 use Rattle.ssh_grammar.specs.declared.fault.Bad.{Bad}
-use Rattle.mux_history.specs.Summary.{Summary, read_summary, reading, sender_of}
+use Rattle.mux_history.specs.Summary.{Summary, read_summary, reading, summary_sender_of}
 use Rattle.mux_history.specs.Rows.{rows_of}
 use Rattle.mux_history.specs.Choices.{sent_number}
 use Rattle.mux_history.specs.Right.{carried_number}
@@ -32,10 +32,10 @@ carries-pick s k p pick rows bytes small taken = by_read (read_summary p) refl
     by_sent : (m : Summary) → read_summary p ≡ Ok m → Sent (rows_of k rows) pick p m (sent_summary s.policy k (rows_of k rows) pick p m).sent → carried_number (row_sent s k p pick rows).up ≡ pick
     by_sent m e (inl none) =
         let empty : ups ≡ [] = ap (λ o. o.sent) (said-ok s.policy k pick (rows_of k rows) p m e) ∙ none in
-        let no : false ≡ true = sym (ap (λ us. takes us (reading p sender_of None)) empty) ∙ taken in
+        let no : false ≡ true = sym (ap (λ us. takes us (reading p summary_sender_of None)) empty) ∙ taken in
         absurd (cc)
     by_sent m e (inr (inl plain)) =
-        let owned : reading p sender_of None ≡ None = reading-ok p m sender_of None e ∙ plain.unowned in
+        let owned : reading p summary_sender_of None ≡ None = reading-ok p m summary_sender_of None e ∙ plain.unowned in
         let no : false ≡ true = sym (ap (takes ups) owned ∙ not-taken ups) ∙ taken in
         absurd (cc)
     by_sent m e (inr (inr fresh)) =
@@ -45,6 +45,6 @@ carries-pick s k p pick rows bytes small taken = by_read (read_summary p) refl
     by_read : (r : Result Summary Bad) → read_summary p ≡ r → carried_number (row_sent s k p pick rows).up ≡ pick
     by_read (Err bad) e =
         let empty : ups ≡ [] = ap (λ (x : Result Summary Bad). (elim x as (λ _. Outcome) [ Err bad ↦ drops (why.BadMessage bad) | Ok m ↦ sent_summary s.policy k (rows_of k rows) pick p m ]).sent) e in
-        let no : false ≡ true = sym (ap (λ us. takes us (reading p sender_of None)) empty) ∙ taken in
+        let no : false ≡ true = sym (ap (λ us. takes us (reading p summary_sender_of None)) empty) ∙ taken in
         absurd (cc)
     by_read (Ok m) e = by_sent m e (sent-by s.policy k (rows_of k rows) pick p m)

@@ -8,7 +8,7 @@ use Rattle.ssh_grammar.specs.declared.side.Side.TheVariants.{Down, Up}
 use Rattle.ssh_grammar.specs.SpellMessage.{close}
 use Rattle.mux_history.specs.Summary.{Closes, Confirmation, Confirms, Within, read_summary, reading}
 use Rattle.mux_history.specs.Rows.{Fate, Goes, Heard, Row, is_admit, loses}
-use Rattle.mux_history.specs.Channels.{Channel, after_item, any_by, held_of, received_by, is_closes, is_held, is_number, is_up, opened_down, with_down, with_up, with_ups}
+use Rattle.mux_history.specs.Channels.{Channel, after_item, any_by, held_of, received_by, is_closes, is_channel_held, is_number, is_up, opened_down, with_down, with_up, with_ups}
 use Rattle.mux_history.specs.Forwardings.{Forwarding, of_client, replied}
 use Rattle.mux_history.specs.Laws.{with_act}
 use Rattle.mux_history.specs.Ledger.{other_side}
@@ -26,12 +26,12 @@ use Rattle.window_ledger.specs.Stands as ledger
 use Rattle.window_ledger.specs.Leaving as account
 use Rattle.window_ledger.proofs.Leaves.{left-now}
 use Rattle.window_ledger.proofs.Named.{stands-named}
-use Rattle.channel_table.specs.Entries.{Entry}
+use Rattle.channel_table.specs.Entries.{TableEntry}
 use Rattle.channel_table.specs.Entries.{changed_at, has_remote, shown_at}
 use Rattle.mux_core.proofs.Confirms.{confirm_remote}
-use Rattle.channel_table.specs.Stands.{Fits}
+use Rattle.channel_table.specs.Stands.{EntryFits}
 use Rattle.mux_core.specs.State.{CoreState}
-use Rattle.mux_core.specs.Stands.{Stands, TableFits, has_numbers, is_known, is_whole}
+use Rattle.mux_core.specs.Stands.{Stands, TableFits, has_numbers, is_member_known, is_whole}
 use Rattle.mux_core.specs.Lookups.{waits}
 use Rattle.mux_core.proofs.Acts.{held-after}
 use Rattle.mux_core.proofs.Altered.{altered-table, apart-remote}
@@ -73,7 +73,7 @@ closes s x = with_up None (Within s Closes) x
 
 abbrev confirm : (Channel → Channel) → ℕ → ℕ → ℕ → ℕ → ℕ → Channel → Channel
 confirm after k n s w m x = elim (x.client == k) [
-  | true ↦ after (elim (is_number x.number n && is_held x) as (λ _. Channel) [ true ↦ given s w m x | false ↦ x ])
+  | true ↦ after (elim (is_number x.number n && is_channel_held x) as (λ _. Channel) [ true ↦ given s w m x | false ↦ x ])
   | false ↦ x
 ]
 
@@ -87,20 +87,20 @@ no-begun k n s w m p ups e = elim (k == 0) as (λ b. (elim b as (λ _. List Chan
     by_ups [] = refl
     by_ups (u ∷ us) = refl
 
-pub confirmed-channels : (k n s w m : ℕ) (p : List ℕ) (o : Outcome) (rows : List Row) → read_summary p ≡ Ok (Confirmation n s w m) → o.sent ≡ [] → held_of (bare (Heard p) k o ∷ rows) ≡ filter is_held (map (confirm plain k n s w m) (held_of rows))
+pub confirmed-channels : (k n s w m : ℕ) (p : List ℕ) (o : Outcome) (rows : List Row) → read_summary p ≡ Ok (Confirmation n s w m) → o.sent ≡ [] → held_of (bare (Heard p) k o ∷ rows) ≡ filter is_channel_held (map (confirm plain k n s w m) (held_of rows))
 confirmed-channels k n s w m p o rows e none =
     held-bare (Heard p) k o rows
-    ∙ ap (filter is_held) (ap (λ ys. map (after_item (bare (Heard p) k o)) (held_of rows) ++ ys) (no-begun k n s w m p o.sent e) ∙ (append-nil (map (after_item (bare (Heard p) k o)) (held_of rows)) ∙ ap (λ (g : Channel → Channel). map g (held_of rows)) (λ i x. one x i)))
+    ∙ ap (filter is_channel_held) (ap (λ ys. map (after_item (bare (Heard p) k o)) (held_of rows) ++ ys) (no-begun k n s w m p o.sent e) ∙ (append-nil (map (after_item (bare (Heard p) k o)) (held_of rows)) ∙ ap (λ (g : Channel → Channel). map g (held_of rows)) (λ i x. one x i)))
   where
     one : (x : Channel) → after_item (bare (Heard p) k o) x ≡ confirm plain k n s w m x
     one x =
         ap (λ ups. elim (x.client == k) as (λ _. Channel) [ true ↦ with_ups None ups (received_by (Heard p) x) | false ↦ x ]) none
         ∙ ap (λ y. elim (x.client == k) as (λ _. Channel) [ true ↦ y | false ↦ x ]) (reading-ok p (Confirmation n s w m) (λ g. with_down g x) x e)
 
-pub closed-channels : (k n s w m : ℕ) (p : List ℕ) (o : Outcome) (rows : List Row) → read_summary p ≡ Ok (Confirmation n s w m) → s < 4294967296 → o.sent ≡ close s ∷ [] → held_of (bare (Heard p) k o ∷ rows) ≡ filter is_held (map (confirm (closes s) k n s w m) (held_of rows))
+pub closed-channels : (k n s w m : ℕ) (p : List ℕ) (o : Outcome) (rows : List Row) → read_summary p ≡ Ok (Confirmation n s w m) → s < 4294967296 → o.sent ≡ close s ∷ [] → held_of (bare (Heard p) k o ∷ rows) ≡ filter is_channel_held (map (confirm (closes s) k n s w m) (held_of rows))
 closed-channels k n s w m p o rows e small sent =
     held-bare (Heard p) k o rows
-    ∙ ap (filter is_held) (ap (λ ys. map (after_item (bare (Heard p) k o)) (held_of rows) ++ ys) (no-begun k n s w m p o.sent e) ∙ (append-nil (map (after_item (bare (Heard p) k o)) (held_of rows)) ∙ ap (λ (g : Channel → Channel). map g (held_of rows)) (λ i x. one x i)))
+    ∙ ap (filter is_channel_held) (ap (λ ys. map (after_item (bare (Heard p) k o)) (held_of rows) ++ ys) (no-begun k n s w m p o.sent e) ∙ (append-nil (map (after_item (bare (Heard p) k o)) (held_of rows)) ∙ ap (λ (g : Channel → Channel). map g (held_of rows)) (λ i x. one x i)))
   where
     one : (x : Channel) → after_item (bare (Heard p) k o) x ≡ confirm (closes s) k n s w m x
     one x =
@@ -124,7 +124,7 @@ not-false true h = absurd (cc)
 not-false false h = refl
 
 -- it is confirmed
-pub given-fits : (e0 : Entry) (s w m : ℕ) (l : Ledger) (x : Channel) → waits e0.channel e0.ledger ≡ true → IsConfirmed e0.ledger l w m → Fits e0 x → Fits (confirm_remote s l e0) (given s w m x)
+pub given-fits : (e0 : TableEntry) (s w m : ℕ) (l : Ledger) (x : Channel) → waits e0.channel e0.ledger ≡ true → IsConfirmed e0.ledger l w m → EntryFits e0 x → EntryFits (confirm_remote s l e0) (given s w m x)
 given-fits e0 s w m l x pend confirms fits = record {
   client = fits.client;
   by = fits.by;
@@ -136,7 +136,7 @@ given-fits e0 s w m l x pend confirms fits = record {
 }
 
 -- and closed by the master
-pub closed-fits : (e0 : Entry) (s w m : ℕ) (l : Ledger) (x : Channel) → waits e0.channel e0.ledger ≡ true → IsConfirmed e0.ledger l w m → confirmed l ≡ true → Fits e0 x → Fits (confirm_remote s (account.left l) e0) (with_act Up Closes (given s w m x))
+pub closed-fits : (e0 : TableEntry) (s w m : ℕ) (l : Ledger) (x : Channel) → waits e0.channel e0.ledger ≡ true → IsConfirmed e0.ledger l w m → confirmed l ≡ true → EntryFits e0 x → EntryFits (confirm_remote s (account.left l) e0) (with_act Up Closes (given s w m x))
 closed-fits e0 s w m l x pend confirms so fits =
     let first = given-fits e0 s w m l x pend confirms fits in
     let none : x.acts ≡ [] = fresh-acts e0.ledger.state x fits.ledger (not-false (confirmed e0.ledger) (and-right (is_up e0.channel.by) (not (confirmed e0.ledger)) pend)) in
@@ -150,7 +150,7 @@ closed-fits e0 s w m l x pend confirms so fits =
       held = held-after Up Closes (given s w m x) refl fits.held ∙ ap (λ b. not b) (ap (λ acts. any_by Down is_closes acts) none);
     }
 
-whole-given : (e0 : Entry) (s : ℕ) (l : Ledger) → waits e0.channel e0.ledger ≡ true → confirmed l ≡ true → is_whole e0 ≡ true → is_whole (confirm_remote s l e0) ≡ true
+whole-given : (e0 : TableEntry) (s : ℕ) (l : Ledger) → waits e0.channel e0.ledger ≡ true → confirmed l ≡ true → is_whole e0 ≡ true → is_whole (confirm_remote s l e0) ≡ true
 whole-given e0 s l pend so whole =
     ap (λ b. has_numbers b e0.channel.by e0.channel.own (Some s)) so ∙ (plain-and (is_some e0.channel.own) ∙ by_opener (confirmed e0.ledger) e0.channel.by (not-false (confirmed e0.ledger) (and-right (is_up e0.channel.by) (not (confirmed e0.ledger)) pend)) (and-left (is_up e0.channel.by) (not (confirmed e0.ledger)) pend) whole)
   where
@@ -165,40 +165,40 @@ whole-given e0 s l pend so whole =
 
 -- ---- the table after it
 
-abbrev free_of : ℕ → Entry → Type 0
+abbrev free_of : ℕ → TableEntry → Type 0
 free_of s e = has_remote s e ≡ false
 
 pub some-small : (s t : ℕ) → Some s ≡ Some t → s < 4294967296 → t < 4294967296
 some-small s t h small = subst (λ i. i < 4294967296) (let e : s ≡ t = cc in e) small
 
-theirs-here : (n : ℕ) (e : Entry) (x : Channel) → Fits e x → shown_at n e ≡ is_number x.number n
+theirs-here : (n : ℕ) (e : TableEntry) (x : Channel) → EntryFits e x → shown_at n e ≡ is_number x.number n
 theirs-here n e x fits = shown-number n e ∙ ap (λ o. is_number o n) fits.number
 
-confirm-others : (after : Channel → Channel) (k n s w m : ℕ) (e : Entry) (x : Channel) → (is_number x.remote s ≡ false → after x ≡ x) → free_of s e → Fits e x → is_theirs k n e ≡ false → confirm after k n s w m x ≡ x
+confirm-others : (after : Channel → Channel) (k n s w m : ℕ) (e : TableEntry) (x : Channel) → (is_number x.remote s ≡ false → after x ≡ x) → free_of s e → EntryFits e x → is_theirs k n e ≡ false → confirm after k n s w m x ≡ x
 confirm-others after k n s w m e x stays free fits h = by_client (x.client == k) refl
   where
     by_client : (b : Bool) → (x.client == k) ≡ b → confirm after k n s w m x ≡ x
-    by_client false c = ap (λ (b : Bool). elim b as (λ _. Channel) [ true ↦ after (elim (is_number x.number n && is_held x) as (λ _. Channel) [ true ↦ given s w m x | false ↦ x ]) | false ↦ x ]) c
+    by_client false c = ap (λ (b : Bool). elim b as (λ _. Channel) [ true ↦ after (elim (is_number x.number n && is_channel_held x) as (λ _. Channel) [ true ↦ given s w m x | false ↦ x ]) | false ↦ x ]) c
     by_client true c =
-        let not_here : (is_number x.number n && is_held x) ≡ false = ap (λ b. b && is_held x) (sym (theirs-here n e x fits) ∙ (ap (λ b. b && shown_at n e) (sym (ap (λ i. i == k) fits.client ∙ c)) ∙ h)) in
-        ap (λ (b : Bool). elim b as (λ _. Channel) [ true ↦ after (elim (is_number x.number n && is_held x) as (λ _. Channel) [ true ↦ given s w m x | false ↦ x ]) | false ↦ x ]) c
+        let not_here : (is_number x.number n && is_channel_held x) ≡ false = ap (λ b. b && is_channel_held x) (sym (theirs-here n e x fits) ∙ (ap (λ b. b && shown_at n e) (sym (ap (λ i. i == k) fits.client ∙ c)) ∙ h)) in
+        ap (λ (b : Bool). elim b as (λ _. Channel) [ true ↦ after (elim (is_number x.number n && is_channel_held x) as (λ _. Channel) [ true ↦ given s w m x | false ↦ x ]) | false ↦ x ]) c
         ∙ (ap (λ (b : Bool). after (elim b as (λ _. Channel) [ true ↦ given s w m x | false ↦ x ])) not_here ∙ stays (ap (λ o. is_number o s) (sym fits.remote) ∙ free))
 
-confirm-it : (after : Channel → Channel) (k n s w m : ℕ) (e : Entry) (x : Channel) → Fits e x → is_theirs k n e ≡ true → confirm after k n s w m x ≡ after (given s w m x)
+confirm-it : (after : Channel → Channel) (k n s w m : ℕ) (e : TableEntry) (x : Channel) → EntryFits e x → is_theirs k n e ≡ true → confirm after k n s w m x ≡ after (given s w m x)
 confirm-it after k n s w m e x fits h =
     let mine : (x.client == k) ≡ true = ap (λ i. i == k) (sym fits.client) ∙ and-left (e.channel.client == k) (shown_at n e) h in
-    let there : (is_number x.number n && is_held x) ≡ true = ap (λ b. b && is_held x) (sym (theirs-here n e x fits) ∙ and-right (e.channel.client == k) (shown_at n e) h) ∙ fits.held in
-    ap (λ (b : Bool). elim b as (λ _. Channel) [ true ↦ after (elim (is_number x.number n && is_held x) as (λ _. Channel) [ true ↦ given s w m x | false ↦ x ]) | false ↦ x ]) mine
+    let there : (is_number x.number n && is_channel_held x) ≡ true = ap (λ b. b && is_channel_held x) (sym (theirs-here n e x fits) ∙ and-right (e.channel.client == k) (shown_at n e) h) ∙ fits.held in
+    ap (λ (b : Bool). elim b as (λ _. Channel) [ true ↦ after (elim (is_number x.number n && is_channel_held x) as (λ _. Channel) [ true ↦ given s w m x | false ↦ x ]) | false ↦ x ]) mine
     ∙ ap (λ (b : Bool). after (elim b as (λ _. Channel) [ true ↦ given s w m x | false ↦ x ])) there
 
-pub confirmed-table : (after : Channel → Channel) (s : CoreState) (n r w m : ℕ) (l : Ledger) (e0 : Entry) (rows : List Row) → Stands s rows → find (shown_at n) s.channels ≡ Some e0 → find (has_remote r) s.channels ≡ None → r < 4294967296 → waits e0.channel e0.ledger ≡ true → confirmed l ≡ true
-    → ((x : Channel) → Fits e0 x → Fits (confirm_remote r l e0) (after (given r w m x))) → ((x : Channel) → is_number x.remote r ≡ false → after x ≡ x)
-    → TableFits (changed_at e0.number (confirm_remote r l) s.channels) (filter is_held (map (confirm after e0.channel.client n r w m) (held_of rows)))
+pub confirmed-table : (after : Channel → Channel) (s : CoreState) (n r w m : ℕ) (l : Ledger) (e0 : TableEntry) (rows : List Row) → Stands s rows → find (shown_at n) s.channels ≡ Some e0 → find (has_remote r) s.channels ≡ None → r < 4294967296 → waits e0.channel e0.ledger ≡ true → confirmed l ≡ true
+    → ((x : Channel) → EntryFits e0 x → EntryFits (confirm_remote r l e0) (after (given r w m x))) → ((x : Channel) → is_number x.remote r ≡ false → after x ≡ x)
+    → TableFits (changed_at e0.number (confirm_remote r l) s.channels) (filter is_channel_held (map (confirm after e0.channel.client n r w m) (held_of rows)))
 confirmed-table after s n r w m l e0 rows st found none small pend so it stays =
     let free = none-pass (has_remote r) s.channels none in
     let mine : is_theirs e0.channel.client n e0 ≡ true = passes (is_theirs e0.channel.client n) e0 s.channels (theirs-found s n e0 rows st found) in
     altered-table (free_of r) (is_theirs e0.channel.client n) (confirm_remote r l) (confirm after e0.channel.client n r w m) e0 s.channels (held_of rows)
-    (λ x fits. subst (Fits (confirm_remote r l e0)) (sym (confirm-it after e0.channel.client n r w m e0 x fits mine)) (it x fits))
+    (λ x fits. subst (EntryFits (confirm_remote r l e0)) (sym (confirm-it after e0.channel.client n r w m e0 x fits mine)) (it x fits))
     (λ e x f fits h. confirm-others after e0.channel.client n r w m e x (stays x) f fits h)
     (λ e. refl) refl (whole-given e0 r l pend so (found-of (λ e. is_whole e ≡ true) (shown_at n) e0 s.channels st.channels.whole found)) (λ t h. some-small r t h small)
     (apart-remote e0.number r l s.channels free st.channels.apart) free
@@ -206,13 +206,13 @@ confirmed-table after s n r w m l e0 rows st found none small pend so it stays =
 
 -- CLOSE changes no channel of another number
 pub close-others : (s : ℕ) (x : Channel) → is_number x.remote s ≡ false → closes s x ≡ x
-close-others s x h = rw (ap (λ b. b && is_held x) h, with_up) refl
+close-others s x h = rw (ap (λ b. b && is_channel_held x) h, with_up) refl
 
-pub close-it : (s w m : ℕ) (x : Channel) → is_held x ≡ true → closes s (given s w m x) ≡ with_act Up Closes (given s w m x)
-close-it s w m x held = rw (ap (λ b. b && is_held x) (same s) ∙ held, with_up) refl
+pub close-it : (s w m : ℕ) (x : Channel) → is_channel_held x ≡ true → closes s (given s w m x) ≡ with_act Up Closes (given s w m x)
+close-it s w m x held = rw (ap (λ b. b && is_channel_held x) (same s) ∙ held, with_up) refl
   where
     same : (i : ℕ) → (i == i) ≡ true
     same i = self i
 
-pub known-altered : (s : CoreState) (n r : ℕ) (l : Ledger) → AllByRecursion (λ e. is_known s.clients e.channel.client ≡ true) s.channels → AllByRecursion (λ e. is_known s.clients e.channel.client ≡ true) (changed_at n (confirm_remote r l) s.channels)
-known-altered s n r l known = all-map (λ e. is_known s.clients e.channel.client ≡ true) (λ e. is_known s.clients e.channel.client ≡ true) (λ e. elim (e.number == n) as (λ _. Entry) [ true ↦ confirm_remote r l e | false ↦ e ]) (λ e h. elim (e.number == n) as (λ b. is_known s.clients (elim b as (λ _. Entry) [ true ↦ confirm_remote r l e | false ↦ e ]).channel.client ≡ true) [ true ↦ h | false ↦ h ]) s.channels known
+pub known-altered : (s : CoreState) (n r : ℕ) (l : Ledger) → AllByRecursion (λ e. is_member_known s.clients e.channel.client ≡ true) s.channels → AllByRecursion (λ e. is_member_known s.clients e.channel.client ≡ true) (changed_at n (confirm_remote r l) s.channels)
+known-altered s n r l known = all-map (λ e. is_member_known s.clients e.channel.client ≡ true) (λ e. is_member_known s.clients e.channel.client ≡ true) (λ e. elim (e.number == n) as (λ _. TableEntry) [ true ↦ confirm_remote r l e | false ↦ e ]) (λ e h. elim (e.number == n) as (λ b. is_member_known s.clients (elim b as (λ _. TableEntry) [ true ↦ confirm_remote r l e | false ↦ e ]).channel.client ≡ true) [ true ↦ h | false ↦ h ]) s.channels known

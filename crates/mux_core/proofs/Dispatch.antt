@@ -21,49 +21,49 @@ use Rattle.mux_core.specs.declared.verdict.Verdict.TheVariants as verdict
 use Rattle.mux_core.specs.State.{CoreState, is_served}
 use Rattle.mux_core.specs.Stands.{Stands, TableFits, look}
 use Rattle.mux_core.specs.Opening.{open_verdict}
-use Rattle.mux_core.specs.Calls.{SendsAs, SendsIn, SendsOn, SendsRow, SendsSome, StartsOn}
+use Rattle.mux_core.specs.Calls.{SendsAs, CoreSendsIn, CoreSendsOn, SendsRow, SendsSome, StartsOn}
 use Rattle.mux_history.specs.Channels.{held_of}
 use Rattle.mux_core.proofs.OpensJudged.{judged}
 use Rattle.mux_core.proofs.Says.{AsksNothing, quiet-says, sent_as, same-queue, takes-unsent, records-own, unsent-held}
 use Rattle.mux_core.proofs.SendsWithin.{dropped-row, said-ok}
 use Rattle.mux_core.proofs.Served.{quiet-stands, served}
 
-pub on-all : (old new : CoreState) (k : ℕ) (p : List ℕ) (m : Summary) (up up' : QueueState) (r : Result Verdict OutOfMemory) → read_summary p ≡ Ok m → IfOk r (λ v. SendsAs old new k p m 0 up up' v) → IfOk r (λ v. SendsOn old new k p up up' v)
+pub on-all : (old new : CoreState) (k : ℕ) (p : List ℕ) (m : Summary) (up up' : QueueState) (r : Result Verdict OutOfMemory) → read_summary p ≡ Ok m → IfOk r (λ v. SendsAs old new k p m 0 up up' v) → IfOk r (λ v. CoreSendsOn old new k p up up' v)
 on-all old new k p m up up' (Ok v) e says = record { pick = 0; goes = λ rows st serves. says rows st serves e }
 on-all old new k p m up up' (Err x) e says = says
 
-pub on-some : (old new : CoreState) (k : ℕ) (p : List ℕ) (m : Summary) (up up' : QueueState) (r : Result Verdict OutOfMemory) → read_summary p ≡ Ok m → IfOk r (λ v. SendsSome old new k p m up up' v) → IfOk r (λ v. SendsOn old new k p up up' v)
+pub on-some : (old new : CoreState) (k : ℕ) (p : List ℕ) (m : Summary) (up up' : QueueState) (r : Result Verdict OutOfMemory) → read_summary p ≡ Ok m → IfOk r (λ v. SendsSome old new k p m up up' v) → IfOk r (λ v. CoreSendsOn old new k p up up' v)
 on-some old new k p m up up' (Ok v) e says = record { pick = says.pick; goes = λ rows st serves. says.goes rows st serves e }
 on-some old new k p m up up' (Err x) e says = says
 
-pub on-open : (old new : CoreState) (k : ℕ) (p : List ℕ) (what : Opens) (c w m : ℕ) (up up' : QueueState) (r : Result Verdict OutOfMemory) → read_summary p ≡ Ok (Open what c w m) → open_verdict old k c what ≡ None → IfOk r (λ v. StartsOn old new k p c w m up up' v) → IfOk r (λ v. SendsOn old new k p up up' v)
+pub on-open : (old new : CoreState) (k : ℕ) (p : List ℕ) (what : Opens) (c w m : ℕ) (up up' : QueueState) (r : Result Verdict OutOfMemory) → read_summary p ≡ Ok (Open what c w m) → open_verdict old k c what ≡ None → IfOk r (λ v. StartsOn old new k p c w m up up' v) → IfOk r (λ v. CoreSendsOn old new k p up up' v)
 on-open old new k p what c w m up up' (Ok v) e judges says = record { pick = says.pick; goes = λ rows st serves. says.goes what judges rows st serves e }
 on-open old new k p what c w m up up' (Err x) e judges says = says
 
-pub on-judged : (s : CoreState) (k : ℕ) (p : List ℕ) (what : Opens) (c w m : ℕ) (up : QueueState) (v : Verdict) → read_summary p ≡ Ok (Open what c w m) → open_verdict s k c what ≡ Some v → SendsOn s s k p up up v
+pub on-judged : (s : CoreState) (k : ℕ) (p : List ℕ) (what : Opens) (c w m : ℕ) (up : QueueState) (v : Verdict) → read_summary p ≡ Ok (Open what c w m) → open_verdict s k c what ≡ Some v → CoreSendsOn s s k p up up v
 on-judged s k p what c w m up v e judges = record { pick = 0; goes = λ rows st serves. judged s k c w m what p up v rows st serves e judges }
 
 -- ---- messages that only drop, or do nothing
 
-drops-all : (s : CoreState) (k : ℕ) (p : List ℕ) (up : QueueState) (m : Summary) (cause : Why) → read_summary p ≡ Ok m → ((rows : List Row) → sent_summary s.policy k (rows_of k rows) 0 p m ≡ drops cause) → SendsOn s s k p up up (verdict.Drop cause)
+drops-all : (s : CoreState) (k : ℕ) (p : List ℕ) (up : QueueState) (m : Summary) (cause : Why) → read_summary p ≡ Ok m → ((rows : List Row) → sent_summary s.policy k (rows_of k rows) 0 p m ≡ drops cause) → CoreSendsOn s s k p up up (verdict.Drop cause)
 drops-all s k p up m cause e each = record { pick = 0; goes = λ rows st serves. dropped-row s k 0 p up cause rows (said-ok s.policy k 0 (rows_of k rows) p m e ∙ each rows) }
 
-pub on-bad : (s : CoreState) (k : ℕ) (p : List ℕ) (up : QueueState) (bad : Bad) → read_summary p ≡ Err bad → SendsOn s s k p up up (verdict.Drop (why.BadMessage bad))
+pub on-bad : (s : CoreState) (k : ℕ) (p : List ℕ) (up : QueueState) (bad : Bad) → read_summary p ≡ Err bad → CoreSendsOn s s k p up up (verdict.Drop (why.BadMessage bad))
 on-bad s k p up bad e = record { pick = 0; goes = λ rows st serves. dropped-row s k 0 p up (why.BadMessage bad) rows (rw (e, sent_payload) refl) }
 
-pub on-success : (s : CoreState) (k : ℕ) (p rest : List ℕ) (up : QueueState) → read_summary p ≡ Ok (Succeeds rest) → SendsOn s s k p up up (verdict.Drop (why.Unasked 81))
+pub on-success : (s : CoreState) (k : ℕ) (p rest : List ℕ) (up : QueueState) → read_summary p ≡ Ok (Succeeds rest) → CoreSendsOn s s k p up up (verdict.Drop (why.Unasked 81))
 on-success s k p rest up e = drops-all s k p up (Succeeds rest) (why.Unasked 81) e (λ rows. refl)
 
-pub on-refusal : (s : CoreState) (k : ℕ) (p : List ℕ) (up : QueueState) → read_summary p ≡ Ok Refuses → SendsOn s s k p up up (verdict.Drop (why.Unasked 82))
+pub on-refusal : (s : CoreState) (k : ℕ) (p : List ℕ) (up : QueueState) → read_summary p ≡ Ok Refuses → CoreSendsOn s s k p up up (verdict.Drop (why.Unasked 82))
 on-refusal s k p up e = drops-all s k p up Refuses (why.Unasked 82) e (λ rows. refl)
 
-pub on-other : (s : CoreState) (k n : ℕ) (p : List ℕ) (up : QueueState) → (n == 1) ≡ false → read_summary p ≡ Ok (Transport n) → SendsOn s s k p up up verdict.Silent
+pub on-other : (s : CoreState) (k n : ℕ) (p : List ℕ) (up : QueueState) → (n == 1) ≡ false → read_summary p ≡ Ok (Transport n) → CoreSendsOn s s k p up up verdict.Silent
 on-other s k n p up other e = record { pick = 0; goes = one }
   where
     nothing : AsksNothing (Transport n)
     nothing = record { wants = refl; requests = λ k place fs. refl }
 
-    one : (rows : List Row) → Stands s rows → is_served s.clients k ≡ true → SendsIn s s k p 0 up up verdict.Silent rows
+    one : (rows : List Row) → Stands s rows → is_served s.clients k ≡ true → CoreSendsIn s s k p 0 up up verdict.Silent rows
     one rows st serves =
         let q = quiet-says k p (Transport n) silent e nothing refl in
         let does : sent_payload s.policy k (rows_of k rows) 0 p ≡ silent = said-ok s.policy k 0 (rows_of k rows) p (Transport n) e ∙ ap (λ (b : Bool). elim b as (λ _. Outcome) [ true ↦ drops why.Disconnected | false ↦ silent ]) other in

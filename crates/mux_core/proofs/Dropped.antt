@@ -8,7 +8,7 @@ use Rattle.mux_history.specs.Forwardings.{Forwarding}
 use Rattle.mux_history.proofs.Finds.{filter-no, filter-yes}
 use Rattle.forward_rules.specs.State.{Forward}
 use Rattle.forward_rules.specs.Step.{cancels, is_leaving, is_of}
-use Rattle.forward_rules.specs.Stands.{AreFit, AreListed, EachHas, HasAt, IsAwaited, IsRanked, Places, is_asked_at, is_leaving_at}
+use Rattle.forward_rules.specs.Stands.{AreFit, AreForwardsListed, EachHas, HasAt, IsAwaited, IsRanked, Places, is_asked_at, is_leaving_at}
 use Rattle.mux_core.proofs.Asked.{all-map}
 use Rattle.mux_core.proofs.Pairs.{find-any, or-first, or-found, or-second}
 use Rattle.mux_core.proofs.Removed.{all-by, count-by, kept_by, listed-by, order-by, two-by}
@@ -27,7 +27,7 @@ drops-map P Q each (true ∷ bs) (g ∷ gs) all = drops-map P Q each bs gs all
 drops-map P Q each (false ∷ bs) (g ∷ gs) all = (each g all.0, drops-map P Q each bs gs all.1)
 
 -- no cancel goes along
-cancels-kept : (j : ℕ) (bs : List Bool) (fs : List Forward) (gs : List Forwarding) → AreListed fs gs → Drops (λ g. g.cancel ≡ None) bs gs → cancels j (kept_by bs fs) ≡ cancels j fs
+cancels-kept : (j : ℕ) (bs : List Bool) (fs : List Forward) (gs : List Forwarding) → AreForwardsListed fs gs → Drops (λ g. g.cancel ≡ None) bs gs → cancels j (kept_by bs fs) ≡ cancels j fs
 cancels-kept j [] fs gs listed idle = refl
 cancels-kept j (b ∷ bs) [] gs listed idle = refl
 cancels-kept j (b ∷ bs) (f ∷ fs) [] listed idle = absurd listed

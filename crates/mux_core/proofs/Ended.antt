@@ -12,7 +12,7 @@ use Rattle.mux_history.proofs.CurrentSteps.{is_on}
 use Rattle.mux_history.proofs.Finds.{filter-no, filter-yes}
 use Rattle.mux_history.proofs.Sends.{and-right}
 use Rattle.forward_rules.specs.State.{Forward}
-use Rattle.forward_rules.specs.Step.{cancel_answered, is_cancelled_at, settled, settled_at, without_cancel_of}
+use Rattle.forward_rules.specs.Step.{cancel_answered, is_cancelled_at, settled, forward_settled_at, without_cancel_of}
 use Rattle.forward_rules.specs.Stands.{AreFit, IsAwaited, Places}
 use Rattle.mux_core.specs.Replying.{after_failure, after_success}
 use Rattle.mux_core.proofs.Dropped.{Drops, WaitsNot, drops-map, has-kept, kept-fit}
@@ -60,7 +60,7 @@ meant k key fs gs own lost fit here asked =
     record {
       rank = r.rank;
       known = known;
-      answered = λ done. ap (λ (o : Option ℕ). settled_at k o done fs) (first-is k (own k).replied r.rank key own fs gs refl asked known there);
+      answered = λ done. ap (λ (o : Option ℕ). forward_settled_at k o done fs) (first-is k (own k).replied r.rank key own fs gs refl asked known there);
     }
 
 pub released-fit : (k : ℕ) (key : Key) (fs : List Forward) (gs : List Forwarding) (own own' : ℕ → Places) (lost : ℕ → Bool) → AreFit fs gs own lost → Replies k own own' → lost k ≡ false → slice_get (own k).asked (own k).replied ≡ Some (record { client = k; what = full.Cancel key }) → AreFit (cancel_answered k key false fs) (filter is_on (map (after k (own k).replied Refuses) gs)) own' lost

@@ -3,7 +3,7 @@ use Rattle.std.proofs.Common.{◌≡◌, ℕ, List, [], ◌∷◌, true, false, 
 use Rattle.std.specs.Prelude.{filter, find, ◌==◌, ◌&&◌, option_map}
 use Rattle.std.specs.List.{AllByRecursion}
 use Rattle.mux_history.specs.Rows.{Row, rows_of}
-use Rattle.mux_history.specs.Channels.{Channel, any_act, channels_of, held_of, is_confirmed, is_confirms, is_held, is_number}
+use Rattle.mux_history.specs.Channels.{Channel, any_act, channels_of, held_of, is_confirmed, is_confirms, is_channel_held, is_number}
 use Rattle.mux_history.specs.Said.{confirmed_at}
 use Rattle.mux_history.proofs.Finds.{filter-no, filter-yes, find-no, find-yes}
 use Rattle.mux_history.proofs.Local as local
@@ -13,12 +13,12 @@ use Rattle.window_ledger.specs.declared.ledger.State.{State}
 use Rattle.window_ledger.specs.declared.ledger.State.TheVariants.{Opened, Confirmed}
 use Rattle.window_ledger.specs.Stands.{IsStateOf, confirmed, is_answered}
 use Rattle.window_ledger.specs.Stands as ledger
-use Rattle.channel_table.specs.Entries.{Entry}
+use Rattle.channel_table.specs.Entries.{TableEntry}
 use Rattle.channel_table.specs.Entries.{AreApart, AreTwo, has_remote, is_at, is_of, ledger_at}
-use Rattle.channel_table.specs.Stands.{ChannelsFit, Fits}
+use Rattle.channel_table.specs.Stands.{ChannelsFit, EntryFits}
 use Rattle.mux_core.specs.Lookups.{confirmed_for, confirmed_under, if_confirmed}
 use Rattle.mux_core.proofs.Apart.{Alone, Sole, all-of, alone, passes}
-use Rattle.channel_table.proofs.Fits.{FoundFit, found-fit}
+use Rattle.channel_table.proofs.EntryFits.{FoundFit, found-fit}
 
 -- ---- a client's channels among all
 
@@ -33,7 +33,7 @@ filters-turn {X} a b (x ∷ xs) = by_case (filters-turn a b xs) (a x) refl (b x)
     by_case ih false e false f = ap (filter a) (filter-no b x xs f) ∙ (ih ∙ sym (ap (filter b) (filter-no a x xs e)))
 
 pub held-local : (k : ℕ) (rows : List Row) → filter (local.is_of k) (held_of rows) ≡ held_of (rows_of k rows)
-held-local k rows = filters-turn (local.is_of k) is_held (channels_of rows) ∙ ap (filter is_held) (local.channels-local k rows)
+held-local k rows = filters-turn (local.is_of k) is_channel_held (channels_of rows) ∙ ap (filter is_channel_held) (local.channels-local k rows)
 
 pub find-filter : {X : Type 0} (p q : X → Bool) (xs : List X) → find q (filter p xs) ≡ find (λ x. p x && q x) xs
 find-filter p q [] = refl
@@ -46,22 +46,22 @@ find-filter {X} p q (x ∷ xs) = by_case (find-filter p q xs) (p x) refl (q x) r
 
 -- ---- a narrower test
 
-abbrev pub only_if : Bool → Entry → Option Entry
+abbrev pub only_if : Bool → TableEntry → Option TableEntry
 only_if true e = Some e
 only_if false e = None
 
-none-found : (t : Entry → Bool) (es : List Entry) → AllByRecursion (λ e. t e ≡ false) es → find t es ≡ None
+none-found : (t : TableEntry → Bool) (es : List TableEntry) → AllByRecursion (λ e. t e ≡ false) es → find t es ≡ None
 none-found t [] all = refl
 none-found t (e ∷ es) all = find-no t e es all.0 ∙ none-found t es all.1
 
-fails : (r t : Entry → Bool) → ((e : Entry) → t e ≡ true → r e ≡ true) → (e : Entry) → r e ≡ false → t e ≡ false
+fails : (r t : TableEntry → Bool) → ((e : TableEntry) → t e ≡ true → r e ≡ true) → (e : TableEntry) → r e ≡ false → t e ≡ false
 fails r t narrow e h = by_case (t e) refl
   where
     by_case : (b : Bool) → t e ≡ b → t e ≡ false
     by_case true k = absurd (let c = sym (narrow e k) ∙ h in cc)
     by_case false k = k
 
-pub find-narrow : (r t : Entry → Bool) → Sole r → ((e : Entry) → t e ≡ true → r e ≡ true) → (e0 : Entry) (es : List Entry) → AreApart es → find r es ≡ Some e0 → find t es ≡ only_if (t e0) e0
+pub find-narrow : (r t : TableEntry → Bool) → Sole r → ((e : TableEntry) → t e ≡ true → r e ≡ true) → (e0 : TableEntry) (es : List TableEntry) → AreApart es → find r es ≡ Some e0 → find t es ≡ only_if (t e0) e0
 find-narrow r t sole narrow e0 [] apart h = absurd (cc)
 find-narrow r t sole narrow e0 (e ∷ es) apart h = by_case (find-narrow r t sole narrow e0 es apart.1) (r e) refl
   where
@@ -76,7 +76,7 @@ find-narrow r t sole narrow e0 (e ∷ es) apart h = by_case (find-narrow r t sol
         by_test same later false q = find-no t e es q ∙ (later ∙ sym (ap (λ c. only_if c e0) (ap t (sym same) ∙ q)))
     by_case ih false k = find-no t e es (fails r t narrow e k) ∙ ih (sym (find-no r e es k) ∙ h)
 
-pub find-none : (r t : Entry → Bool) → ((e : Entry) → t e ≡ true → r e ≡ true) → (es : List Entry) → find r es ≡ None → find t es ≡ None
+pub find-none : (r t : TableEntry → Bool) → ((e : TableEntry) → t e ≡ true → r e ≡ true) → (es : List TableEntry) → find r es ≡ None → find t es ≡ None
 find-none r t narrow [] h = refl
 find-none r t narrow (e ∷ es) h = by_case (find-none r t narrow es) (r e) refl
   where
@@ -84,7 +84,7 @@ find-none r t narrow (e ∷ es) h = by_case (find-none r t narrow es) (r e) refl
     by_case ih true k = absurd (let g = sym (find-yes r e es k) ∙ h in cc)
     by_case ih false k = find-no t e es (fails r t narrow e k) ∙ ih (sym (find-no r e es k) ∙ h)
 
-find-as : (r t : Entry → Bool) (es : List Entry) → AllByRecursion (λ e. r e ≡ t e) es → find r es ≡ find t es
+find-as : (r t : TableEntry → Bool) (es : List TableEntry) → AllByRecursion (λ e. r e ≡ t e) es → find r es ≡ find t es
 find-as r t [] all = refl
 find-as r t (e ∷ es) all = by_case (find-as r t es all.1) (r e) refl
   where
@@ -93,7 +93,7 @@ find-as r t (e ∷ es) all = by_case (find-as r t es all.1) (r e) refl
     by_case ih false h = find-no r e es h ∙ (ih ∙ sym (find-no t e es (sym all.0 ∙ h)))
 
 -- under its number the same entry is found
-pub at-number : (r : Entry → Bool) → Sole r → (e0 : Entry) (es : List Entry) → AreApart es → find r es ≡ Some e0 → find (is_at e0.number) es ≡ Some e0
+pub at-number : (r : TableEntry → Bool) → Sole r → (e0 : TableEntry) (es : List TableEntry) → AreApart es → find r es ≡ Some e0 → find (is_at e0.number) es ≡ Some e0
 at-number r sole e0 es apart h =
     sym (find-as r (is_at e0.number) es (all-of (Alone r e0) (λ e. r e ≡ is_at e0.number e) (λ e one. one.test) es (alone r sole e0 es apart h))) ∙ h
 
@@ -109,12 +109,12 @@ stands-confirmed l x stands = by_state l.state stands
     by_state (Opened by window maximum) begun = sym (ap (any_act is_confirms) begun.fresh)
     by_state (Confirmed up down) accounts = sym accounts.answered
 
-abbrev pub is_confirmed_at : ℕ → ℕ → Entry → Bool
+abbrev pub is_confirmed_at : ℕ → ℕ → TableEntry → Bool
 is_confirmed_at k s e = is_of k e && (has_remote s e && confirmed e.ledger)
 
 -- the entry that the core finds, where it finds one
-pub record ConfirmedEntry (es : List Entry) (k s n : ℕ) (l : Ledger) : Type 0 where
-  pub entry : Entry
+pub record ConfirmedEntry (es : List TableEntry) (k s n : ℕ) (l : Ledger) : Type 0 where
+  pub entry : TableEntry
   pub number : entry.number ≡ n
   pub ledger : entry.ledger ≡ l
   pub found : find (has_remote s) es ≡ Some entry
@@ -126,20 +126,20 @@ pub record ConfirmedEntry (es : List Entry) (k s n : ℕ) (l : Ledger) : Type 0 
 some-same : (a b : ℕ × Ledger) → Some a ≡ Some b → a ≡ b
 some-same a b h = cc
 
-narrow : (k s : ℕ) (e : Entry) → is_confirmed_at k s e ≡ true → has_remote s e ≡ true
+narrow : (k s : ℕ) (e : TableEntry) → is_confirmed_at k s e ≡ true → has_remote s e ≡ true
 narrow k s e h = and-left (has_remote s e) (confirmed e.ledger) (and-right (is_of k e) (has_remote s e && confirmed e.ledger) h)
 
 -- what a core looks up, by the entry that the server's number finds
-looked : (es : List Entry) (k s : ℕ) (e0 : Entry) → AreApart es → find (has_remote s) es ≡ Some e0 → confirmed_for es k s ≡ if_confirmed k e0.number (Some e0.channel) (Some e0.ledger)
+looked : (es : List TableEntry) (k s : ℕ) (e0 : TableEntry) → AreApart es → find (has_remote s) es ≡ Some e0 → confirmed_for es k s ≡ if_confirmed k e0.number (Some e0.channel) (Some e0.ledger)
 looked es k s e0 apart h =
-    ap (confirmed_under es k) (ap (option_map (λ (e : Entry). e.number)) h)
-    ∙ (ap (λ o. if_confirmed k e0.number (option_map (λ (e : Entry). e.channel) o) (ledger_at es e0.number)) (at-number (has_remote s) (remote-sole s) e0 es apart h)
-    ∙ ap (λ o. if_confirmed k e0.number (Some e0.channel) (option_map (λ (e : Entry). e.ledger) o)) (at-number (has_remote s) (remote-sole s) e0 es apart h))
+    ap (confirmed_under es k) (ap (option_map (λ (e : TableEntry). e.number)) h)
+    ∙ (ap (λ o. if_confirmed k e0.number (option_map (λ (e : TableEntry). e.channel) o) (ledger_at es e0.number)) (at-number (has_remote s) (remote-sole s) e0 es apart h)
+    ∙ ap (λ o. if_confirmed k e0.number (Some e0.channel) (option_map (λ (e : TableEntry). e.ledger) o)) (at-number (has_remote s) (remote-sole s) e0 es apart h))
 
-pub confirmed-entry : (es : List Entry) (k s n : ℕ) (l : Ledger) → AreApart es → confirmed_for es k s ≡ Some (n, l) → ConfirmedEntry es k s n l
+pub confirmed-entry : (es : List TableEntry) (k s n : ℕ) (l : Ledger) → AreApart es → confirmed_for es k s ≡ Some (n, l) → ConfirmedEntry es k s n l
 confirmed-entry es k s n l apart h = by_found (find (has_remote s) es) refl
   where
-    by_test : (e0 : Entry) → find (has_remote s) es ≡ Some e0 → (b : Bool) → ((e0.channel.client == k) && confirmed e0.ledger) ≡ b → (elim b as (λ _. Option (ℕ × Ledger)) [ true ↦ Some (e0.number, e0.ledger) | false ↦ None ]) ≡ Some (n, l) → ConfirmedEntry es k s n l
+    by_test : (e0 : TableEntry) → find (has_remote s) es ≡ Some e0 → (b : Bool) → ((e0.channel.client == k) && confirmed e0.ledger) ≡ b → (elim b as (λ _. Option (ℕ × Ledger)) [ true ↦ Some (e0.number, e0.ledger) | false ↦ None ]) ≡ Some (n, l) → ConfirmedEntry es k s n l
     by_test e0 f true t g =
         let pairs = some-same (e0.number, e0.ledger) (n, l) g in
         let number : e0.number ≡ n = ap (λ (q : ℕ × Ledger). q.0) pairs in
@@ -159,19 +159,19 @@ confirmed-entry es k s n l apart h = by_found (find (has_remote s) es) refl
         }
     by_test e0 f false t g = absurd (cc)
 
-    by_found : (o : Option Entry) → find (has_remote s) es ≡ o → ConfirmedEntry es k s n l
-    by_found None f = absurd (let g : None ≡ Some (n, l) = sym (ap (confirmed_under es k) (ap (option_map (λ (e : Entry). e.number)) f)) ∙ h in cc)
+    by_found : (o : Option TableEntry) → find (has_remote s) es ≡ o → ConfirmedEntry es k s n l
+    by_found None f = absurd (let g : None ≡ Some (n, l) = sym (ap (confirmed_under es k) (ap (option_map (λ (e : TableEntry). e.number)) f)) ∙ h in cc)
     by_found (Some e0) f = by_test e0 f ((e0.channel.client == k) && confirmed e0.ledger) refl (sym (looked es k s e0 apart f) ∙ h)
 
 -- where the core finds none, none is there
-pub confirmed-none : (es : List Entry) (k s : ℕ) → AreApart es → confirmed_for es k s ≡ None → find (is_confirmed_at k s) es ≡ None
+pub confirmed-none : (es : List TableEntry) (k s : ℕ) → AreApart es → confirmed_for es k s ≡ None → find (is_confirmed_at k s) es ≡ None
 confirmed-none es k s apart h = by_found (find (has_remote s) es) refl
   where
-    by_test : (e0 : Entry) → find (has_remote s) es ≡ Some e0 → (b : Bool) → ((e0.channel.client == k) && confirmed e0.ledger) ≡ b → (elim b as (λ _. Option (ℕ × Ledger)) [ true ↦ Some (e0.number, e0.ledger) | false ↦ None ]) ≡ None → find (is_confirmed_at k s) es ≡ None
+    by_test : (e0 : TableEntry) → find (has_remote s) es ≡ Some e0 → (b : Bool) → ((e0.channel.client == k) && confirmed e0.ledger) ≡ b → (elim b as (λ _. Option (ℕ × Ledger)) [ true ↦ Some (e0.number, e0.ledger) | false ↦ None ]) ≡ None → find (is_confirmed_at k s) es ≡ None
     by_test e0 f true t g = absurd (cc)
     by_test e0 f false t g = find-narrow (has_remote s) (is_confirmed_at k s) (remote-sole s) (narrow k s) e0 es apart f ∙ ap (λ b. only_if b e0) (ap (λ b. is_of k e0 && (b && confirmed e0.ledger)) (passes (has_remote s) e0 es f) ∙ t)
 
-    by_found : (o : Option Entry) → find (has_remote s) es ≡ o → find (is_confirmed_at k s) es ≡ None
+    by_found : (o : Option TableEntry) → find (has_remote s) es ≡ o → find (is_confirmed_at k s) es ≡ None
     by_found None f = find-none (has_remote s) (is_confirmed_at k s) (narrow k s) es f
     by_found (Some e0) f = by_test e0 f ((e0.channel.client == k) && confirmed e0.ledger) refl (sym (looked es k s e0 apart f) ∙ h)
 
@@ -179,17 +179,17 @@ confirmed-none es k s apart h = by_found (find (has_remote s) es) refl
 abbrev is_theirs : ℕ → ℕ → Channel → Bool
 is_theirs k s x = local.is_of k x && (is_number x.remote s && is_confirmed x)
 
-same-test : (k s : ℕ) (e : Entry) (x : Channel) → Unit {0} → Fits e x → is_confirmed_at k s e ≡ is_theirs k s x
+same-test : (k s : ℕ) (e : TableEntry) (x : Channel) → Unit {0} → EntryFits e x → is_confirmed_at k s e ≡ is_theirs k s x
 same-test k s e x u fits =
     ap (λ i. (i == k) && (has_remote s e && confirmed e.ledger)) fits.client
     ∙ (ap (λ o. (x.client == k) && (is_number o s && confirmed e.ledger)) fits.remote
     ∙ ap (λ b. (x.client == k) && (is_number x.remote s && b)) (stands-confirmed e.ledger x fits.ledger))
 
-all-unit : (es : List Entry) → AllByRecursion (λ _. Unit {0}) es
+all-unit : (es : List TableEntry) → AllByRecursion (λ _. Unit {0}) es
 all-unit [] = tt
 all-unit (e ∷ es) = (tt, all-unit es)
 
-pub confirmed-fit : (es : List Entry) (k s : ℕ) (rows : List Row) → ChannelsFit es (held_of rows) → FoundFit (find (is_confirmed_at k s) es) (confirmed_at (rows_of k rows) s)
+pub confirmed-fit : (es : List TableEntry) (k s : ℕ) (rows : List Row) → ChannelsFit es (held_of rows) → FoundFit (find (is_confirmed_at k s) es) (confirmed_at (rows_of k rows) s)
 confirmed-fit es k s rows fit =
     subst (FoundFit (find (is_confirmed_at k s) es))
     (sym (find-filter (local.is_of k) (λ x. is_number x.remote s && is_confirmed x) (held_of rows)) ∙ ap (find (λ (x : Channel). is_number x.remote s && is_confirmed x)) (held-local k rows))

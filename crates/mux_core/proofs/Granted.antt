@@ -15,8 +15,8 @@ use Rattle.mux_history.proofs.SameKeys.{is-key}
 use Rattle.mux_history.proofs.Finds.{find-no}
 use Rattle.conn_messages.specs.Keys.{with_port}
 use Rattle.forward_rules.specs.State.{Forward}
-use Rattle.forward_rules.specs.Step.{change_first, is_asked_at}
-use Rattle.forward_rules.specs.Stands.{AreListed, AreTwo, EachTwo, Fits, IsAwaited, Places}
+use Rattle.forward_rules.specs.Step.{change_first_forward, is_asked_at}
+use Rattle.forward_rules.specs.Stands.{AreForwardsListed, AreTwoPlaces, EachTwo, ForwardingFits, IsAwaited, Places}
 
 -- the one that was asked at this place by this client
 abbrev pub asks_at : ℕ → ℕ → Forwarding → Bool
@@ -46,7 +46,7 @@ none-is None h = refl
 none-is (Some n) h = absurd (cc)
 
 -- the key of the one that is granted is that of the request
-pub asked-key : (k place : ℕ) (key : Key) (own : Places) (f : Forward) (g : Forwarding) → Fits f g → IsAwaited own g → slice_get own.asked place ≡ Some (record { client = k; what = full.Forward key }) → (g.client == k) ≡ true → is_none g.live ≡ true → (g.request == place) ≡ true → is_asked_at k key f ≡ true
+pub asked-key : (k place : ℕ) (key : Key) (own : Places) (f : Forward) (g : Forwarding) → ForwardingFits f g → IsAwaited own g → slice_get own.asked place ≡ Some (record { client = k; what = full.Forward key }) → (g.client == k) ≡ true → is_none g.live ≡ true → (g.request == place) ≡ true → is_asked_at k key f ≡ true
 asked-key k place key own f g fits waits asked mine idle at =
     let none = none-is g.live idle in
     let here : slice_get own.asked place ≡ Some (record { client = g.client; what = full.Forward g.key }) = subst (λ i. slice_get own.asked i ≡ Some (record { client = g.client; what = full.Forward g.key })) (same-number g.request place at) (waits.asked none).1 in
@@ -60,7 +60,7 @@ asked-key k place key own f g fits waits asked mine idle at =
     ∙ is-key f.key key same)
 
 -- none of those that come later waits there
-pub later-none : (k place : ℕ) (rest : List ℕ) (g : Forwarding) (gs : List Forwarding) → (g.client == k) ≡ true → is_none g.live ≡ true → (g.request == place) ≡ true → AllByRecursion (AreTwo g) gs → map (granted k place rest) gs ≡ gs
+pub later-none : (k place : ℕ) (rest : List ℕ) (g : Forwarding) (gs : List Forwarding) → (g.client == k) ≡ true → is_none g.live ≡ true → (g.request == place) ≡ true → AllByRecursion (AreTwoPlaces g) gs → map (granted k place rest) gs ≡ gs
 later-none k place rest g [] mine idle at two = refl
 later-none k place rest g (h ∷ hs) mine idle at two = ap (λ x. x ∷ map (granted k place rest) hs) (one (h.client == k) refl (is_none h.live) refl (h.request == place) refl) ∙ ap (λ xs. h ∷ xs) (later-none k place rest g hs mine idle at two.1)
   where
@@ -77,7 +77,7 @@ later-none k place rest g (h ∷ hs) mine idle at two = ap (λ x. x ∷ map (gra
     one true p true q false r = same true true false p q r refl
 
 -- one that is found in the rest was asked before none of the front
-pub before : (k place : ℕ) (g : Forwarding) (gs : List Forwarding) → (g.client == k) ≡ true → is_none g.live ≡ true → place ≤ g.request → AllByRecursion (AreTwo g) gs → is_some (find (asks_at k place) gs) ≡ true → ⊥
+pub before : (k place : ℕ) (g : Forwarding) (gs : List Forwarding) → (g.client == k) ≡ true → is_none g.live ≡ true → place ≤ g.request → AllByRecursion (AreTwoPlaces g) gs → is_some (find (asks_at k place) gs) ≡ true → ⊥
 before k place g [] mine idle le two there = cc
 before k place g (h ∷ hs) mine idle le two there = by_case (before k place g hs mine idle le two.1) (asks_at k place h) refl
   where
@@ -99,7 +99,7 @@ before k place g (h ∷ hs) mine idle le two there = by_case (before k place g h
         late g.request place le h.request (right (is_none h.live) (h.request == place) rest) (two.0.asked (same-number g.client k mine ∙ sym (same-number h.client k client)) (none-is g.live idle) (none-is h.live (left (is_none h.live) (h.request == place) rest)))
     by_case ih false t = ih (sym (ap is_some (find-no (asks_at k place) h hs t)) ∙ there)
 
-pub granted-listed : (k place : ℕ) (rest : List ℕ) (key : Key) (own : Places) (fs : List Forward) (gs : List Forwarding) → AreListed fs gs → AllByRecursion (Waiting k own) gs → EachTwo gs → own.replied ≡ place → slice_get own.asked place ≡ Some (record { client = k; what = full.Forward key }) → is_some (find (asks_at k place) gs) ≡ true → AreListed (change_first (is_asked_at k key) (is_granted (u32_at 0 rest)) fs) (map (granted k place rest) gs)
+pub granted-listed : (k place : ℕ) (rest : List ℕ) (key : Key) (own : Places) (fs : List Forward) (gs : List Forwarding) → AreForwardsListed fs gs → AllByRecursion (Waiting k own) gs → EachTwo gs → own.replied ≡ place → slice_get own.asked place ≡ Some (record { client = k; what = full.Forward key }) → is_some (find (asks_at k place) gs) ≡ true → AreForwardsListed (change_first_forward (is_asked_at k key) (is_granted (u32_at 0 rest)) fs) (map (granted k place rest) gs)
 granted-listed k place rest key own [] [] listed waits two at asked there = tt
 granted-listed k place rest key own [] (g ∷ gs) listed waits two at asked there = absurd listed
 granted-listed k place rest key own (f ∷ fs) [] listed waits two at asked there = absurd listed
@@ -108,16 +108,16 @@ granted-listed k place rest key own (f ∷ fs) (g ∷ gs) listed waits two at as
     passes : (b c d : Bool) → (g.client == k) ≡ b → is_none g.live ≡ c → (g.request == place) ≡ d → asks_at k place g ≡ (b && (c && d))
     passes b c d p q r = ap (λ x. x && (is_none g.live && (g.request == place))) p ∙ (ap (λ x. b && (x && (g.request == place))) q ∙ ap (λ x. b && (c && x)) r)
 
-    not-first : is_asked_at k key f ≡ false → asks_at k place g ≡ false → AreListed (change_first (is_asked_at k key) (is_granted (u32_at 0 rest)) fs) (map (granted k place rest) gs) → AreListed (change_first (is_asked_at k key) (is_granted (u32_at 0 rest)) (f ∷ fs)) (map (granted k place rest) (g ∷ gs))
+    not-first : is_asked_at k key f ≡ false → asks_at k place g ≡ false → AreForwardsListed (change_first_forward (is_asked_at k key) (is_granted (u32_at 0 rest)) fs) (map (granted k place rest) gs) → AreForwardsListed (change_first_forward (is_asked_at k key) (is_granted (u32_at 0 rest)) (f ∷ fs)) (map (granted k place rest) (g ∷ gs))
     not-first unasked miss tail =
-        subst (λ xs. AreListed xs (map (granted k place rest) (g ∷ gs))) (sym (ap (λ (b : Bool). elim b as (λ _. List Forward) [ true ↦ is_granted (u32_at 0 rest) f ∷ fs | false ↦ f ∷ change_first (is_asked_at k key) (is_granted (u32_at 0 rest)) fs ]) unasked))
-        (subst (λ x. AreListed (f ∷ change_first (is_asked_at k key) (is_granted (u32_at 0 rest)) fs) (x ∷ map (granted k place rest) gs)) (sym (ap (λ (b : Bool). elim b as (λ _. Forwarding) [ true ↦ record g { live = Some (bound g.key rest) } | false ↦ g ]) miss)) (listed.0, tail))
+        subst (λ xs. AreForwardsListed xs (map (granted k place rest) (g ∷ gs))) (sym (ap (λ (b : Bool). elim b as (λ _. List Forward) [ true ↦ is_granted (u32_at 0 rest) f ∷ fs | false ↦ f ∷ change_first_forward (is_asked_at k key) (is_granted (u32_at 0 rest)) fs ]) unasked))
+        (subst (λ x. AreForwardsListed (f ∷ change_first_forward (is_asked_at k key) (is_granted (u32_at 0 rest)) fs) (x ∷ map (granted k place rest) gs)) (sym (ap (λ (b : Bool). elim b as (λ _. Forwarding) [ true ↦ record g { live = Some (bound g.key rest) } | false ↦ g ]) miss)) (listed.0, tail))
 
-    by_case : (is_some (find (asks_at k place) gs) ≡ true → AreListed (change_first (is_asked_at k key) (is_granted (u32_at 0 rest)) fs) (map (granted k place rest) gs)) → (b : Bool) → (g.client == k) ≡ b → (c : Bool) → is_none g.live ≡ c → (d : Bool) → (g.request == place) ≡ d → AreListed (change_first (is_asked_at k key) (is_granted (u32_at 0 rest)) (f ∷ fs)) (map (granted k place rest) (g ∷ gs))
+    by_case : (is_some (find (asks_at k place) gs) ≡ true → AreForwardsListed (change_first_forward (is_asked_at k key) (is_granted (u32_at 0 rest)) fs) (map (granted k place rest) gs)) → (b : Bool) → (g.client == k) ≡ b → (c : Bool) → is_none g.live ≡ c → (d : Bool) → (g.request == place) ≡ d → AreForwardsListed (change_first_forward (is_asked_at k key) (is_granted (u32_at 0 rest)) (f ∷ fs)) (map (granted k place rest) (g ∷ gs))
     by_case ih true p true q true r =
-        subst (λ xs. AreListed xs (map (granted k place rest) (g ∷ gs))) (sym (ap (λ (b : Bool). elim b as (λ _. List Forward) [ true ↦ is_granted (u32_at 0 rest) f ∷ fs | false ↦ f ∷ change_first (is_asked_at k key) (is_granted (u32_at 0 rest)) fs ]) (asked-key k place key own f g listed.0 (waits.0 p) asked p q r)))
-        (subst (λ x. AreListed (is_granted (u32_at 0 rest) f ∷ fs) (x ∷ map (granted k place rest) gs)) (sym (ap (λ (b : Bool). elim b as (λ _. Forwarding) [ true ↦ record g { live = Some (bound g.key rest) } | false ↦ g ]) (passes true true true p q r)))
-        (record { client = listed.0.client; key = ap (with_port (u32_at 0 rest)) (listed.0.key ∙ ap (λ o. unwrap_or o g.key) (none-is g.live q)) ∙ same-bound g.key rest; live = refl; cancel = listed.0.cancel; on = listed.0.on }, subst (AreListed fs) (sym (later-none k place rest g gs p q r two.0)) listed.1))
+        subst (λ xs. AreForwardsListed xs (map (granted k place rest) (g ∷ gs))) (sym (ap (λ (b : Bool). elim b as (λ _. List Forward) [ true ↦ is_granted (u32_at 0 rest) f ∷ fs | false ↦ f ∷ change_first_forward (is_asked_at k key) (is_granted (u32_at 0 rest)) fs ]) (asked-key k place key own f g listed.0 (waits.0 p) asked p q r)))
+        (subst (λ x. AreForwardsListed (is_granted (u32_at 0 rest) f ∷ fs) (x ∷ map (granted k place rest) gs)) (sym (ap (λ (b : Bool). elim b as (λ _. Forwarding) [ true ↦ record g { live = Some (bound g.key rest) } | false ↦ g ]) (passes true true true p q r)))
+        (record { client = listed.0.client; key = ap (with_port (u32_at 0 rest)) (listed.0.key ∙ ap (λ o. unwrap_or o g.key) (none-is g.live q)) ∙ same-bound g.key rest; live = refl; cancel = listed.0.cancel; on = listed.0.on }, subst (AreForwardsListed fs) (sym (later-none k place rest g gs p q r two.0)) listed.1))
     by_case ih true p true q false r =
         let tail : is_some (find (asks_at k place) gs) ≡ true = sym (ap is_some (find-no (asks_at k place) g gs (passes true true false p q r))) ∙ there in
         absurd (before k place g gs p q (subst (λ n. n ≤ g.request) at ((waits.0 p).asked (none-is g.live q)).0) two.0 tail)

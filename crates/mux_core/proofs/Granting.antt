@@ -17,8 +17,8 @@ use Rattle.mux_history.proofs.Finds.{find-no, find-yes}
 use Rattle.mux_history.proofs.CurrentSteps.{is_on}
 use Rattle.mux_history.proofs.Sends.{and-left, and-right}
 use Rattle.forward_rules.specs.State.{Forward}
-use Rattle.forward_rules.specs.Step.{answered, change_first, is_asked_at}
-use Rattle.forward_rules.specs.Stands.{AreFit, AreTwo, HasAt, IsAwaited, Places}
+use Rattle.forward_rules.specs.Step.{answered, change_first_forward, is_asked_at}
+use Rattle.forward_rules.specs.Stands.{AreFit, AreTwoPlaces, HasAt, IsAwaited, Places}
 use Rattle.forward_rules.specs.Stands as stands
 use Rattle.mux_core.proofs.Alike.{AreAlike, StaysAt, alike-first, few-alike, has-map, order-alike, ranked-alike, two-map}
 use Rattle.mux_core.proofs.Granted.{Waiting, asks_at, granted, granted-listed, is_granted}
@@ -91,7 +91,7 @@ stays k place rest g = by_case (asks_at k place g)
     by_case true = record { client = refl; cancel = refl; request = refl; live = λ h. absurd (cc) }
     by_case false = record { client = refl; cancel = refl; request = refl; live = λ h. h }
 
-two-stays : (g g' h h' : Forwarding) → Stays g g' → Stays h h' → AreTwo g h → AreTwo g' h'
+two-stays : (g g' h h' : Forwarding) → Stays g g' → Stays h h' → AreTwoPlaces g h → AreTwoPlaces g' h'
 two-stays g g' h h' sg sh two = record {
   asked = λ same a b. subst (λ n. n < h'.request) (sym sg.request) (subst (λ n. g.request < n) (sym sh.request) (two.asked (sym sg.client ∙ (same ∙ sh.client)) (sg.live a) (sh.live b)));
   leaving = λ q same a b. two.leaving q (sym sg.client ∙ (same ∙ sh.client)) (sym sg.cancel ∙ a) (sym sh.cancel ∙ b);
@@ -192,7 +192,7 @@ granted-fit k rest key fs gs own own' lost fit next here asked =
     place = (own k).replied
 
     fs' : List Forward
-    fs' = change_first (is_asked_at k key) (is_granted (u32_at 0 rest)) fs
+    fs' = change_first_forward (is_asked_at k key) (is_granted (u32_at 0 rest)) fs
 
-    alike : AreAlike fs (change_first (is_asked_at k key) (is_granted (u32_at 0 rest)) fs)
+    alike : AreAlike fs (change_first_forward (is_asked_at k key) (is_granted (u32_at 0 rest)) fs)
     alike = alike-first (is_asked_at k key) (is_granted (u32_at 0 rest)) (λ f. record { client = refl; cancel = refl }) fs

@@ -11,7 +11,7 @@ use Rattle.ssh_grammar.specs.Messages as full
 use Rattle.ssh_grammar.specs.SpellMessage.{cancel_forward, client_is_gone, close, open_failure}
 use Rattle.ssh_grammar.proofs.MessageSpelled.{spelled_reads}
 use Rattle.mux_history.specs.Summary.{Act, Closes, Fails, Summary, Within, read_summary, reading}
-use Rattle.mux_history.specs.Channels.{Channel, any_by, is_closes, is_confirmed, is_held, is_number, is_up, with_up, with_ups}
+use Rattle.mux_history.specs.Channels.{Channel, any_by, is_closes, is_confirmed, is_channel_held, is_number, is_up, with_up, with_ups}
 use Rattle.mux_history.specs.Farewell.{cancel_live, leave_channel, leave_forwarding, to_number}
 use Rattle.mux_history.specs.Forwardings.{Forwarding}
 use Rattle.mux_history.specs.Laws.{with_act}
@@ -63,21 +63,21 @@ HasSmall x = (s : ℕ) → x.remote ≡ Some s → s < 4294967296
 abbrev pub Differ : Channel → Channel → Type 0
 Differ x y = (s : ℕ) → is_number x.remote s ≡ true → is_number y.remote s ≡ false
 
-act-up : (s : ℕ) (a : Act) (x : Channel) → (is_number x.remote s && is_held x) ≡ true → with_up None (Within s a) x ≡ with_act Up a x
+act-up : (s : ℕ) (a : Act) (x : Channel) → (is_number x.remote s && is_channel_held x) ≡ true → with_up None (Within s a) x ≡ with_act Up a x
 act-up s a x h = rw (h, with_up) refl
 
 no-act : (s : ℕ) (a : Act) (x : Channel) → is_number x.remote s ≡ false → with_up None (Within s a) x ≡ x
-no-act s a x h = rw (ap (λ b. b && is_held x) h, with_up) refl
+no-act s a x h = rw (ap (λ b. b && is_channel_held x) h, with_up) refl
 
 -- what is sent for a channel: nothing, or one act under its number
 named : (x : Channel) (s : ℕ) → x.remote ≡ Some s → is_number x.remote s ≡ true
 named x s h = ap (λ o. is_number o s) h ∙ self s
 
-pub leave-own : (x : Channel) → HasSmall x → is_held x ≡ true → (is_confirmed x ≡ true → is_none x.remote ≡ false) → (is_up x.by ≡ false → is_none x.remote ≡ false) → with_ups None (leave_channel x) x ≡ left x
+pub leave-own : (x : Channel) → HasSmall x → is_channel_held x ≡ true → (is_confirmed x ≡ true → is_none x.remote ≡ false) → (is_up x.by ≡ false → is_none x.remote ≡ false) → with_ups None (leave_channel x) x ≡ left x
 leave-own x small held both open_ = by_confirmed (is_confirmed x) refl (any_by Up is_closes x.acts) (is_up x.by) refl x.remote refl
   where
     one : (s : ℕ) (a : Act) (p : List ℕ) → x.remote ≡ Some s → read_summary p ≡ Ok (Within s a) → with_ups None (p ∷ []) x ≡ with_act Up a x
-    one s a p h e = reading-ok p (Within s a) (λ m. with_up None m x) x e ∙ act-up s a x (ap (λ b. b && is_held x) (named x s h) ∙ held)
+    one s a p h e = reading-ok p (Within s a) (λ m. with_up None m x) x e ∙ act-up s a x (ap (λ b. b && is_channel_held x) (named x s h) ∙ held)
 
     by_confirmed : (b : Bool) → is_confirmed x ≡ b → (c d : Bool) → is_up x.by ≡ d → (o : Option ℕ) → x.remote ≡ o
         → with_ups None (elim b as (λ _. List (List ℕ)) [ true ↦ elim c as (λ _. List (List ℕ)) [ true ↦ [] | false ↦ to_number o close ] | false ↦ elim d as (λ _. List (List ℕ)) [ true ↦ [] | false ↦ to_number o (λ s. open_failure s CONNECT_FAILED client_is_gone) ] ]) x
@@ -113,7 +113,7 @@ AllDiffer (x ∷ xs) = AllByRecursion (λ y. Differ x y × Differ y x) xs × All
 -- what is known of each
 pub record Leaving (x : Channel) : Type 0 where
   pub small : HasSmall x
-  pub held : is_held x ≡ true
+  pub held : is_channel_held x ≡ true
   pub both : is_confirmed x ≡ true → is_none x.remote ≡ false
   pub opened : is_up x.by ≡ false → is_none x.remote ≡ false
 

@@ -9,14 +9,14 @@ use Rattle.mux_history.specs.Forwardings.{Forwarding}
 use Rattle.mux_history.specs.Requests.{Ask}
 use Rattle.mux_history.proofs.Bools.{same-number}
 use Rattle.mux_history.proofs.Finds.{filter-no, filter-yes}
-use Rattle.channel_table.specs.Entries.{Entry}
+use Rattle.channel_table.specs.Entries.{TableEntry}
 use Rattle.forward_rules.specs.State.{Forward}
-use Rattle.forward_rules.specs.Step.{cancels, count_of, is_leaving, is_of, without_client}
-use Rattle.forward_rules.specs.Stands.{AreFit, AreInOrder, AreListed, AreTwo, EachHas, EachTwo, InOrderWith, IsAwaited, IsRanked, Places}
+use Rattle.forward_rules.specs.Step.{cancels, forward_count_of, is_leaving, is_of, forwards_without_client}
+use Rattle.forward_rules.specs.Stands.{AreFit, AreForwardingsInOrder, AreForwardsListed, AreTwoPlaces, EachHas, EachTwo, InOrderWith, IsAwaited, IsRanked, Places}
 use Rattle.client_teardown.specs.Leaving.{left_entries}
 use Rattle.client_teardown.specs.Laws.{left_channels}
 use Rattle.mux_core.specs.State.{MemberState, CoreState, is_served}
-use Rattle.mux_core.specs.Stands.{AreKnown, AreOnce, AsksFit, ClientFits, OwnRequests, Stands, TableFits, has_matters, is_known, look, unreplied_in}
+use Rattle.mux_core.specs.Stands.{AreKnown, AreOnce, AsksFit, ClientFits, OwnRequests, Stands, TableFits, has_matters, is_member_known, look, unreplied_in}
 use Rattle.mux_core.specs.Settling.{has_left, settled}
 use Rattle.mux_core.specs.Losing.{lose, lost_clients, lost_core}
 use Rattle.mux_core.proofs.LeftTable.{all-left-in, client-left, left-table}
@@ -50,35 +50,35 @@ other_kept k f = not (is_of k f)
 same-client : (k : ℕ) (f : Forward) (g : Forwarding) → f.client ≡ g.client → other_kept k f ≡ other k g
 same-client k f g h = ap (λ i. not (i == k)) h
 
-listed-without : (k : ℕ) (fs : List Forward) (gs : List Forwarding) → AreListed fs gs → AreListed (without_client k fs) (filter (λ g. not (g.client == k)) gs)
+listed-without : (k : ℕ) (fs : List Forward) (gs : List Forwarding) → AreForwardsListed fs gs → AreForwardsListed (forwards_without_client k fs) (filter (λ g. not (g.client == k)) gs)
 listed-without k [] [] fit = tt
 listed-without k [] (g ∷ gs) fit = absurd fit
 listed-without k (f ∷ fs) [] fit = absurd fit
 listed-without k (f ∷ fs) (g ∷ gs) fit = by_case (listed-without k fs gs fit.1) (other k g) refl
   where
-    by_case : AreListed (without_client k fs) (filter (λ g. not (g.client == k)) gs) → (b : Bool) → other k g ≡ b → AreListed (without_client k (f ∷ fs)) (filter (λ g. not (g.client == k)) (g ∷ gs))
-    by_case ih true h = subst (λ xs. AreListed xs (filter (other k) (g ∷ gs))) (sym (filter-yes (other_kept k) f fs (same-client k f g fit.0.client ∙ h))) (subst (AreListed (f ∷ without_client k fs)) (sym (filter-yes (other k) g gs h)) (fit.0, ih))
-    by_case ih false h = subst (λ xs. AreListed xs (filter (other k) (g ∷ gs))) (sym (filter-no (other_kept k) f fs (same-client k f g fit.0.client ∙ h))) (subst (AreListed (without_client k fs)) (sym (filter-no (other k) g gs h)) ih)
+    by_case : AreForwardsListed (forwards_without_client k fs) (filter (λ g. not (g.client == k)) gs) → (b : Bool) → other k g ≡ b → AreForwardsListed (forwards_without_client k (f ∷ fs)) (filter (λ g. not (g.client == k)) (g ∷ gs))
+    by_case ih true h = subst (λ xs. AreForwardsListed xs (filter (other k) (g ∷ gs))) (sym (filter-yes (other_kept k) f fs (same-client k f g fit.0.client ∙ h))) (subst (AreForwardsListed (f ∷ forwards_without_client k fs)) (sym (filter-yes (other k) g gs h)) (fit.0, ih))
+    by_case ih false h = subst (λ xs. AreForwardsListed xs (filter (other k) (g ∷ gs))) (sym (filter-no (other_kept k) f fs (same-client k f g fit.0.client ∙ h))) (subst (AreForwardsListed (forwards_without_client k fs)) (sym (filter-no (other k) g gs h)) ih)
 
-order-with : (k : ℕ) (f : Forward) (g : Forwarding) (fs : List Forward) (gs : List Forwarding) → AreListed fs gs → InOrderWith f g fs gs → InOrderWith f g (without_client k fs) (filter (λ g. not (g.client == k)) gs)
+order-with : (k : ℕ) (f : Forward) (g : Forwarding) (fs : List Forward) (gs : List Forwarding) → AreForwardsListed fs gs → InOrderWith f g fs gs → InOrderWith f g (forwards_without_client k fs) (filter (λ g. not (g.client == k)) gs)
 order-with k f g [] [] fit all = tt
 order-with k f g [] (y ∷ ys) fit all = absurd fit
 order-with k f g (x ∷ xs) [] fit all = absurd fit
 order-with k f g (x ∷ xs) (y ∷ ys) fit all = by_case (order-with k f g xs ys fit.1 all.1) (other k y) refl
   where
-    by_case : InOrderWith f g (without_client k xs) (filter (λ g. not (g.client == k)) ys) → (b : Bool) → other k y ≡ b → InOrderWith f g (without_client k (x ∷ xs)) (filter (λ g. not (g.client == k)) (y ∷ ys))
-    by_case ih true h = subst (λ zs. InOrderWith f g zs (filter (other k) (y ∷ ys))) (sym (filter-yes (other_kept k) x xs (same-client k x y fit.0.client ∙ h))) (subst (InOrderWith f g (x ∷ without_client k xs)) (sym (filter-yes (other k) y ys h)) (all.0, ih))
-    by_case ih false h = subst (λ zs. InOrderWith f g zs (filter (other k) (y ∷ ys))) (sym (filter-no (other_kept k) x xs (same-client k x y fit.0.client ∙ h))) (subst (InOrderWith f g (without_client k xs)) (sym (filter-no (other k) y ys h)) ih)
+    by_case : InOrderWith f g (forwards_without_client k xs) (filter (λ g. not (g.client == k)) ys) → (b : Bool) → other k y ≡ b → InOrderWith f g (forwards_without_client k (x ∷ xs)) (filter (λ g. not (g.client == k)) (y ∷ ys))
+    by_case ih true h = subst (λ zs. InOrderWith f g zs (filter (other k) (y ∷ ys))) (sym (filter-yes (other_kept k) x xs (same-client k x y fit.0.client ∙ h))) (subst (InOrderWith f g (x ∷ forwards_without_client k xs)) (sym (filter-yes (other k) y ys h)) (all.0, ih))
+    by_case ih false h = subst (λ zs. InOrderWith f g zs (filter (other k) (y ∷ ys))) (sym (filter-no (other_kept k) x xs (same-client k x y fit.0.client ∙ h))) (subst (InOrderWith f g (forwards_without_client k xs)) (sym (filter-no (other k) y ys h)) ih)
 
-order-without : (k : ℕ) (fs : List Forward) (gs : List Forwarding) → AreListed fs gs → AreInOrder fs gs → AreInOrder (without_client k fs) (filter (λ g. not (g.client == k)) gs)
+order-without : (k : ℕ) (fs : List Forward) (gs : List Forwarding) → AreForwardsListed fs gs → AreForwardingsInOrder fs gs → AreForwardingsInOrder (forwards_without_client k fs) (filter (λ g. not (g.client == k)) gs)
 order-without k [] [] fit all = tt
 order-without k [] (g ∷ gs) fit all = absurd fit
 order-without k (f ∷ fs) [] fit all = absurd fit
 order-without k (f ∷ fs) (g ∷ gs) fit all = by_case (order-without k fs gs fit.1 all.1) (other k g) refl
   where
-    by_case : AreInOrder (without_client k fs) (filter (λ g. not (g.client == k)) gs) → (b : Bool) → other k g ≡ b → AreInOrder (without_client k (f ∷ fs)) (filter (λ g. not (g.client == k)) (g ∷ gs))
-    by_case ih true h = subst (λ zs. AreInOrder zs (filter (other k) (g ∷ gs))) (sym (filter-yes (other_kept k) f fs (same-client k f g fit.0.client ∙ h))) (subst (AreInOrder (f ∷ without_client k fs)) (sym (filter-yes (other k) g gs h)) (order-with k f g fs gs fit.1 all.0, ih))
-    by_case ih false h = subst (λ zs. AreInOrder zs (filter (other k) (g ∷ gs))) (sym (filter-no (other_kept k) f fs (same-client k f g fit.0.client ∙ h))) (subst (AreInOrder (without_client k fs)) (sym (filter-no (other k) g gs h)) ih)
+    by_case : AreForwardingsInOrder (forwards_without_client k fs) (filter (λ g. not (g.client == k)) gs) → (b : Bool) → other k g ≡ b → AreForwardingsInOrder (forwards_without_client k (f ∷ fs)) (filter (λ g. not (g.client == k)) (g ∷ gs))
+    by_case ih true h = subst (λ zs. AreForwardingsInOrder zs (filter (other k) (g ∷ gs))) (sym (filter-yes (other_kept k) f fs (same-client k f g fit.0.client ∙ h))) (subst (AreForwardingsInOrder (f ∷ forwards_without_client k fs)) (sym (filter-yes (other k) g gs h)) (order-with k f g fs gs fit.1 all.0, ih))
+    by_case ih false h = subst (λ zs. AreForwardingsInOrder zs (filter (other k) (g ∷ gs))) (sym (filter-no (other_kept k) f fs (same-client k f g fit.0.client ∙ h))) (subst (AreForwardingsInOrder (forwards_without_client k fs)) (sym (filter-no (other k) g gs h)) ih)
 
 all-filter : {X : Type 0} (P : X → Type 0) (keep : X → Bool) (xs : List X) → AllByRecursion P xs → AllByRecursion P (filter keep xs)
 all-filter P keep [] all = tt
@@ -97,14 +97,14 @@ two-without keep [] two = tt
 two-without keep (g ∷ gs) two = by_case (two-without keep gs two.1) (keep g) refl
   where
     by_case : EachTwo (filter keep gs) → (b : Bool) → keep g ≡ b → EachTwo (filter keep (g ∷ gs))
-    by_case ih true h = subst EachTwo (sym (filter-yes keep g gs h)) (all-filter (AreTwo g) keep gs two.0, ih)
+    by_case ih true h = subst EachTwo (sym (filter-yes keep g gs h)) (all-filter (AreTwoPlaces g) keep gs two.0, ih)
     by_case ih false h = subst EachTwo (sym (filter-no keep g gs h)) ih
 
-fewer : (j : ℕ) (keep : Forward → Bool) (fs : List Forward) → count_of (filter keep fs) j ≤ count_of fs j
+fewer : (j : ℕ) (keep : Forward → Bool) (fs : List Forward) → forward_count_of (filter keep fs) j ≤ forward_count_of fs j
 fewer j keep [] = omega arith
 fewer j keep (f ∷ fs) = by_case (fewer j keep fs) (keep f) refl (is_of j f) refl
   where
-    by_case : count_of (filter keep fs) j ≤ count_of fs j → (b : Bool) → keep f ≡ b → (c : Bool) → is_of j f ≡ c → count_of (filter keep (f ∷ fs)) j ≤ count_of (f ∷ fs) j
+    by_case : forward_count_of (filter keep fs) j ≤ forward_count_of fs j → (b : Bool) → keep f ≡ b → (c : Bool) → is_of j f ≡ c → forward_count_of (filter keep (f ∷ fs)) j ≤ forward_count_of (f ∷ fs) j
     by_case ih true h true m = rw (filter-yes keep f fs h, filter-yes (is_of j) f (filter keep fs) m, filter-yes (is_of j) f fs m) (omega arith)
     by_case ih true h false m = rw (filter-yes keep f fs h, filter-no (is_of j) f (filter keep fs) m, filter-no (is_of j) f fs m) (omega arith)
     by_case ih false h true m = rw (filter-no keep f fs h, filter-yes (is_of j) f fs m) (omega arith)
@@ -125,7 +125,7 @@ others-stay k j apart (g ∷ gs) = by_case (others-stay k j apart gs) (g.client 
     by_case ih false p false q = ap (filter (λ (h : Forwarding). h.client == j)) (filter-yes (other k) g gs (ap not q)) ∙ (filter-no (λ (h : Forwarding). h.client == j) g (filter (other k) gs) p ∙ (ih ∙ sym (filter-no (λ (h : Forwarding). h.client == j) g gs p)))
 
 -- no cancel of another client goes along
-same-cancels : (k j : ℕ) → (j == k) ≡ false → (fs : List Forward) → cancels j (without_client k fs) ≡ cancels j fs
+same-cancels : (k j : ℕ) → (j == k) ≡ false → (fs : List Forward) → cancels j (forwards_without_client k fs) ≡ cancels j fs
 same-cancels k j apart [] = refl
 same-cancels k j apart (f ∷ fs) = by_case (same-cancels k j apart fs) (f.client == k) refl (is_leaving j f) refl
   where
@@ -136,21 +136,21 @@ same-cancels k j apart (f ∷ fs) = by_case (same-cancels k j apart fs) (f.clien
     left true b e = refl
     left false b e = cc
 
-    by_case : cancels j (without_client k fs) ≡ cancels j fs → (b : Bool) → (f.client == k) ≡ b → (c : Bool) → is_leaving j f ≡ c → cancels j (without_client k (f ∷ fs)) ≡ cancels j (f ∷ fs)
+    by_case : cancels j (forwards_without_client k fs) ≡ cancels j fs → (b : Bool) → (f.client == k) ≡ b → (c : Bool) → is_leaving j f ≡ c → cancels j (forwards_without_client k (f ∷ fs)) ≡ cancels j (f ∷ fs)
     by_case ih true p true q = absurd (clash f.client (left (f.client == j) (is_some f.cancel) q) p apart)
     by_case ih true p false q = ap (cancels j) (filter-no (other_kept k) f fs (ap not p)) ∙ (ih ∙ sym (ap length (filter-no (is_leaving j) f fs q)))
-    by_case ih false p true q = ap (cancels j) (filter-yes (other_kept k) f fs (ap not p)) ∙ (ap length (filter-yes (is_leaving j) f (without_client k fs) q) ∙ (ap suc ih ∙ sym (ap length (filter-yes (is_leaving j) f fs q))))
-    by_case ih false p false q = ap (cancels j) (filter-yes (other_kept k) f fs (ap not p)) ∙ (ap length (filter-no (is_leaving j) f (without_client k fs) q) ∙ (ih ∙ sym (ap length (filter-no (is_leaving j) f fs q))))
+    by_case ih false p true q = ap (cancels j) (filter-yes (other_kept k) f fs (ap not p)) ∙ (ap length (filter-yes (is_leaving j) f (forwards_without_client k fs) q) ∙ (ap suc ih ∙ sym (ap length (filter-yes (is_leaving j) f fs q))))
+    by_case ih false p false q = ap (cancels j) (filter-yes (other_kept k) f fs (ap not p)) ∙ (ap length (filter-no (is_leaving j) f (forwards_without_client k fs) q) ∙ (ih ∙ sym (ap length (filter-no (is_leaving j) f fs q))))
 
-ranked-without : (k : ℕ) (all fs : List Forward) → AllByRecursion (IsRanked all) fs → AllByRecursion (IsRanked (without_client k all)) (without_client k fs)
+ranked-without : (k : ℕ) (all fs : List Forward) → AllByRecursion (IsRanked all) fs → AllByRecursion (IsRanked (forwards_without_client k all)) (forwards_without_client k fs)
 ranked-without k all [] ranked = tt
 ranked-without k all (f ∷ fs) ranked = by_case (ranked-without k all fs ranked.1) (f.client == k) refl
   where
-    by_case : AllByRecursion (IsRanked (without_client k all)) (without_client k fs) → (b : Bool) → (f.client == k) ≡ b → AllByRecursion (IsRanked (without_client k all)) (without_client k (f ∷ fs))
-    by_case ih true p = subst (AllByRecursion (IsRanked (without_client k all))) (sym (filter-no (other_kept k) f fs (ap not p))) ih
-    by_case ih false p = subst (AllByRecursion (IsRanked (without_client k all))) (sym (filter-yes (other_kept k) f fs (ap not p))) ((λ r e. subst (λ n. r < n) (sym (same-cancels k f.client p all)) (ranked.0 r e)), ih)
+    by_case : AllByRecursion (IsRanked (forwards_without_client k all)) (forwards_without_client k fs) → (b : Bool) → (f.client == k) ≡ b → AllByRecursion (IsRanked (forwards_without_client k all)) (forwards_without_client k (f ∷ fs))
+    by_case ih true p = subst (AllByRecursion (IsRanked (forwards_without_client k all))) (sym (filter-no (other_kept k) f fs (ap not p))) ih
+    by_case ih false p = subst (AllByRecursion (IsRanked (forwards_without_client k all))) (sym (filter-yes (other_kept k) f fs (ap not p))) ((λ r e. subst (λ n. r < n) (sym (same-cancels k f.client p all)) (ranked.0 r e)), ih)
 
-forwards-lost : (k : ℕ) (fs : List Forward) (gs : List Forwarding) (own own' : ℕ → Places) (lost lost' : ℕ → Bool) → ((j : ℕ) → own' j ≡ own j) → lost' k ≡ true → ((j : ℕ) → (k == j) ≡ false → lost' j ≡ lost j) → AreFit fs gs own lost → AreFit (without_client k fs) (filter (λ g. not (g.client == k)) gs) own' lost'
+forwards-lost : (k : ℕ) (fs : List Forward) (gs : List Forwarding) (own own' : ℕ → Places) (lost lost' : ℕ → Bool) → ((j : ℕ) → own' j ≡ own j) → lost' k ≡ true → ((j : ℕ) → (k == j) ≡ false → lost' j ≡ lost j) → AreFit fs gs own lost → AreFit (forwards_without_client k fs) (filter (λ g. not (g.client == k)) gs) own' lost'
 forwards-lost k fs gs own own' lost lost' same gone others fit = record {
   listed = listed-without k fs gs fit.listed;
   in_order = order-without k fs gs fit.listed fit.in_order;
@@ -167,7 +167,7 @@ forwards-lost k fs gs own own' lost lost' same gone others fit = record {
 
 -- ---- the clients
 
-known-lost : (k j : ℕ) (cs : List MemberState) → is_known (lost_clients k cs) j ≡ is_known cs j
+known-lost : (k j : ℕ) (cs : List MemberState) → is_member_known (lost_clients k cs) j ≡ is_member_known cs j
 known-lost k j [] = refl
 known-lost k j (c ∷ cs) = ap (λ b. (c.number == j) || b) (known-lost k j cs)
 
@@ -236,24 +236,24 @@ clients-lost k old new (c ∷ cs) loss all = (client-lost k old new c loss all.0
 
 loss-known : (s : CoreState) (k : ℕ) → AreKnown s → AreKnown (lost_core s k)
 loss-known s k known = record {
-  channels = all-left-in (λ e. is_known (lost_clients k s.clients) e.channel.client ≡ true) k (λ e h. subst (λ i. is_known (lost_clients k s.clients) i ≡ true) (sym (client-left k e)) h) s.channels (all-of (λ (e : Entry). is_known s.clients e.channel.client ≡ true) (λ (e : Entry). is_known (lost_clients k s.clients) e.channel.client ≡ true) (λ e h. known-lost k e.channel.client s.clients ∙ h) s.channels known.channels);
-  asks = all-of (λ (a : Ask). is_known s.clients a.client ≡ true) (λ (a : Ask). is_known (lost_clients k s.clients) a.client ≡ true) (λ a h. known-lost k a.client s.clients ∙ h) s.asks known.asks;
+  channels = all-left-in (λ e. is_member_known (lost_clients k s.clients) e.channel.client ≡ true) k (λ e h. subst (λ i. is_member_known (lost_clients k s.clients) i ≡ true) (sym (client-left k e)) h) s.channels (all-of (λ (e : TableEntry). is_member_known s.clients e.channel.client ≡ true) (λ (e : TableEntry). is_member_known (lost_clients k s.clients) e.channel.client ≡ true) (λ e h. known-lost k e.channel.client s.clients ∙ h) s.channels known.channels);
+  asks = all-of (λ (a : Ask). is_member_known s.clients a.client ≡ true) (λ (a : Ask). is_member_known (lost_clients k s.clients) a.client ≡ true) (λ a h. known-lost k a.client s.clients ∙ h) s.asks known.asks;
   forwards = each s.forwards known.forwards;
 }
   where
-    each : (fs : List Forward) → AllByRecursion (λ f. is_served s.clients f.client ≡ true) fs → AllByRecursion (λ f. is_served (lost_clients k s.clients) f.client ≡ true) (without_client k fs)
+    each : (fs : List Forward) → AllByRecursion (λ f. is_served s.clients f.client ≡ true) fs → AllByRecursion (λ f. is_served (lost_clients k s.clients) f.client ≡ true) (forwards_without_client k fs)
     each [] all = tt
     each (f ∷ fs) all = by_case (each fs all.1) (f.client == k) refl
       where
-        by_case : AllByRecursion (λ f. is_served (lost_clients k s.clients) f.client ≡ true) (without_client k fs) → (b : Bool) → (f.client == k) ≡ b → AllByRecursion (λ f. is_served (lost_clients k s.clients) f.client ≡ true) (without_client k (f ∷ fs))
+        by_case : AllByRecursion (λ f. is_served (lost_clients k s.clients) f.client ≡ true) (forwards_without_client k fs) → (b : Bool) → (f.client == k) ≡ b → AllByRecursion (λ f. is_served (lost_clients k s.clients) f.client ≡ true) (forwards_without_client k (f ∷ fs))
         by_case ih true h = subst (AllByRecursion (λ (f : Forward). is_served (lost_clients k s.clients) f.client ≡ true)) (sym (filter-no (other_kept k) f fs (ap not h))) ih
         by_case ih false h = subst (AllByRecursion (λ (f : Forward). is_served (lost_clients k s.clients) f.client ≡ true)) (sym (filter-yes (other_kept k) f fs (ap not h))) (served-lost k f.client s.clients (turned f.client k h) ∙ all.0, ih)
 
-elsewhere : (k : ℕ) (fs : List Forward) → AllByRecursion (λ f. (f.client == k) ≡ false) (without_client k fs)
+elsewhere : (k : ℕ) (fs : List Forward) → AllByRecursion (λ f. (f.client == k) ≡ false) (forwards_without_client k fs)
 elsewhere k [] = tt
 elsewhere k (f ∷ fs) = by_case (elsewhere k fs) (f.client == k) refl
   where
-    by_case : AllByRecursion (λ f. (f.client == k) ≡ false) (without_client k fs) → (b : Bool) → (f.client == k) ≡ b → AllByRecursion (λ f. (f.client == k) ≡ false) (without_client k (f ∷ fs))
+    by_case : AllByRecursion (λ f. (f.client == k) ≡ false) (forwards_without_client k fs) → (b : Bool) → (f.client == k) ≡ b → AllByRecursion (λ f. (f.client == k) ≡ false) (forwards_without_client k (f ∷ fs))
     by_case ih true h = subst (AllByRecursion (λ (f : Forward). (f.client == k) ≡ false)) (sym (filter-no (other_kept k) f fs (ap not h))) ih
     by_case ih false h = subst (AllByRecursion (λ (f : Forward). (f.client == k) ≡ false)) (sym (filter-yes (other_kept k) f fs (ap not h))) (h, ih)
 
@@ -270,7 +270,7 @@ loss-stands s k old new st serves loss =
     record {
       channels = channels;
       asks = asks;
-      forwards = subst (λ gs. AreFit (without_client k s.forwards) gs (look new).own (look new).lost) (sym loss.current) (forwards-lost k s.forwards (look old).current (look old).own (look new).own (look old).lost (look new).lost loss.own loss.lost loss.others st.forwards);
+      forwards = subst (λ gs. AreFit (forwards_without_client k s.forwards) gs (look new).own (look new).lost) (sym loss.current) (forwards-lost k s.forwards (look old).current (look old).own (look new).own (look old).lost (look new).lost loss.own loss.lost loss.others st.forwards);
       clients = clients-settle k (has_left (lost_core s k) k) (lost_clients k s.clients) (has_matters old) (has_matters new) (look new)
           (record {
             numbers = numbers-lost k s.clients ∙ (st.clients.numbers ∙ sym (ap (filter (has_matters old)) loss.entered));

@@ -6,7 +6,7 @@ use Rattle.window_ledger.specs.declared.ledger.Ledger.{Ledger}
 use Rattle.mux_history.proofs.Bools.{same-number}
 use Rattle.mux_history.proofs.Sends.{and-left}
 use Rattle.channel_table.specs.declared.channel.Channel.{Channel}
-use Rattle.channel_table.specs.Entries.{Entry, admitted_at, changed_at, ledger_at, number_of_own, number_of_remote, with_ledger, with_own, with_remote}
+use Rattle.channel_table.specs.Entries.{TableEntry, admitted_at, changed_at, ledger_at, number_of_own, number_of_remote, with_ledger, entry_with_own, with_remote}
 use Rattle.mux_core.specs.State.{CoreState}
 use Rattle.mux_core.specs.Lookups.{awaits_answer, changed_if, if_waiting, own_is_used, uses_own, waiting_for, waiting_under}
 use Rattle.mux_core.proofs.Confirms.{confirm_own, confirm_remote, own-then, remote-then}
@@ -29,7 +29,7 @@ same-pair : (x y : ℕ × Ledger) → Some x ≡ Some y → x ≡ y
 same-pair x y h = cc
 
 -- the client of an open that waits for it is the one that answers
-pub own-used : (es : List Entry) (k r n own : ℕ) (l : Ledger) → waiting_for es k r ≡ Some (n, l) → uses_own es n own ≡ is_some (number_of_own es k own)
+pub own-used : (es : List TableEntry) (k r n own : ℕ) (l : Ledger) → waiting_for es k r ≡ Some (n, l) → uses_own es n own ≡ is_some (number_of_own es k own)
 own-used es k r n own l found = by_number (number_of_remote es r) found
   where
     by_number : (o : Option ℕ) → waiting_under es k o ≡ Some (n, l) → uses_own es n own ≡ is_some (number_of_own es k own)
@@ -50,18 +50,18 @@ own-used es k r n own l found = by_number (number_of_remote es r) found
                 ∙ ap (λ i. is_some (number_of_own es i own)) (same-number d.client k (and-left (d.client == k) (awaits_answer d b) t)))
 
 -- nothing changes where it may not
-pub named-not : (s new : CoreState) (b : Bool) (n : ℕ) (f : Entry → Entry) → b ≡ false → new ≡ record s { channels = changed_if b n f s.channels } → new ≡ s
+pub named-not : (s new : CoreState) (b : Bool) (n : ℕ) (f : TableEntry → TableEntry) → b ≡ false → new ≡ record s { channels = changed_if b n f s.channels } → new ≡ s
 named-not s new b n f fails after = after ∙ ap (λ (c : Bool). let u : CoreState = record s { channels = changed_if c n f s.channels } in u) fails
 
 -- both changes are one
-pub own-named : (s mid new : CoreState) (b : Bool) (n own : ℕ) (l : Ledger) → b ≡ true → mid ≡ record s { channels = changed_if b n (with_own own) s.channels } → new ≡ record mid { channels = changed_at n (with_ledger l) mid.channels } → new ≡ record s { channels = changed_at n (confirm_own own l) s.channels }
+pub own-named : (s mid new : CoreState) (b : Bool) (n own : ℕ) (l : Ledger) → b ≡ true → mid ≡ record s { channels = changed_if b n (entry_with_own own) s.channels } → new ≡ record mid { channels = changed_at n (with_ledger l) mid.channels } → new ≡ record s { channels = changed_at n (confirm_own own l) s.channels }
 own-named s mid new b n own l holds first second =
     second
-    ∙ (ap (λ (u : CoreState). let v : CoreState = record u { channels = changed_at n (with_ledger l) u.channels } in v) (first ∙ ap (λ (c : Bool). let u : CoreState = record s { channels = changed_if c n (with_own own) s.channels } in u) holds)
-    ∙ ap (λ (es : List Entry). let u : CoreState = record s { channels = es } in u) (own-then n own l s.channels))
+    ∙ (ap (λ (u : CoreState). let v : CoreState = record u { channels = changed_at n (with_ledger l) u.channels } in v) (first ∙ ap (λ (c : Bool). let u : CoreState = record s { channels = changed_if c n (entry_with_own own) s.channels } in u) holds)
+    ∙ ap (λ (es : List TableEntry). let u : CoreState = record s { channels = es } in u) (own-then n own l s.channels))
 
 pub remote-named : (s mid new : CoreState) (b : Bool) (n remote : ℕ) (l : Ledger) → b ≡ true → mid ≡ record s { channels = changed_if b n (with_remote remote) s.channels } → new ≡ record mid { channels = changed_at n (with_ledger l) mid.channels } → new ≡ record s { channels = changed_at n (confirm_remote remote l) s.channels }
 remote-named s mid new b n remote l holds first second =
     second
     ∙ (ap (λ (u : CoreState). let v : CoreState = record u { channels = changed_at n (with_ledger l) u.channels } in v) (first ∙ ap (λ (c : Bool). let u : CoreState = record s { channels = changed_if c n (with_remote remote) s.channels } in u) holds)
-    ∙ ap (λ (es : List Entry). let u : CoreState = record s { channels = es } in u) (remote-then n remote l s.channels))
+    ∙ ap (λ (es : List TableEntry). let u : CoreState = record s { channels = es } in u) (remote-then n remote l s.channels))

@@ -7,7 +7,7 @@ use Rattle.ssh_grammar.specs.Messages.{Key, Opens, Session, Direct, Forwarded, O
 use Rattle.mux_history.specs.declared.broke.Break.TheVariants as broke
 use Rattle.mux_history.specs.Summary.{Fails, Open, Within, read_summary, reading}
 use Rattle.mux_history.specs.Rows.{Fate, Goes, Heard, Row, any_of, is_admit, is_lost, loses, rows_of}
-use Rattle.mux_history.specs.Channels.{Channel, after_item, held_of, is_held, is_number, live_in, opened_down, with_down, with_up, with_ups}
+use Rattle.mux_history.specs.Channels.{Channel, after_item, held_of, is_channel_held, is_number, live_in, opened_down, with_down, with_up, with_ups}
 use Rattle.mux_history.specs.Keys.{has_key, is_key}
 use Rattle.mux_history.specs.Forwardings.{Forwarding, current, live_at, of_client, replied}
 use Rattle.mux_history.specs.Heard.{Breaks, Dest, ToClient, ToMaster, dest}
@@ -18,12 +18,12 @@ use Rattle.mux_history.proofs.Dests.{dest-ok}
 use Rattle.mux_history.proofs.Finds.{find-no, find-yes}
 use Rattle.mux_history.proofs.Local as local
 use Rattle.mux_history.proofs.Readings.{reading-ok}
-use Rattle.channel_table.specs.Entries.{Entry}
+use Rattle.channel_table.specs.Entries.{TableEntry}
 use Rattle.channel_table.specs.Entries.{has_remote}
 use Rattle.channel_table.specs.Stands.{ChannelsFit}
 use Rattle.forward_rules.specs.State.{Forward}
 use Rattle.forward_rules.specs.Step.{is_live_at}
-use Rattle.forward_rules.specs.Stands.{AreFit, AreListed, Places, places_of}
+use Rattle.forward_rules.specs.Stands.{AreFit, AreForwardsListed, Places, places_of}
 use Rattle.mux_core.specs.State.{CoreState, is_served}
 use Rattle.mux_core.specs.Stands.{AsksFit, ClientsFit, Look, Stands, TableFits, has_matters, look}
 use Rattle.mux_core.specs.Opening.{owner_for}
@@ -49,10 +49,10 @@ unchanged-stands s row rows st q held =
   where
     same : (j : ℕ) → has_matters (row ∷ rows) j ≡ has_matters rows j
     same j =
-        ap (λ b. (b && not (is_lost (rows_of j (row ∷ rows)))) || (any_of is_held (held_of (rows_of j (row ∷ rows))) || nat_lt (length (replies (rows_of j (row ∷ rows)))) (length (asks (rows_of j (row ∷ rows)))))) (own-same (any_of is_admit) row rows (admitted-same row q) j)
-        ∙ (ap (λ b. (any_of is_admit (rows_of j rows) && not b) || (any_of is_held (held_of (rows_of j (row ∷ rows))) || nat_lt (length (replies (rows_of j (row ∷ rows)))) (length (asks (rows_of j (row ∷ rows)))))) (own-same is_lost row rows (lost-same row q) j)
-        ∙ (ap (λ xs. (any_of is_admit (rows_of j rows) && not (is_lost (rows_of j rows))) || (any_of is_held xs || nat_lt (length (replies (rows_of j (row ∷ rows)))) (length (asks (rows_of j (row ∷ rows)))))) (sym (held-local j (row ∷ rows)) ∙ (ap (filter (local.is_of j)) held ∙ held-local j rows))
-        ∙ ap (λ (x : Places). (any_of is_admit (rows_of j rows) && not (is_lost (rows_of j rows))) || (any_of is_held (held_of (rows_of j rows)) || nat_lt x.replied (length x.asked))) (own-same places_of row rows (places-same row q) j)))
+        ap (λ b. (b && not (is_lost (rows_of j (row ∷ rows)))) || (any_of is_channel_held (held_of (rows_of j (row ∷ rows))) || nat_lt (length (replies (rows_of j (row ∷ rows)))) (length (asks (rows_of j (row ∷ rows)))))) (own-same (any_of is_admit) row rows (admitted-same row q) j)
+        ∙ (ap (λ b. (any_of is_admit (rows_of j rows) && not b) || (any_of is_channel_held (held_of (rows_of j (row ∷ rows))) || nat_lt (length (replies (rows_of j (row ∷ rows)))) (length (asks (rows_of j (row ∷ rows)))))) (own-same is_lost row rows (lost-same row q) j)
+        ∙ (ap (λ xs. (any_of is_admit (rows_of j rows) && not (is_lost (rows_of j rows))) || (any_of is_channel_held xs || nat_lt (length (replies (rows_of j (row ∷ rows)))) (length (asks (rows_of j (row ∷ rows)))))) (sym (held-local j (row ∷ rows)) ∙ (ap (filter (local.is_of j)) held ∙ held-local j rows))
+        ∙ ap (λ (x : Places). (any_of is_admit (rows_of j rows) && not (is_lost (rows_of j rows))) || (any_of is_channel_held (held_of (rows_of j rows)) || nat_lt x.replied (length x.asked))) (own-same places_of row rows (places-same row q) j)))
 
 -- ---- the row
 
@@ -75,7 +75,7 @@ quiet-opened k s w m what p o e ends = record {
     stay place (f ∷ fs) = ap (λ g. g ∷ map (of_client k (replied place (Open what s w m))) fs) (elim (f.client == k) as (λ b. (elim b as (λ _. Forwarding) [ true ↦ f | false ↦ f ]) ≡ f) [ true ↦ refl | false ↦ refl ]) ∙ ap (λ gs. f ∷ gs) (stay place fs)
 
 -- the failure is for no channel that is held
-not-theirs : (es : List Entry) (xs : List Channel) (s : ℕ) → ChannelsFit es xs → AllByRecursion (λ e. has_remote s e ≡ false) es → AllByRecursion (λ x. is_number x.remote s ≡ false) xs
+not-theirs : (es : List TableEntry) (xs : List Channel) (s : ℕ) → ChannelsFit es xs → AllByRecursion (λ e. has_remote s e ≡ false) es → AllByRecursion (λ x. is_number x.remote s ≡ false) xs
 not-theirs [] [] s fit free = tt
 not-theirs [] (x ∷ xs) s fit free = absurd fit
 not-theirs (e ∷ es) [] s fit free = absurd fit
@@ -89,7 +89,7 @@ map-same-on P f same (x ∷ xs) all = ap (λ y. y ∷ map f xs) (same x all.0) �
 pub failed-held : (s : CoreState) (k r w m : ℕ) (what : Opens) (p q : List ℕ) (rows : List Row) → Stands s rows → find (has_remote r) s.channels ≡ None → read_summary p ≡ Ok (Open what r w m) → read_summary q ≡ Ok (Within r Fails) → held_of (bare (Heard p) k (sends q) ∷ rows) ≡ held_of rows
 failed-held s k r w m what p q rows st none e f =
     held-bare (Heard p) k (sends q) rows
-    ∙ (ap (filter is_held) (ap (λ ys. map (after_item (bare (Heard p) k (sends q))) (held_of rows) ++ ys) begun ∙ (append-nil (map (after_item (bare (Heard p) k (sends q))) (held_of rows)) ∙ map-same-on (λ x. is_number x.remote r ≡ false) (after_item (bare (Heard p) k (sends q))) same (held_of rows) (not-theirs s.channels (held_of rows) r st.channels.fit (none-pass (has_remote r) s.channels none))))
+    ∙ (ap (filter is_channel_held) (ap (λ ys. map (after_item (bare (Heard p) k (sends q))) (held_of rows) ++ ys) begun ∙ (append-nil (map (after_item (bare (Heard p) k (sends q))) (held_of rows)) ∙ map-same-on (λ x. is_number x.remote r ≡ false) (after_item (bare (Heard p) k (sends q))) same (held_of rows) (not-theirs s.channels (held_of rows) r st.channels.fit (none-pass (has_remote r) s.channels none))))
     ∙ held-held rows)
   where
     begun : (elim (k == 0) as (λ _. List Channel) [ true ↦ [] | false ↦ reading p (opened_down k (q ∷ [])) [] ]) ≡ []
@@ -101,12 +101,12 @@ failed-held s k r w m what p q rows st none e f =
     same : (x : Channel) → is_number x.remote r ≡ false → after_item (bare (Heard p) k (sends q)) x ≡ x
     same x h =
         ap (λ y. elim (x.client == k) as (λ _. Channel) [ true ↦ with_ups None (q ∷ []) y | false ↦ x ]) (reading-ok p (Open what r w m) (λ g. with_down g x) x e)
-        ∙ (ap (λ y. elim (x.client == k) as (λ _. Channel) [ true ↦ y | false ↦ x ]) (reading-ok q (Within r Fails) (λ g. with_up None g x) x f ∙ rw (ap (λ b. b && is_held x) h, with_up) refl)
+        ∙ (ap (λ y. elim (x.client == k) as (λ _. Channel) [ true ↦ y | false ↦ x ]) (reading-ok q (Within r Fails) (λ g. with_up None g x) x f ∙ rw (ap (λ b. b && is_channel_held x) h, with_up) refl)
         ∙ (elim (x.client == k) as (λ b. (elim b as (λ _. Channel) [ true ↦ x | false ↦ x ]) ≡ x) [ true ↦ refl | false ↦ refl ]))
 
 -- ---- whose it is
 
-pub list-find : (key : Key) (fs : List Forward) (gs : List Forwarding) → AreListed fs gs → option_map (λ (f : Forward). f.client) (find (is_live_at key) fs) ≡ option_map (λ (g : Forwarding). g.client) (find (λ (g : Forwarding). has_key g.live key) gs)
+pub list-find : (key : Key) (fs : List Forward) (gs : List Forwarding) → AreForwardsListed fs gs → option_map (λ (f : Forward). f.client) (find (is_live_at key) fs) ≡ option_map (λ (g : Forwarding). g.client) (find (λ (g : Forwarding). has_key g.live key) gs)
 list-find key [] [] fit = refl
 list-find key [] (g ∷ gs) fit = absurd fit
 list-find key (f ∷ fs) [] fit = absurd fit

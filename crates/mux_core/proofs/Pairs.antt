@@ -12,7 +12,7 @@ use Rattle.mux_history.proofs.Finds.{filter-no, filter-yes, find-no, find-yes}
 use Rattle.mux_history.proofs.Sends.{and-left, and-right}
 use Rattle.forward_rules.specs.State.{Forward}
 use Rattle.forward_rules.specs.Step.{is_free_at, some_free}
-use Rattle.forward_rules.specs.Stands.{AreListed, Fits}
+use Rattle.forward_rules.specs.Stands.{AreForwardsListed, ForwardingFits}
 
 -- ---- booleans
 
@@ -90,7 +90,7 @@ none-some : (o : Option ℕ) → is_none o ≡ not (is_some o)
 none-some None = refl
 none-some (Some n) = refl
 
-pub free-same : (k : ℕ) (key : Key) (f : Forward) (g : Forwarding) → Fits f g → is_free_at k key f ≡ history.is_free_at k key g
+pub free-same : (k : ℕ) (key : Key) (f : Forward) (g : Forwarding) → ForwardingFits f g → is_free_at k key f ≡ history.is_forwarding_free_at k key g
 free-same k key f g fit =
     ap (λ i. (i == k) && (is_none f.cancel && (f.live && is_key f.key key))) fit.client
     ∙ (ap (λ b. (g.client == k) && (b && (f.live && is_key f.key key))) (none-some f.cancel ∙ (ap not fit.cancel ∙ sym (none-some g.cancel)))
@@ -99,18 +99,18 @@ free-same k key f g fit =
     ∙ (ap (λ b. (g.client == k) && (is_none g.cancel && b)) (live-key g.live g.key key)
     ∙ ap (λ b. (g.client == k) && (not b && (is_none g.cancel && has_key g.live key))) (sym fit.on)))))
 
-pub some-same : (k : ℕ) (key : Key) (fs : List Forward) (gs : List Forwarding) → AreListed fs gs → some_free k key fs ≡ any_of (history.is_free_at k key) gs
+pub some-same : (k : ℕ) (key : Key) (fs : List Forward) (gs : List Forwarding) → AreForwardsListed fs gs → some_free k key fs ≡ any_of (history.is_forwarding_free_at k key) gs
 some-same k key [] [] all = refl
 some-same k key [] (g ∷ gs) all = absurd all
 some-same k key (f ∷ fs) [] all = absurd all
 some-same k key (f ∷ fs) (g ∷ gs) all = by_case (some-same k key fs gs all.1) (is_free_at k key f) refl
   where
-    same : is_free_at k key f ≡ history.is_free_at k key g
+    same : is_free_at k key f ≡ history.is_forwarding_free_at k key g
     same = free-same k key f g all.0
 
-    by_case : some_free k key fs ≡ any_of (history.is_free_at k key) gs → (b : Bool) → is_free_at k key f ≡ b → some_free k key (f ∷ fs) ≡ any_of (history.is_free_at k key) (g ∷ gs)
-    by_case ih true h = ap is_some (find-yes (is_free_at k key) f fs h) ∙ sym (ap (λ b. b || any_of (history.is_free_at k key) gs) (sym same ∙ h))
-    by_case ih false h = ap is_some (find-no (is_free_at k key) f fs h) ∙ (ih ∙ sym (ap (λ b. b || any_of (history.is_free_at k key) gs) (sym same ∙ h)))
+    by_case : some_free k key fs ≡ any_of (history.is_forwarding_free_at k key) gs → (b : Bool) → is_free_at k key f ≡ b → some_free k key (f ∷ fs) ≡ any_of (history.is_forwarding_free_at k key) (g ∷ gs)
+    by_case ih true h = ap is_some (find-yes (is_free_at k key) f fs h) ∙ sym (ap (λ b. b || any_of (history.is_forwarding_free_at k key) gs) (sym same ∙ h))
+    by_case ih false h = ap is_some (find-no (is_free_at k key) f fs h) ∙ (ih ∙ sym (ap (λ b. b || any_of (history.is_forwarding_free_at k key) gs) (sym same ∙ h)))
 
 -- ---- what is known of one that is free
 
@@ -119,7 +119,7 @@ pub record IsFree (k : ℕ) (key : Key) (g : Forwarding) : Type 0 where
   pub cancel : g.cancel ≡ None
   pub live : g.live ≡ Some key
 
-pub free-is : (k : ℕ) (key : Key) (g : Forwarding) → history.is_free_at k key g ≡ true → IsFree k key g
+pub free-is : (k : ℕ) (key : Key) (g : Forwarding) → history.is_forwarding_free_at k key g ≡ true → IsFree k key g
 free-is k key g h =
     let a = and-right (g.client == k) _ h in
     let b = and-right (not g.over) _ a in

@@ -5,7 +5,7 @@ use Rattle.mux_history.specs.Rows.{Row, rows_of, any_of, is_admit, is_lost, lose
 use Rattle.mux_history.specs.Requests.{asks, asks_of, is_sent, replies, reply_in, sent_flags, wanted, wanted_by}
 use Rattle.mux_history.specs.Forwardings.{Forwarding, current, dropped, forwarded, forwardings_of}
 use Rattle.mux_history.specs.Log.{entered}
-use Rattle.mux_isolation.specs.View.{left_of}
+use Rattle.mux_isolation.specs.LogView.{waiting_left_of}
 use Rattle.mux_history.proofs.OwnRows.{idle_row, own_row}
 use Rattle.forward_rules.specs.Stands.{places_of}
 use Rattle.mux_core.specs.Stands.{look}
@@ -56,10 +56,10 @@ admitted-steady row q own = ap (λ b. b || any_of is_admit own) q.admits
 pub admitted-same : (row : Row) → IsQuiet row → (own : List Row) → any_of is_admit (row ∷ own) ≡ any_of is_admit own
 admitted-same row q own = admitted-steady row (steady row q) own
 
-pub waiting-steady : (row : Row) → IsSteady row → (own : List Row) → left_of (wanted (row ∷ own)) (replies (row ∷ own)) ≡ left_of (wanted own) (replies own)
-waiting-steady row q own = ap (λ fs. left_of fs (replies own ++ reply_in row.item)) (ap (λ fs. wanted own ++ fs) q.flags ∙ append-nil (wanted own)) ∙ ap (left_of (wanted own)) (ap (λ rs. replies own ++ rs) q.replies ∙ append-nil (replies own))
+pub waiting-steady : (row : Row) → IsSteady row → (own : List Row) → waiting_left_of (wanted (row ∷ own)) (replies (row ∷ own)) ≡ waiting_left_of (wanted own) (replies own)
+waiting-steady row q own = ap (λ fs. waiting_left_of fs (replies own ++ reply_in row.item)) (ap (λ fs. wanted own ++ fs) q.flags ∙ append-nil (wanted own)) ∙ ap (waiting_left_of (wanted own)) (ap (λ rs. replies own ++ rs) q.replies ∙ append-nil (replies own))
 
-waiting-same : (row : Row) → IsQuiet row → (own : List Row) → left_of (wanted (row ∷ own)) (replies (row ∷ own)) ≡ left_of (wanted own) (replies own)
+waiting-same : (row : Row) → IsQuiet row → (own : List Row) → waiting_left_of (wanted (row ∷ own)) (replies (row ∷ own)) ≡ waiting_left_of (wanted own) (replies own)
 waiting-same row q own = waiting-steady row (steady row q) own
 
 kept : (row : Row) (fs : List Forwarding) → loses row ≡ false → dropped row fs ≡ fs
@@ -83,7 +83,7 @@ look-same row rows q =
     let e = entered-same row rows q in
     let d : (λ (j : ℕ). any_of is_admit (rows_of j (row ∷ rows))) ≡ (λ (j : ℕ). any_of is_admit (rows_of j rows)) = λ i j. (own-same (any_of is_admit) row rows (admitted-same row q)) j i in
     let l : (λ (j : ℕ). is_lost (rows_of j (row ∷ rows))) ≡ (λ (j : ℕ). is_lost (rows_of j rows)) = λ i j. (own-same is_lost row rows (lost-same row q)) j i in
-    let w : (λ (j : ℕ). left_of (wanted (rows_of j (row ∷ rows))) (replies (rows_of j (row ∷ rows)))) ≡ (λ (j : ℕ). left_of (wanted (rows_of j rows)) (replies (rows_of j rows))) = λ i j. (own-same (λ own. left_of (wanted own) (replies own)) row rows (waiting-same row q)) j i in
+    let w : (λ (j : ℕ). waiting_left_of (wanted (rows_of j (row ∷ rows))) (replies (rows_of j (row ∷ rows)))) ≡ (λ (j : ℕ). waiting_left_of (wanted (rows_of j rows)) (replies (rows_of j rows))) = λ i j. (own-same (λ own. waiting_left_of (wanted own) (replies own)) row rows (waiting-same row q)) j i in
     λ i. record { all = a i; own = o i; current = c i; entered = e i; admitted = d i; lost = l i; waiting = w i }
 
 -- and but for the forwardings
@@ -94,5 +94,5 @@ look-steady row rows q =
     let e = entered-steady row rows q in
     let d : (λ (j : ℕ). any_of is_admit (rows_of j (row ∷ rows))) ≡ (λ (j : ℕ). any_of is_admit (rows_of j rows)) = λ i j. (own-same (any_of is_admit) row rows (admitted-steady row q)) j i in
     let l : (λ (j : ℕ). is_lost (rows_of j (row ∷ rows))) ≡ (λ (j : ℕ). is_lost (rows_of j rows)) = λ i j. (own-same is_lost row rows (lost-steady row q)) j i in
-    let w : (λ (j : ℕ). left_of (wanted (rows_of j (row ∷ rows))) (replies (rows_of j (row ∷ rows)))) ≡ (λ (j : ℕ). left_of (wanted (rows_of j rows)) (replies (rows_of j rows))) = λ i j. (own-same (λ own. left_of (wanted own) (replies own)) row rows (waiting-steady row q)) j i in
+    let w : (λ (j : ℕ). waiting_left_of (wanted (rows_of j (row ∷ rows))) (replies (rows_of j (row ∷ rows)))) ≡ (λ (j : ℕ). waiting_left_of (wanted (rows_of j rows)) (replies (rows_of j rows))) = λ i j. (own-same (λ own. waiting_left_of (wanted own) (replies own)) row rows (waiting-steady row q)) j i in
     λ i. record { all = a i; own = o i; current = current (row ∷ rows); entered = e i; admitted = d i; lost = l i; waiting = w i }

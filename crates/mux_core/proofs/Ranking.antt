@@ -15,7 +15,7 @@ use Rattle.mux_history.proofs.SameKeys.{is-key}
 use Rattle.mux_history.proofs.Sends.{and-left, and-right}
 use Rattle.forward_rules.specs.State.{Forward}
 use Rattle.forward_rules.specs.Step.{earlier, first_cancel, is_cancelled_at, is_leaving_at}
-use Rattle.forward_rules.specs.Stands.{AreInOrder, AreListed, AreTwo, EachTwo, Fits, InOrderWith, IsAwaited, Places}
+use Rattle.forward_rules.specs.Stands.{AreForwardingsInOrder, AreForwardsListed, AreTwoPlaces, EachTwo, ForwardingFits, InOrderWith, IsAwaited, Places}
 use Rattle.mux_core.proofs.Pairs.{or-found}
 use Rattle.mux_core.proofs.Replied.{cancel-is, number-is, own-of}
 
@@ -44,7 +44,7 @@ some-is : (a b : ℕ) → (let x : Option ℕ = Some a in x) ≡ Some b → a �
 some-is a b h = cc
 
 -- those after the one that is meant
-behind : (k place rank : ℕ) (f : Forward) (g : Forwarding) → g.client ≡ k → f.cancel ≡ Some rank → g.cancel ≡ Some place → (fs : List Forward) (gs : List Forwarding) → AreListed fs gs → InOrderWith f g fs gs → AllByRecursion (AreTwo g) gs → AllPairs (Sits k place rank) fs gs
+behind : (k place rank : ℕ) (f : Forward) (g : Forwarding) → g.client ≡ k → f.cancel ≡ Some rank → g.cancel ≡ Some place → (fs : List Forward) (gs : List Forwarding) → AreForwardsListed fs gs → InOrderWith f g fs gs → AllByRecursion (AreTwoPlaces g) gs → AllPairs (Sits k place rank) fs gs
 behind k place rank f g mine cf cg [] [] listed order two = tt
 behind k place rank f g mine cf cg [] (h ∷ hs) listed order two = absurd listed
 behind k place rank f g mine cf cg (e ∷ es) [] listed order two = absurd listed
@@ -67,7 +67,7 @@ ahead k place rank f g (e ∷ es) (h ∷ hs) order sits there r q mine a b = by_
     by_test ih true t = order.0 r q rank place (mine ∙ sym (same-number h.client k (and-left (h.client == k) _ t))) a b (sits.0.meets t) (number-is h.cancel place (and-right (h.client == k) _ t))
     by_test ih false t = ih (or-found (leaves_at k place h) (any_of (leaves_at k place) hs) there t)
 
-pub rank-of : (k place : ℕ) (fs : List Forward) (gs : List Forwarding) → AreListed fs gs → AreInOrder fs gs → EachTwo gs → any_of (leaves_at k place) gs ≡ true → RankOf k place fs gs
+pub rank-of : (k place : ℕ) (fs : List Forward) (gs : List Forwarding) → AreForwardsListed fs gs → AreForwardingsInOrder fs gs → EachTwo gs → any_of (leaves_at k place) gs ≡ true → RankOf k place fs gs
 rank-of k place [] [] listed order two there = absurd (cc)
 rank-of k place [] (g ∷ gs) listed order two there = absurd listed
 rank-of k place (f ∷ fs) [] listed order two there = absurd listed
@@ -114,11 +114,11 @@ rank-of k place (f ∷ fs) (g ∷ gs) listed order two there = by_test (rank-of 
 -- ---- what is known of each pair
 
 pub record Known (k place rank : ℕ) (own : ℕ → Places) (f : Forward) (g : Forwarding) : Type 0 where
-  pub fits : Fits f g
+  pub fits : ForwardingFits f g
   pub waits : IsAwaited (own g.client) g
   pub sits : Sits k place rank f g
 
-pub known-all : (k place rank : ℕ) (own : ℕ → Places) (fs : List Forward) (gs : List Forwarding) → AreListed fs gs → AllByRecursion (λ g. IsAwaited (own g.client) g) gs → AllPairs (Sits k place rank) fs gs → AllPairs (Known k place rank own) fs gs
+pub known-all : (k place rank : ℕ) (own : ℕ → Places) (fs : List Forward) (gs : List Forwarding) → AreForwardsListed fs gs → AllByRecursion (λ g. IsAwaited (own g.client) g) gs → AllPairs (Sits k place rank) fs gs → AllPairs (Known k place rank own) fs gs
 known-all k place rank own [] [] listed waits sits = tt
 known-all k place rank own [] (g ∷ gs) listed waits sits = absurd listed
 known-all k place rank own (f ∷ fs) [] listed waits sits = absurd listed

@@ -17,18 +17,18 @@ use Rattle.window_ledger.specs.declared.ledger.Ledger.{Ledger}
 use Rattle.window_ledger.specs.Stands.{IsConfirmed, confirmed}
 use Rattle.window_ledger.specs.Leaving as account
 use Rattle.channel_table.specs.declared.channel.Channel as table
-use Rattle.channel_table.specs.Entries.{Entry}
+use Rattle.channel_table.specs.Entries.{TableEntry}
 use Rattle.channel_table.specs.Entries.{changed_at, has_remote, number_of_remote}
 use Rattle.mux_core.proofs.ConfirmedTable.{close-it, close-others, closed-channels, closed-fits, closes, confirmed-channels, confirmed-table, given-fits, known-altered, not-false, plain, quiet-confirmed}
 use Rattle.mux_core.proofs.Confirms.{confirm_remote}
-use Rattle.channel_table.specs.Stands.{Fits}
+use Rattle.channel_table.specs.Stands.{EntryFits}
 use Rattle.mux_core.specs.declared.heard.Delivery.TheVariants as heard
 use Rattle.mux_core.specs.State.{CoreState}
 use Rattle.mux_core.specs.Stands.{Stands, TableFits}
 use Rattle.mux_core.specs.Lookups.{channel_for, waits}
 use Rattle.mux_core.specs.Settling.{is_lost_in, settled}
 use Rattle.mux_core.specs.Calls.{ReceivesAs}
-use Rattle.channel_table.proofs.Fits.{FoundFit, found-fit}
+use Rattle.channel_table.proofs.EntryFits.{FoundFit, found-fit}
 use Rattle.mux_core.proofs.ReceivesOpen.{delivers-row, own-number-is, passes-row, pending-is, pending-none}
 use Rattle.mux_core.proofs.ChannelReceived.{shown-entry, shown-none}
 use Rattle.mux_core.proofs.ReceivesWithin.{entry-known, holds, known-served}
@@ -46,12 +46,12 @@ none-live s r rows st none = by_found (live_in rows r) refl (subst (λ o. FoundF
     by_found None h f = h
     by_found (Some x) h f = absurd (subst (FoundFit None) h f)
 
-pub is-free : (es : List Entry) (r : ℕ) → is_some (number_of_remote es r) ≡ false → find (has_remote r) es ≡ None
+pub is-free : (es : List TableEntry) (r : ℕ) → is_some (number_of_remote es r) ≡ false → find (has_remote r) es ≡ None
 is-free es r h = by_found (find (has_remote r) es) refl h
   where
-    by_found : (o : Option Entry) → find (has_remote r) es ≡ o → is_some (option_map (λ (e : Entry). e.number) (find (has_remote r) es)) ≡ false → find (has_remote r) es ≡ None
+    by_found : (o : Option TableEntry) → find (has_remote r) es ≡ o → is_some (option_map (λ (e : TableEntry). e.number) (find (has_remote r) es)) ≡ false → find (has_remote r) es ≡ None
     by_found None f h = f
-    by_found (Some e) f h = absurd (let c = sym (ap (λ o. is_some (option_map (λ (e : Entry). e.number) o)) f) ∙ h in cc)
+    by_found (Some e) f h = absurd (let c = sym (ap (λ o. is_some (option_map (λ (e : TableEntry). e.number) o)) f) ∙ h in cc)
 
 -- what a live one gives
 pub data IsLive (rows : List Row) (r : ℕ) : Type 0 where
@@ -60,9 +60,9 @@ pub data IsLive (rows : List Row) (r : ℕ) : Type 0 where
 pub is-live : (s : CoreState) (r : ℕ) (rows : List Row) → Stands s rows → is_some (number_of_remote s.channels r) ≡ true → IsLive rows r
 is-live s r rows st h = by_found (find (has_remote r) s.channels) refl (live_in rows r) refl (remote-fit s r rows st)
   where
-    by_found : (o : Option Entry) → find (has_remote r) s.channels ≡ o → (c : Option Channel) → live_in rows r ≡ c → FoundFit (find (has_remote r) s.channels) (live_in rows r) → IsLive rows r
+    by_found : (o : Option TableEntry) → find (has_remote r) s.channels ≡ o → (c : Option Channel) → live_in rows r ≡ c → FoundFit (find (has_remote r) s.channels) (live_in rows r) → IsLive rows r
     by_found o f (Some x) g fit = live x g
-    by_found None f None g fit = absurd (let c = sym (ap (λ u. is_some (option_map (λ (e : Entry). e.number) u)) f) ∙ h in cc)
+    by_found None f None g fit = absurd (let c = sym (ap (λ u. is_some (option_map (λ (e : TableEntry). e.number) u)) f) ∙ h in cc)
     by_found (Some e) f None g fit = absurd (subst (FoundFit (Some e)) g (subst (λ u. FoundFit u (live_in rows r)) f fit))
 
 abbrev to : Option Channel → Option Channel → ℕ → ℕ → Dest
@@ -134,7 +134,7 @@ confirmation-lost s new n r w m p p' up up' c l l' rows st looks lost pend free 
     (dest-confirmation rows n r w m p (Some x.channel) None e (pending-is sh.entry n rows true waiting x) (none-live s r rows st none) ∙ ap ToClient (sym x.fits.client))
     (sent ∙ ap (λ ys. up.waiting ++ ys) (sym (append-nil (frame_payload (close r)))))
     (subst (TableFits (changed_at sh.entry.number (confirm_remote r (account.left l')) s.channels)) (sym (closed-channels sh.entry.channel.client n r w m p (for_lost (rows_of sh.entry.channel.client rows) (Confirmation n r w m)) rows e small refl))
-    (confirmed-table (closes r) s n r w m (account.left l') sh.entry rows st sh.found none small waiting left-so (λ y fits. subst (Fits (confirm_remote r (account.left l') sh.entry)) (sym (close-it r w m y fits.held)) (closed-fits sh.entry r w m l' y waiting gives so fits)) (close-others r)))
+    (confirmed-table (closes r) s n r w m (account.left l') sh.entry rows st sh.found none small waiting left-so (λ y fits. subst (EntryFits (confirm_remote r (account.left l') sh.entry)) (sym (close-it r w m y fits.held)) (closed-fits sh.entry r w m l' y waiting gives so fits)) (close-others r)))
     (known-altered s sh.entry.number r (account.left l') st.known.channels)
     (after ∙ (ap (λ (i : ℕ). settled (record s { channels = changed_at i (confirm_remote r (account.left l')) s.channels }) c.client) (sym sh.number) ∙ ap (λ (d : table.Channel). settled (record s { channels = changed_at sh.entry.number (confirm_remote r (account.left l')) s.channels }) d.client) (sym sh.channel))))
 

@@ -20,12 +20,12 @@ use Rattle.mux_history.proofs.Bools.{self}
 use Rattle.mux_history.proofs.Dests.{dest-ok}
 use Rattle.window_ledger.specs.declared.ledger.Ledger.{Ledger}
 use Rattle.channel_table.specs.declared.channel.Channel as table
-use Rattle.channel_table.specs.Entries.{Entry}
+use Rattle.channel_table.specs.Entries.{TableEntry}
 use Rattle.channel_table.specs.Entries.{freed, shown_at}
 use Rattle.mux_core.specs.declared.heard.Delivery as recorded
 use Rattle.mux_core.specs.declared.heard.Delivery.TheVariants as heard
 use Rattle.mux_core.specs.State.{CoreState, is_served}
-use Rattle.mux_core.specs.Stands.{Stands, TableFits, is_known, look}
+use Rattle.mux_core.specs.Stands.{Stands, TableFits, is_member_known, look}
 use Rattle.mux_core.specs.Lookups.{channel_for, waits}
 use Rattle.mux_core.specs.Settling.{is_lost_in, settled}
 use Rattle.mux_core.specs.Calls.{ReceivesAs, ReceivesClient}
@@ -33,7 +33,7 @@ use Rattle.mux_core.specs.Delivering.{DeliversAs}
 use Rattle.mux_core.proofs.Apart.{all-filter, alone}
 use Rattle.mux_core.proofs.Bare.{down_act}
 use Rattle.mux_core.proofs.Failing.{free-table}
-use Rattle.channel_table.proofs.Fits.{FoundFit}
+use Rattle.channel_table.proofs.EntryFits.{FoundFit}
 use Rattle.mux_core.proofs.Found.{stands-confirmed}
 use Rattle.mux_core.proofs.ChannelReceived.{does, heard-channels, holder-fit, is_theirs, own-holder, quiet-heard, shown-entry, shown-none, sole, theirs-found}
 use Rattle.mux_core.proofs.ReceivesWithin.{Holds, entry-known, holds, known-served}
@@ -48,10 +48,10 @@ abbrev pub if_pending : Bool → Channel → Option Channel
 if_pending true x = Some x
 if_pending false x = None
 
-same-pending : (e : Entry) (n : ℕ) (rows : List Row) (x : Holds e n rows) → is_pending x.channel ≡ waits e.channel e.ledger
+same-pending : (e : TableEntry) (n : ℕ) (rows : List Row) (x : Holds e n rows) → is_pending x.channel ≡ waits e.channel e.ledger
 same-pending e n rows x = ap (λ by. is_up by && not (is_confirmed x.channel)) (sym x.fits.by) ∙ ap (λ b. is_up e.channel.by && not b) (sym (stands-confirmed e.ledger x.channel x.fits.ledger))
 
-pub pending-is : (e : Entry) (n : ℕ) (rows : List Row) (b : Bool) → waits e.channel e.ledger ≡ b → (x : Holds e n rows) → pending_open rows n ≡ if_pending b x.channel
+pub pending-is : (e : TableEntry) (n : ℕ) (rows : List Row) (b : Bool) → waits e.channel e.ledger ≡ b → (x : Holds e n rows) → pending_open rows n ≡ if_pending b x.channel
 pending-is e n rows b h x =
     ap (λ (o : Option Channel). elim o as (λ _. Option Channel) [ None ↦ None | Some y ↦ elim (is_pending y) as (λ _. Option Channel) [ true ↦ Some y | false ↦ None ] ]) x.is
     ∙ (ap (λ (c : Bool). elim c as (λ _. Option Channel) [ true ↦ Some x.channel | false ↦ None ]) (same-pending e n rows x ∙ h) ∙ by_case b)
@@ -69,7 +69,7 @@ pending-none s n rows st none = ap (λ (o : Option Channel). elim o as (λ _. Op
 
 -- ---- a row that goes to a client
 
-pub own-number-is : (e0 : Entry) (n : ℕ) (rows : List Row) (x : Holds e0 n rows) → own_number (holder (rows_of e0.channel.client rows) n) ≡ unwrap_or e0.channel.own 0
+pub own-number-is : (e0 : TableEntry) (n : ℕ) (rows : List Row) (x : Holds e0 n rows) → own_number (holder (rows_of e0.channel.client rows) n) ≡ unwrap_or e0.channel.own 0
 own-number-is e0 n rows x = ap own_number (own-holder e0.channel.client n x.channel rows x.is (ap (λ i. i == e0.channel.client) (sym x.fits.client) ∙ self e0.channel.client)) ∙ by_own x.channel.own x.fits.own
   where
     by_own : (o : Option ℕ) → e0.channel.own ≡ o → (elim o as (λ _. ℕ) [ None ↦ 0 | Some c ↦ c ]) ≡ unwrap_or e0.channel.own 0
@@ -83,7 +83,7 @@ abbrev pub lost_row : List ℕ → ℕ → Summary → List Row → Row
 lost_row p k m rows = bare (Heard p) k (for_lost (rows_of k rows) m)
 
 -- one that is served
-pub delivers-row : (s new : CoreState) (k : ℕ) (p q : List ℕ) (m : Summary) (es : List Entry) (up : QueueState) (rows : List Row) → Stands s rows → is_served s.clients k ≡ true → read_summary p ≡ Ok m → IsQuiet (recorded_row p k q) → dest rows p ≡ ToClient k → for_client (rows_of k rows) p m ≡ records (frame_payload q) → TableFits es (held_of (recorded_row p k q ∷ rows)) → AllByRecursion (λ e. is_known s.clients e.channel.client ≡ true) es → new ≡ record s { channels = es } → ReceivesAs new p q up up (heard.Client k 0) rows (dest rows p)
+pub delivers-row : (s new : CoreState) (k : ℕ) (p q : List ℕ) (m : Summary) (es : List TableEntry) (up : QueueState) (rows : List Row) → Stands s rows → is_served s.clients k ≡ true → read_summary p ≡ Ok m → IsQuiet (recorded_row p k q) → dest rows p ≡ ToClient k → for_client (rows_of k rows) p m ≡ records (frame_payload q) → TableFits es (held_of (recorded_row p k q ∷ rows)) → AllByRecursion (λ e. is_member_known s.clients e.channel.client ≡ true) es → new ≡ record s { channels = es } → ReceivesAs new p q up up (heard.Client k 0) rows (dest rows p)
 delivers-row s new k p q m es up rows st serves e quiet goes records_ table known after =
     let is : IsServed k (look rows) = served (look rows) k s.clients st.clients.each serves in
     let outcome : received_for (rows_of k rows) p ≡ records (frame_payload q) = rw (e, received_for) (ap (λ (b : Bool). elim b as (λ _. Outcome) [ true ↦ for_lost (rows_of k rows) m | false ↦ for_client (rows_of k rows) p m ]) is.here ∙ records_) in
@@ -97,7 +97,7 @@ delivers-row s new k p q m es up rows st serves e quiet goes records_ table know
     subst (ReceivesAs new p q up up (heard.Client k 0) rows) (sym goes) recorded
 
 -- one that is lost
-pub passes-row : (s new : CoreState) (k : ℕ) (p p' : List ℕ) (m : Summary) (es : List Entry) (up up' : QueueState) (rows : List Row) → Stands s rows → is_lost_in s.clients k ≡ true → read_summary p ≡ Ok m → IsQuiet (lost_row p k m rows) → dest rows p ≡ ToClient k → up'.waiting ≡ up.waiting ++ joined (map frame_payload (late m (rows_of k rows))) → TableFits es (held_of (lost_row p k m rows ∷ rows)) → AllByRecursion (λ e. is_known s.clients e.channel.client ≡ true) es → new ≡ settled (record s { channels = es }) k → ReceivesAs new p p' up up' (heard.Lost k) rows (dest rows p)
+pub passes-row : (s new : CoreState) (k : ℕ) (p p' : List ℕ) (m : Summary) (es : List TableEntry) (up up' : QueueState) (rows : List Row) → Stands s rows → is_lost_in s.clients k ≡ true → read_summary p ≡ Ok m → IsQuiet (lost_row p k m rows) → dest rows p ≡ ToClient k → up'.waiting ≡ up.waiting ++ joined (map frame_payload (late m (rows_of k rows))) → TableFits es (held_of (lost_row p k m rows ∷ rows)) → AllByRecursion (λ e. is_member_known s.clients e.channel.client ≡ true) es → new ≡ settled (record s { channels = es }) k → ReceivesAs new p p' up up' (heard.Lost k) rows (dest rows p)
 passes-row s new k p p' m es up up' rows st lost e quiet goes sent table known after =
     let there : is_lost (rows_of k rows) ≡ true = lost-there (look rows) k s.clients st.clients.each lost in
     let outcome : received_for (rows_of k rows) p ≡ for_lost (rows_of k rows) m = rw (e, received_for) (ap (λ (b : Bool). elim b as (λ _. Outcome) [ true ↦ for_lost (rows_of k rows) m | false ↦ for_client (rows_of k rows) p m ]) there) in
@@ -125,13 +125,13 @@ failure-early s new n p p' up c l rows st looks early e =
     let here : waits sh.entry.channel sh.entry.ledger ≡ false = ap (λ (d : table.Channel). waits d sh.entry.ledger) sh.channel ∙ (ap (waits c) sh.ledger ∙ early) in
     subst (ReceivesAs new p p' up up (heard.Broke (broke.NotPending n)) rows) (sym (dest-failure rows n p None e (pending-is sh.entry n rows false here x))) (record { sent = refl; to = refl })
 
-failure-table : (s : CoreState) (n : ℕ) (p : List ℕ) (e0 : Entry) (o : Outcome) (rows : List Row) → Stands s rows → find (shown_at n) s.channels ≡ Some e0 → o.sent ≡ [] → read_summary p ≡ Ok (Within n Fails) → TableFits (freed e0.number s.channels) (held_of (bare (Heard p) e0.channel.client o ∷ rows))
+failure-table : (s : CoreState) (n : ℕ) (p : List ℕ) (e0 : TableEntry) (o : Outcome) (rows : List Row) → Stands s rows → find (shown_at n) s.channels ≡ Some e0 → o.sent ≡ [] → read_summary p ≡ Ok (Within n Fails) → TableFits (freed e0.number s.channels) (held_of (bare (Heard p) e0.channel.client o ∷ rows))
 failure-table s n p e0 o rows st h none e =
     subst (TableFits (freed e0.number s.channels)) (sym (heard-channels e0.channel.client n Fails p o rows e none))
     (free-table Down (is_theirs e0.channel.client n) (down_act e0.channel.client n Fails) e0 s.channels (held_of rows) (does e0.channel.client n Fails) (alone (is_theirs e0.channel.client n) (sole e0.channel.client n) e0 s.channels st.channels.apart (theirs-found s n e0 rows st h)) st.channels)
 
-freed-known : (s : CoreState) (n : ℕ) → AllByRecursion (λ e. is_known s.clients e.channel.client ≡ true) s.channels → AllByRecursion (λ e. is_known s.clients e.channel.client ≡ true) (freed n s.channels)
-freed-known s n known = all-filter (λ (e : Entry). is_known s.clients e.channel.client ≡ true) (λ e. not (e.number == n)) s.channels known
+freed-known : (s : CoreState) (n : ℕ) → AllByRecursion (λ e. is_member_known s.clients e.channel.client ≡ true) s.channels → AllByRecursion (λ e. is_member_known s.clients e.channel.client ≡ true) (freed n s.channels)
+freed-known s n known = all-filter (λ (e : TableEntry). is_member_known s.clients e.channel.client ≡ true) (λ e. not (e.number == n)) s.channels known
 
 pub failure-given : (s new : CoreState) (n : ℕ) (p : List ℕ) (up : QueueState) (c : table.Channel) (l : Ledger) (rows : List Row) → Stands s rows → channel_for s.channels n ≡ Some (c, l) → is_lost_in s.clients c.client ≡ false → waits c l ≡ true → new ≡ record s { channels = freed n s.channels } → read_summary p ≡ Ok (Within n Fails) → ReceivesAs new p (with_recipient p (unwrap_or c.own 0)) up up (heard.Client c.client 0) rows (dest rows p)
 failure-given s new n p up c l rows st looks here pend after e =

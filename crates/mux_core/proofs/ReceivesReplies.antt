@@ -27,15 +27,15 @@ use Rattle.global_replies.specs.Asks.{what_of}
 use Rattle.client_teardown.specs.Leaving.{with_payloads}
 use Rattle.global_replies.specs.Replies.{FirstAsked, after_reply, refusals_behind, request_of, rest_of}
 use Rattle.forward_rules.specs.State.{Forward}
-use Rattle.forward_rules.specs.Step.{cancel_answered, change_first, first_cancel, is_cancelled_at, is_leaving_at, settled_at, without_cancel_of, without_first}
+use Rattle.forward_rules.specs.Step.{cancel_answered, change_first_forward, first_cancel, is_cancelled_at, is_leaving_at, forward_settled_at, without_cancel_of, without_first_forward}
 use Rattle.forward_rules.specs.Step as forwards
 use Rattle.mux_core.specs.declared.heard.Delivery as recorded
 use Rattle.mux_core.specs.declared.heard.Delivery.TheVariants as heard
 use Rattle.mux_core.specs.State.{MemberState, CoreState, is_served}
-use Rattle.mux_core.specs.Stands.{Stands, is_known, look}
+use Rattle.mux_core.specs.Stands.{Stands, is_member_known, look}
 use Rattle.mux_core.specs.Calls.{ReceivesAs, ReceivesClient, ReceivesWith, recorded_by}
 use Rattle.mux_core.specs.Replying.{after_failure, after_success, misses_port}
-use Rattle.mux_core.specs.Requesting.{waiting_of, with_waiting}
+use Rattle.mux_core.specs.Requesting.{member_waiting_of, with_waiting}
 use Rattle.mux_core.specs.Settling.{is_lost_in, settled}
 use Rattle.mux_core.proofs.Answering.{Waits}
 use Rattle.mux_core.proofs.Ended.{failure-fit, success-fit}
@@ -61,19 +61,19 @@ some-asked (u ∷ us) k what h = ap (λ v. v ∷ us) (sym h)
 
 -- ---- whose clients are served
 
-all-first : (P : Forward → Type 0) (test : Forward → Bool) (change : Forward → Forward) → ((f : Forward) → P f → P (change f)) → (fs : List Forward) → AllByRecursion P fs → AllByRecursion P (change_first test change fs)
+all-first : (P : Forward → Type 0) (test : Forward → Bool) (change : Forward → Forward) → ((f : Forward) → P f → P (change f)) → (fs : List Forward) → AllByRecursion P fs → AllByRecursion P (change_first_forward test change fs)
 all-first P test change each [] all = tt
 all-first P test change each (f ∷ fs) all = by_test (all-first P test change each fs all.1) (test f)
   where
-    by_test : AllByRecursion P (change_first test change fs) → (b : Bool) → AllByRecursion P (elim b as (λ _. List Forward) [ true ↦ change f ∷ fs | false ↦ f ∷ change_first test change fs ])
+    by_test : AllByRecursion P (change_first_forward test change fs) → (b : Bool) → AllByRecursion P (elim b as (λ _. List Forward) [ true ↦ change f ∷ fs | false ↦ f ∷ change_first_forward test change fs ])
     by_test ih true = (each f all.0, all.1)
     by_test ih false = (all.0, ih)
 
-all-without : (P : Forward → Type 0) (test : Forward → Bool) (fs : List Forward) → AllByRecursion P fs → AllByRecursion P (without_first test fs)
+all-without : (P : Forward → Type 0) (test : Forward → Bool) (fs : List Forward) → AllByRecursion P fs → AllByRecursion P (without_first_forward test fs)
 all-without P test [] all = tt
 all-without P test (f ∷ fs) all = by_test (all-without P test fs all.1) (test f)
   where
-    by_test : AllByRecursion P (without_first test fs) → (b : Bool) → AllByRecursion P (elim b as (λ _. List Forward) [ true ↦ fs | false ↦ f ∷ without_first test fs ])
+    by_test : AllByRecursion P (without_first_forward test fs) → (b : Bool) → AllByRecursion P (elim b as (λ _. List Forward) [ true ↦ fs | false ↦ f ∷ without_first_forward test fs ])
     by_test ih true = all.1
     by_test ih false = (all.0, ih)
 
@@ -89,7 +89,7 @@ all-moved : (cs : List MemberState) (k rank : ℕ) (fs : List Forward) → AllBy
 all-moved cs k rank [] all = tt
 all-moved cs k rank (f ∷ fs) all = (ap (is_served cs) (client-after k rank f) ∙ all.0, all-moved cs k rank fs all.1)
 
-all-answered : (cs : List MemberState) (k : ℕ) (done : Bool) (fs : List Forward) (o : Option ℕ) → AllByRecursion (λ f. is_served cs f.client ≡ true) fs → AllByRecursion (λ f. is_served cs f.client ≡ true) (settled_at k o done fs)
+all-answered : (cs : List MemberState) (k : ℕ) (done : Bool) (fs : List Forward) (o : Option ℕ) → AllByRecursion (λ f. is_served cs f.client ≡ true) fs → AllByRecursion (λ f. is_served cs f.client ≡ true) (forward_settled_at k o done fs)
 all-answered cs k done fs None all = all
 all-answered cs k true fs (Some r) all = all-moved cs k r (filter (λ f. not (is_cancelled_at k r f)) fs) (all-kept (λ f. is_served cs f.client ≡ true) (λ f. not (is_cancelled_at k r f)) fs all)
 all-answered cs k false fs (Some r) all = all-moved cs k r fs all
@@ -141,14 +141,14 @@ success-bad s new k what queue p p' rest up rows st first bad e = subst (Receive
 -- ---- to a client that is served
 
 asker-served : (s : CoreState) (k : ℕ) (what : full.Global) (queue : List Ask) (rows : List Row) → Stands s rows → s.asks ≡ record { client = k; what = what } ∷ queue → is_lost_in s.clients k ≡ false → is_served s.clients k ≡ true
-asker-served s k what queue rows st first here = known-served k s.clients (subst (AllByRecursion (λ (b : Ask). is_known s.clients b.client ≡ true)) first st.known.asks).0 here
+asker-served s k what queue rows st first here = known-served k s.clients (subst (AllByRecursion (λ (b : Ask). is_member_known s.clients b.client ≡ true)) first st.known.asks).0 here
 
-given : (s new : CoreState) (k : ℕ) (what : full.Global) (queue : List Ask) (p : List ℕ) (m : Summary) (fs : List Forward) (up : QueueState) (rows : List Row) → Stands s rows → is_served s.clients k ≡ true → IsReply p m → s.asks ≡ record { client = k; what = what } ∷ queue → received_for (rows_of k rows) p ≡ silent → Stands new (reply_row k p [] ∷ rows) → ReceivesClient new k p p up up (heard.Client k (refusals_behind (waiting_of k s.clients))) rows
+given : (s new : CoreState) (k : ℕ) (what : full.Global) (queue : List Ask) (p : List ℕ) (m : Summary) (fs : List Forward) (up : QueueState) (rows : List Row) → Stands s rows → is_served s.clients k ≡ true → IsReply p m → s.asks ≡ record { client = k; what = what } ∷ queue → received_for (rows_of k rows) p ≡ silent → Stands new (reply_row k p [] ∷ rows) → ReceivesClient new k p p up up (heard.Client k (refusals_behind (member_waiting_of k s.clients))) rows
 given s new k what queue p m fs up rows st serves is first outcome stands =
     let here = (served (look rows) k s.clients st.clients.each serves).here in
     let asked = asked-first s rows (record { client = k; what = what }) queue st first in
     let waits = waits-are rows k s.clients st.clients.each st.clients.once serves in
-    let start = waits-start (rows_of k rows) (waiting_of k s.clients) waits asked.waits in
+    let start = waits-start (rows_of k rows) (member_waiting_of k s.clients) waits asked.waits in
     record {
       sent = sym (ap (λ (o : Outcome). up.waiting ++ joined (map frame_payload o.sent)) outcome ∙ append-nil up.waiting);
       to = (here, refl);
@@ -168,7 +168,7 @@ silent-for s k p m rows st serves is =
     none g h = absurd (cc)
 
 pub success-given : (s new : CoreState) (k : ℕ) (what : full.Global) (queue : List Ask) (p rest : List ℕ) (up : QueueState) (rows : List Row) → Stands s rows → s.asks ≡ record { client = k; what = what } ∷ queue → misses_port what rest ≡ false → is_lost_in s.clients k ≡ false → read_summary p ≡ Ok (Succeeds rest)
-    → new ≡ record s { asks = queue; forwards = after_success k what rest s.forwards; clients = with_waiting k after_reply s.clients } → ReceivesAs new p p up up (heard.Client k (refusals_behind (waiting_of k s.clients))) rows (dest rows p)
+    → new ≡ record s { asks = queue; forwards = after_success k what rest s.forwards; clients = with_waiting k after_reply s.clients } → ReceivesAs new p p up up (heard.Client k (refusals_behind (member_waiting_of k s.clients))) rows (dest rows p)
 success-given s new k what queue p rest up rows st first good here e after =
     let is : IsReply p (Succeeds rest) = record { reads = e; reply = refl } in
     let serves = asker-served s k what queue rows st first here in
@@ -179,11 +179,11 @@ success-given s new k what queue p rest up rows st first good here e after =
     (served-stands s p (Succeeds rest) [] (record { client = k; what = what }) queue (after_success k what rest s.forwards) rows st serves is first (λ x. refl)
     (success-fit k rest what s.forwards (current rows) (look rows).own (look (reply_row k p [] ∷ rows)).own (look rows).lost st.forwards (own-next k p (Succeeds rest) [] rows is) alive asked.place)
     (served-success s.clients k what rest s.forwards st.known.forwards)) in
-    subst (ReceivesAs new p p up up (heard.Client k (refusals_behind (waiting_of k s.clients))) rows) (sym (success-to s k what queue p rest rows false st first e good))
+    subst (ReceivesAs new p p up up (heard.Client k (refusals_behind (member_waiting_of k s.clients))) rows) (sym (success-to s k what queue p rest rows false st first e good))
     (given s new k what queue p (Succeeds rest) s.forwards up rows st serves is first (silent-for s k p (Succeeds rest) rows st serves is) stands)
 
 pub refusal-given : (s new : CoreState) (k : ℕ) (what : full.Global) (queue : List Ask) (p : List ℕ) (up : QueueState) (rows : List Row) → Stands s rows → s.asks ≡ record { client = k; what = what } ∷ queue → is_lost_in s.clients k ≡ false → read_summary p ≡ Ok Refuses
-    → new ≡ record s { asks = queue; forwards = after_failure k what s.forwards; clients = with_waiting k after_reply s.clients } → ReceivesAs new p p up up (heard.Client k (refusals_behind (waiting_of k s.clients))) rows (dest rows p)
+    → new ≡ record s { asks = queue; forwards = after_failure k what s.forwards; clients = with_waiting k after_reply s.clients } → ReceivesAs new p p up up (heard.Client k (refusals_behind (member_waiting_of k s.clients))) rows (dest rows p)
 refusal-given s new k what queue p up rows st first here e after =
     let is : IsReply p Refuses = record { reads = e; reply = refl } in
     let serves = asker-served s k what queue rows st first here in
@@ -194,7 +194,7 @@ refusal-given s new k what queue p up rows st first here e after =
     (served-stands s p Refuses [] (record { client = k; what = what }) queue (after_failure k what s.forwards) rows st serves is first (λ x. refl)
     (failure-fit k what s.forwards (current rows) (look rows).own (look (reply_row k p [] ∷ rows)).own (look rows).lost st.forwards (own-next k p Refuses [] rows is) alive asked.place)
     (served-failure s.clients k what s.forwards st.known.forwards)) in
-    subst (ReceivesAs new p p up up (heard.Client k (refusals_behind (waiting_of k s.clients))) rows) (sym (refusal-to s k what queue p rows st first e))
+    subst (ReceivesAs new p p up up (heard.Client k (refusals_behind (member_waiting_of k s.clients))) rows) (sym (refusal-to s k what queue p rows st first e))
     (given s new k what queue p Refuses s.forwards up rows st serves is first (silent-for s k p Refuses rows st serves is) stands)
 
 -- ---- for a client that is lost
@@ -270,18 +270,18 @@ same-clients s mid m2 fs is then_ = ap (λ (u : CoreState). u.clients) then_ ∙
 same-forwards : (s mid : CoreState) → mid ≡ record s { asks = rest_of s.asks } → mid.forwards ≡ s.forwards
 same-forwards s mid is = ap (λ (u : CoreState). u.forwards) is
 
-pub refusal-served : (s mid m2 new : CoreState) (k : ℕ) (ask : declared.Ask) (what : full.Global) (p : List ℕ) (up : QueueState) (h : recorded.Delivery) → FirstAsked s.asks (Some (k, ask)) → mid ≡ record s { asks = rest_of s.asks } → what ≡ what_of ask → is_lost_in mid.clients k ≡ false → m2 ≡ record mid { forwards = after_failure k what mid.forwards } → new ≡ record m2 { clients = with_waiting k after_reply m2.clients } → h ≡ heard.Client k (refusals_behind (waiting_of k m2.clients)) → ReceivesWith s new p p Refuses up up h
+pub refusal-served : (s mid m2 new : CoreState) (k : ℕ) (ask : declared.Ask) (what : full.Global) (p : List ℕ) (up : QueueState) (h : recorded.Delivery) → FirstAsked s.asks (Some (k, ask)) → mid ≡ record s { asks = rest_of s.asks } → what ≡ what_of ask → is_lost_in mid.clients k ≡ false → m2 ≡ record mid { forwards = after_failure k what mid.forwards } → new ≡ record m2 { clients = with_waiting k after_reply m2.clients } → h ≡ heard.Client k (refusals_behind (member_waiting_of k m2.clients)) → ReceivesWith s new p p Refuses up up h
 refusal-served s mid m2 new k ask what p up h first is same here then_ last to = λ rows st e.
     let fs = ap (after_failure k what) (same-forwards s mid is) in
     let then_s = then_ ∙ ap (λ (gs : List Forward). let v : CoreState = record mid { forwards = gs } in v) fs in
-    subst (λ x. ReceivesAs new p p up up x rows (dest rows p)) (sym (to ∙ ap (λ cs. heard.Client k (refusals_behind (waiting_of k cs))) (same-clients s mid m2 (after_failure k what s.forwards) is then_s)))
+    subst (λ x. ReceivesAs new p p up up x rows (dest rows p)) (sym (to ∙ ap (λ cs. heard.Client k (refusals_behind (member_waiting_of k cs))) (same-clients s mid m2 (after_failure k what s.forwards) is then_s)))
     (refusal-given s new k what (rest_of s.asks) p up rows st (first-asked s k ask what first same) (lost-then s mid k false is here) e (passed-on s mid m2 new k (after_failure k what s.forwards) is then_s last))
 
-pub success-served : (s mid m2 new : CoreState) (k : ℕ) (ask : declared.Ask) (what : full.Global) (p rest : List ℕ) (up : QueueState) (h : recorded.Delivery) → FirstAsked s.asks (Some (k, ask)) → mid ≡ record s { asks = rest_of s.asks } → what ≡ what_of ask → misses_port what rest ≡ false → is_lost_in mid.clients k ≡ false → m2 ≡ record mid { forwards = after_success k what rest mid.forwards } → new ≡ record m2 { clients = with_waiting k after_reply m2.clients } → h ≡ heard.Client k (refusals_behind (waiting_of k m2.clients)) → ReceivesWith s new p p (Succeeds rest) up up h
+pub success-served : (s mid m2 new : CoreState) (k : ℕ) (ask : declared.Ask) (what : full.Global) (p rest : List ℕ) (up : QueueState) (h : recorded.Delivery) → FirstAsked s.asks (Some (k, ask)) → mid ≡ record s { asks = rest_of s.asks } → what ≡ what_of ask → misses_port what rest ≡ false → is_lost_in mid.clients k ≡ false → m2 ≡ record mid { forwards = after_success k what rest mid.forwards } → new ≡ record m2 { clients = with_waiting k after_reply m2.clients } → h ≡ heard.Client k (refusals_behind (member_waiting_of k m2.clients)) → ReceivesWith s new p p (Succeeds rest) up up h
 success-served s mid m2 new k ask what p rest up h first is same good here then_ last to = λ rows st e.
     let fs = ap (after_success k what rest) (same-forwards s mid is) in
     let then_s = then_ ∙ ap (λ (gs : List Forward). let v : CoreState = record mid { forwards = gs } in v) fs in
-    subst (λ x. ReceivesAs new p p up up x rows (dest rows p)) (sym (to ∙ ap (λ cs. heard.Client k (refusals_behind (waiting_of k cs))) (same-clients s mid m2 (after_success k what rest s.forwards) is then_s)))
+    subst (λ x. ReceivesAs new p p up up x rows (dest rows p)) (sym (to ∙ ap (λ cs. heard.Client k (refusals_behind (member_waiting_of k cs))) (same-clients s mid m2 (after_success k what rest s.forwards) is then_s)))
     (success-given s new k what (rest_of s.asks) p rest up rows st (first-asked s k ask what first same) good (lost-then s mid k false is here) e (passed-on s mid m2 new k (after_success k what rest s.forwards) is then_s last))
 
 pub success-broken : (s mid : CoreState) (k : ℕ) (ask : declared.Ask) (what : full.Global) (p rest : List ℕ) (up : QueueState) → FirstAsked s.asks (Some (k, ask)) → what ≡ what_of ask → misses_port what rest ≡ true → ReceivesWith s mid p p (Succeeds rest) up up (heard.Broke (broke.BadReply (length rest)))

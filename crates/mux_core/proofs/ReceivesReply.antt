@@ -7,7 +7,7 @@ use Rattle.std.proofs.lemmas.Bool.Decides.{nat_tests}
 use Rattle.mux_history.specs.declared.limits.TheConstants.{MAX_CLIENTS}
 use Rattle.mux_history.specs.Summary.{Summary}
 use Rattle.mux_history.specs.Rows.{Heard, Row, any_of, is_admit, is_lost, rows_of}
-use Rattle.mux_history.specs.Channels.{Channel, held_of, is_held, with_ups}
+use Rattle.mux_history.specs.Channels.{Channel, held_of, is_channel_held, with_ups}
 use Rattle.mux_history.specs.Farewell.{has_open_matters}
 use Rattle.mux_history.specs.Forwardings.{Forwarding, current}
 use Rattle.mux_history.specs.Log.{entered}
@@ -15,13 +15,13 @@ use Rattle.mux_history.specs.Requests.{Ask, asks, replies, reply_in, wanted}
 use Rattle.mux_history.proofs.Bools.{same-number}
 use Rattle.mux_history.proofs.CurrentSteps.{is_on}
 use Rattle.mux_history.proofs.OwnRows.{idle_row, own_row}
-use Rattle.mux_isolation.specs.View.{left_of}
+use Rattle.mux_isolation.specs.LogView.{waiting_left_of}
 use Rattle.global_replies.specs.Replies.{after_reply}
 use Rattle.forward_rules.specs.State as kept
-use Rattle.forward_rules.specs.Stands.{AreFit, AreListed}
-use Rattle.channel_table.specs.Entries.{Entry}
+use Rattle.forward_rules.specs.Stands.{AreFit, AreForwardsListed}
+use Rattle.channel_table.specs.Entries.{TableEntry}
 use Rattle.mux_core.specs.State.{MemberState, CoreState, is_served}
-use Rattle.mux_core.specs.Stands.{AsksFit, ClientFits, Stands, TableFits, has_matters, is_known, look}
+use Rattle.mux_core.specs.Stands.{AsksFit, ClientFits, Stands, TableFits, has_matters, is_member_known, look}
 use Rattle.mux_core.specs.Settling.{has_left, is_lost_in, settled}
 use Rattle.mux_core.proofs.Answering.{Waits, asks-replied, replied-waits}
 use Rattle.mux_core.proofs.Quiet.{own-same}
@@ -40,8 +40,8 @@ waits-next : (k : ℕ) (p : List ℕ) (m : Summary) (sent : List (List ℕ)) (ow
 waits-next k p m sent own w is h lt =
     let s = waits-start own w h lt in
     subst (λ v. Waits (wanted (reply_row k p sent ∷ own)) (replies (reply_row k p sent ∷ own)) (after_reply v)) (sym s.is)
-    (ap (λ fs. left_of fs (replies own ++ reply_in (Heard p))) (append-nil (wanted own))
-    ∙ (ap (λ rs. left_of (wanted own) (replies own ++ rs)) (came p m is) ∙ replied-waits (wanted own) (replies own) s.later p (subst (Waits (wanted own) (replies own)) s.is h)))
+    (ap (λ fs. waiting_left_of fs (replies own ++ reply_in (Heard p))) (append-nil (wanted own))
+    ∙ (ap (λ rs. waiting_left_of (wanted own) (replies own ++ rs)) (came p m is) ∙ replied-waits (wanted own) (replies own) s.later p (subst (Waits (wanted own) (replies own)) s.is h)))
 
 client-next : (k : ℕ) (p : List ℕ) (m : Summary) (sent : List (List ℕ)) (rows : List Row) (c : MemberState) → IsReply p m → length (replies (rows_of k rows)) < length (asks (rows_of k rows)) → ClientFits (look rows) c → ClientFits (look (reply_row k p sent ∷ rows)) (changes k after_reply c)
 client-next k p m sent rows c is lt fits = by_number (c.number == k) refl (k == c.number) refl
@@ -57,13 +57,13 @@ client-next k p m sent rows c is lt fits = by_number (c.number == k) refl (k == 
       nonzero = fits.nonzero;
       admitted = ap (any_of is_admit) (after-own c.number g) ∙ fits.admitted;
       lost = fits.lost ∙ sym (ap is_lost (after-own c.number g));
-      answers = λ here. ap (λ own. left_of (wanted own) (replies own)) (after-own c.number g) ∙ waits-next k p m sent (rows_of c.number rows) c.waiting is (fits.answers here) (subst (λ i. length (replies (rows_of i rows)) < length (asks (rows_of i rows))) (same-number k c.number g) lt);
+      answers = λ here. ap (λ own. waiting_left_of (wanted own) (replies own)) (after-own c.number g) ∙ waits-next k p m sent (rows_of c.number rows) c.waiting is (fits.answers here) (subst (λ i. length (replies (rows_of i rows)) < length (asks (rows_of i rows))) (same-number k c.number g) lt);
     })
     by_number false h false g = subst (ClientFits (look (reply_row k p sent ∷ rows))) (sym (changes-at k after_reply c false h)) (record {
       nonzero = fits.nonzero;
       admitted = ap (any_of is_admit) (idle_row c.number (reply_row k p sent) rows g) ∙ fits.admitted;
       lost = fits.lost ∙ sym (ap is_lost (idle_row c.number (reply_row k p sent) rows g));
-      answers = λ here. ap (λ own. left_of (wanted own) (replies own)) (idle_row c.number (reply_row k p sent) rows g) ∙ fits.answers here;
+      answers = λ here. ap (λ own. waiting_left_of (wanted own) (replies own)) (idle_row c.number (reply_row k p sent) rows g) ∙ fits.answers here;
     })
     by_number true h false g = absurd (clash c.number k h g)
     by_number false h true g = absurd (clash k c.number g h)
@@ -105,8 +105,8 @@ served-stands s p m sent a queue fs rows st serves is first ups fit theirs =
         few = subst (λ n. n ≤ MAX_CLIENTS) (sym (length-same a.client after_reply s.clients)) st.clients.few;
       };
       known = record {
-        channels = all-known (λ (f : Entry). f.channel.client) s.clients (map (changes a.client after_reply) s.clients) (λ j. known-same a.client j after_reply s.clients) s.channels st.known.channels;
-        asks = all-known (λ (b : Ask). b.client) s.clients (map (changes a.client after_reply) s.clients) (λ j. known-same a.client j after_reply s.clients) queue (subst (AllByRecursion (λ (b : Ask). is_known s.clients b.client ≡ true)) first st.known.asks).1;
+        channels = all-known (λ (f : TableEntry). f.channel.client) s.clients (map (changes a.client after_reply) s.clients) (λ j. known-same a.client j after_reply s.clients) s.channels st.known.channels;
+        asks = all-known (λ (b : Ask). b.client) s.clients (map (changes a.client after_reply) s.clients) (λ j. known-same a.client j after_reply s.clients) queue (subst (AllByRecursion (λ (b : Ask). is_member_known s.clients b.client ≡ true)) first st.known.asks).1;
         forwards = all-served s.clients (map (changes a.client after_reply) s.clients) (λ j. served-same a.client j after_reply s.clients) fs theirs;
       };
     }
@@ -123,7 +123,7 @@ lost-client k p m sent rows c gone fits = record {
   where
     by_number : c.lost ≡ false → (b : Bool) → (k == c.number) ≡ b → (look (reply_row k p sent ∷ rows)).waiting c.number ≡ record { requests = c.waiting; early = [] }
     by_number here true h = absurd (let x : is_lost (rows_of c.number rows) ≡ true = subst (λ i. is_lost (rows_of i rows) ≡ true) (same-number k c.number h) gone in let y : true ≡ false = sym x ∙ (sym fits.lost ∙ here) in cc)
-    by_number here false h = ap (λ own. left_of (wanted own) (replies own)) (idle_row c.number (reply_row k p sent) rows h) ∙ fits.answers here
+    by_number here false h = ap (λ own. waiting_left_of (wanted own) (replies own)) (idle_row c.number (reply_row k p sent) rows h) ∙ fits.answers here
 
 lost-clients : (k : ℕ) (p : List ℕ) (m : Summary) (sent : List (List ℕ)) (rows : List Row) (cs : List MemberState) → is_lost (rows_of k rows) ≡ true → AllByRecursion (ClientFits (look rows)) cs → AllByRecursion (ClientFits (look (reply_row k p sent ∷ rows))) cs
 lost-clients k p m sent rows [] gone all = tt
@@ -131,7 +131,7 @@ lost-clients k p m sent rows (c ∷ cs) gone all = (lost-client k p m sent rows 
 
 -- a request without reply leaves its client's matters open
 open-asked : (own : List Row) → length (replies own) < length (asks own) → has_open_matters own ≡ true
-open-asked own lt = end (any_of is_admit own && not (is_lost own)) (any_of is_held (held_of own)) (nat_lt (length (replies own)) (length (asks own))) (yes-lt (length (replies own)) (length (asks own)) lt)
+open-asked own lt = end (any_of is_admit own && not (is_lost own)) (any_of is_channel_held (held_of own)) (nat_lt (length (replies own)) (length (asks own))) (yes-lt (length (replies own)) (length (asks own)) lt)
   where
     yes-lt : (a b : ℕ) → a < b → nat_lt a b ≡ true
     yes-lt a b h = grind (arith, nat_tests)
@@ -145,7 +145,7 @@ open-asked own lt = end (any_of is_admit own && not (is_lost own)) (any_of is_he
 none-theirs : (s : CoreState) (rows : List Row) (k : ℕ) → Stands s rows → AllByRecursion (λ f. (f.client == k) ≡ false) s.forwards → AllByRecursion (λ (g : Forwarding). (g.client == k) ≡ false) (current rows)
 none-theirs s rows k st all = pairs s.forwards (current rows) st.forwards.listed all
   where
-    pairs : (fs : List kept.Forward) (gs : List Forwarding) → AreListed fs gs → AllByRecursion (λ f. (f.client == k) ≡ false) fs → AllByRecursion (λ (g : Forwarding). (g.client == k) ≡ false) gs
+    pairs : (fs : List kept.Forward) (gs : List Forwarding) → AreForwardsListed fs gs → AllByRecursion (λ f. (f.client == k) ≡ false) fs → AllByRecursion (λ (g : Forwarding). (g.client == k) ≡ false) gs
     pairs [] [] listed all = tt
     pairs [] (g ∷ gs) listed all = absurd listed
     pairs (f ∷ fs) [] listed all = absurd listed
@@ -181,7 +181,7 @@ lost-reply-stands s p m sent a queue rows st lost is first ups =
             few = st.clients.few;
           })
           (λ j apart. ap has_open_matters (idle_row j (reply_row a.client p sent) rows (turned j a.client apart))) here (open-asked (rows_of a.client rows) asked.waits);
-      known = known-settle (record s { asks = queue }) a.client (record { channels = st.known.channels; asks = (subst (AllByRecursion (λ (b : Ask). is_known s.clients b.client ≡ true)) first st.known.asks).1; forwards = st.known.forwards }) away;
+      known = known-settle (record s { asks = queue }) a.client (record { channels = st.known.channels; asks = (subst (AllByRecursion (λ (b : Ask). is_member_known s.clients b.client ≡ true)) first st.known.asks).1; forwards = st.known.forwards }) away;
     }
   where
     turned : (a b : ℕ) → (a == b) ≡ false → (b == a) ≡ false

@@ -10,7 +10,7 @@ use Rattle.ssh_grammar.specs.Frames.{frame_payload}
 use Rattle.proxy_frames.specs.State.{QueueState}
 use Rattle.mux_history.specs.Summary.{Refuses, Requests, Transport, read_summary}
 use Rattle.mux_history.specs.Rows.{Fate, Goes, Heard, Row, is_admit, loses}
-use Rattle.mux_history.specs.Channels.{Channel, after_item, held_of, is_held, with_down, with_up, with_ups}
+use Rattle.mux_history.specs.Channels.{Channel, after_item, held_of, is_channel_held, with_down, with_up, with_ups}
 use Rattle.mux_history.specs.Forwardings.{Forwarding, of_client, replied}
 use Rattle.mux_history.specs.Heard.{Dest, Disconnects, ToMaster, dest, received_master}
 use Rattle.mux_history.specs.Pending.{joined}
@@ -53,7 +53,7 @@ no-change x = reading-ok request_failure Refuses (λ g. with_up None g x) x (sum
 request-held : (what : Global) (want : Bool) (p : List ℕ) (o : Outcome) (rows : List Row) → read_summary p ≡ Ok (Requests what want) → ((x : Channel) → with_ups None o.sent x ≡ x) → held_of (bare (Heard p) 0 o ∷ rows) ≡ held_of rows
 request-held what want p o rows e ups =
     held-bare (Heard p) 0 o rows
-    ∙ (ap (filter is_held) (append-nil (map (after_item (bare (Heard p) 0 o)) (held_of rows)) ∙ map-same (after_item (bare (Heard p) 0 o)) same (held_of rows)) ∙ held-held rows)
+    ∙ (ap (filter is_channel_held) (append-nil (map (after_item (bare (Heard p) 0 o)) (held_of rows)) ∙ map-same (after_item (bare (Heard p) 0 o)) same (held_of rows)) ∙ held-held rows)
   where
     same : (x : Channel) → after_item (bare (Heard p) 0 o) x ≡ x
     same x =
@@ -100,7 +100,7 @@ quiet-transport n p e = record {
 transport-held : (n : ℕ) (p : List ℕ) (rows : List Row) → read_summary p ≡ Ok (Transport n) → held_of (bare (Heard p) 0 silent ∷ rows) ≡ held_of rows
 transport-held n p rows e =
     held-bare (Heard p) 0 silent rows
-    ∙ (ap (filter is_held) (append-nil (map (after_item (bare (Heard p) 0 silent)) (held_of rows)) ∙ map-same (after_item (bare (Heard p) 0 silent)) same (held_of rows)) ∙ held-held rows)
+    ∙ (ap (filter is_channel_held) (append-nil (map (after_item (bare (Heard p) 0 silent)) (held_of rows)) ∙ map-same (after_item (bare (Heard p) 0 silent)) same (held_of rows)) ∙ held-held rows)
   where
     same : (x : Channel) → after_item (bare (Heard p) 0 silent) x ≡ x
     same x =

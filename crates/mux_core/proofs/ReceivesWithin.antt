@@ -22,13 +22,13 @@ use Rattle.mux_history.proofs.Dests.{dest-ok}
 use Rattle.window_ledger.specs.declared.ledger.Ledger.{Ledger}
 use Rattle.window_ledger.specs.Stands as ledger
 use Rattle.channel_table.specs.declared.channel.Channel as table
-use Rattle.channel_table.specs.Entries.{Entry}
+use Rattle.channel_table.specs.Entries.{TableEntry}
 use Rattle.channel_table.specs.Entries.{shown_at}
-use Rattle.channel_table.specs.Stands.{Fits}
+use Rattle.channel_table.specs.Stands.{EntryFits}
 use Rattle.mux_core.specs.declared.heard.Delivery as recorded
 use Rattle.mux_core.specs.declared.heard.Delivery.TheVariants as heard
 use Rattle.mux_core.specs.State.{MemberState, CoreState, is_served}
-use Rattle.mux_core.specs.Stands.{Stands, is_known, look}
+use Rattle.mux_core.specs.Stands.{Stands, is_member_known, look}
 use Rattle.mux_core.specs.Lookups.{acted, channel_for}
 use Rattle.mux_core.specs.Settling.{is_lost_in, settled}
 use Rattle.mux_core.proofs.ChannelReceived.{heard-table, holder-fit, own-holder, quiet-heard, shown-entry, still-known}
@@ -37,7 +37,7 @@ use Rattle.mux_core.specs.Calls.{ReceivesAs, ReceivesClient}
 use Rattle.mux_core.specs.Delivering.{DeliversAs}
 use Rattle.mux_core.proofs.Acts.{ActsOn}
 use Rattle.mux_core.proofs.Apart.{found-of}
-use Rattle.channel_table.proofs.Fits.{FoundFit}
+use Rattle.channel_table.proofs.EntryFits.{FoundFit}
 use Rattle.mux_core.proofs.Says.{records-own}
 use Rattle.mux_core.proofs.Served.{IsServed, quiet-stands, served}
 
@@ -58,33 +58,33 @@ nobody s new n a p p' up rows st none plain e = subst (ReceivesAs new p p' up up
     held-none (Some x) h f = absurd (subst (FoundFit None) h f)
 
 -- the channel of the entry
-pub record Holds (e0 : Entry) (n : ℕ) (rows : List Row) : Type 0 where
+pub record Holds (e0 : TableEntry) (n : ℕ) (rows : List Row) : Type 0 where
   pub channel : Channel
   pub is : holder rows n ≡ Some channel
-  pub fits : Fits e0 channel
+  pub fits : EntryFits e0 channel
 
-pub holds : (s : CoreState) (n : ℕ) (e0 : Entry) (rows : List Row) → Stands s rows → find (shown_at n) s.channels ≡ Some e0 → Holds e0 n rows
+pub holds : (s : CoreState) (n : ℕ) (e0 : TableEntry) (rows : List Row) → Stands s rows → find (shown_at n) s.channels ≡ Some e0 → Holds e0 n rows
 holds s n e0 rows st h = by_found (holder rows n) refl (subst (λ o. FoundFit o (holder rows n)) h (holder-fit s n rows st))
   where
     by_found : (o : Option Channel) → holder rows n ≡ o → FoundFit (Some e0) (holder rows n) → Holds e0 n rows
     by_found None e f = absurd (subst (FoundFit (Some e0)) e f)
     by_found (Some x) e f = record { channel = x; is = e; fits = subst (FoundFit (Some e0)) e f }
 
-pub breaks : (s new : CoreState) (n : ℕ) (a : Act) (p p' : List ℕ) (up : QueueState) (e0 : Entry) (b : Breach) (rows : List Row) → Stands s rows → find (shown_at n) s.channels ≡ Some e0 → ((x : Channel) → ledger.Stands e0.ledger x → breach Down a x ≡ Some b) → is_failing a ≡ false → read_summary p ≡ Ok (Within n a) → ReceivesAs new p p' up up (heard.Broke (broke.Channel n b)) rows (dest rows p)
+pub breaks : (s new : CoreState) (n : ℕ) (a : Act) (p p' : List ℕ) (up : QueueState) (e0 : TableEntry) (b : Breach) (rows : List Row) → Stands s rows → find (shown_at n) s.channels ≡ Some e0 → ((x : Channel) → ledger.Stands e0.ledger x → breach Down a x ≡ Some b) → is_failing a ≡ false → read_summary p ≡ Ok (Within n a) → ReceivesAs new p p' up up (heard.Broke (broke.Channel n b)) rows (dest rows p)
 breaks s new n a p p' up e0 b rows st h broken plain e =
     let x = holds s n e0 rows st h in
     subst (ReceivesAs new p p' up up (heard.Broke (broke.Channel n b)) rows)
     (sym (dest-within rows n a p e plain ∙ (ap (λ (o : Option Channel). elim o as (λ _. Dest) [ None ↦ Breaks (broke.NoChannel n) | Some x ↦ elim (breach Down a x) as (λ _. Dest) [ Some b ↦ Breaks (broke.Channel n b) | None ↦ ToClient x.client ] ]) x.is ∙ ap (λ (o : Option Breach). elim o as (λ _. Dest) [ Some b ↦ Breaks (broke.Channel n b) | None ↦ ToClient x.channel.client ]) (broken x.channel x.fits.ledger))))
     (record { sent = refl; to = refl })
 
-pub goes-to : (s : CoreState) (n : ℕ) (a : Act) (p : List ℕ) (e0 : Entry) (rows : List Row) → Stands s rows → find (shown_at n) s.channels ≡ Some e0 → ((x : Channel) → ledger.Stands e0.ledger x → breach Down a x ≡ None) → is_failing a ≡ false → read_summary p ≡ Ok (Within n a) → dest rows p ≡ ToClient e0.channel.client
+pub goes-to : (s : CoreState) (n : ℕ) (a : Act) (p : List ℕ) (e0 : TableEntry) (rows : List Row) → Stands s rows → find (shown_at n) s.channels ≡ Some e0 → ((x : Channel) → ledger.Stands e0.ledger x → breach Down a x ≡ None) → is_failing a ≡ false → read_summary p ≡ Ok (Within n a) → dest rows p ≡ ToClient e0.channel.client
 goes-to s n a p e0 rows st h fine plain e =
     let x = holds s n e0 rows st h in
     dest-within rows n a p e plain ∙ (ap (λ (o : Option Channel). elim o as (λ _. Dest) [ None ↦ Breaks (broke.NoChannel n) | Some x ↦ elim (breach Down a x) as (λ _. Dest) [ Some b ↦ Breaks (broke.Channel n b) | None ↦ ToClient x.client ] ]) x.is ∙ (ap (λ (o : Option Breach). elim o as (λ _. Dest) [ Some b ↦ Breaks (broke.Channel n b) | None ↦ ToClient x.channel.client ]) (fine x.channel x.fits.ledger) ∙ ap ToClient (sym x.fits.client)))
 
 -- ---- to a client that is served
 
-pub delivers : (s new : CoreState) (n : ℕ) (a : Act) (p : List ℕ) (up : QueueState) (e0 : Entry) (l : Ledger) (over : Bool) (rows : List Row) → Stands s rows → is_served s.clients e0.channel.client ≡ true → find (shown_at n) s.channels ≡ Some e0 → ((x : Channel) → ledger.Stands e0.ledger x → breach Down a x ≡ None) → ActsOn Down a e0.ledger l over → is_failing a ≡ false → new ≡ record s { channels = acted e0.number l over s.channels } → read_summary p ≡ Ok (Within n a) → ReceivesAs new p (with_recipient p (unwrap_or e0.channel.own 0)) up up (heard.Client e0.channel.client 0) rows (dest rows p)
+pub delivers : (s new : CoreState) (n : ℕ) (a : Act) (p : List ℕ) (up : QueueState) (e0 : TableEntry) (l : Ledger) (over : Bool) (rows : List Row) → Stands s rows → is_served s.clients e0.channel.client ≡ true → find (shown_at n) s.channels ≡ Some e0 → ((x : Channel) → ledger.Stands e0.ledger x → breach Down a x ≡ None) → ActsOn Down a e0.ledger l over → is_failing a ≡ false → new ≡ record s { channels = acted e0.number l over s.channels } → read_summary p ≡ Ok (Within n a) → ReceivesAs new p (with_recipient p (unwrap_or e0.channel.own 0)) up up (heard.Client e0.channel.client 0) rows (dest rows p)
 delivers s new n a p up e0 l over rows st serves h fine acts plain after e =
     subst (ReceivesAs new p (with_recipient p (unwrap_or e0.channel.own 0)) up up (heard.Client e0.channel.client 0) rows) (sym (goes-to s n a p e0 rows st h fine plain e)) recorded
   where
@@ -119,7 +119,7 @@ delivers s new n a p up e0 l over rows st serves h fine acts plain after e =
 
 -- ---- to a client that is lost
 
-pub passes-by : (s new : CoreState) (n : ℕ) (a : Act) (p p' : List ℕ) (up : QueueState) (e0 : Entry) (l : Ledger) (over : Bool) (rows : List Row) → Stands s rows → is_lost_in s.clients e0.channel.client ≡ true → find (shown_at n) s.channels ≡ Some e0 → ((x : Channel) → ledger.Stands e0.ledger x → breach Down a x ≡ None) → ActsOn Down a e0.ledger l over → is_failing a ≡ false → new ≡ settled (record s { channels = acted e0.number l over s.channels }) e0.channel.client → read_summary p ≡ Ok (Within n a) → ReceivesAs new p p' up up (heard.Lost e0.channel.client) rows (dest rows p)
+pub passes-by : (s new : CoreState) (n : ℕ) (a : Act) (p p' : List ℕ) (up : QueueState) (e0 : TableEntry) (l : Ledger) (over : Bool) (rows : List Row) → Stands s rows → is_lost_in s.clients e0.channel.client ≡ true → find (shown_at n) s.channels ≡ Some e0 → ((x : Channel) → ledger.Stands e0.ledger x → breach Down a x ≡ None) → ActsOn Down a e0.ledger l over → is_failing a ≡ false → new ≡ settled (record s { channels = acted e0.number l over s.channels }) e0.channel.client → read_summary p ≡ Ok (Within n a) → ReceivesAs new p p' up up (heard.Lost e0.channel.client) rows (dest rows p)
 passes-by s new n a p p' up e0 l over rows st lost h fine acts plain after e =
     subst (ReceivesAs new p p' up up (heard.Lost e0.channel.client) rows) (sym (goes-to s n a p e0 rows st h fine plain e)) recorded
   where
@@ -141,17 +141,17 @@ passes-by s new n a p p' up e0 l over rows st lost h fine acts plain after e =
         }
 
 -- a client with a channel that isn't lost is served
-pub known-served : (k : ℕ) (cs : List MemberState) → is_known cs k ≡ true → is_lost_in cs k ≡ false → is_served cs k ≡ true
+pub known-served : (k : ℕ) (cs : List MemberState) → is_member_known cs k ≡ true → is_lost_in cs k ≡ false → is_served cs k ≡ true
 known-served k [] known here = known
 known-served k (c ∷ cs) known here = by_case (known-served k cs) (c.number == k) refl c.lost refl known here
   where
-    by_case : (is_known cs k ≡ true → is_lost_in cs k ≡ false → is_served cs k ≡ true) → (b : Bool) → (c.number == k) ≡ b → (d : Bool) → c.lost ≡ d → is_known (c ∷ cs) k ≡ true → is_lost_in (c ∷ cs) k ≡ false → is_served (c ∷ cs) k ≡ true
+    by_case : (is_member_known cs k ≡ true → is_lost_in cs k ≡ false → is_served cs k ≡ true) → (b : Bool) → (c.number == k) ≡ b → (d : Bool) → c.lost ≡ d → is_member_known (c ∷ cs) k ≡ true → is_lost_in (c ∷ cs) k ≡ false → is_served (c ∷ cs) k ≡ true
     by_case ih true n false d kn he = ap (λ b. b || is_served cs k) (ap (λ b. b && not c.lost) n ∙ ap not d)
     by_case ih true n true d kn he = absurd (let z : is_lost_in (c ∷ cs) k ≡ true = ap (λ b. b || is_lost_in cs k) (ap (λ b. b && c.lost) n ∙ d) in let y = sym z ∙ he in cc)
-    by_case ih false n d e kn he = ap (λ b. (b && not c.lost) || is_served cs k) n ∙ ih (sym (ap (λ b. b || is_known cs k) n) ∙ kn) (sym (ap (λ b. (b && c.lost) || is_lost_in cs k) n) ∙ he)
+    by_case ih false n d e kn he = ap (λ b. (b && not c.lost) || is_served cs k) n ∙ ih (sym (ap (λ b. b || is_member_known cs k) n) ∙ kn) (sym (ap (λ b. (b && c.lost) || is_lost_in cs k) n) ∙ he)
 
-pub entry-known : (s : CoreState) (n : ℕ) (e0 : Entry) → AllByRecursion (λ e. is_known s.clients e.channel.client ≡ true) s.channels → find (shown_at n) s.channels ≡ Some e0 → is_known s.clients e0.channel.client ≡ true
-entry-known s n e0 known h = found-of (λ e. is_known s.clients e.channel.client ≡ true) (shown_at n) e0 s.channels known h
+pub entry-known : (s : CoreState) (n : ℕ) (e0 : TableEntry) → AllByRecursion (λ e. is_member_known s.clients e.channel.client ≡ true) s.channels → find (shown_at n) s.channels ≡ Some e0 → is_member_known s.clients e0.channel.client ≡ true
+entry-known s n e0 known h = found-of (λ e. is_member_known s.clients e.channel.client ≡ true) (shown_at n) e0 s.channels known h
 
 -- ---- by what the core looks up
 

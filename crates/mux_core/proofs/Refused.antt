@@ -20,15 +20,15 @@ use Rattle.mux_history.specs.Treat.{all_recorded, new_answers}
 use Rattle.mux_history.proofs.Bools.{same-number}
 use Rattle.mux_history.proofs.OwnRows.{idle_row, own_row}
 use Rattle.mux_history.proofs.Readings.{reading-ok}
-use Rattle.mux_isolation.specs.View.{left_of}
+use Rattle.mux_isolation.specs.LogView.{waiting_left_of}
 use Rattle.forward_rules.specs.Stands.{AreFit, Places, places_of}
-use Rattle.channel_table.specs.Entries.{Entry}
+use Rattle.channel_table.specs.Entries.{TableEntry}
 use Rattle.mux_history.specs.Requests.{Ask}
 use Rattle.mux_core.specs.declared.verdict.Verdict.{Verdict}
 use Rattle.mux_core.specs.State.{MemberState, CoreState, is_served}
-use Rattle.mux_core.specs.Stands.{AreOnce, AsksFit, ClientFits, Stands, TableFits, has_matters, is_known, look}
-use Rattle.mux_core.specs.Calls.{SendsIn, SendsRow, Shows}
-use Rattle.mux_core.specs.Requesting.{SendsRoomy, after_refusal, refusal, refusal_now, waiting_of}
+use Rattle.mux_core.specs.Stands.{AreOnce, AsksFit, ClientFits, Stands, TableFits, has_matters, is_member_known, look}
+use Rattle.mux_core.specs.Calls.{CoreSendsIn, SendsRow, VerdictShows}
+use Rattle.mux_core.specs.Requesting.{SendsRoomy, after_refusal, refusal, refusal_now, member_waiting_of}
 use Rattle.mux_core.proofs.Answering.{Waits, if_none, refused-answers, refused-waits}
 use Rattle.mux_core.proofs.Waiting.{changes, changes-at, waits-are, with-map}
 use Rattle.mux_core.proofs.Quiet.{own-same}
@@ -52,9 +52,9 @@ pub numbers-same : (k : ℕ) (h : List Bool → List Bool) (cs : List MemberStat
 numbers-same k h [] = refl
 numbers-same k h (c ∷ cs) = ap (λ n. n ∷ map (λ (c : MemberState). c.number) (map (changes k h) cs)) (number-same k h c) ∙ ap (λ ns. c.number ∷ ns) (numbers-same k h cs)
 
-pub known-same : (k j : ℕ) (h : List Bool → List Bool) (cs : List MemberState) → is_known (map (changes k h) cs) j ≡ is_known cs j
+pub known-same : (k j : ℕ) (h : List Bool → List Bool) (cs : List MemberState) → is_member_known (map (changes k h) cs) j ≡ is_member_known cs j
 known-same k j h [] = refl
-known-same k j h (c ∷ cs) = ap (λ n. (n == j) || is_known (map (changes k h) cs) j) (number-same k h c) ∙ ap (λ b. (c.number == j) || b) (known-same k j h cs)
+known-same k j h (c ∷ cs) = ap (λ n. (n == j) || is_member_known (map (changes k h) cs) j) (number-same k h c) ∙ ap (λ b. (c.number == j) || b) (known-same k j h cs)
 
 pub served-same : (k j : ℕ) (h : List Bool → List Bool) (cs : List MemberState) → is_served (map (changes k h) cs) j ≡ is_served cs j
 served-same k j h [] = refl
@@ -85,8 +85,8 @@ places-same k p what own e =
 
 waits-then : (k : ℕ) (p : List ℕ) (what : Global) (own : List Row) (w : List Bool) → read_summary p ≡ Ok (Requests what true) → Waits (wanted own) (replies own) w → Waits (wanted (refused_row k p ∷ own)) (replies (refused_row k p ∷ own)) (or_behind w)
 waits-then k p what own w e h =
-    ap (λ fs. left_of (wanted own ++ fs) (replies own ++ [])) (flag k p what e)
-    ∙ (ap (left_of (wanted own ++ false ∷ [])) (append-nil (replies own)) ∙ refused-waits (wanted own) (replies own) w h)
+    ap (λ fs. waiting_left_of (wanted own ++ fs) (replies own ++ [])) (flag k p what e)
+    ∙ (ap (waiting_left_of (wanted own ++ false ∷ [])) (append-nil (replies own)) ∙ refused-waits (wanted own) (replies own) w h)
 
 client-then : (k : ℕ) (p : List ℕ) (what : Global) (rows : List Row) (c : MemberState) → read_summary p ≡ Ok (Requests what true) → ClientFits (look rows) c → ClientFits (look (refused_row k p ∷ rows)) (changes k or_behind c)
 client-then k p what rows c e fits = by_number (c.number == k) refl (k == c.number) refl
@@ -102,13 +102,13 @@ client-then k p what rows c e fits = by_number (c.number == k) refl (k == c.numb
       nonzero = fits.nonzero;
       admitted = ap (any_of is_admit) (after-own c.number g) ∙ fits.admitted;
       lost = fits.lost ∙ sym (ap is_lost (after-own c.number g));
-      answers = λ here. ap (λ own. left_of (wanted own) (replies own)) (after-own c.number g) ∙ waits-then k p what (rows_of c.number rows) c.waiting e (fits.answers here);
+      answers = λ here. ap (λ own. waiting_left_of (wanted own) (replies own)) (after-own c.number g) ∙ waits-then k p what (rows_of c.number rows) c.waiting e (fits.answers here);
     })
     by_number false h false g = subst (ClientFits (look (refused_row k p ∷ rows))) (sym (changes-at k or_behind c false h)) (record {
       nonzero = fits.nonzero;
       admitted = ap (any_of is_admit) (idle_row c.number (refused_row k p) rows g) ∙ fits.admitted;
       lost = fits.lost ∙ sym (ap is_lost (idle_row c.number (refused_row k p) rows g));
-      answers = λ here. ap (λ own. left_of (wanted own) (replies own)) (idle_row c.number (refused_row k p) rows g) ∙ fits.answers here;
+      answers = λ here. ap (λ own. waiting_left_of (wanted own) (replies own)) (idle_row c.number (refused_row k p) rows g) ∙ fits.answers here;
     })
     by_number true h false g = absurd (clash c.number k h g)
     by_number false h true g = absurd (clash k c.number g h)
@@ -146,7 +146,7 @@ refused-stands s k p what rows st serves e =
         few = subst (λ n. n ≤ MAX_CLIENTS) (sym (length-same k or_behind s.clients)) st.clients.few;
       };
       known = record {
-        channels = all-known (λ (f : Entry). f.channel.client) s.clients (map (changes k or_behind) s.clients) (λ j. known-same k j or_behind s.clients) s.channels st.known.channels;
+        channels = all-known (λ (f : TableEntry). f.channel.client) s.clients (map (changes k or_behind) s.clients) (λ j. known-same k j or_behind s.clients) s.channels st.known.channels;
         asks = all-known (λ (a : Ask). a.client) s.clients (map (changes k or_behind) s.clients) (λ j. known-same k j or_behind s.clients) s.asks st.known.asks;
         forwards = all-served s.clients (map (changes k or_behind) s.clients) (λ j. served-same k j or_behind s.clients) s.forwards st.known.forwards;
       };
@@ -162,17 +162,17 @@ recorded-if k p what own w e here waits =
     after : answers (refused_row k p ∷ own) ≡ answers own ++ if_none w
     after = ap (λ fs. answers_to (wanted own ++ fs) (replies own ++ [])) (flag k p what e) ∙ (ap (answers_to (wanted own ++ false ∷ [])) (append-nil (replies own)) ∙ refused-answers (wanted own) (replies own) w waits)
 
-shows-refusal : (k : ℕ) (p : List ℕ) (what : Global) (own : List Row) (w : List Bool) → read_summary p ≡ Ok (Requests what true) → all_recorded (refused_row k p) own ≡ map frame_payload (if_none w) → Shows (refused_row k p) own (refusal_now (is_none_left w))
+shows-refusal : (k : ℕ) (p : List ℕ) (what : Global) (own : List Row) (w : List Bool) → read_summary p ≡ Ok (Requests what true) → all_recorded (refused_row k p) own ≡ map frame_payload (if_none w) → VerdictShows (refused_row k p) own (refusal_now (is_none_left w))
 shows-refusal k p what own [] e recorded = (refl, refl, recorded)
 shows-refusal k p what own (b ∷ bs) e recorded = (refl, refl, recorded, ap is_some (reading-ok p (Requests what true) wanted_in None e))
 
-by-left : (s new : CoreState) (k : ℕ) (p : List ℕ) (up : QueueState) (rows : List Row) (b : Bool) → Shows (refused_row k p) (rows_of k rows) (refusal_now b) → Stands new (refused_row k p ∷ rows) → SendsRow s new (refused_row k p) 0 up up (refusal_now b) rows
+by-left : (s new : CoreState) (k : ℕ) (p : List ℕ) (up : QueueState) (rows : List Row) (b : Bool) → VerdictShows (refused_row k p) (rows_of k rows) (refusal_now b) → Stands new (refused_row k p ∷ rows) → SendsRow s new (refused_row k p) 0 up up (refusal_now b) rows
 by-left s new k p up rows true shows st = record { sent = same-queue up; shows = shows; fresh = λ h. absurd (let d = sym h ∙ takes-unsent k p silent refl in cc); stands = st }
 by-left s new k p up rows false shows st = record { sent = same-queue up; shows = shows; fresh = λ h. absurd (let d = sym h ∙ takes-unsent k p silent refl in cc); stands = st }
 
-pub refused : (s new : CoreState) (k : ℕ) (p : List ℕ) (what : Global) (want : Bool) (v : Verdict) (up : QueueState) → v ≡ refusal want (waiting_of k s.clients) → new ≡ record s { clients = after_refusal want k s.clients } → ((rows : List Row) → Stands s rows → sent_request s.policy k (rows_of k rows) p what want ≡ silent) → SendsRoomy s new k p what want up up v
+pub refused : (s new : CoreState) (k : ℕ) (p : List ℕ) (what : Global) (want : Bool) (v : Verdict) (up : QueueState) → v ≡ refusal want (member_waiting_of k s.clients) → new ≡ record s { clients = after_refusal want k s.clients } → ((rows : List Row) → Stands s rows → sent_request s.policy k (rows_of k rows) p what want ≡ silent) → SendsRoomy s new k p what want up up v
 refused s new k p what false v up is after does = λ room rows st serves e. refused-silent s new k p what v up rows st serves e (does rows st) is after
 refused s new k p what true v up is after does = λ room rows st serves e.
-    subst (λ x. SendsIn s new k p 0 up up x rows) (sym is) (subst (λ x. SendsIn s x k p 0 up up (refusal_now (is_none_left (waiting_of k s.clients))) rows) (sym (after ∙ ap (λ (cs : List MemberState). record s { clients = cs }) (with-map k or_behind s.clients st.clients.once)))
-    (subst (λ o. SendsRow s (record s { clients = map (changes k or_behind) s.clients }) (sent_as k p o) 0 up up (refusal_now (is_none_left (waiting_of k s.clients))) rows) (sym (by-full s k p what true false rows st serves e room ∙ does rows st))
-    (by-left s (record s { clients = map (changes k or_behind) s.clients }) k p up rows (is_none_left (waiting_of k s.clients)) (shows-refusal k p what (rows_of k rows) (waiting_of k s.clients) e (recorded-if k p what (rows_of k rows) (waiting_of k s.clients) e (served (look rows) k s.clients st.clients.each serves).here (waits-are rows k s.clients st.clients.each st.clients.once serves))) (refused-stands s k p what rows st serves e))))
+    subst (λ x. CoreSendsIn s new k p 0 up up x rows) (sym is) (subst (λ x. CoreSendsIn s x k p 0 up up (refusal_now (is_none_left (member_waiting_of k s.clients))) rows) (sym (after ∙ ap (λ (cs : List MemberState). record s { clients = cs }) (with-map k or_behind s.clients st.clients.once)))
+    (subst (λ o. SendsRow s (record s { clients = map (changes k or_behind) s.clients }) (sent_as k p o) 0 up up (refusal_now (is_none_left (member_waiting_of k s.clients))) rows) (sym (by-full s k p what true false rows st serves e room ∙ does rows st))
+    (by-left s (record s { clients = map (changes k or_behind) s.clients }) k p up rows (is_none_left (member_waiting_of k s.clients)) (shows-refusal k p what (rows_of k rows) (member_waiting_of k s.clients) e (recorded-if k p what (rows_of k rows) (member_waiting_of k s.clients) e (served (look rows) k s.clients st.clients.each serves).here (waits-are rows k s.clients st.clients.each st.clients.once serves))) (refused-stands s k p what rows st serves e))))

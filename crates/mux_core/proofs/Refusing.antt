@@ -14,8 +14,8 @@ use Rattle.mux_history.proofs.CurrentSteps.{is_on}
 use Rattle.mux_history.proofs.Finds.{filter-no, filter-yes, find-no}
 use Rattle.mux_history.proofs.Sends.{and-left, and-right}
 use Rattle.forward_rules.specs.State.{Forward}
-use Rattle.forward_rules.specs.Step.{answered, is_asked_at, without_first}
-use Rattle.forward_rules.specs.Stands.{AreFit, AreListed, AreTwo, EachHas, EachTwo, IsAwaited, Places}
+use Rattle.forward_rules.specs.Step.{answered, is_asked_at, without_first_forward}
+use Rattle.forward_rules.specs.Stands.{AreFit, AreForwardsListed, AreTwoPlaces, EachHas, EachTwo, IsAwaited, Places}
 use Rattle.forward_rules.specs.Stands as stands
 use Rattle.mux_core.proofs.Dropped.{Drops, WaitsNot, drops-map, has-kept, kept-fit}
 use Rattle.mux_core.proofs.Granted.{Waiting, asked-key, asks_at, before, none-is}
@@ -29,11 +29,11 @@ abbrev out_of : (Forward → Bool) → List Forward → List Bool
 out_of test [] = []
 out_of test (f ∷ fs) = elim (test f) [ true ↦ false ∷ [] | false ↦ true ∷ out_of test fs ]
 
-without-kept : (test : Forward → Bool) (fs : List Forward) → without_first test fs ≡ kept_by (out_of test fs) fs
+without-kept : (test : Forward → Bool) (fs : List Forward) → without_first_forward test fs ≡ kept_by (out_of test fs) fs
 without-kept test [] = refl
 without-kept test (f ∷ fs) = by_test (without-kept test fs) (test f)
   where
-    by_test : without_first test fs ≡ kept_by (out_of test fs) fs → (b : Bool) → (elim b as (λ _. List Forward) [ true ↦ fs | false ↦ f ∷ without_first test fs ]) ≡ kept_by (elim b as (λ _. List Bool) [ true ↦ false ∷ [] | false ↦ true ∷ out_of test fs ]) (f ∷ fs)
+    by_test : without_first_forward test fs ≡ kept_by (out_of test fs) fs → (b : Bool) → (elim b as (λ _. List Forward) [ true ↦ fs | false ↦ f ∷ without_first_forward test fs ]) ≡ kept_by (elim b as (λ _. List Bool) [ true ↦ false ∷ [] | false ↦ true ∷ out_of test fs ]) (f ∷ fs)
     by_test ih true = refl
     by_test ih false = ap (λ es. f ∷ es) ih
 
@@ -43,7 +43,7 @@ out-at test f fs b h = ap (λ (c : Bool). elim c as (λ _. List Bool) [ true ↦
 first-at : (test : Forwarding → Bool) (g : Forwarding) (gs : List Forwarding) (b : Bool) → test g ≡ b → first_out test (g ∷ gs) ≡ elim b as (λ _. List Bool) [ true ↦ false ∷ [] | false ↦ true ∷ first_out test gs ]
 first-at test g gs b h = ap (λ (c : Bool). elim c as (λ _. List Bool) [ true ↦ false ∷ [] | false ↦ true ∷ first_out test gs ]) h
 
-asked-out : (k place : ℕ) (key : Key) (own : Places) (fs : List Forward) (gs : List Forwarding) → AreListed fs gs → AllByRecursion (Waiting k own) gs → EachTwo gs → own.replied ≡ place → slice_get own.asked place ≡ Some (record { client = k; what = full.Forward key }) → is_some (find (asks_at k place) gs) ≡ true → out_of (is_asked_at k key) fs ≡ first_out (asks_at k place) gs
+asked-out : (k place : ℕ) (key : Key) (own : Places) (fs : List Forward) (gs : List Forwarding) → AreForwardsListed fs gs → AllByRecursion (Waiting k own) gs → EachTwo gs → own.replied ≡ place → slice_get own.asked place ≡ Some (record { client = k; what = full.Forward key }) → is_some (find (asks_at k place) gs) ≡ true → out_of (is_asked_at k key) fs ≡ first_out (asks_at k place) gs
 asked-out k place key own [] [] listed waits two at asked there = refl
 asked-out k place key own [] (g ∷ gs) listed waits two at asked there = absurd listed
 asked-out k place key own (f ∷ fs) [] listed waits two at asked there = absurd listed
@@ -78,7 +78,7 @@ asked-out k place key own (f ∷ fs) (g ∷ gs) listed waits two at asked there 
 -- ---- the others don't wait there
 
 -- those after it
-later-idle : (k place : ℕ) (key : Key) (own : ℕ → Places) (g : Forwarding) (gs : List Forwarding) → asks_at k place g ≡ true → slice_get (own k).asked place ≡ Some (record { client = k; what = full.Forward key }) → AllByRecursion (AreTwo g) gs → AllByRecursion (λ h. IsAwaited (own h.client) h) gs → AllByRecursion (IsBystander k place) gs
+later-idle : (k place : ℕ) (key : Key) (own : ℕ → Places) (g : Forwarding) (gs : List Forwarding) → asks_at k place g ≡ true → slice_get (own k).asked place ≡ Some (record { client = k; what = full.Forward key }) → AllByRecursion (AreTwoPlaces g) gs → AllByRecursion (λ h. IsAwaited (own h.client) h) gs → AllByRecursion (IsBystander k place) gs
 later-idle k place key own g [] at asked two waits = tt
 later-idle k place key own g (h ∷ hs) at asked two waits = ((λ mine. (never (is_request h place) (λ r. both mine r), no-cancel-at k place key own h mine waits.0 asked)), later-idle k place key own g hs at asked two.1 waits.1)
   where
@@ -159,7 +159,7 @@ waits-not k j place later own g past h w = record {
 
 pub refused-fit : (k : ℕ) (key : Key) (fs : List Forward) (gs : List Forwarding) (own own' : ℕ → Places) (lost : ℕ → Bool) → AreFit fs gs own lost → Replies k own own' → lost k ≡ false → slice_get (own k).asked (own k).replied ≡ Some (record { client = k; what = full.Forward key }) → AreFit (answered k key None fs) (filter is_on (map (after k (own k).replied Refuses) gs)) own' lost
 refused-fit k key fs gs own own' lost fit next here asked =
-    subst (λ hs. AreFit (without_first (is_asked_at k key) fs) hs own' lost) (sym (refused-out k place key own gs asked fit.two fit.awaited (on-listed fs gs fit.listed)))
+    subst (λ hs. AreFit (without_first_forward (is_asked_at k key) fs) hs own' lost) (sym (refused-out k place key own gs asked fit.two fit.awaited (on-listed fs gs fit.listed)))
     (subst (λ es. AreFit es (kept_by bs gs) own' lost) (sym (without-kept (is_asked_at k key) fs ∙ ap (λ cs. kept_by cs fs) (asked-out k place key (own k) fs gs fit.listed (waits-for k own gs fit.awaited) fit.two refl asked (asked-there k key fs gs own lost fit here asked))))
     (kept-fit bs fs gs own own' lost fit
     (drops-map (λ g. (asks_at k place g ≡ true) × IsAwaited (own g.client) g) (λ g. g.cancel ≡ None) (λ g h. idle-cancel k place g (own g.client) h.0 h.1) bs gs out)

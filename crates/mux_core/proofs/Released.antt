@@ -13,7 +13,7 @@ use Rattle.mux_history.proofs.Bools.{same-number}
 use Rattle.mux_history.proofs.Sends.{and-left, and-right}
 use Rattle.forward_rules.specs.State.{Forward}
 use Rattle.forward_rules.specs.Step.{without_cancel_of}
-use Rattle.forward_rules.specs.Stands.{AreFit, AreTwo, IsAwaited, Places}
+use Rattle.forward_rules.specs.Stands.{AreFit, AreTwoPlaces, IsAwaited, Places}
 use Rattle.forward_rules.specs.Stands as stands
 use Rattle.mux_core.proofs.Alike.{StaysAt, has-map, two-map}
 use Rattle.mux_core.proofs.CancelAnswered.{Seen, listed-after, order-after, released, released-at}
@@ -44,10 +44,10 @@ awaited-after : (k : ℕ) (key : Key) (own own' : ℕ → Places) (gs : List For
 awaited-after k key own own' [] next asked waits = tt
 awaited-after k key own own' (g ∷ gs) next asked waits = (awaited-released k key own own' g next asked waits.0, awaited-after k key own own' gs next asked waits.1)
 
-two-after : (k place : ℕ) (a b : Forwarding) → AreTwo a b → AreTwo (released k place a) (released k place b)
+two-after : (k place : ℕ) (a b : Forwarding) → AreTwoPlaces a b → AreTwoPlaces (released k place a) (released k place b)
 two-after k place a b two = by_tests (leaves_at k place a) (leaves_at k place b)
   where
-    by_tests : (x y : Bool) → AreTwo (elim x as (λ _. Forwarding) [ true ↦ record a { cancel = None } | false ↦ a ]) (elim y as (λ _. Forwarding) [ true ↦ record b { cancel = None } | false ↦ b ])
+    by_tests : (x y : Bool) → AreTwoPlaces (elim x as (λ _. Forwarding) [ true ↦ record a { cancel = None } | false ↦ a ]) (elim y as (λ _. Forwarding) [ true ↦ record b { cancel = None } | false ↦ b ])
     by_tests true true = record { asked = two.asked; leaving = λ q s c d. absurd (let x : None ≡ Some q = c in cc) }
     by_tests true false = record { asked = two.asked; leaving = λ q s c d. absurd (let x : None ≡ Some q = c in cc) }
     by_tests false true = record { asked = two.asked; leaving = λ q s c d. absurd (let x : None ≡ Some q = d in cc) }

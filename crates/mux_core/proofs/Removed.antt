@@ -12,8 +12,8 @@ use Rattle.mux_history.proofs.CurrentSteps.{is_on}
 use Rattle.mux_history.proofs.Finds.{filter-no, filter-yes}
 use Rattle.mux_history.proofs.Sends.{and-left, and-right}
 use Rattle.forward_rules.specs.State.{Forward}
-use Rattle.forward_rules.specs.Step.{cancelled, cancels, is_free_at, is_leaving, is_of, without_first}
-use Rattle.forward_rules.specs.Stands.{AreFit, AreInOrder, AreListed, AreTwo, EachTwo, HasAt, InOrderWith, IsAwaited, IsRanked, Places, is_asked_at, is_leaving_at}
+use Rattle.forward_rules.specs.Step.{cancelled, cancels, is_free_at, is_leaving, is_of, without_first_forward}
+use Rattle.forward_rules.specs.Stands.{AreFit, AreForwardingsInOrder, AreForwardsListed, AreTwoPlaces, EachTwo, HasAt, InOrderWith, IsAwaited, IsRanked, Places, is_asked_at, is_leaving_at}
 use Rattle.mux_core.proofs.Pairs.{find-any, free-is, free-same, or-first, or-found, or-second}
 use Rattle.mux_core.proofs.Asked.{all-map}
 
@@ -29,7 +29,7 @@ all-by P (b ∷ bs) [] all = tt
 all-by P (true ∷ bs) (x ∷ xs) all = (all.0, all-by P bs xs all.1)
 all-by P (false ∷ bs) (x ∷ xs) all = all-by P bs xs all.1
 
-pub listed-by : (bs : List Bool) (fs : List Forward) (gs : List Forwarding) → AreListed fs gs → AreListed (kept_by bs fs) (kept_by bs gs)
+pub listed-by : (bs : List Bool) (fs : List Forward) (gs : List Forwarding) → AreForwardsListed fs gs → AreForwardsListed (kept_by bs fs) (kept_by bs gs)
 listed-by [] fs gs all = all
 listed-by (b ∷ bs) [] [] all = tt
 listed-by (b ∷ bs) [] (g ∷ gs) all = absurd all
@@ -37,7 +37,7 @@ listed-by (b ∷ bs) (f ∷ fs) [] all = absurd all
 listed-by (true ∷ bs) (f ∷ fs) (g ∷ gs) all = (all.0, listed-by bs fs gs all.1)
 listed-by (false ∷ bs) (f ∷ fs) (g ∷ gs) all = listed-by bs fs gs all.1
 
-order-with-by : (f : Forward) (g : Forwarding) (bs : List Bool) (fs : List Forward) (gs : List Forwarding) → AreListed fs gs → InOrderWith f g fs gs → InOrderWith f g (kept_by bs fs) (kept_by bs gs)
+order-with-by : (f : Forward) (g : Forwarding) (bs : List Bool) (fs : List Forward) (gs : List Forwarding) → AreForwardsListed fs gs → InOrderWith f g fs gs → InOrderWith f g (kept_by bs fs) (kept_by bs gs)
 order-with-by f g [] fs gs listed all = all
 order-with-by f g (b ∷ bs) [] [] listed all = tt
 order-with-by f g (b ∷ bs) [] (h ∷ hs) listed all = absurd listed
@@ -45,7 +45,7 @@ order-with-by f g (b ∷ bs) (e ∷ es) [] listed all = absurd listed
 order-with-by f g (true ∷ bs) (e ∷ es) (h ∷ hs) listed all = (all.0, order-with-by f g bs es hs listed.1 all.1)
 order-with-by f g (false ∷ bs) (e ∷ es) (h ∷ hs) listed all = order-with-by f g bs es hs listed.1 all.1
 
-pub order-by : (bs : List Bool) (fs : List Forward) (gs : List Forwarding) → AreListed fs gs → AreInOrder fs gs → AreInOrder (kept_by bs fs) (kept_by bs gs)
+pub order-by : (bs : List Bool) (fs : List Forward) (gs : List Forwarding) → AreForwardsListed fs gs → AreForwardingsInOrder fs gs → AreForwardingsInOrder (kept_by bs fs) (kept_by bs gs)
 order-by [] fs gs listed all = all
 order-by (b ∷ bs) [] [] listed all = tt
 order-by (b ∷ bs) [] (g ∷ gs) listed all = absurd listed
@@ -56,7 +56,7 @@ order-by (false ∷ bs) (f ∷ fs) (g ∷ gs) listed all = order-by bs fs gs lis
 pub two-by : (bs : List Bool) (gs : List Forwarding) → EachTwo gs → EachTwo (kept_by bs gs)
 two-by [] gs two = two
 two-by (b ∷ bs) [] two = tt
-two-by (true ∷ bs) (g ∷ gs) two = (all-by (AreTwo g) bs gs two.0, two-by bs gs two.1)
+two-by (true ∷ bs) (g ∷ gs) two = (all-by (AreTwoPlaces g) bs gs two.0, two-by bs gs two.1)
 two-by (false ∷ bs) (g ∷ gs) two = two-by bs gs two.1
 
 -- no more pass
@@ -98,7 +98,7 @@ pub on-all : (gs : List Forwarding) → AllByRecursion (λ g. is_on g ≡ true) 
 on-all [] all = refl
 on-all (g ∷ gs) all = filter-yes is_on g gs all.0 ∙ ap (λ hs. g ∷ hs) (on-all gs all.1)
 
-pub on-listed : (fs : List Forward) (gs : List Forwarding) → AreListed fs gs → AllByRecursion (λ g. is_on g ≡ true) gs
+pub on-listed : (fs : List Forward) (gs : List Forwarding) → AreForwardsListed fs gs → AllByRecursion (λ g. is_on g ≡ true) gs
 on-listed [] [] all = tt
 on-listed [] (g ∷ gs) all = absurd all
 on-listed (f ∷ fs) [] all = absurd all
@@ -119,53 +119,53 @@ stopped-out test place (g ∷ gs) all = by_case (stopped-out test place gs all.1
 
 -- ---- a cancel that wants no reply
 
-kept-out : (k : ℕ) (key : Key) (fs : List Forward) (gs : List Forwarding) → AreListed fs gs → without_first (is_free_at k key) fs ≡ kept_by (first_out (history.is_free_at k key) gs) fs
+kept-out : (k : ℕ) (key : Key) (fs : List Forward) (gs : List Forwarding) → AreForwardsListed fs gs → without_first_forward (is_free_at k key) fs ≡ kept_by (first_out (history.is_forwarding_free_at k key) gs) fs
 kept-out k key [] [] listed = refl
 kept-out k key [] (g ∷ gs) listed = absurd listed
 kept-out k key (f ∷ fs) [] listed = absurd listed
 kept-out k key (f ∷ fs) (g ∷ gs) listed = by_case (kept-out k key fs gs listed.1) (is_free_at k key f) refl
   where
-    same : is_free_at k key f ≡ history.is_free_at k key g
+    same : is_free_at k key f ≡ history.is_forwarding_free_at k key g
     same = free-same k key f g listed.0
 
-    by_case : without_first (is_free_at k key) fs ≡ kept_by (first_out (history.is_free_at k key) gs) fs → (b : Bool) → is_free_at k key f ≡ b → without_first (is_free_at k key) (f ∷ fs) ≡ kept_by (first_out (history.is_free_at k key) (g ∷ gs)) (f ∷ fs)
+    by_case : without_first_forward (is_free_at k key) fs ≡ kept_by (first_out (history.is_forwarding_free_at k key) gs) fs → (b : Bool) → is_free_at k key f ≡ b → without_first_forward (is_free_at k key) (f ∷ fs) ≡ kept_by (first_out (history.is_forwarding_free_at k key) (g ∷ gs)) (f ∷ fs)
     by_case ih true h =
-        ap (λ (c : Bool). elim c as (λ _. List Forward) [ true ↦ fs | false ↦ f ∷ without_first (is_free_at k key) fs ]) h
-        ∙ sym (ap (λ bs. kept_by bs (f ∷ fs)) (out-at (history.is_free_at k key) g gs true (sym same ∙ h)))
+        ap (λ (c : Bool). elim c as (λ _. List Forward) [ true ↦ fs | false ↦ f ∷ without_first_forward (is_free_at k key) fs ]) h
+        ∙ sym (ap (λ bs. kept_by bs (f ∷ fs)) (out-at (history.is_forwarding_free_at k key) g gs true (sym same ∙ h)))
     by_case ih false h =
-        ap (λ (c : Bool). elim c as (λ _. List Forward) [ true ↦ fs | false ↦ f ∷ without_first (is_free_at k key) fs ]) h
-        ∙ (ap (λ es. f ∷ es) ih ∙ sym (ap (λ bs. kept_by bs (f ∷ fs)) (out-at (history.is_free_at k key) g gs false (sym same ∙ h))))
+        ap (λ (c : Bool). elim c as (λ _. List Forward) [ true ↦ fs | false ↦ f ∷ without_first_forward (is_free_at k key) fs ]) h
+        ∙ (ap (λ es. f ∷ es) ih ∙ sym (ap (λ bs. kept_by bs (f ∷ fs)) (out-at (history.is_forwarding_free_at k key) g gs false (sym same ∙ h))))
 
 -- no cancel goes along
-no-cancel : (k : ℕ) (key : Key) (j : ℕ) (fs : List Forward) (gs : List Forwarding) → AreListed fs gs → cancels j (kept_by (first_out (history.is_free_at k key) gs) fs) ≡ cancels j fs
+no-cancel : (k : ℕ) (key : Key) (j : ℕ) (fs : List Forward) (gs : List Forwarding) → AreForwardsListed fs gs → cancels j (kept_by (first_out (history.is_forwarding_free_at k key) gs) fs) ≡ cancels j fs
 no-cancel k key j [] [] listed = refl
 no-cancel k key j [] (g ∷ gs) listed = absurd listed
 no-cancel k key j (f ∷ fs) [] listed = absurd listed
-no-cancel k key j (f ∷ fs) (g ∷ gs) listed = by_case (no-cancel k key j fs gs listed.1) (history.is_free_at k key g) refl (is_leaving j f) refl
+no-cancel k key j (f ∷ fs) (g ∷ gs) listed = by_case (no-cancel k key j fs gs listed.1) (history.is_forwarding_free_at k key g) refl (is_leaving j f) refl
   where
     never : (b : Bool) → (b && false) ≡ false
     never true = refl
     never false = refl
 
-    idle : history.is_free_at k key g ≡ true → is_leaving j f ≡ false
+    idle : history.is_forwarding_free_at k key g ≡ true → is_leaving j f ≡ false
     idle h = ap (λ b. (f.client == j) && b) (listed.0.cancel ∙ ap is_some (free-is k key g h).cancel) ∙ never (f.client == j)
 
-    by_case : cancels j (kept_by (first_out (history.is_free_at k key) gs) fs) ≡ cancels j fs → (b : Bool) → history.is_free_at k key g ≡ b → (p : Bool) → is_leaving j f ≡ p → cancels j (kept_by (first_out (history.is_free_at k key) (g ∷ gs)) (f ∷ fs)) ≡ cancels j (f ∷ fs)
-    by_case ih true h p e = ap (λ bs. cancels j (kept_by bs (f ∷ fs))) (out-at (history.is_free_at k key) g gs true h) ∙ sym (ap length (filter-no (is_leaving j) f fs (idle h)))
-    by_case ih false h true e = ap (λ bs. cancels j (kept_by bs (f ∷ fs))) (out-at (history.is_free_at k key) g gs false h) ∙ (ap length (filter-yes (is_leaving j) f (kept_by (first_out (history.is_free_at k key) gs) fs) e) ∙ (ap suc ih ∙ sym (ap length (filter-yes (is_leaving j) f fs e))))
-    by_case ih false h false e = ap (λ bs. cancels j (kept_by bs (f ∷ fs))) (out-at (history.is_free_at k key) g gs false h) ∙ (ap length (filter-no (is_leaving j) f (kept_by (first_out (history.is_free_at k key) gs) fs) e) ∙ (ih ∙ sym (ap length (filter-no (is_leaving j) f fs e))))
+    by_case : cancels j (kept_by (first_out (history.is_forwarding_free_at k key) gs) fs) ≡ cancels j fs → (b : Bool) → history.is_forwarding_free_at k key g ≡ b → (p : Bool) → is_leaving j f ≡ p → cancels j (kept_by (first_out (history.is_forwarding_free_at k key) (g ∷ gs)) (f ∷ fs)) ≡ cancels j (f ∷ fs)
+    by_case ih true h p e = ap (λ bs. cancels j (kept_by bs (f ∷ fs))) (out-at (history.is_forwarding_free_at k key) g gs true h) ∙ sym (ap length (filter-no (is_leaving j) f fs (idle h)))
+    by_case ih false h true e = ap (λ bs. cancels j (kept_by bs (f ∷ fs))) (out-at (history.is_forwarding_free_at k key) g gs false h) ∙ (ap length (filter-yes (is_leaving j) f (kept_by (first_out (history.is_forwarding_free_at k key) gs) fs) e) ∙ (ap suc ih ∙ sym (ap length (filter-yes (is_leaving j) f fs e))))
+    by_case ih false h false e = ap (λ bs. cancels j (kept_by bs (f ∷ fs))) (out-at (history.is_forwarding_free_at k key) g gs false h) ∙ (ap length (filter-no (is_leaving j) f (kept_by (first_out (history.is_forwarding_free_at k key) gs) fs) e) ∙ (ih ∙ sym (ap length (filter-no (is_leaving j) f fs e))))
 
-pub stopped-fit : (k : ℕ) (key : Key) (place : ℕ) (fs : List Forward) (gs : List Forwarding) (own : ℕ → Places) (lost : ℕ → Bool) → AreFit fs gs own lost → AreFit (cancelled k key false fs) (filter is_on (history.change_first (history.is_free_at k key) (stopped false place) gs)) own lost
+pub stopped-fit : (k : ℕ) (key : Key) (place : ℕ) (fs : List Forward) (gs : List Forwarding) (own : ℕ → Places) (lost : ℕ → Bool) → AreFit fs gs own lost → AreFit (cancelled k key false fs) (filter is_on (history.change_first (history.is_forwarding_free_at k key) (stopped false place) gs)) own lost
 stopped-fit k key place fs gs own lost fit =
-    subst (λ xs. AreFit xs (filter is_on (history.change_first (history.is_free_at k key) (stopped false place) gs)) own lost) (sym (kept-out k key fs gs fit.listed))
-    (subst (λ ys. AreFit (kept_by (first_out (history.is_free_at k key) gs) fs) ys own lost) (sym (stopped-out (history.is_free_at k key) place gs (on-listed fs gs fit.listed))) (record {
-      listed = listed-by (first_out (history.is_free_at k key) gs) fs gs fit.listed;
-      in_order = order-by (first_out (history.is_free_at k key) gs) fs gs fit.listed fit.in_order;
-      awaited = all-by (λ g. IsAwaited (own g.client) g) (first_out (history.is_free_at k key) gs) gs fit.awaited;
-      two = two-by (first_out (history.is_free_at k key) gs) gs fit.two;
-      few = λ j. let a = count-by (is_of j) (first_out (history.is_free_at k key) gs) fs in let b = fit.few j in omega arith;
+    subst (λ xs. AreFit xs (filter is_on (history.change_first (history.is_forwarding_free_at k key) (stopped false place) gs)) own lost) (sym (kept-out k key fs gs fit.listed))
+    (subst (λ ys. AreFit (kept_by (first_out (history.is_forwarding_free_at k key) gs) fs) ys own lost) (sym (stopped-out (history.is_forwarding_free_at k key) place gs (on-listed fs gs fit.listed))) (record {
+      listed = listed-by (first_out (history.is_forwarding_free_at k key) gs) fs gs fit.listed;
+      in_order = order-by (first_out (history.is_forwarding_free_at k key) gs) fs gs fit.listed fit.in_order;
+      awaited = all-by (λ g. IsAwaited (own g.client) g) (first_out (history.is_forwarding_free_at k key) gs) gs fit.awaited;
+      two = two-by (first_out (history.is_forwarding_free_at k key) gs) gs fit.two;
+      few = λ j. let a = count-by (is_of j) (first_out (history.is_forwarding_free_at k key) gs) fs in let b = fit.few j in omega arith;
       each = λ j lives at a past got. goes_on at a.what j (fit.each j lives at a past got);
-      ranked = all-by (IsRanked (kept_by (first_out (history.is_free_at k key) gs) fs)) (first_out (history.is_free_at k key) gs) fs (all-map (IsRanked fs) (IsRanked (kept_by (first_out (history.is_free_at k key) gs) fs)) (λ f is q e. subst (λ n. q < n) (sym (no-cancel k key f.client fs gs fit.listed)) (is q e)) fs fit.ranked);
+      ranked = all-by (IsRanked (kept_by (first_out (history.is_forwarding_free_at k key) gs) fs)) (first_out (history.is_forwarding_free_at k key) gs) fs (all-map (IsRanked fs) (IsRanked (kept_by (first_out (history.is_forwarding_free_at k key) gs) fs)) (λ f is q e. subst (λ n. q < n) (sym (no-cancel k key f.client fs gs fit.listed)) (is q e)) fs fit.ranked);
     }))
   where
     absent : (o : Option ℕ) (n : ℕ) → o ≡ None → is_number o n ≡ true → ⊥
@@ -174,8 +174,8 @@ stopped-fit k key place fs gs own lost fit =
     present : (o : Option Key) (n : Key) → o ≡ Some n → is_none o ≡ true → ⊥
     present o n some h = let x : is_none (let y : Option Key = Some n in y) ≡ true = ap is_none (sym some) ∙ h in cc
 
-    goes_on : (at : ℕ) (what : full.Global) (j : ℕ) → HasAt at what (filter (λ g. g.client == j) gs) → HasAt at what (filter (λ g. g.client == j) (kept_by (first_out (history.is_free_at k key) gs) gs))
-    goes_on at (full.Forward q) j h = find-any (λ (g : Forwarding). g.client == j) (is_asked_at at) _ ∙ any-out (λ (g : Forwarding). (g.client == j) && is_asked_at at g) (history.is_free_at k key) (λ g t p. present g.live key (free-is k key g t).live (and-left (is_none g.live) _ (and-right (g.client == j) _ p))) gs (sym (find-any (λ (g : Forwarding). g.client == j) (is_asked_at at) gs) ∙ h)
-    goes_on at (full.Cancel q) j h = find-any (λ (g : Forwarding). g.client == j) (is_leaving_at at) _ ∙ any-out (λ (g : Forwarding). (g.client == j) && is_leaving_at at g) (history.is_free_at k key) (λ g t p. absent g.cancel at (free-is k key g t).cancel (and-right (g.client == j) _ p)) gs (sym (find-any (λ (g : Forwarding). g.client == j) (is_leaving_at at) gs) ∙ h)
+    goes_on : (at : ℕ) (what : full.Global) (j : ℕ) → HasAt at what (filter (λ g. g.client == j) gs) → HasAt at what (filter (λ g. g.client == j) (kept_by (first_out (history.is_forwarding_free_at k key) gs) gs))
+    goes_on at (full.Forward q) j h = find-any (λ (g : Forwarding). g.client == j) (is_asked_at at) _ ∙ any-out (λ (g : Forwarding). (g.client == j) && is_asked_at at g) (history.is_forwarding_free_at k key) (λ g t p. present g.live key (free-is k key g t).live (and-left (is_none g.live) _ (and-right (g.client == j) _ p))) gs (sym (find-any (λ (g : Forwarding). g.client == j) (is_asked_at at) gs) ∙ h)
+    goes_on at (full.Cancel q) j h = find-any (λ (g : Forwarding). g.client == j) (is_leaving_at at) _ ∙ any-out (λ (g : Forwarding). (g.client == j) && is_leaving_at at g) (history.is_forwarding_free_at k key) (λ g t p. absent g.cancel at (free-is k key g t).cancel (and-right (g.client == j) _ p)) gs (sym (find-any (λ (g : Forwarding). g.client == j) (is_leaving_at at) gs) ∙ h)
     goes_on at full.KeepAlive j h = tt
     goes_on at full.OtherName j h = tt

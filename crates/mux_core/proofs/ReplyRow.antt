@@ -5,7 +5,7 @@ use Rattle.std.proofs.lemmas.List.{append-nil}
 use Rattle.ssh_grammar.specs.Messages as full
 use Rattle.mux_history.specs.Summary.{Summary, Refuses, Succeeds, read_summary, reading}
 use Rattle.mux_history.specs.Rows.{Goes, Heard, Row, rows_of}
-use Rattle.mux_history.specs.Channels.{Channel, after_item, begun_by, held_of, is_held, opened_down, with_down, with_ups}
+use Rattle.mux_history.specs.Channels.{Channel, after_item, begun_by, held_of, is_channel_held, opened_down, with_down, with_ups}
 use Rattle.mux_history.specs.Forwardings.{current, forwardings_of, of_client, replied}
 use Rattle.mux_history.specs.Requests.{Ask, asker, asks, asks_of, is_reply, is_sent, replies, reply_in, sent_flags, wanted, wanted_by}
 use Rattle.mux_history.specs.Treat.{bare}
@@ -14,7 +14,7 @@ use Rattle.mux_history.proofs.CurrentSteps.{is_on, on-forwarded}
 use Rattle.mux_history.proofs.Finds.{filter-yes}
 use Rattle.mux_history.proofs.OwnRows.{idle_row, own_row}
 use Rattle.mux_history.proofs.Readings.{reading-ok}
-use Rattle.mux_isolation.specs.View.{Waiting}
+use Rattle.mux_isolation.specs.LogView.{Waiting}
 use Rattle.forward_rules.specs.Stands.{Places, places_of}
 use Rattle.mux_core.specs.State.{CoreState}
 use Rattle.mux_core.specs.Stands.{Stands, look}
@@ -68,8 +68,8 @@ current-next k p m sent rows is =
 pub same-held : (k : ℕ) (p : List ℕ) (m : Summary) (sent : List (List ℕ)) (rows : List Row) → IsReply p m → ((x : Channel) → with_ups None sent x ≡ x) → held_of (reply_row k p sent ∷ rows) ≡ held_of rows
 same-held k p m sent rows is ups =
     held-bare (Heard p) k (record { sent = sent; recorded = []; ends = Goes }) rows
-    ∙ (ap (λ ys. filter is_held (map (after_item (reply_row k p sent)) (held_of rows) ++ ys)) begun
-    ∙ (ap (filter is_held) (append-nil (map (after_item (reply_row k p sent)) (held_of rows)) ∙ map-same (after_item (reply_row k p sent)) same (held_of rows)) ∙ held-held rows))
+    ∙ (ap (λ ys. filter is_channel_held (map (after_item (reply_row k p sent)) (held_of rows) ++ ys)) begun
+    ∙ (ap (filter is_channel_held) (append-nil (map (after_item (reply_row k p sent)) (held_of rows)) ∙ map-same (after_item (reply_row k p sent)) same (held_of rows)) ∙ held-held rows))
   where
     none : (us : List (List ℕ)) (g : Summary) → is_reply g ≡ true → opened_down k us g ≡ []
     none [] (Succeeds rest) h = refl

@@ -15,17 +15,17 @@ use Rattle.mux_history.specs.Said.{sends}
 use Rattle.mux_history.proofs.Bools.{same-number}
 use Rattle.mux_history.proofs.OwnRows.{idle_row, own_row}
 use Rattle.mux_history.proofs.Readings.{reading-ok}
-use Rattle.mux_isolation.specs.View.{left_of}
+use Rattle.mux_isolation.specs.LogView.{waiting_left_of}
 use Rattle.forward_rules.specs.State as kept
 use Rattle.forward_rules.specs.Stands.{AreFit, EachHas, HasAt, IsAwaited, Places, places_of}
 use Rattle.mux_history.specs.declared.limits.TheConstants.{MAX_CLIENTS}
-use Rattle.mux_history.specs.Summary.{sender_of}
-use Rattle.mux_history.specs.Channels.{Channel, after_item, held_of, is_held, opened_up, with_up}
+use Rattle.mux_history.specs.Summary.{summary_sender_of}
+use Rattle.mux_history.specs.Channels.{Channel, after_item, held_of, is_channel_held, opened_up, with_up}
 use Rattle.mux_history.specs.Farewell.{has_open_matters}
 use Rattle.mux_history.specs.Log.{entered}
-use Rattle.channel_table.specs.Entries.{Entry}
+use Rattle.channel_table.specs.Entries.{TableEntry}
 use Rattle.mux_core.specs.State.{MemberState, CoreState, is_served}
-use Rattle.mux_core.specs.Stands.{AreOnce, ClientFits, Stands, TableFits, has_matters, is_known, look}
+use Rattle.mux_core.specs.Stands.{AreOnce, ClientFits, Stands, TableFits, has_matters, is_member_known, look}
 use Rattle.mux_core.proofs.Bare.{held-bare}
 use Rattle.mux_core.proofs.OpensSent.{served-known}
 use Rattle.mux_core.proofs.Quiet.{own-same}
@@ -58,8 +58,8 @@ others-stay k p rows j other = ap places_of (idle_row j (request_row k p) rows o
 
 waits-more : (k : ℕ) (p : List ℕ) (what : Global) (own : List Row) (w : List Bool) → read_summary p ≡ Ok (Requests what true) → Waits (wanted own) (replies own) w → Waits (wanted (request_row k p ∷ own)) (replies (request_row k p ∷ own)) (w ++ true ∷ [])
 waits-more k p what own w e h =
-    ap (λ fs. left_of (wanted own ++ fs) (replies own ++ [])) (ap (sent_flags true) (reading-ok p (Requests what true) wanted_in None e))
-    ∙ (ap (left_of (wanted own ++ true ∷ [])) (append-nil (replies own)) ∙ sent-waits (wanted own) (replies own) w h)
+    ap (λ fs. waiting_left_of (wanted own ++ fs) (replies own ++ [])) (ap (sent_flags true) (reading-ok p (Requests what true) wanted_in None e))
+    ∙ (ap (waiting_left_of (wanted own ++ true ∷ [])) (append-nil (replies own)) ∙ sent-waits (wanted own) (replies own) w h)
 
 -- ---- the clients
 
@@ -84,13 +84,13 @@ client-more k p what rows c e fits = by_number (c.number == k) refl (k == c.numb
       nonzero = fits.nonzero;
       admitted = ap (any_of is_admit) (after-own c.number g) ∙ fits.admitted;
       lost = fits.lost ∙ sym (ap is_lost (after-own c.number g));
-      answers = λ here. ap (λ own. left_of (wanted own) (replies own)) (after-own c.number g) ∙ waits-more k p what (rows_of c.number rows) c.waiting e (fits.answers here);
+      answers = λ here. ap (λ own. waiting_left_of (wanted own) (replies own)) (after-own c.number g) ∙ waits-more k p what (rows_of c.number rows) c.waiting e (fits.answers here);
     })
     by_number false h false g = subst (ClientFits (look (request_row k p ∷ rows))) (sym (rw (h, awaits) refl)) (record {
       nonzero = fits.nonzero;
       admitted = ap (any_of is_admit) (idle_row c.number (request_row k p) rows g) ∙ fits.admitted;
       lost = fits.lost ∙ sym (ap is_lost (idle_row c.number (request_row k p) rows g));
-      answers = λ here. ap (λ own. left_of (wanted own) (replies own)) (idle_row c.number (request_row k p) rows g) ∙ fits.answers here;
+      answers = λ here. ap (λ own. waiting_left_of (wanted own) (replies own)) (idle_row c.number (request_row k p) rows g) ∙ fits.answers here;
     })
     by_number true h false g = absurd (clash c.number k h g)
     by_number false h true g = absurd (clash k c.number g h)
@@ -167,13 +167,13 @@ same-forwardings k p what rows e none = ap (filter (λ (f : Forwarding). not f.o
 
 no-change : (k : ℕ) (p : List ℕ) (what : Global) (want : Bool) (x : Channel) → read_summary p ≡ Ok (Requests what want) → after_item (request_row k p) x ≡ x
 no-change k p what want x e =
-    ap (λ (y : Channel). elim (x.client == k) as (λ _. Channel) [ true ↦ y | false ↦ x ]) (reading-ok p (Requests what want) (λ m. with_up (reading p sender_of None) m x) x e)
+    ap (λ (y : Channel). elim (x.client == k) as (λ _. Channel) [ true ↦ y | false ↦ x ]) (reading-ok p (Requests what want) (λ m. with_up (reading p summary_sender_of None) m x) x e)
     ∙ (elim (x.client == k) as (λ b. (elim b as (λ _. Channel) [ true ↦ x | false ↦ x ]) ≡ x) [ true ↦ refl | false ↦ refl ])
 
 pub same-channels : (k : ℕ) (p : List ℕ) (what : Global) (want : Bool) (rows : List Row) → read_summary p ≡ Ok (Requests what want) → held_of (request_row k p ∷ rows) ≡ held_of rows
 same-channels k p what want rows e =
     held-bare (Says k (Payload p) None) k (sends p) rows
-    ∙ (ap (filter is_held) (ap (λ ys. map (after_item (request_row k p)) (held_of rows) ++ ys) (reading-ok p (Requests what want) (opened_up k (p ∷ [])) [] e) ∙ (append-nil (map (after_item (request_row k p)) (held_of rows)) ∙ map-same (after_item (request_row k p)) (λ x. no-change k p what want x e) (held_of rows)))
+    ∙ (ap (filter is_channel_held) (ap (λ ys. map (after_item (request_row k p)) (held_of rows) ++ ys) (reading-ok p (Requests what want) (opened_up k (p ∷ [])) [] e) ∙ (append-nil (map (after_item (request_row k p)) (held_of rows)) ∙ map-same (after_item (request_row k p)) (λ x. no-change k p what want x e) (held_of rows)))
     ∙ held-held rows)
 
 numbers-same : (k : ℕ) (cs : List MemberState) → map (λ (c : MemberState). c.number) (map (awaits k) cs) ≡ map (λ (c : MemberState). c.number) cs
@@ -183,9 +183,9 @@ numbers-same k (c ∷ cs) = ap (λ n. n ∷ map (λ (c : MemberState). c.number)
 lost-same : (k : ℕ) (c : MemberState) → (awaits k c).lost ≡ c.lost
 lost-same k c = elim (c.number == k) as (λ b. (elim b as (λ _. MemberState) [ true ↦ record c { waiting = c.waiting ++ true ∷ [] } | false ↦ c ]).lost ≡ c.lost) [ true ↦ refl | false ↦ refl ]
 
-known-same : (k j : ℕ) (cs : List MemberState) → is_known (map (awaits k) cs) j ≡ is_known cs j
+known-same : (k j : ℕ) (cs : List MemberState) → is_member_known (map (awaits k) cs) j ≡ is_member_known cs j
 known-same k j [] = refl
-known-same k j (c ∷ cs) = ap (λ n. (n == j) || is_known (map (awaits k) cs) j) (number-same k c) ∙ ap (λ b. (c.number == j) || b) (known-same k j cs)
+known-same k j (c ∷ cs) = ap (λ n. (n == j) || is_member_known (map (awaits k) cs) j) (number-same k c) ∙ ap (λ b. (c.number == j) || b) (known-same k j cs)
 
 served-same : (k j : ℕ) (cs : List MemberState) → is_served (map (awaits k) cs) j ≡ is_served cs j
 served-same k j [] = refl
@@ -219,7 +219,7 @@ matters-more k p rows s j = by_case (k == j) refl
         let here : is_lost (rows_of j rows) ≡ false = subst (λ i. (look rows).lost i ≡ false) same s.here in
         ap has_open_matters (own_row j (request_row k p) rows e) ∙ (open-by (request_row k p ∷ rows_of j rows) admitted here ∙ sym (open-by (rows_of j rows) admitted here))
 
-pub all-known : {X : Type 0} (client : X → ℕ) (cs cs' : List MemberState) → ((j : ℕ) → is_known cs' j ≡ is_known cs j) → (xs : List X) → AllByRecursion (λ x. is_known cs (client x) ≡ true) xs → AllByRecursion (λ x. is_known cs' (client x) ≡ true) xs
+pub all-known : {X : Type 0} (client : X → ℕ) (cs cs' : List MemberState) → ((j : ℕ) → is_member_known cs' j ≡ is_member_known cs j) → (xs : List X) → AllByRecursion (λ x. is_member_known cs (client x) ≡ true) xs → AllByRecursion (λ x. is_member_known cs' (client x) ≡ true) xs
 all-known client cs cs' same [] all = tt
 all-known client cs cs' same (x ∷ xs) all = (same (client x) ∙ all.0, all-known client cs cs' same xs all.1)
 
@@ -248,8 +248,8 @@ wanted-stands s k p what rows fs st serves e fit theirs =
         few = subst (λ n. n ≤ MAX_CLIENTS) (sym (length-same k s.clients)) st.clients.few;
       };
       known = record {
-        channels = all-known (λ (f : Entry). f.channel.client) s.clients (map (awaits k) s.clients) (λ j. known-same k j s.clients) s.channels st.known.channels;
-        asks = all-last (λ (a : Ask). is_known (map (awaits k) s.clients) a.client ≡ true) (ask_of k what) (known-same k k s.clients ∙ served-known k s.clients serves) s.asks (all-known (λ (a : Ask). a.client) s.clients (map (awaits k) s.clients) (λ j. known-same k j s.clients) s.asks st.known.asks);
+        channels = all-known (λ (f : TableEntry). f.channel.client) s.clients (map (awaits k) s.clients) (λ j. known-same k j s.clients) s.channels st.known.channels;
+        asks = all-last (λ (a : Ask). is_member_known (map (awaits k) s.clients) a.client ≡ true) (ask_of k what) (known-same k k s.clients ∙ served-known k s.clients serves) s.asks (all-known (λ (a : Ask). a.client) s.clients (map (awaits k) s.clients) (λ j. known-same k j s.clients) s.asks st.known.asks);
         forwards = all-served s.clients (map (awaits k) s.clients) (λ j. served-same k j s.clients) fs theirs;
       };
     }

@@ -13,7 +13,7 @@ use Rattle.mux_history.specs.Requests.{asks, asks_of, replies, sent_flags, wante
 use Rattle.mux_history.proofs.CurrentSteps.{is_on, on-forwarded}
 use Rattle.mux_history.proofs.Readings.{reading-ok}
 use Rattle.forward_rules.specs.State as kept
-use Rattle.forward_rules.specs.Step.{asked, cancelled, change_first, count_of, is_free_at, some_free, without_first}
+use Rattle.forward_rules.specs.Step.{asked, cancelled, change_first_forward, forward_count_of, is_free_at, some_free, without_first_forward}
 use Rattle.forward_rules.specs.Stands.{AreFit}
 use Rattle.mux_core.specs.State.{MemberState, CoreState, is_served}
 use Rattle.mux_core.specs.Stands.{AsksFit, ClientFits, ClientsFit, Look, Stands, TableFits, has_matters, look}
@@ -35,7 +35,7 @@ current-after k p what want rows e =
 served-last : (s : CoreState) (k : ℕ) (key : Key) → is_served s.clients k ≡ true → AllByRecursion (λ (f : kept.Forward). is_served s.clients f.client ≡ true) s.forwards → AllByRecursion (λ (f : kept.Forward). is_served s.clients f.client ≡ true) (s.forwards ++ asked k key ∷ [])
 served-last s k key serves all = all-last (λ (f : kept.Forward). is_served s.clients f.client ≡ true) (asked k key) serves s.forwards all
 
-pub forward-stands : (s : CoreState) (k : ℕ) (p : List ℕ) (key : Key) (rows : List Row) → Stands s rows → is_served s.clients k ≡ true → read_summary p ≡ Ok (Requests (Forward key) true) → count_of s.forwards k < MAX_FORWARDINGS → Stands (record s { asks = s.asks ++ ask_of k (Forward key) ∷ []; clients = map (awaits k) s.clients; forwards = s.forwards ++ asked k key ∷ [] }) (request_row k p ∷ rows)
+pub forward-stands : (s : CoreState) (k : ℕ) (p : List ℕ) (key : Key) (rows : List Row) → Stands s rows → is_served s.clients k ≡ true → read_summary p ≡ Ok (Requests (Forward key) true) → forward_count_of s.forwards k < MAX_FORWARDINGS → Stands (record s { asks = s.asks ++ ask_of k (Forward key) ∷ []; clients = map (awaits k) s.clients; forwards = s.forwards ++ asked k key ∷ [] }) (request_row k p ∷ rows)
 forward-stands s k p key rows st serves e room =
     wanted-stands s k p (Forward key) rows (s.forwards ++ asked k key ∷ []) st serves e
     (subst (λ gs. AreFit (s.forwards ++ asked k key ∷ []) gs (look (request_row k p ∷ rows)).own (look rows).lost)
@@ -47,19 +47,19 @@ forward-stands s k p key rows st serves e room =
 
 -- ---- a cancel that wants a reply
 
-same-on : (k : ℕ) (key : Key) (place : ℕ) (gs : List Forwarding) → AllByRecursion (λ g. is_on g ≡ true) gs → AllByRecursion (λ g. is_on g ≡ true) (history.change_first (history.is_free_at k key) (stopped true place) gs)
+same-on : (k : ℕ) (key : Key) (place : ℕ) (gs : List Forwarding) → AllByRecursion (λ g. is_on g ≡ true) gs → AllByRecursion (λ g. is_on g ≡ true) (history.change_first (history.is_forwarding_free_at k key) (stopped true place) gs)
 same-on k key place [] all = tt
-same-on k key place (g ∷ gs) all = by_case (same-on k key place gs all.1) (history.is_free_at k key g)
+same-on k key place (g ∷ gs) all = by_case (same-on k key place gs all.1) (history.is_forwarding_free_at k key g)
   where
-    by_case : AllByRecursion (λ g. is_on g ≡ true) (history.change_first (history.is_free_at k key) (stopped true place) gs) → (b : Bool) → AllByRecursion (λ g. is_on g ≡ true) (elim b as (λ _. List Forwarding) [ true ↦ stopped true place g ∷ gs | false ↦ g ∷ history.change_first (history.is_free_at k key) (stopped true place) gs ])
+    by_case : AllByRecursion (λ g. is_on g ≡ true) (history.change_first (history.is_forwarding_free_at k key) (stopped true place) gs) → (b : Bool) → AllByRecursion (λ g. is_on g ≡ true) (elim b as (λ _. List Forwarding) [ true ↦ stopped true place g ∷ gs | false ↦ g ∷ history.change_first (history.is_forwarding_free_at k key) (stopped true place) gs ])
     by_case ih true = (all.0, all.1)
     by_case ih false = (all.0, ih)
 
-served-changed : (s : CoreState) (test : kept.Forward → Bool) (r : ℕ) (fs : List kept.Forward) → AllByRecursion (λ (f : kept.Forward). is_served s.clients f.client ≡ true) fs → AllByRecursion (λ (f : kept.Forward). is_served s.clients f.client ≡ true) (change_first test (λ f. record f { cancel = Some r }) fs)
+served-changed : (s : CoreState) (test : kept.Forward → Bool) (r : ℕ) (fs : List kept.Forward) → AllByRecursion (λ (f : kept.Forward). is_served s.clients f.client ≡ true) fs → AllByRecursion (λ (f : kept.Forward). is_served s.clients f.client ≡ true) (change_first_forward test (λ f. record f { cancel = Some r }) fs)
 served-changed s test r [] all = tt
 served-changed s test r (f ∷ fs) all = by_case (served-changed s test r fs all.1) (test f)
   where
-    by_case : AllByRecursion (λ (f : kept.Forward). is_served s.clients f.client ≡ true) (change_first test (λ f. record f { cancel = Some r }) fs) → (b : Bool) → AllByRecursion (λ (f : kept.Forward). is_served s.clients f.client ≡ true) (elim b as (λ _. List kept.Forward) [ true ↦ record f { cancel = Some r } ∷ fs | false ↦ f ∷ change_first test (λ f. record f { cancel = Some r }) fs ])
+    by_case : AllByRecursion (λ (f : kept.Forward). is_served s.clients f.client ≡ true) (change_first_forward test (λ f. record f { cancel = Some r }) fs) → (b : Bool) → AllByRecursion (λ (f : kept.Forward). is_served s.clients f.client ≡ true) (elim b as (λ _. List kept.Forward) [ true ↦ record f { cancel = Some r } ∷ fs | false ↦ f ∷ change_first_forward test (λ f. record f { cancel = Some r }) fs ])
     by_case ih true = (all.0, all.1)
     by_case ih false = (all.0, ih)
 
@@ -68,7 +68,7 @@ cancel-stands s k p key rows st serves e free =
     wanted-stands s k p (Cancel key) rows (cancelled k key true s.forwards) st serves e
     (subst (λ gs. AreFit (cancelled k key true s.forwards) gs (look (request_row k p ∷ rows)).own (look rows).lost)
     (sym (current-after k p (Cancel key) true rows e
-    ∙ on-all (history.change_first (history.is_free_at k key) (stopped true (length (asks (rows_of k rows)))) (current rows)) (same-on k key (length (asks (rows_of k rows))) (current rows) (on-listed s.forwards (current rows) st.forwards.listed))))
+    ∙ on-all (history.change_first (history.is_forwarding_free_at k key) (stopped true (length (asks (rows_of k rows)))) (current rows)) (same-on k key (length (asks (rows_of k rows))) (current rows) (on-listed s.forwards (current rows) st.forwards.listed))))
     (cancelled-fit k key s.forwards (current rows) (look rows).own (look (request_row k p ∷ rows)).own (look rows).lost st.forwards free (st.asks.each k).awaited (own-more k p (Cancel key) rows e) (others-stay k p rows)))
     (served-changed s (is_free_at k key) _ s.forwards st.known.forwards)
 
@@ -107,11 +107,11 @@ stop-stands s k p key rows st serves e =
     (subst (λ gs. AreFit (cancelled k key false s.forwards) gs (look rows).own (look rows).lost) (sym (current-after k p (Cancel key) false rows e)) (stopped-fit k key (length (asks (rows_of k rows))) s.forwards (current rows) (look rows).own (look rows).lost st.forwards))
     (without s.forwards st.known.forwards)
   where
-    without : (fs : List kept.Forward) → AllByRecursion (λ (f : kept.Forward). is_served s.clients f.client ≡ true) fs → AllByRecursion (λ (f : kept.Forward). is_served s.clients f.client ≡ true) (without_first (is_free_at k key) fs)
+    without : (fs : List kept.Forward) → AllByRecursion (λ (f : kept.Forward). is_served s.clients f.client ≡ true) fs → AllByRecursion (λ (f : kept.Forward). is_served s.clients f.client ≡ true) (without_first_forward (is_free_at k key) fs)
     without [] all = tt
     without (f ∷ fs) all = by_case (without fs all.1) (is_free_at k key f)
       where
-        by_case : AllByRecursion (λ (f : kept.Forward). is_served s.clients f.client ≡ true) (without_first (is_free_at k key) fs) → (b : Bool) → AllByRecursion (λ (f : kept.Forward). is_served s.clients f.client ≡ true) (elim b as (λ _. List kept.Forward) [ true ↦ fs | false ↦ f ∷ without_first (is_free_at k key) fs ])
+        by_case : AllByRecursion (λ (f : kept.Forward). is_served s.clients f.client ≡ true) (without_first_forward (is_free_at k key) fs) → (b : Bool) → AllByRecursion (λ (f : kept.Forward). is_served s.clients f.client ≡ true) (elim b as (λ _. List kept.Forward) [ true ↦ fs | false ↦ f ∷ without_first_forward (is_free_at k key) fs ])
         by_case ih true = all.1
         by_case ih false = (all.0, ih)
 

@@ -10,9 +10,9 @@ use Rattle.proxy_frames.specs.State.{QueueState}
 use Rattle.proxy_frames.specs.Queued.{with_bytes}
 use Rattle.mux_history.specs.declared.why.Why.{Why}
 use Rattle.mux_history.specs.declared.why.Why.TheVariants as why
-use Rattle.mux_history.specs.Summary.{Act, Summary, Within, read_summary, sender_of}
+use Rattle.mux_history.specs.Summary.{Act, Summary, Within, read_summary, summary_sender_of}
 use Rattle.mux_history.specs.Rows.{Row, Says, rows_of}
-use Rattle.mux_history.specs.Channels.{Channel, own_of}
+use Rattle.mux_history.specs.Channels.{Channel, own_number_of}
 use Rattle.mux_history.specs.Choices.{takes_number}
 use Rattle.mux_history.specs.Ledger.{breach}
 use Rattle.mux_history.specs.Policy.{Policy}
@@ -21,16 +21,16 @@ use Rattle.mux_history.specs.Treat.{bare}
 use Rattle.mux_history.proofs.Readings.{reading-ok}
 use Rattle.window_ledger.specs.declared.ledger.Ledger.{Ledger}
 use Rattle.window_ledger.specs.Stands as ledger
-use Rattle.channel_table.specs.Entries.{Entry}
-use Rattle.channel_table.specs.Stands.{Fits}
+use Rattle.channel_table.specs.Entries.{TableEntry}
+use Rattle.channel_table.specs.Stands.{EntryFits}
 use Rattle.mux_core.specs.declared.verdict.Verdict.TheVariants as verdict
 use Rattle.mux_core.specs.State.{CoreState, is_served}
 use Rattle.mux_core.specs.Stands.{Stands, look}
 use Rattle.mux_core.specs.Lookups.{acted, confirmed_for}
-use Rattle.mux_core.specs.Calls.{SendsIn, SendsRow}
+use Rattle.mux_core.specs.Calls.{CoreSendsIn, SendsRow}
 use Rattle.mux_core.proofs.Acts.{ActsOn}
 use Rattle.mux_core.proofs.Found.{ConfirmedEntry, confirmed-entry, confirmed-fit, confirmed-none}
-use Rattle.channel_table.proofs.Fits.{FoundFit}
+use Rattle.channel_table.proofs.EntryFits.{FoundFit}
 use Rattle.mux_core.proofs.Served.{IsServed, served}
 use Rattle.mux_core.proofs.Silent.{records-nothing}
 use Rattle.mux_core.proofs.Within.{quiet, within-stands}
@@ -45,10 +45,10 @@ said-within policy k r pick a own p e fine =
     ∙ ap (λ b. elim b as (λ _. Outcome) [ true ↦ on_waiting r (sends p) (waiting_at own r) | false ↦ on_confirmed p r a (confirmed_at own r) ]) fine
 
 -- the channel that the core finds is there
-record Theirs (s : CoreState) (k r : ℕ) (e0 : Entry) (rows : List Row) : Type 0 where
+record Theirs (s : CoreState) (k r : ℕ) (e0 : TableEntry) (rows : List Row) : Type 0 where
   channel : Channel
   is : confirmed_at (rows_of k rows) r ≡ Some channel
-  fits : Fits e0 channel
+  fits : EntryFits e0 channel
 
 theirs : (s : CoreState) (k r n : ℕ) (l : Ledger) (rows : List Row) → Stands s rows → (c : ConfirmedEntry s.channels k r n l) → Theirs s k r c.entry rows
 theirs s k r n l rows st c = by_found (confirmed_at (rows_of k rows) r) refl (subst (λ o. FoundFit o (confirmed_at (rows_of k rows) r)) c.only (confirmed-fit s.channels k r rows st.channels.fit))
@@ -67,9 +67,9 @@ nobodys s k r rows st none = by_found (confirmed_at (rows_of k rows) r) refl (su
 -- ---- a message that drops its client changes nothing
 
 takes-none : (k : ℕ) (p : List ℕ) (o : Outcome) → o.sent ≡ [] → takes_number (bare (Says k (Payload p) None) k o) ≡ true → ⊥
-takes-none k p o none h = let c : takes_number (bare (Says k (Payload p) None) k o) ≡ false = ap (λ (ups : List (List ℕ)). (elim ups as (λ _. Bool) [ [] ↦ false | q ∷ qs ↦ true ]) && is_some (own_of (Says k (Payload p) None))) none in let d = sym h ∙ c in cc
+takes-none k p o none h = let c : takes_number (bare (Says k (Payload p) None) k o) ≡ false = ap (λ (ups : List (List ℕ)). (elim ups as (λ _. Bool) [ [] ↦ false | q ∷ qs ↦ true ]) && is_some (own_number_of (Says k (Payload p) None))) none in let d = sym h ∙ c in cc
 
-pub dropped-row : (s : CoreState) (k pick : ℕ) (p : List ℕ) (up : QueueState) (cause : Why) (rows : List Row) → sent_payload s.policy k (rows_of k rows) pick p ≡ drops cause → SendsIn s s k p pick up up (verdict.Drop cause) rows
+pub dropped-row : (s : CoreState) (k pick : ℕ) (p : List ℕ) (up : QueueState) (cause : Why) (rows : List Row) → sent_payload s.policy k (rows_of k rows) pick p ≡ drops cause → CoreSendsIn s s k p pick up up (verdict.Drop cause) rows
 dropped-row s k pick p up cause rows e = subst (λ o. SendsRow s s (bare (Says k (Payload p) None) k o) pick up up (verdict.Drop cause) rows) (sym e) (record {
   sent = ap (λ (bs : List ℕ). let q : QueueState = record up { waiting = bs } in q) (sym (append-nil up.waiting));
   shows = (refl, refl);
@@ -77,11 +77,11 @@ dropped-row s k pick p up cause rows e = subst (λ o. SendsRow s s (bare (Says k
   stands = refl;
 })
 
-pub not-yours : (s : CoreState) (k r : ℕ) (a : Act) (p : List ℕ) (up : QueueState) (rows : List Row) → Stands s rows → confirmed_for s.channels k r ≡ None → is_failing a ≡ false → read_summary p ≡ Ok (Within r a) → SendsIn s s k p 0 up up (verdict.Drop (why.NotYours r)) rows
+pub not-yours : (s : CoreState) (k r : ℕ) (a : Act) (p : List ℕ) (up : QueueState) (rows : List Row) → Stands s rows → confirmed_for s.channels k r ≡ None → is_failing a ≡ false → read_summary p ≡ Ok (Within r a) → CoreSendsIn s s k p 0 up up (verdict.Drop (why.NotYours r)) rows
 not-yours s k r a p up rows st none fine e =
     dropped-row s k 0 p up (why.NotYours r) rows (said-within s.policy k r 0 a (rows_of k rows) p e fine ∙ ap (on_confirmed p r a) (nobodys s k r rows st none))
 
-pub breaks-account : (s : CoreState) (k r n : ℕ) (l : Ledger) (a : Act) (p : List ℕ) (up : QueueState) (b : Breach) (rows : List Row) → Stands s rows → confirmed_for s.channels k r ≡ Some (n, l) → ((x : Channel) → ledger.Stands l x → breach Up a x ≡ Some b) → is_failing a ≡ false → read_summary p ≡ Ok (Within r a) → SendsIn s s k p 0 up up (verdict.Drop (why.Channel r b)) rows
+pub breaks-account : (s : CoreState) (k r n : ℕ) (l : Ledger) (a : Act) (p : List ℕ) (up : QueueState) (b : Breach) (rows : List Row) → Stands s rows → confirmed_for s.channels k r ≡ Some (n, l) → ((x : Channel) → ledger.Stands l x → breach Up a x ≡ Some b) → is_failing a ≡ false → read_summary p ≡ Ok (Within r a) → CoreSendsIn s s k p 0 up up (verdict.Drop (why.Channel r b)) rows
 breaks-account s k r n l a p up b rows st found broken fine e =
     let c = confirmed-entry s.channels k r n l st.channels.apart found in
     let t = theirs s k r n l rows st c in
@@ -90,9 +90,9 @@ breaks-account s k r n l a p up b rows st found broken fine e =
 -- ---- one that is sent
 
 pub takes-within : (k r : ℕ) (a : Act) (p : List ℕ) → read_summary p ≡ Ok (Within r a) → takes_number (bare (Says k (Payload p) None) k (sends p)) ≡ false
-takes-within k r a p e = ap is_some (reading-ok p (Within r a) sender_of None e)
+takes-within k r a p e = ap is_some (reading-ok p (Within r a) summary_sender_of None e)
 
-pub is-sent : (s new : CoreState) (k r n : ℕ) (l l' : Ledger) (over : Bool) (a : Act) (p : List ℕ) (up : QueueState) (rows : List Row) → Stands s rows → is_served s.clients k ≡ true → confirmed_for s.channels k r ≡ Some (n, l) → ((x : Channel) → ledger.Stands l x → breach Up a x ≡ None) → ActsOn Up a l l' over → is_failing a ≡ false → new ≡ record s { channels = acted n l' over s.channels } → read_summary p ≡ Ok (Within r a) → SendsIn s new k p 0 up (with_bytes (frame_payload p) up) verdict.Sent rows
+pub is-sent : (s new : CoreState) (k r n : ℕ) (l l' : Ledger) (over : Bool) (a : Act) (p : List ℕ) (up : QueueState) (rows : List Row) → Stands s rows → is_served s.clients k ≡ true → confirmed_for s.channels k r ≡ Some (n, l) → ((x : Channel) → ledger.Stands l x → breach Up a x ≡ None) → ActsOn Up a l l' over → is_failing a ≡ false → new ≡ record s { channels = acted n l' over s.channels } → read_summary p ≡ Ok (Within r a) → CoreSendsIn s new k p 0 up (with_bytes (frame_payload p) up) verdict.Sent rows
 is-sent s new k r n l l' over a p up rows st serves found fine acts plain after e =
     let c = confirmed-entry s.channels k r n l st.channels.apart found in
     let t = theirs s k r n l rows st c in

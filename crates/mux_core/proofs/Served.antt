@@ -3,16 +3,16 @@ use Rattle.std.proofs.Common.{◌≡◌, ◌≢◌, ℕ, List, [], ◌∷◌, tr
 use Rattle.std.specs.Prelude.{not, ◌==◌, ◌&&◌, ◌||◌}
 use Rattle.std.specs.List.{AllByRecursion}
 use Rattle.mux_history.specs.Rows.{Row, rows_of, any_of, is_admit, is_lost}
-use Rattle.mux_history.specs.Channels.{held_of, is_held}
+use Rattle.mux_history.specs.Channels.{held_of, is_channel_held}
 use Rattle.mux_history.specs.Requests.{asks, replies}
 use Rattle.mux_history.specs.Farewell.{has_open_matters}
 use Rattle.std.specs.Prelude.{length, nat_lt}
 use Rattle.mux_history.proofs.Bools.{same-number}
 use Rattle.mux_history.proofs.OwnRows.{idle_row}
-use Rattle.channel_table.specs.Entries.{Entry}
+use Rattle.channel_table.specs.Entries.{TableEntry}
 use Rattle.forward_rules.specs.Stands.{AreFit}
 use Rattle.mux_core.specs.State.{MemberState, CoreState, is_served}
-use Rattle.mux_core.specs.Stands.{AsksFit, ClientFits, ClientsFit, Look, Stands, TableFits, has_matters, is_known, look}
+use Rattle.mux_core.specs.Stands.{AsksFit, ClientFits, ClientsFit, Look, Stands, TableFits, has_matters, is_member_known, look}
 use Rattle.mux_core.proofs.Quiet.{IsQuiet, look-same}
 
 -- what is known of it
@@ -44,8 +44,8 @@ served l k (c ∷ cs) all h = by_case (served l k cs all.1) (c.number == k) refl
 -- its matters are open, whatever else there is of it
 pub open-by : (own : List Row) → any_of is_admit own ≡ true → is_lost own ≡ false → has_open_matters own ≡ true
 open-by own a l =
-    ap (λ b. (b && not (is_lost own)) || (any_of is_held (held_of own) || nat_lt (length (replies own)) (length (asks own)))) a
-    ∙ ap (λ b. not b || (any_of is_held (held_of own) || nat_lt (length (replies own)) (length (asks own)))) l
+    ap (λ b. (b && not (is_lost own)) || (any_of is_channel_held (held_of own) || nat_lt (length (replies own)) (length (asks own)))) a
+    ∙ ap (λ b. not b || (any_of is_channel_held (held_of own) || nat_lt (length (replies own)) (length (asks own)))) l
 
 -- a quiet row of it opens and closes no matters
 pub matters-same : (row : Row) (rows : List Row) → IsQuiet row → IsServed row.client (look rows) → (j : ℕ) → has_matters (row ∷ rows) j ≡ has_matters rows j
@@ -62,7 +62,7 @@ matters-same row rows q s j = by_case (row.client == j) refl
         ∙ sym (open-by (rows_of j rows) (subst (λ i. (look rows).admitted i ≡ true) same s.admitted) (subst (λ i. (look rows).lost i ≡ false) same s.here))
 
 -- so all but the channels goes on
-pub quiet-stands : (s : CoreState) (es : List Entry) (row : Row) (rows : List Row) → Stands s rows → IsQuiet row → IsServed row.client (look rows) → TableFits es (held_of (row ∷ rows)) → AllByRecursion (λ e. is_known s.clients e.channel.client ≡ true) es → Stands (record s { channels = es }) (row ∷ rows)
+pub quiet-stands : (s : CoreState) (es : List TableEntry) (row : Row) (rows : List Row) → Stands s rows → IsQuiet row → IsServed row.client (look rows) → TableFits es (held_of (row ∷ rows)) → AllByRecursion (λ e. is_member_known s.clients e.channel.client ≡ true) es → Stands (record s { channels = es }) (row ∷ rows)
 quiet-stands s es row rows st q served channels known =
     let after = sym (look-same row rows q) in
     let matters : has_matters rows ≡ has_matters (row ∷ rows) = λ i j. sym (matters-same row rows q served j) i in

@@ -5,17 +5,17 @@ use Rattle.std.specs.List.{AllByRecursion}
 use Rattle.std.proofs.lemmas.List.{length-drop}
 use Rattle.std.proofs.lemmas.Bool.Decides.{nat_tests}
 use Rattle.mux_history.specs.Rows.{Row, rows_of, any_of, is_admit}
-use Rattle.mux_history.specs.Channels.{Channel, channels_of, held_of, is_held}
+use Rattle.mux_history.specs.Channels.{Channel, channels_of, held_of, is_channel_held}
 use Rattle.mux_history.specs.Requests.{Ask, asks, replies}
 use Rattle.mux_history.specs.Farewell.{has_open_matters}
 use Rattle.mux_history.proofs.Bools.{same-number}
 use Rattle.mux_history.proofs.Finds.{filter-no, filter-yes}
-use Rattle.channel_table.specs.Entries.{Entry}
-use Rattle.channel_table.specs.Entries.{count_of, is_of}
+use Rattle.channel_table.specs.Entries.{TableEntry}
+use Rattle.channel_table.specs.Entries.{channel_count_of, is_of}
 use Rattle.forward_rules.specs.State.{Forward}
 use Rattle.global_replies.specs.Replies as answers
 use Rattle.mux_core.specs.State.{MemberState, CoreState, is_served}
-use Rattle.mux_core.specs.Stands.{AreKnown, AreOnce, AsksFit, ClientFits, ClientsFit, Look, Stands, TableFits, has_matters, is_known, look}
+use Rattle.mux_core.specs.Stands.{AreKnown, AreOnce, AsksFit, ClientFits, ClientsFit, Look, Stands, TableFits, has_matters, is_member_known, look}
 use Rattle.mux_core.specs.Settling.{has_left, is_lost_in, is_other, kept, settled}
 use Rattle.mux_core.proofs.Found.{held-local}
 use Rattle.mux_core.proofs.OpensJudged.{count-fit}
@@ -95,31 +95,31 @@ clients-settle k false cs m m' l fit same here there = record {
 some-more : (n : ℕ) → not (suc n == 0) ≡ true
 some-more n = grind (arith, nat_tests)
 
-any-held : (xs : List Channel) → any_of is_held (filter is_held xs) ≡ not (length (filter is_held xs) == 0)
+any-held : (xs : List Channel) → any_of is_channel_held (filter is_channel_held xs) ≡ not (length (filter is_channel_held xs) == 0)
 any-held [] = refl
-any-held (x ∷ xs) = by_case (any-held xs) (is_held x) refl
+any-held (x ∷ xs) = by_case (any-held xs) (is_channel_held x) refl
   where
     some : (n : ℕ) → not (suc n == 0) ≡ true
     some n = grind (arith, nat_tests)
 
-    by_case : any_of is_held (filter is_held xs) ≡ not (length (filter is_held xs) == 0) → (b : Bool) → is_held x ≡ b → any_of is_held (filter is_held (x ∷ xs)) ≡ not (length (filter is_held (x ∷ xs)) == 0)
-    by_case ih true h = ap (any_of is_held) (filter-yes is_held x xs h) ∙ (ap (λ b. b || any_of is_held (filter is_held xs)) h ∙ (sym (some (length (filter is_held xs))) ∙ ap (λ (ys : List Channel). not (length ys == 0)) (sym (filter-yes is_held x xs h))))
-    by_case ih false h = ap (any_of is_held) (filter-no is_held x xs h) ∙ (ih ∙ ap (λ (ys : List Channel). not (length ys == 0)) (sym (filter-no is_held x xs h)))
+    by_case : any_of is_channel_held (filter is_channel_held xs) ≡ not (length (filter is_channel_held xs) == 0) → (b : Bool) → is_channel_held x ≡ b → any_of is_channel_held (filter is_channel_held (x ∷ xs)) ≡ not (length (filter is_channel_held (x ∷ xs)) == 0)
+    by_case ih true h = ap (any_of is_channel_held) (filter-yes is_channel_held x xs h) ∙ (ap (λ b. b || any_of is_channel_held (filter is_channel_held xs)) h ∙ (sym (some (length (filter is_channel_held xs))) ∙ ap (λ (ys : List Channel). not (length ys == 0)) (sym (filter-yes is_channel_held x xs h))))
+    by_case ih false h = ap (any_of is_channel_held) (filter-no is_channel_held x xs h) ∙ (ih ∙ ap (λ (ys : List Channel). not (length ys == 0)) (sym (filter-no is_channel_held x xs h)))
 
 below : (r a d : ℕ) → r ≤ a → d ≡ a - r → nat_lt r a ≡ not (d == 0)
 below r a d h e = grind (arith, nat_tests)
 
 pub lost-matters : (s : CoreState) (k : ℕ) (rows : List Row) → TableFits s.channels (held_of rows) → AsksFit s.asks (look rows) → (look rows).lost k ≡ true → has_matters rows k ≡ has_left s k
 lost-matters s k rows table fit lost =
-    ap (λ (b : Bool). (any_of is_admit (rows_of k rows) && not b) || (any_of is_held (held_of (rows_of k rows)) || nat_lt (length (replies (rows_of k rows))) (length (asks (rows_of k rows))))) lost
-    ∙ (ap (λ b. b || (any_of is_held (held_of (rows_of k rows)) || nat_lt (length (replies (rows_of k rows))) (length (asks (rows_of k rows))))) (never (any_of is_admit (rows_of k rows)))
-    ∙ (ap (λ b. b || nat_lt (length (replies (rows_of k rows))) (length (asks (rows_of k rows)))) channels ∙ ap (λ b. not (count_of s.channels k == 0) || b) requests))
+    ap (λ (b : Bool). (any_of is_admit (rows_of k rows) && not b) || (any_of is_channel_held (held_of (rows_of k rows)) || nat_lt (length (replies (rows_of k rows))) (length (asks (rows_of k rows))))) lost
+    ∙ (ap (λ b. b || (any_of is_channel_held (held_of (rows_of k rows)) || nat_lt (length (replies (rows_of k rows))) (length (asks (rows_of k rows))))) (never (any_of is_admit (rows_of k rows)))
+    ∙ (ap (λ b. b || nat_lt (length (replies (rows_of k rows))) (length (asks (rows_of k rows)))) channels ∙ ap (λ b. not (channel_count_of s.channels k == 0) || b) requests))
   where
     never : (b : Bool) → (b && false) ≡ false
     never true = refl
     never false = refl
 
-    channels : any_of is_held (held_of (rows_of k rows)) ≡ not (count_of s.channels k == 0)
+    channels : any_of is_channel_held (held_of (rows_of k rows)) ≡ not (channel_count_of s.channels k == 0)
     channels = any-held (channels_of (rows_of k rows)) ∙ ap (λ n. not (n == 0)) (ap length (sym (held-local k rows)) ∙ count-fit k s.channels (held_of rows) table.fit)
 
     requests : nat_lt (length (replies (rows_of k rows))) (length (asks (rows_of k rows))) ≡ not (length (filter (answers.is_of k) s.asks) == 0)
@@ -140,7 +140,7 @@ without k test (c ∷ cs) none = by_case (without k test cs none) (c.number == k
 other-test : (i j k : ℕ) → (j == k) ≡ false → (i == k) ≡ true → (i == j) ≡ false
 other-test i j k a b = grind (arith, nat_tests)
 
-known-without : (k j : ℕ) (cs : List MemberState) → (j == k) ≡ false → is_known cs j ≡ true → is_known (filter (is_other k) cs) j ≡ true
+known-without : (k j : ℕ) (cs : List MemberState) → (j == k) ≡ false → is_member_known cs j ≡ true → is_member_known (filter (is_other k) cs) j ≡ true
 known-without k j cs other known = without k (λ c. c.number == j) cs (λ c h. other-test c.number j k other h) ∙ known
 
 served-without : (k j : ℕ) (cs : List MemberState) → (j == k) ≡ false → is_served cs j ≡ true → is_served (filter (is_other k) cs) j ≡ true
@@ -168,16 +168,16 @@ known-settle s k known elsewhere = by_left (has_left s k) refl
     by_left : (b : Bool) → has_left s k ≡ b → AreKnown (settled s k)
     by_left true h = subst (λ b. AreKnown (record s { clients = kept k b s.clients })) (sym h) known
     by_left false h =
-        let none = neither (not (count_of s.channels k == 0)) (not (length (filter (answers.is_of k) s.asks) == 0)) h in
+        let none = neither (not (channel_count_of s.channels k == 0)) (not (length (filter (answers.is_of k) s.asks) == 0)) h in
         subst (λ b. AreKnown (record s { clients = kept k b s.clients })) (sym h) (record {
-          channels = all-both (λ (e : Entry). is_of k e ≡ false) (λ (e : Entry). is_known s.clients e.channel.client ≡ true) (λ (e : Entry). is_known (filter (is_other k) s.clients) e.channel.client ≡ true) (λ e a b. known-without k e.channel.client s.clients a b) s.channels (none-of (is_of k) s.channels none.0) known.channels;
-          asks = all-both (λ (a : Ask). answers.is_of k a ≡ false) (λ (a : Ask). is_known s.clients a.client ≡ true) (λ (a : Ask). is_known (filter (is_other k) s.clients) a.client ≡ true) (λ a x y. known-without k a.client s.clients x y) s.asks (none-of (answers.is_of k) s.asks none.1) known.asks;
+          channels = all-both (λ (e : TableEntry). is_of k e ≡ false) (λ (e : TableEntry). is_member_known s.clients e.channel.client ≡ true) (λ (e : TableEntry). is_member_known (filter (is_other k) s.clients) e.channel.client ≡ true) (λ e a b. known-without k e.channel.client s.clients a b) s.channels (none-of (is_of k) s.channels none.0) known.channels;
+          asks = all-both (λ (a : Ask). answers.is_of k a ≡ false) (λ (a : Ask). is_member_known s.clients a.client ≡ true) (λ (a : Ask). is_member_known (filter (is_other k) s.clients) a.client ≡ true) (λ a x y. known-without k a.client s.clients x y) s.asks (none-of (answers.is_of k) s.asks none.1) known.asks;
           forwards = all-both (λ (f : Forward). (f.client == k) ≡ false) (λ (f : Forward). is_served s.clients f.client ≡ true) (λ (f : Forward). is_served (filter (is_other k) s.clients) f.client ≡ true) (λ f a b. served-without k f.client s.clients a b) s.forwards elsewhere known.forwards;
         })
 
 -- ---- the row of a client that is lost
 
-pub listed : (j : ℕ) (m : ℕ → Bool) (js : List ℕ) (cs : List MemberState) → map (λ (c : MemberState). c.number) cs ≡ filter m js → is_known cs j ≡ true → m j ≡ true
+pub listed : (j : ℕ) (m : ℕ → Bool) (js : List ℕ) (cs : List MemberState) → map (λ (c : MemberState). c.number) cs ≡ filter m js → is_member_known cs j ≡ true → m j ≡ true
 listed j m js cs e known = within (filter m js) (passing js) (sym (any-map cs) ∙ known ∙ refl) e
   where
     passing : (is : List ℕ) → AllByRecursion (λ i. m i ≡ true) (filter m is)
@@ -188,7 +188,7 @@ listed j m js cs e known = within (filter m js) (passing js) (sym (any-map cs) �
         by_case ih true h = subst (AllByRecursion (λ i. m i ≡ true)) (sym (filter-yes m i is h)) (h, ih)
         by_case ih false h = subst (AllByRecursion (λ i. m i ≡ true)) (sym (filter-no m i is h)) ih
 
-    any-map : (ds : List MemberState) → is_known ds j ≡ any_of (λ i. i == j) (map (λ (c : MemberState). c.number) ds)
+    any-map : (ds : List MemberState) → is_member_known ds j ≡ any_of (λ i. i == j) (map (λ (c : MemberState). c.number) ds)
     any-map [] = refl
     any-map (d ∷ ds) = ap (λ b. (d.number == j) || b) (any-map ds)
 
@@ -213,13 +213,13 @@ lost-there l k (c ∷ cs) all h = by_case (lost-there l k cs all.1) (c.number ==
     by_case ih true n false d h = ih (sym (ap (λ b. b || is_lost_in cs k) (ap (λ b. b && c.lost) n ∙ d)) ∙ h)
     by_case ih false n d e h = ih (sym (ap (λ b. (b && c.lost) || is_lost_in cs k) n) ∙ h)
 
-pub lost-known : (k : ℕ) (cs : List MemberState) → is_lost_in cs k ≡ true → is_known cs k ≡ true
+pub lost-known : (k : ℕ) (cs : List MemberState) → is_lost_in cs k ≡ true → is_member_known cs k ≡ true
 lost-known k [] h = h
 lost-known k (c ∷ cs) h = by_case (lost-known k cs) (c.number == k) refl h
   where
-    by_case : (is_lost_in cs k ≡ true → is_known cs k ≡ true) → (b : Bool) → (c.number == k) ≡ b → (((c.number == k) && c.lost) || is_lost_in cs k) ≡ true → is_known (c ∷ cs) k ≡ true
-    by_case ih true n h = ap (λ b. b || is_known cs k) n
-    by_case ih false n h = ap (λ b. b || is_known cs k) n ∙ ih (sym (ap (λ b. (b && c.lost) || is_lost_in cs k) n) ∙ h)
+    by_case : (is_lost_in cs k ≡ true → is_member_known cs k ≡ true) → (b : Bool) → (c.number == k) ≡ b → (((c.number == k) && c.lost) || is_lost_in cs k) ≡ true → is_member_known (c ∷ cs) k ≡ true
+    by_case ih true n h = ap (λ b. b || is_member_known cs k) n
+    by_case ih false n h = ap (λ b. b || is_member_known cs k) n ∙ ih (sym (ap (λ b. (b && c.lost) || is_lost_in cs k) n) ∙ h)
 
 -- a client that is served is not lost, so none with a forwarding is
 pub elsewhere : (l : Look) (s : CoreState) (k : ℕ) → AllByRecursion (ClientFits l) s.clients → l.lost k ≡ true → AllByRecursion (λ f. is_served s.clients f.client ≡ true) s.forwards → AllByRecursion (λ f. (f.client == k) ≡ false) s.forwards
@@ -237,7 +237,7 @@ elsewhere l s k all lost known = each s.forwards known
     each (f ∷ fs) all = (one f all.0, each fs all.1)
 
 -- a quiet row of a client that is lost, which may be forgotten by it
-pub lost-stands : (s : CoreState) (es : List Entry) (row : Row) (rows : List Row) → Stands s rows → IsQuiet row → is_lost_in s.clients row.client ≡ true → TableFits es (held_of (row ∷ rows)) → AllByRecursion (λ e. is_known s.clients e.channel.client ≡ true) es → Stands (settled (record s { channels = es }) row.client) (row ∷ rows)
+pub lost-stands : (s : CoreState) (es : List TableEntry) (row : Row) (rows : List Row) → Stands s rows → IsQuiet row → is_lost_in s.clients row.client ≡ true → TableFits es (held_of (row ∷ rows)) → AllByRecursion (λ e. is_member_known s.clients e.channel.client ≡ true) es → Stands (settled (record s { channels = es }) row.client) (row ∷ rows)
 lost-stands s es row rows st q lost channels known =
     let after = sym (look-same row rows q) in
     let t : CoreState = record s { channels = es } in

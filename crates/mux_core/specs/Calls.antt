@@ -25,12 +25,12 @@ use Rattle.mux_core.specs.declared.heard.Delivery as declared
 use Rattle.mux_core.specs.declared.heard.Delivery.TheVariants as heard
 use Rattle.mux_core.specs.State.{CoreState, is_served}
 use Rattle.mux_core.specs.Opening.{open_verdict}
-use Rattle.mux_core.specs.Stands.{Stands, is_known}
+use Rattle.mux_core.specs.Stands.{Stands, is_member_known}
 
 -- ---- admit
 
 -- a client that no row concerns yet
-pub record IsNew (k : ℕ) (rows : List Row) : Type 0 where
+pub record IsNewClient (k : ℕ) (rows : List Row) : Type 0 where
   pub nonzero : k ≢ 0
   pub fresh : rows_of k rows ≡ []
 
@@ -40,7 +40,7 @@ pub record Admits (old new : CoreState) (k : ℕ) (let_in : Bool) (rows : List R
   pub stands : Stands new (bare (Admit k) k (admits rows) ∷ rows)
 
 abbrev pub AdmitsOn : CoreState → CoreState → ℕ → Bool → Type 0
-AdmitsOn old new k let_in = (rows : List Row) → Stands old rows → IsNew k rows
+AdmitsOn old new k let_in = (rows : List Row) → Stands old rows → IsNewClient k rows
     → Admits old new k let_in rows
 
 -- ---- sent
@@ -51,20 +51,20 @@ row_sent s k p pick rows =
     bare (Says k (Payload p) None) k (sent_payload s.policy k (rows_of k rows) pick p)
 
 -- the number is below the bound, and no channel holds it
-pub record IsFresh (rows : List Row) (n : ℕ) : Type 0 where
+pub record IsFreshNumber (rows : List Row) (n : ℕ) : Type 0 where
   pub below : n < NUMBERS_END
   pub unheld : holder rows n ≡ None
 
 -- the verdict is what the row shows, exactly
-abbrev pub Shows : Row → List Row → Verdict → Type 0
-Shows row own verdict.Sent = (row.fate ≡ Goes) × (is_sent row ≡ true) × (all_recorded row own ≡ [])
-Shows row own (verdict.Answer payload) = (row.fate ≡ Goes) × (row.up ≡ [])
+abbrev pub VerdictShows : Row → List Row → Verdict → Type 0
+VerdictShows row own verdict.Sent = (row.fate ≡ Goes) × (is_sent row ≡ true) × (all_recorded row own ≡ [])
+VerdictShows row own (verdict.Answer payload) = (row.fate ≡ Goes) × (row.up ≡ [])
     × (all_recorded row own ≡ frame_payload payload ∷ [])
-Shows row own verdict.Held = (row.fate ≡ Goes) × (row.up ≡ []) × (all_recorded row own ≡ [])
+VerdictShows row own verdict.Held = (row.fate ≡ Goes) × (row.up ≡ []) × (all_recorded row own ≡ [])
     × (is_some (wanted_by row) ≡ true)
-Shows row own verdict.Silent = (row.fate ≡ Goes) × (row.up ≡ []) × (all_recorded row own ≡ [])
+VerdictShows row own verdict.Silent = (row.fate ≡ Goes) × (row.up ≡ []) × (all_recorded row own ≡ [])
     × (is_some (wanted_by row) ≡ false)
-Shows row own (verdict.Drop why) = (row.fate ≡ Drop why) × (row.up ≡ [])
+VerdictShows row own (verdict.Drop why) = (row.fate ≡ Drop why) × (row.up ≡ [])
 
 -- the core after it: where the client is dropped nothing was changed
 abbrev pub StandsAfter : CoreState → CoreState → Row → List Row → Verdict → Type 0
@@ -75,14 +75,14 @@ StandsAfter old new row rows v = Stands new (row ∷ rows)
 pub record SendsRow (old new : CoreState) (row : Row) (pick : ℕ) (up up' : QueueState) (v : Verdict)
     (rows : List Row) : Type 0 where
   pub sent : up' ≡ with_payloads row.up up
-  pub shows : Shows row (rows_of row.client rows) v
-  pub fresh : takes_number row ≡ true → IsFresh rows pick
+  pub shows : VerdictShows row (rows_of row.client rows) v
+  pub fresh : takes_number row ≡ true → IsFreshNumber rows pick
   pub stands : StandsAfter old new row rows v
 
 -- of one log
-abbrev pub SendsIn : CoreState → CoreState → ℕ → List ℕ → ℕ → QueueState → QueueState → Verdict
+abbrev pub CoreSendsIn : CoreState → CoreState → ℕ → List ℕ → ℕ → QueueState → QueueState → Verdict
     → List Row → Type 0
-SendsIn old new k p pick up up' v rows =
+CoreSendsIn old new k p pick up up' v rows =
     SendsRow old new (row_sent old k p pick rows) pick up up' v rows
 
 -- of all logs, where this message is sent by a client that is served
@@ -90,7 +90,7 @@ abbrev pub SendsAs : CoreState → CoreState → ℕ → List ℕ → Summary �
     → Verdict → Type 0
 SendsAs old new k p m pick up up' v =
     (rows : List Row) → Stands old rows → is_served old.clients k ≡ true → read_summary p ≡ Ok m
-    → SendsIn old new k p pick up up' v rows
+    → CoreSendsIn old new k p pick up up' v rows
 
 -- with some number
 pub record SendsSome (old new : CoreState) (k : ℕ) (p : List ℕ) (m : Summary) (up up' : QueueState)
@@ -106,16 +106,16 @@ pub record StartsOn (old new : CoreState) (k : ℕ) (p : List ℕ) (c w m : ℕ)
       → SendsAs old new k p (Open what c w m) pick up up' v
 
 -- with one number for all logs, of a client that is served
-pub record SendsOn (old new : CoreState) (k : ℕ) (p : List ℕ) (up up' : QueueState) (v : Verdict) :
+pub record CoreSendsOn (old new : CoreState) (k : ℕ) (p : List ℕ) (up up' : QueueState) (v : Verdict) :
     Type 0 where
   pub pick : ℕ
   pub goes : (rows : List Row) → Stands old rows → is_served old.clients k ≡ true
-      → SendsIn old new k p pick up up' v rows
+      → CoreSendsIn old new k p pick up up' v rows
 
 -- an answer fits into a frame
-abbrev pub AnswerFits : Verdict → Type 0
-AnswerFits (verdict.Answer payload) = IsContent Proxy payload
-AnswerFits v = Unit {0}
+abbrev pub VerdictFits : Verdict → Type 0
+VerdictFits (verdict.Answer payload) = IsContent Proxy payload
+VerdictFits v = Unit {0}
 
 -- ---- received
 
@@ -165,19 +165,19 @@ ReceivesAs new p p' up up' h rows (Breaks why) = ReceivesEnd (heard.Broke why) u
 
 -- a client for which something is recorded was admitted
 abbrev pub IsLetIn : CoreState → declared.Delivery → Type 0
-IsLetIn s (heard.Client k refusals) = is_known s.clients k ≡ true
-IsLetIn s (heard.Lost k) = is_known s.clients k ≡ true
+IsLetIn s (heard.Client k refusals) = is_member_known s.clients k ≡ true
+IsLetIn s (heard.Lost k) = is_member_known s.clients k ≡ true
 IsLetIn s h = Unit {0}
 
-pub record ReceivesIn (old new : CoreState) (p p' : List ℕ) (up up' : QueueState) (h : declared.Delivery)
+pub record CoreReceivesIn (old new : CoreState) (p p' : List ℕ) (up up' : QueueState) (h : declared.Delivery)
     (rows : List Row) : Type 0 where
   pub row : ReceivesAs new p p' up up' h rows (dest rows p)
   pub let_in : IsLetIn old h
 
-abbrev pub ReceivesOn : CoreState → CoreState → List ℕ → List ℕ → QueueState → QueueState
+abbrev pub CoreReceivesOn : CoreState → CoreState → List ℕ → List ℕ → QueueState → QueueState
     → declared.Delivery → Type 0
-ReceivesOn old new p p' up up' h = (rows : List Row) → Stands old rows
-    → ReceivesIn old new p p' up up' h rows
+CoreReceivesOn old new p p' up up' h = (rows : List Row) → Stands old rows
+    → CoreReceivesIn old new p p' up up' h rows
 
 -- ---- gone
 

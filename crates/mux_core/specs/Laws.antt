@@ -2,7 +2,7 @@
 use Rattle.std.specs.Prelude.{◌≡◌, ◌<◌, ◌^◌, ℕ, true, false, List, ◌∷◌}
 use Rattle.ssh_fields.specs.Fields.{AreBytes}
 use Rattle.mux_history.specs.Rows.{Row, loses, is_admit}
-use Rattle.mux_history.specs.PlainRows.{IsPlain}
+use Rattle.mux_history.specs.PlainRows.{IsPlainRow}
 use Rattle.mux_history.specs.Choices.{takes_number}
 use Rattle.mux_history.specs.Right.{carried_number}
 use Rattle.mux_core.specs.State.{CoreState}
@@ -11,14 +11,14 @@ use Rattle.mux_core.specs.Calls.{row_sent}
 
 -- a row of what neither a client in proxy mode nor the server sends, which loses no client and
 -- admits no client
-pub record IsIdle (row : Row) : Type 0 where
-  pub plain : IsPlain row
+pub record IsIdleRow (row : Row) : Type 0 where
+  pub plain : IsPlainRow row
   pub keeps : loses row ≡ false
   pub admits : is_admit row ≡ false
 
 -- such rows leave a core as it is
 abbrev pub IdleRowsStay : Type 0
-IdleRowsStay = (s : CoreState) (row : Row) (rows : List Row) → Stands s rows → IsIdle row
+IdleRowsStay = (s : CoreState) (row : Row) (rows : List Row) → Stands s rows → IsIdleRow row
     → Stands s (row ∷ rows)
 
 -- what a row records for its client is nothing to a core

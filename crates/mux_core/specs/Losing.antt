@@ -1,7 +1,7 @@
 -- What a core becomes when a client is lost.
 use Rattle.std.specs.Prelude.{ℕ, ◌==◌, ◌||◌, List, map}
 use Rattle.client_teardown.specs.Leaving.{left_entries}
-use Rattle.forward_rules.specs.Step.{without_client}
+use Rattle.forward_rules.specs.Step.{forwards_without_client}
 use Rattle.mux_core.specs.State.{MemberState, CoreState}
 
 -- the client is lost
@@ -16,7 +16,7 @@ abbrev pub left_core : CoreState → ℕ → CoreState
 left_core s k = record s {
   channels = left_entries k s.channels;
   forwards =
-      without_client k s.forwards;
+      forwards_without_client k s.forwards;
 }
 
 abbrev pub lost_core : CoreState → ℕ → CoreState

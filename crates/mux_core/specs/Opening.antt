@@ -1,4 +1,4 @@
--- How a core judges an open that a client says.
+-- How a core judges an open that a client sends.
 use Rattle.std.specs.Prelude.{ℕ, true, false, List, Option, Some, None, is_some}
 use Rattle.ssh_grammar.specs.Messages.{Opens, Forwarded}
 use Rattle.ssh_grammar.specs.SpellMessage.{open_failure}
@@ -7,7 +7,7 @@ use Rattle.mux_history.specs.Policy.{may_open}
 use Rattle.mux_history.specs.Said.{reason_for, text_for}
 use Rattle.channel_table.specs.Entries.{number_of_own}
 use Rattle.forward_rules.specs.State.{Forward}
-use Rattle.forward_rules.specs.Step.{owner_at}
+use Rattle.forward_rules.specs.Step.{forward_owner_at}
 use Rattle.mux_core.specs.declared.verdict.Verdict.{Verdict}
 use Rattle.mux_core.specs.declared.verdict.Verdict.TheVariants as verdict
 use Rattle.mux_core.specs.State.{CoreState}
@@ -34,5 +34,5 @@ open_verdict s k sender what = elim (is_some (number_of_own s.channels k sender)
 
 -- whose it is
 abbrev pub owner_for : Opens → List Forward → Option ℕ
-owner_for (Forwarded key) fs = owner_at key fs
+owner_for (Forwarded key) fs = forward_owner_at key fs
 owner_for _ fs = None

@@ -19,9 +19,9 @@ place_of k [] = 0
 place_of k (c ∷ cs) = elim (c.number == k) [ true ↦ 0 | false ↦ place_of k cs + 1 ]
 
 -- what it is still to be answered
-abbrev pub waiting_of : ℕ → List MemberState → List Bool
-waiting_of k [] = []
-waiting_of k (c ∷ cs) = elim (c.number == k) [ true ↦ c.waiting | false ↦ waiting_of k cs ]
+abbrev pub member_waiting_of : ℕ → List MemberState → List Bool
+member_waiting_of k [] = []
+member_waiting_of k (c ∷ cs) = elim (c.number == k) [ true ↦ c.waiting | false ↦ member_waiting_of k cs ]
 
 -- the first of that number, with what it is still to be answered changed
 abbrev pub with_waiting : ℕ → (List Bool → List Bool) → List MemberState → List MemberState
@@ -61,5 +61,5 @@ may_ask policy key want = want && (is_askable key && permits policy.listens key)
 abbrev pub SendsRoomy : CoreState → CoreState → ℕ → List ℕ → Global → Bool → QueueState → QueueState
     → Verdict → Type 0
 SendsRoomy old new k p what want up up' v =
-    is_full want (waiting_of k old.clients) ≡ false
+    is_full want (member_waiting_of k old.clients) ≡ false
     → SendsAs old new k p (Requests what want) 0 up up' v

@@ -10,10 +10,10 @@ use Rattle.mux_history.specs.Requests.{Ask, replies, wanted}
 use Rattle.mux_history.specs.Forwardings.{Forwarding, current}
 use Rattle.mux_history.specs.Farewell.{has_open_matters}
 use Rattle.mux_history.specs.Log.{entered}
-use Rattle.mux_isolation.specs.View.{Waiting, left_of}
+use Rattle.mux_isolation.specs.LogView.{Waiting, waiting_left_of}
 use Rattle.window_ledger.specs.Stands.{confirmed}
-use Rattle.channel_table.specs.Entries.{Entry}
-use Rattle.channel_table.specs.Entries.{AreApart, count_of}
+use Rattle.channel_table.specs.Entries.{TableEntry}
+use Rattle.channel_table.specs.Entries.{AreApart, channel_count_of}
 use Rattle.channel_table.specs.Stands.{ChannelsFit}
 use Rattle.forward_rules.specs.Stands.{AreFit, Places, places_of}
 use Rattle.mux_core.specs.State.{MemberState, CoreState, is_served}
@@ -26,19 +26,19 @@ has_numbers true by own remote = is_some own && is_some remote
 has_numbers false Up own remote = is_some own && is_none remote
 has_numbers false Down own remote = is_none own && is_some remote
 
-abbrev pub is_whole : Entry → Bool
+abbrev pub is_whole : TableEntry → Bool
 is_whole e = has_numbers (confirmed e.ledger) e.channel.by e.channel.own e.channel.remote
 
 -- a number of the server fits in four bytes
-abbrev pub HasSmall : Entry → Type 0
+abbrev pub HasSmall : TableEntry → Type 0
 HasSmall e = (s : ℕ) → e.channel.remote ≡ Some s → s < 4294967296
 
 -- the table represents the channels that are held; no number names two of them, and no client holds
 -- more than 256
-pub record TableFits (es : List Entry) (held : List Channel) : Type 0 where
+pub record TableFits (es : List TableEntry) (held : List Channel) : Type 0 where
   pub fit : ChannelsFit es held
   pub apart : AreApart es
-  pub few : (k : ℕ) → count_of es k ≤ MAX_CHANNELS
+  pub few : (k : ℕ) → channel_count_of es k ≤ MAX_CHANNELS
   pub whole : AllByRecursion (λ e. is_whole e ≡ true) es
   pub small : AllByRecursion HasSmall es
   pub below : AllByRecursion (λ e. e.number < NUMBERS_END) es
@@ -65,7 +65,7 @@ look rows = record {
   entered = entered rows;
   admitted = λ k. any_of is_admit (rows_of k rows);
   lost = λ k. is_lost (rows_of k rows);
-  waiting = λ k. left_of (wanted (rows_of k rows)) (replies (rows_of k rows));
+  waiting = λ k. waiting_left_of (wanted (rows_of k rows)) (replies (rows_of k rows));
 }
 
 -- ---- requests
@@ -111,13 +111,13 @@ pub record ClientsFit (cs : List MemberState) (matters : ℕ → Bool) (l : Look
   pub few : length cs ≤ MAX_CLIENTS
 
 -- a client is one of these
-abbrev pub is_known : List MemberState → ℕ → Bool
-is_known cs k = any_of (λ c. c.number == k) cs
+abbrev pub is_member_known : List MemberState → ℕ → Bool
+is_member_known cs k = any_of (λ c. c.number == k) cs
 
 -- whose channels, requests and forwardings all are; those with forwardings are not lost
 pub record AreKnown (s : CoreState) : Type 0 where
-  pub channels : AllByRecursion (λ e. is_known s.clients e.channel.client ≡ true) s.channels
-  pub asks : AllByRecursion (λ a. is_known s.clients a.client ≡ true) s.asks
+  pub channels : AllByRecursion (λ e. is_member_known s.clients e.channel.client ≡ true) s.channels
+  pub asks : AllByRecursion (λ a. is_member_known s.clients a.client ≡ true) s.asks
   pub forwards : AllByRecursion (λ f. is_served s.clients f.client ≡ true) s.forwards
 
 -- ---- all of it

@@ -3,7 +3,7 @@ use Rattle.std.specs.Prelude.{ℕ, ◌==◌, ◌&&◌, Bool, not, List, []}
 use Rattle.mux_history.specs.Rows.{any_of}
 use Rattle.mux_history.specs.Policy.{Policy}
 use Rattle.mux_history.specs.Requests.{Ask}
-use Rattle.channel_table.specs.Entries.{Entry}
+use Rattle.channel_table.specs.Entries.{TableEntry}
 use Rattle.forward_rules.specs.State.{Forward}
 
 -- a client with open matters: whether it is lost, and what it is still to be answered, for each of
@@ -17,7 +17,7 @@ pub record MemberState : Type 0 where
 -- forwardings that are asked or live
 pub record CoreState : Type 0 where
   pub policy : Policy
-  pub channels : List Entry
+  pub channels : List TableEntry
   pub asks : List Ask
   pub clients : List MemberState
   pub forwards : List Forward

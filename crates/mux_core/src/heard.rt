@@ -5,14 +5,14 @@ ghost use Rattle.ssh_grammar.specs.IsFrame.{IsContent};
 ghost use Rattle.proxy_frames.specs.declared.queue.TheConstants.{LONGEST_PAYLOAD};
 ghost use Rattle.mux_history.specs.Summary.{Refuses, Requests, Succeeds};
 ghost use Rattle.mux_history.specs.Farewell.{late_refusal, late_success};
-ghost use Rattle.global_replies.specs.Asks.{IsShort};
+ghost use Rattle.global_replies.specs.Asks.{IsShortRequest};
 ghost use Rattle.global_replies.specs.Replies.{after_reply, refusals_behind};
 ghost use Rattle.client_teardown.specs.Leaving.{with_payloads};
-ghost use Rattle.mux_core.specs.Calls.{ReceivesOn, ReceivesWith};
-ghost use Rattle.conn_messages.specs.Message.{request_of};
+ghost use Rattle.mux_core.specs.Calls.{CoreReceivesOn, ReceivesWith};
+ghost use Rattle.conn_messages.specs.Message.{grammar_request_of};
 ghost use Rattle.client_teardown.specs.Steps.{listed};
 ghost use Rattle.mux_core.specs.Replying.{after_failure, after_success, misses_port};
-ghost use Rattle.mux_core.specs.Requesting.{waiting_of, with_waiting};
+ghost use Rattle.mux_core.specs.Requesting.{member_waiting_of, with_waiting};
 ghost use Rattle.mux_core.specs.Settling.{settled};
 ghost use Rattle.mux_core.specs.declared.heard.Delivery.TheVariants.{Client, Lost};
 
@@ -42,7 +42,7 @@ pub enum Delivery {
 
 // The server must say which port it chose, and doesn't.
 fn misses_port(request: Request<'_>, rest: &[u8]) -> bool
-    ensures { result ≡ misses_port (request_of request.entry) rest.now }
+    ensures { result ≡ misses_port (grammar_request_of request.entry) rest.now }
 {
     match request {
         Request::Forward(Key::Tcp { port: 0, .. }) => rest.len() != 4,
@@ -60,8 +60,8 @@ fn recorded_port(rest: &[u8]) -> u32
 // What follows for a client that is lost where its request succeeds: what it asked for is
 // cancelled.
 fn late_success(request: Request<'_>, rest: &[u8]) -> Option<Small>
-    requires { IsShort (request_of request) }
-    ensures exact { listed result ≡ late_success rest.now (request_of request.entry) }
+    requires { IsShortRequest (grammar_request_of request) }
+    ensures exact { listed result ≡ late_success rest.now (grammar_request_of request.entry) }
     ensures fits { IfSome result (IsContent Proxy) }
 {
     match request {
@@ -72,8 +72,8 @@ fn late_success(request: Request<'_>, rest: &[u8]) -> Option<Small>
 
 // And where it fails: a cancel is sent again.
 fn late_refusal(request: Request<'_>) -> Option<Small>
-    requires { IsShort (request_of request) }
-    ensures exact { listed result ≡ late_refusal (request_of request.entry) }
+    requires { IsShortRequest (grammar_request_of request) }
+    ensures exact { listed result ≡ late_refusal (grammar_request_of request.entry) }
     ensures fits { IfSome result (IsContent Proxy) }
 {
     match request {
@@ -88,7 +88,7 @@ impl Core {
     pub fn heard(&mut self, payload: &mut [u8], up: &mut Queue) -> Result<Delivery, OutOfMemory>
         requires { length payload.old ≤ LONGEST_PAYLOAD }
         ensures stands { IfOk result (λ h.
-            ReceivesOn self.old self.new payload.old payload.new up.old up.new h) }
+            CoreReceivesOn self.old self.new payload.old payload.new up.old up.new h) }
         ensures length { length payload.new ≡ length payload.old }
         ensures spare { up.old.spare ≤ up.new.spare }
         ensures policy { self.new.policy ≡ self.old.policy }
@@ -136,7 +136,7 @@ impl Core {
     ) -> Result<Delivery, OutOfMemory>
         ensures stands { IfOk result (λ h.
             ReceivesWith self.now self.now payload.now payload.now
-            (Requests (request_of what.entry) want) up.old up.new h) }
+            (Requests (grammar_request_of what.entry) want) up.old up.new h) }
         ensures spare { up.new.spare ≡ up.old.spare }
         ensures err { OnErr result (up.new ≡ up.old) }
     {
@@ -220,7 +220,7 @@ impl Core {
 
     // A reply goes to its client, and so many refusals after it as waited after it.
     pub(crate) fn pass_on(&mut self, client: u64) -> Delivery
-        ensures to { result ≡ Client client (refusals_behind (waiting_of client self.old.clients)) }
+        ensures to { result ≡ Client client (refusals_behind (member_waiting_of client self.old.clients)) }
         ensures left { self.new
             ≡ record self.old { clients = with_waiting client after_reply self.old.clients } }
     {
@@ -231,7 +231,7 @@ impl Core {
     // What a success does to the forwardings.
     fn succeed(&mut self, client: u64, request: Request<'_>, rest: &[u8])
         ensures { self.new ≡ record self.old {
-          forwards = after_success client (request_of request.entry) rest.now
+          forwards = after_success client (grammar_request_of request.entry) rest.now
               self.old.forwards;
         } }
     {
@@ -245,7 +245,7 @@ impl Core {
     // What a failure does to them.
     fn fail(&mut self, client: u64, request: Request<'_>)
         ensures { self.new ≡ record self.old {
-          forwards = after_failure client (request_of request.entry) self.old.forwards;
+          forwards = after_failure client (grammar_request_of request.entry) self.old.forwards;
         } }
     {
         match request {

@@ -4,7 +4,7 @@ ghost use Rattle.global_replies.specs.Replies.{after_reply, is_none_left, or_beh
 ghost use Rattle.mux_core.specs.Members.{member_state};
 ghost use Rattle.mux_core.specs.Entering.{with_client};
 ghost use Rattle.mux_core.specs.Losing.{lost_clients};
-ghost use Rattle.mux_core.specs.Requesting.{more_awaited, place_of, waiting_of, with_waiting};
+ghost use Rattle.mux_core.specs.Requesting.{more_awaited, place_of, member_waiting_of, with_waiting};
 ghost use Rattle.mux_core.specs.Settling.{is_lost_in, kept};
 
 use global_replies::ClientAnswers;
@@ -68,7 +68,7 @@ fn lost_in(clients: &[Member], client: u64) -> bool
 
 // How many requests of a client have no answer.
 fn waiting_in(clients: &[Member], client: u64) -> u32
-    ensures { result ≡ length (waiting_of client (map member_state clients.now)) }
+    ensures { result ≡ length (member_waiting_of client (map member_state clients.now)) }
 {
     for c in clients {
         if c.number == client {
@@ -151,7 +151,7 @@ impl Members {
 
     /// How many requests of a client have no answer.
     pub fn waiting(&self, client: u64) -> u32
-        ensures { result ≡ length (waiting_of client self.now) }
+        ensures { result ≡ length (member_waiting_of client self.now) }
     {
         waiting_in(&self.listed, client)
     }
@@ -170,7 +170,7 @@ impl Members {
 
     /// A request of a client is refused: whether at once, or after what waits.
     pub fn refused(&mut self, client: u64) -> Result<bool, OutOfMemory>
-        ensures now { IfOk result (λ now. now ≡ is_none_left (waiting_of client self.old)) }
+        ensures now { IfOk result (λ now. now ≡ is_none_left (member_waiting_of client self.old)) }
         ensures ok { OnOk result (self.new ≡ with_waiting client or_behind self.old) }
     {
         let place = place_in(&self.listed, client);
@@ -183,7 +183,7 @@ impl Members {
 
     /// The server's reply to a client's first request came: so many refusals follow it now.
     pub fn answered(&mut self, client: u64) -> u32
-        ensures refusals { result ≡ refusals_behind (waiting_of client self.old) }
+        ensures refusals { result ≡ refusals_behind (member_waiting_of client self.old) }
         ensures left { self.new ≡ with_waiting client after_reply self.old }
     {
         let place = place_in(&self.listed, client);

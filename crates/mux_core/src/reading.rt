@@ -2,7 +2,7 @@ ghost use Rattle.std.specs.Prelude.{◌≡◌, Ok, Err, MatchResult};
 ghost use Rattle.ssh_grammar.specs.IsMessage.{IsMessage};
 ghost use Rattle.conn_messages.specs.Message.{message_of};
 ghost use Rattle.mux_history.specs.Summary.{Within, summary, read_summary};
-ghost use Rattle.window_ledger.specs.Act.{act_of};
+ghost use Rattle.window_ledger.specs.Act.{summary_act_of};
 ghost use Rattle.mux_core.specs.Summaries.{summary_of};
 
 use conn_messages::{Bad, Message, Opening, Request, read_message};
@@ -46,7 +46,7 @@ pub enum Summary<'a> {
 
 // An act in a channel that both sides have confirmed.
 fn act_in<'a>(recipient: u32, act: Act) -> Summary<'a>
-    ensures { summary_of result ≡ Within recipient (act_of act) }
+    ensures { summary_of result ≡ Within recipient (summary_act_of act) }
 {
     Summary::Within { recipient, act }
 }

@@ -2,7 +2,7 @@
 
 ghost use Rattle.std.specs.Prelude.{◌≡◌, IfOk, OnErr};
 ghost use Rattle.mux_history.specs.Summary.{Confirmation, Fails, Open, Within};
-ghost use Rattle.window_ledger.specs.Act.{act_of};
+ghost use Rattle.window_ledger.specs.Act.{summary_act_of};
 ghost use Rattle.mux_core.specs.Calls.{ReceivesSummary, ReceivesWith};
 ghost use Rattle.mux_core.specs.Delivering.{DeliversAs};
 ghost use Rattle.conn_messages.specs.Message.{opening_of};
@@ -137,7 +137,7 @@ impl Core {
     // What the server sends in a channel that both sides have confirmed.
     pub(crate) fn receive_within(&mut self, payload: &mut [u8], number: u32, act: Act) -> Delivery
         ensures stands { ReceivesSummary self.old self.new payload.old payload.new
-            (Within number (act_of act)) result }
+            (Within number (summary_act_of act)) result }
         ensures policy { self.new.policy ≡ self.old.policy }
     {
         let Some((channel, mut ledger)) = self.channel_for(number) else {

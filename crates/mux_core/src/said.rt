@@ -5,8 +5,8 @@ ghost use Rattle.ssh_grammar.specs.IsFrame.{IsContent};
 ghost use Rattle.proxy_frames.specs.declared.queue.TheConstants.{LONGEST_PAYLOAD};
 ghost use Rattle.conn_messages.specs.declared.write.TheConstants.{LONGEST_TEXT};
 ghost use Rattle.mux_history.specs.Summary.{Confirmation, Fails, Within};
-ghost use Rattle.window_ledger.specs.Act.{act_of};
-ghost use Rattle.mux_core.specs.Calls.{AnswerFits, SendsAs, SendsOn, SendsSome, StartsOn};
+ghost use Rattle.window_ledger.specs.Act.{summary_act_of};
+ghost use Rattle.mux_core.specs.Calls.{VerdictFits, SendsAs, CoreSendsOn, SendsSome, StartsOn};
 ghost use Rattle.conn_messages.specs.Message.{opening_of};
 ghost use Rattle.mux_core.specs.Opening.{fails_with, open_verdict};
 
@@ -41,8 +41,8 @@ impl Core {
     ) -> Result<Verdict, OutOfMemory>
         requires { length payload.old ≤ LONGEST_PAYLOAD }
         ensures stands { IfOk result (λ v.
-            SendsOn self.old self.new client payload.old up.old up.new v) }
-        ensures fits { IfOk result AnswerFits }
+            CoreSendsOn self.old self.new client payload.old up.old up.new v) }
+        ensures fits { IfOk result VerdictFits }
         ensures spare { up.old.spare ≤ up.new.spare }
         ensures policy { self.new.policy ≡ self.old.policy }
         ensures err { OnErr result (up.new ≡ up.old) }
@@ -107,7 +107,7 @@ impl Core {
     // The verdict on an open that isn't sent, whatever room there is.
     fn judge_open(&self, client: u64, sender: u32, what: &Opening<'_>) -> Option<Verdict>
         ensures exact { result ≡ open_verdict self.now client sender (opening_of what.now) }
-        ensures fits { IfSome result AnswerFits }
+        ensures fits { IfSome result VerdictFits }
     {
         if self.uses_own(client, sender) {
             return Some(Verdict::Drop(Why::OwnInUse { number: sender }));
@@ -140,7 +140,7 @@ impl Core {
         requires bytes { AreBytes payload.old }
         ensures stands { IfOk result (λ v.
             StartsOn self.old self.new client payload.old sender window maximum up.old up.new v) }
-        ensures fits { IfOk result AnswerFits }
+        ensures fits { IfOk result VerdictFits }
         ensures spare { up.new.spare ≡ up.old.spare }
         ensures policy { self.new.policy ≡ self.old.policy }
         ensures err { OnErr result (up.new ≡ up.old) }
@@ -177,7 +177,7 @@ impl Core {
         ensures stands { IfOk result (λ v.
             SendsSome self.old self.new client payload.old
             (Confirmation remote sender window maximum) up.old up.new v) }
-        ensures fits { IfOk result AnswerFits }
+        ensures fits { IfOk result VerdictFits }
         ensures spare { up.new.spare ≡ up.old.spare }
         ensures policy { self.new.policy ≡ self.old.policy }
         ensures err { OnErr result (up.new ≡ up.old) }
@@ -205,7 +205,7 @@ impl Core {
         requires { IsContent Proxy payload.now }
         ensures stands { IfOk result (λ v.
             SendsAs self.old self.new client payload.now (Within remote Fails) 0 up.old up.new v) }
-        ensures fits { IfOk result AnswerFits }
+        ensures fits { IfOk result VerdictFits }
         ensures spare { up.new.spare ≡ up.old.spare }
         ensures policy { self.new.policy ≡ self.old.policy }
         ensures err { OnErr result (up.new ≡ up.old) }
@@ -218,7 +218,7 @@ impl Core {
         Ok(Verdict::Sent)
     }
 
-    // What a client says in a channel that both sides have confirmed.
+    // What a client sends in a channel that both sides have confirmed.
     fn send_within(
         &mut self,
         client: u64,
@@ -229,9 +229,9 @@ impl Core {
     ) -> Result<Verdict, OutOfMemory>
         requires { IsContent Proxy payload.now }
         ensures stands { IfOk result (λ v.
-            SendsAs self.old self.new client payload.now (Within remote (act_of act)) 0
+            SendsAs self.old self.new client payload.now (Within remote (summary_act_of act)) 0
             up.old up.new v) }
-        ensures fits { IfOk result AnswerFits }
+        ensures fits { IfOk result VerdictFits }
         ensures spare { up.new.spare ≡ up.old.spare }
         ensures policy { self.new.policy ≡ self.old.policy }
         ensures err { OnErr result (up.new ≡ up.old) }

@@ -6,9 +6,9 @@ ghost use Rattle.ssh_grammar.specs.IsFrame.{IsContent};
 ghost use Rattle.ssh_grammar.specs.Messages.{Cancel, Forward, KeepAlive};
 ghost use Rattle.mux_history.specs.Summary.{Requests};
 ghost use Rattle.conn_messages.specs.Keys.{IsShort, key_of};
-ghost use Rattle.mux_core.specs.Calls.{AnswerFits, SendsAs};
-ghost use Rattle.conn_messages.specs.Message.{request_of};
-ghost use Rattle.mux_core.specs.Requesting.{SendsRoomy, after_refusal, is_full, may_ask, refusal, waiting_of};
+ghost use Rattle.mux_core.specs.Calls.{VerdictFits, SendsAs};
+ghost use Rattle.conn_messages.specs.Message.{grammar_request_of};
+ghost use Rattle.mux_core.specs.Requesting.{SendsRoomy, after_refusal, is_full, may_ask, refusal, member_waiting_of};
 
 use crate::state::Core;
 use crate::verdict::Verdict;
@@ -33,9 +33,9 @@ impl Core {
     ) -> Result<Verdict, OutOfMemory>
         requires { IsContent Proxy payload.now }
         ensures stands { IfOk result (λ v.
-            SendsAs self.old self.new client payload.now (Requests (request_of what.entry) want) 0
+            SendsAs self.old self.new client payload.now (Requests (grammar_request_of what.entry) want) 0
             up.old up.new v) }
-        ensures fits { IfOk result AnswerFits }
+        ensures fits { IfOk result VerdictFits }
         ensures spare { up.new.spare ≡ up.old.spare }
         ensures policy { self.new.policy ≡ self.old.policy }
         ensures err { OnErr result (up.new ≡ up.old) }
@@ -55,7 +55,7 @@ impl Core {
 
     // Whether a client's request is one too many.
     pub(crate) fn is_full(&self, client: u64, want: bool) -> bool
-        ensures { result ≡ is_full want (waiting_of client self.now.clients) }
+        ensures { result ≡ is_full want (member_waiting_of client self.now.clients) }
     {
         want && self.waiting(client) >= MAX_GLOBAL_REQUESTS
     }
@@ -70,8 +70,8 @@ impl Core {
 
     // A request that isn't sent.
     pub(crate) fn refuse_request(&mut self, client: u64, want: bool) -> Result<Verdict, OutOfMemory>
-        ensures verdict { IfOk result (λ v. v ≡ refusal want (waiting_of client self.old.clients)) }
-        ensures fits { IfOk result AnswerFits }
+        ensures verdict { IfOk result (λ v. v ≡ refusal want (member_waiting_of client self.old.clients)) }
+        ensures fits { IfOk result VerdictFits }
         ensures ok { OnOk result
             (self.new ≡ record self.old { clients = after_refusal want client self.old.clients }) }
         ensures policy { self.new.policy ≡ self.old.policy }
@@ -97,7 +97,7 @@ impl Core {
         requires { IsContent Proxy payload.now }
         ensures stands { IfOk result (λ v.
             SendsRoomy self.old self.new client payload.now KeepAlive want up.old up.new v) }
-        ensures fits { IfOk result AnswerFits }
+        ensures fits { IfOk result VerdictFits }
         ensures spare { up.new.spare ≡ up.old.spare }
         ensures policy { self.new.policy ≡ self.old.policy }
         ensures err { OnErr result (up.new ≡ up.old) }
@@ -124,7 +124,7 @@ impl Core {
         ensures stands { IfOk result (λ v.
             SendsRoomy self.old self.new client payload.now (Forward (key_of key.entry)) want
             up.old up.new v) }
-        ensures fits { IfOk result AnswerFits }
+        ensures fits { IfOk result VerdictFits }
         ensures spare { up.new.spare ≡ up.old.spare }
         ensures policy { self.new.policy ≡ self.old.policy }
         ensures err { OnErr result (up.new ≡ up.old) }
@@ -155,7 +155,7 @@ impl Core {
         ensures stands { IfOk result (λ v.
             SendsRoomy self.old self.new client payload.now (Cancel (key_of key.entry)) want
             up.old up.new v) }
-        ensures fits { IfOk result AnswerFits }
+        ensures fits { IfOk result VerdictFits }
         ensures spare { up.new.spare ≡ up.old.spare }
         ensures policy { self.new.policy ≡ self.old.policy }
         ensures err { OnErr result (up.new ≡ up.old) }

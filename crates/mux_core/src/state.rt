@@ -7,7 +7,7 @@ ghost use Rattle.mux_history.specs.Policy.{permits};
 ghost use Rattle.window_ledger.specs.Stands.{IsConfirmed, confirmed};
 ghost use Rattle.window_ledger.specs.Leaving.{left};
 ghost use Rattle.conn_messages.specs.Keys.{key_of};
-ghost use Rattle.client_teardown.specs.Leaving.{Sends, channel_farewells, forward_farewells};
+ghost use Rattle.client_teardown.specs.Leaving.{SendsFarewell, channel_farewells, forward_farewells};
 ghost use Rattle.mux_core.specs.State.{new_state};
 ghost use Rattle.mux_core.specs.Stands.{Stands};
 ghost use Rattle.mux_core.specs.Lookups.{awaits_answer, waits};
@@ -77,8 +77,8 @@ pub(crate) fn put_recipient(payload: &mut [u8], number: u32)
     }
 }
 
-// What a slice of bytes holds are bytes: a proof learns that where the slice is lent, and not of one
-// behind a `&mut`, as in `said`. It does nothing.
+// What a slice of bytes holds are bytes: a proof learns that where the slice is lent, and not of
+// one behind a `&mut`, as in `said`. It does nothing.
 pub(crate) fn are_bytes(payload: &[u8])
     ensures { AreBytes payload.now }
 {
@@ -113,7 +113,7 @@ pub(crate) fn confirmed_ledger(ledger: Ledger, window: u32, maximum: u32) -> Led
 }
 
 impl Core {
-    /// A core that was told nothing yet.
+    /// A core that received nothing yet.
     pub fn new(alloc: Global, policy: Policy) -> Result<Core, OutOfMemory>
         ensures new { IfOk result (λ core. core ≡ new_state policy) }
         ensures stands { IfOk result (λ core. Stands core []) }
@@ -181,7 +181,7 @@ impl Core {
     pub(crate) fn leave(&mut self, client: u64, up: &mut Queue)
         requires { FAREWELL_ROOM ≤ up.old.spare }
         ensures exact { self.new ≡ left_core self.old client }
-        ensures sent { Sends (channel_farewells client self.old.channels
+        ensures sent { SendsFarewell (channel_farewells client self.old.channels
             ++ forward_farewells client self.old.forwards) up.old up.new }
         ensures spare { up.old.spare ≤ up.new.spare + FAREWELL_ROOM }
     {

@@ -3,7 +3,7 @@ use Rattle.std.proofs.Common.{◌≡◌, ◌∙◌, ap, inl, inr, ℕ, ◌-◌, 
 use Rattle.std.proofs.Math.Seq.{take-append_seam}
 use Rattle.std.proofs.lemmas.Bool.{cases_lt}
 use Rattle.std.proofs.lemmas.List.{get_or-set_same, set-get_or, set_past, length-append, set-set}
-use Rattle.mux_drill.specs.Inboxes.{with_more, without_last}
+use Rattle.mux_drill.specs.Inboxes.{with_more_bytes, without_last}
 
 -- what was before the last bytes
 before_last : (xs ys : List ℕ) → take (length (xs ++ ys) - length ys) (xs ++ ys) ≡ xs
@@ -13,7 +13,7 @@ before_last xs ys =
 
 -- bytes taken back leave what was before
 pub back_again : (stream : ℕ) (bytes : List ℕ) (unread : List (List ℕ))
-    → without_last stream (length bytes) (with_more stream bytes unread) ≡ unread
+    → without_last stream (length bytes) (with_more_bytes stream bytes unread) ≡ unread
 back_again stream bytes unread =
     elim (cases_lt stream (length unread)) [
       | inl within ↦

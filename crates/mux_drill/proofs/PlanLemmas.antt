@@ -14,7 +14,7 @@ use Rattle.conf_rules.specs.declared.usage.Usage.TheVariants.{BadDrill}
 use Rattle.conf_rules.specs.declared.usage.UsageError.{UsageError}
 use Rattle.mux_drill.specs.Plan.{IsPlan, plan_in, plan_of}
 
--- both numbers that a reading behind another needs
+-- both numbers that a reading after another one needs
 bound : {A B E : Type 0} (r : Result A E) (f : A → Result B E) (y : B) → (r >>= f) ≡ Ok y
     → (x : A) × (r ≡ Ok x) × (f x ≡ Ok y)
 bound (Ok x) f y e = (x, refl, e)
@@ -37,7 +37,7 @@ within low high (d ∷ ds) n e =
     by_case true m false least c most e = cc
     by_case false m b least c most e = cc
 
--- what a number is told as
+-- what a number is reported as
 abbrev recorded : ℕ → Option ℕ → Result ℕ UsageError
 recorded word None = refused word BadDrill
 recorded word (Some n) = Ok n

@@ -3,7 +3,7 @@ use Rattle.std.proofs.Common.{◌≡◌, ◌∙◌, refl, sym, ap, subst, ℕ, s
 use Rattle.std.proofs.lemmas.Bool.Decides.{nat_tests}
 use Rattle.mux_outside.specs.Counts.{counted}
 use Rattle.mux_outside.specs.declared.turn.Tally.{Tally}
-use Rattle.mux_drill.specs.Trace.{IsTrace, stage_after, from_message, drawn_after, counting, tally_at, draws_at, place_of, last_of}
+use Rattle.mux_drill.specs.Trace.{IsDrillTrace, stage_after, from_message, drawn_after, counting, tally_at, draws_at, place_of, last_of}
 use Rattle.mux_drill.specs.Generator.{drawn, length_of, total_length}
 use Rattle.mux_drill.specs.Plan.{IsPlan}
 use Rattle.mux_drill.specs.declared.plan.Plan.{Plan}
@@ -35,7 +35,7 @@ adds seed i low = omega (arith, total_short seed i, length_short (drawn seed (su
 
 -- the trace at a stage, for what is drawn and counted
 abbrev At : Plan → ℕ → Tally → DrillStage → Type 0
-At plan x counted_so stage = IsTrace plan stage x counted_so
+At plan x counted_so stage = IsDrillTrace plan stage x counted_so
 
 -- before the messages
 at_first : (plan : Plan) → IsPlan plan → At plan plan.seed (tally plan.clients 0 0 0 0) (from_message plan 0)
@@ -139,7 +139,7 @@ sending_tally plan i len low = by_case (nat_lt 0 i) refl
 
 -- the step after one is one of the plan, and what was drawn and counted goes with it
 pub step_trace : (plan : Plan) (stage : DrillStage) → IsPlan plan → 1 ≤ place_of stage → place_of stage ≤ last_of plan stage
-    → IsTrace plan (stage_after plan stage) (drawn_after stage (drawn plan.seed (draws_at plan stage)))
+    → IsDrillTrace plan (stage_after plan stage) (drawn_after stage (drawn plan.seed (draws_at plan stage)))
     (counting plan stage (length_of (drawn plan.seed (draws_at plan stage))) (tally_at (record { plan = plan; stage = stage })))
 step_trace plan Unopened sound first last =
     record { sound = sound; first = first; last = last; drawn_is = refl; tally_is = refl }
@@ -211,8 +211,8 @@ step_trace plan Ending sound first last =
     record { sound = sound; first = first; last = last; drawn_is = refl; tally_is = refl }
 
 -- the same for values that are equal to those
-pub next_trace : (plan : Plan) (stage stage' : DrillStage) (x x' : ℕ) (t t' : Tally) → IsTrace plan stage x t
+pub next_trace : (plan : Plan) (stage stage' : DrillStage) (x x' : ℕ) (t t' : Tally) → IsDrillTrace plan stage x t
     → stage' ≡ stage_after plan stage → x' ≡ drawn_after stage x → t' ≡ counting plan stage (length_of x) t
-    → IsTrace plan stage' x' t'
+    → IsDrillTrace plan stage' x' t'
 next_trace plan stage stage' x x' t t' now stage_is x_is t_is =
     rw (stage_is, x_is, t_is, now.drawn_is, now.tally_is) (step_trace plan stage now.sound now.first now.last)

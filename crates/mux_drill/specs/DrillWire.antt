@@ -12,8 +12,8 @@ use Rattle.mux_outside.specs.declared.turn.Want.TheVariants.{Read, WriteOnly}
 use Rattle.mux_outside.specs.declared.turn.Wrote.{Wrote}
 use Rattle.mux_outside.specs.declared.turn.Wrote.TheVariants.{Took}
 use Rattle.mux_drill.specs.Trace.{full_tally, tally_at}
-use Rattle.mux_drill.specs.Inboxes.{with_more}
-use Rattle.mux_drill.specs.Play.{next_turn, next_piece, next_play, IsNothing, Starts}
+use Rattle.mux_drill.specs.Inboxes.{with_more_bytes}
+use Rattle.mux_drill.specs.Play.{next_turn, next_piece, next_play, IsNothing, PlayStarts}
 use Rattle.mux_drill.specs.declared.plan.Plan.{Plan}
 use Rattle.mux_drill.specs.declared.stage.DrillStage.TheVariants.{Ending}
 use Rattle.mux_drill.specs.declared.drill_wire.DrillWire.{DrillWire}
@@ -23,11 +23,11 @@ abbrev pub tally_of : DrillWire → Tally
 tally_of w = tally_at w.play.trace
 
 -- all clients have ended
-abbrev pub IsOver : DrillWire → Type 0
-IsOver w = w.play.trace.stage ≡ Ending
+abbrev pub IsDrillOver : DrillWire → Type 0
+IsDrillOver w = w.play.trace.stage ≡ Ending
 
 -- a wire that isn't open
-pub record IsNew (w : DrillWire) : Type 0 where
+pub record IsNewDrill (w : DrillWire) : Type 0 where
   pub play_is : IsNothing w.play
   pub log_is : w.log ≡ nothing_logged
 
@@ -36,9 +36,9 @@ abbrev pub SamePlay : DrillWire → DrillWire → Type 0
 SamePlay old new = new.play ≡ old.play
 
 -- a plan was read, and its play begins with nothing counted
-pub record Begins (plan : Option Plan) (new : DrillWire) (read : Plan) : Type 0 where
+pub record DrillBegins (plan : Option Plan) (new : DrillWire) (read : Plan) : Type 0 where
   pub plan_is : plan ≡ Some read
-  pub starts : Starts read new.play
+  pub starts : PlayStarts read new.play
   pub tally_is : tally_of new ≡ no_tally
 
 -- no plan was read
@@ -47,10 +47,10 @@ pub record ReadsNone (plan : Option Plan) (old new : DrillWire) : Type 0 where
   pub same : SamePlay old new
 
 -- a call of open succeeds exactly where its transport reads as a plan, unless memory runs out
-abbrev pub Opens : Result (Unit {0}) FileError → Option Plan → DrillWire → DrillWire → Type 0
-Opens (Ok x) plan old new = Begins plan new new.play.trace.plan
-Opens (Err FailedFile) plan old new = ReadsNone plan old new
-Opens (Err OutOfMemory) plan old new = SamePlay old new
+abbrev pub DrillOpens : Result (Unit {0}) FileError → Option Plan → DrillWire → DrillWire → Type 0
+DrillOpens (Ok x) plan old new = DrillBegins plan new new.play.trace.plan
+DrillOpens (Err FailedFile) plan old new = ReadsNone plan old new
+DrillOpens (Err OutOfMemory) plan old new = SamePlay old new
 
 -- a wait gave the next turn
 pub record PlaysNext (old new : DrillWire) (turn : Turn) (bytes : List ℕ) : Type 0 where
@@ -69,11 +69,11 @@ pub record Plays (want : Want) (turn : Turn) (bytes : List ℕ) (old new : Drill
 -- over nothing more is
 pub record CountsToTheEnd (turn : Turn) (old new : DrillWire) : Type 0 where
   pub drilled : turn ≡ End 0 → tally_of new ≡ full_tally old.play.trace.plan
-  pub ends : turn ≡ End 0 → IsOver new
-  pub over : IsOver old → tally_of new ≡ tally_of old
+  pub ends : turn ≡ End 0 → IsDrillOver new
+  pub over : IsDrillOver old → tally_of new ≡ tally_of old
 
 -- a write accepted all bytes, and they wait to be read
 pub record TakesAll (stream : ℕ) (bytes : List ℕ) (old new : DrillWire) (wrote : Wrote) :
     Type 0 where
   pub wrote_is : wrote ≡ Took (length bytes)
-  pub play_is : new.play ≡ record old.play { unread = with_more stream bytes old.play.unread }
+  pub play_is : new.play ≡ record old.play { unread = with_more_bytes stream bytes old.play.unread }

@@ -1,6 +1,6 @@
 -- The messages of a drill, which a generator of numbers picks.
 use Rattle.std.specs.Prelude.{ℕ, zero, suc, ◌+◌, ◌*◌, ◌/◌, ◌%◌, ◌^◌, ◌≤◌}
-use Rattle.mux_drill.specs.declared.generator.Message.{Message}
+use Rattle.mux_drill.specs.declared.generator.DrillMessage.{DrillMessage}
 
 -- the number after x
 unfoldable pub draw : ℕ → ℕ
@@ -20,11 +20,11 @@ unfoldable pub client_of : ℕ → ℕ → ℕ
 client_of clients x = 1 + ((x / 2 ^ 33) / 1025) % clients
 
 -- the message of a number, the i-th from 0 on
-abbrev pub message_of : ℕ → ℕ → ℕ → Message
-message_of clients x i = record { client = client_of clients x; len = length_of x; byte = i % 256 }
+abbrev pub drill_message_of : ℕ → ℕ → ℕ → DrillMessage
+drill_message_of clients x i = record { client = client_of clients x; len = length_of x; byte = i % 256 }
 
 -- of a client from 1 to 64, with at most 1,024 bytes
-pub record IsMessage (m : Message) : Type 0 where
+pub record IsDrillMessage (m : DrillMessage) : Type 0 where
   pub some : 1 ≤ m.client
   pub few : m.client ≤ 64
   pub short : m.len ≤ 1024

@@ -8,12 +8,12 @@ abbrev pub unread_at : ℕ → List (List ℕ) → List ℕ
 unread_at stream unread = slice_index_or unread stream []
 
 -- more are written to a stream
-abbrev pub with_more : ℕ → List ℕ → List (List ℕ) → List (List ℕ)
-with_more stream bytes unread = slice_set unread stream (unread_at stream unread ++ bytes)
+abbrev pub with_more_bytes : ℕ → List ℕ → List (List ℕ) → List (List ℕ)
+with_more_bytes stream bytes unread = slice_set unread stream (unread_at stream unread ++ bytes)
 
 -- so many of a stream are read
-abbrev pub without_first : ℕ → ℕ → List (List ℕ) → List (List ℕ)
-without_first stream count unread = slice_set unread stream (drop count (unread_at stream unread))
+abbrev pub without_first_message : ℕ → ℕ → List (List ℕ) → List (List ℕ)
+without_first_message stream count unread = slice_set unread stream (drop count (unread_at stream unread))
 
 -- so many of a stream, those that were written last, are removed
 abbrev pub without_last : ℕ → ℕ → List (List ℕ) → List (List ℕ)

@@ -2,7 +2,7 @@ pub mod Plan
 pub mod Generator
 pub mod Frames
 pub mod Inboxes
-pub mod Outgoing
+pub mod DrillOutgoing
 pub mod Trace
 pub mod Steps
 pub mod Play

@@ -8,17 +8,17 @@ use Rattle.mux_outside.specs.declared.turn.Turn.{Turn}
 use Rattle.mux_outside.specs.declared.turn.Turn.TheVariants.{Accepted, Got, End, Writable, Failed, Joined, NoMemory}
 use Rattle.mux_drill.specs.Trace.{spot_after}
 use Rattle.mux_drill.specs.Frames.{opener_in}
-use Rattle.mux_drill.specs.Inboxes.{unread_at, without_first, stands_first, all_read}
-use Rattle.mux_drill.specs.Outgoing.{Said, gone_on}
+use Rattle.mux_drill.specs.Inboxes.{unread_at, without_first_message, stands_first, all_read}
+use Rattle.mux_drill.specs.DrillOutgoing.{Said, gone_on}
 use Rattle.mux_drill.specs.Steps.{step_at}
 use Rattle.mux_drill.specs.declared.stage.DrillStage.{DrillStage}
 use Rattle.mux_drill.specs.declared.stage.DrillStage.TheVariants.{Accepting, Confirming, Unopened}
 use Rattle.mux_drill.specs.declared.step.DrillStep.{DrillStep}
 use Rattle.mux_drill.specs.declared.plan.Plan.{Plan}
 use Rattle.mux_drill.specs.declared.play.Play.{Play}
-use Rattle.mux_drill.specs.declared.play.Change.{Change}
+use Rattle.mux_drill.specs.declared.play.PlayChange.{PlayChange}
 use Rattle.mux_drill.specs.declared.play.Given.{Given}
-use Rattle.mux_drill.specs.declared.play.Change.TheVariants.{Nothing, GoesOn, Takes}
+use Rattle.mux_drill.specs.declared.play.PlayChange.TheVariants.{Nothing, GoesOn, Takes}
 
 -- ---- the next turn
 
@@ -82,19 +82,19 @@ abbrev pub begun : DrillStep → Play → Play
 begun step play = record play {
   trace = spot_after play.trace;
   said = gone_on (record { stream = speaker_of step.turn; rest = step.says });
-  unread = without_first step.client (length step.down)
-      (without_first 0 (length step.up) play.unread);
+  unread = without_first_message step.client (length step.down)
+      (without_first_message 0 (length step.up) play.unread);
   picks = picks_after play.trace.stage (opener_in (unread_at 0 play.unread)) play.picks;
 }
 
 -- after a change
-abbrev pub changed : Change → Play → Play
+abbrev pub changed : PlayChange → Play → Play
 changed Nothing play = play
 changed GoesOn play = record play { said = gone_on play.said }
 changed (Takes step) play = begun step play
 
 -- the change of the next turn
-abbrev pub next_change : Play → Seen → Change
+abbrev pub next_change : Play → Seen → PlayChange
 next_change play seen =
     let step = next_step play in
     let goes_on = if among play.said.stream seen.streams then GoesOn else Nothing in
@@ -102,23 +102,23 @@ next_change play seen =
     if speaks play.said then goes_on else begins
 
 -- the bytes that the turn of a change gives, if it gives any
-abbrev pub piece_of : Change → Play → List ℕ
-piece_of Nothing play = []
-piece_of GoesOn play = take 37 play.said.rest
-piece_of (Takes step) play = take 37 step.says
+abbrev pub drill_piece_of : PlayChange → Play → List ℕ
+drill_piece_of Nothing play = []
+drill_piece_of GoesOn play = take 37 play.said.rest
+drill_piece_of (Takes step) play = take 37 step.says
 
 -- a turn, its bytes and what it leaves are the next ones
-pub record GivesNext (play : Play) (seen : Seen) (given : Given) : Type 0 where
+pub record GivesNextTurn (play : Play) (seen : Seen) (given : Given) : Type 0 where
   pub turn_is : given.turn ≡ next_turn play seen
   pub change_is : given.change ≡ next_change play seen
-  pub piece_is : (t : ℕ) → given.turn ≡ Got t → piece_of given.change play ≡ next_piece play
+  pub piece_is : (t : ℕ) → given.turn ≡ Got t → drill_piece_of given.change play ≡ next_piece play
 
 -- the play after the next turn
 abbrev pub next_play : Play → Seen → Play
 next_play play seen = changed (next_change play seen) play
 
 -- a play at the start of a plan: nothing is sent, written or picked
-pub record Starts (plan : Plan) (play : Play) : Type 0 where
+pub record PlayStarts (plan : Plan) (play : Play) : Type 0 where
   pub trace_is : play.trace ≡ record { plan = plan; stage = Accepting 1 }
   pub sent_is : play.said ≡ record { stream = 0; rest = [] }
   pub unread_is : play.unread ≡ replicate (plan.clients + 1) []

@@ -3,8 +3,8 @@ use Rattle.std.specs.Prelude.{ℕ, suc, ◌-◌, ◌==◌, if◌then◌else◌, 
 use Rattle.mux_outside.specs.declared.turn.Turn.{Turn}
 use Rattle.mux_outside.specs.declared.turn.Turn.TheVariants.{Accepted, Got, End, Failed}
 use Rattle.mux_drill.specs.Frames.{open_frame, confirmation_frame, adjust_frame, data_frame, close_frame, greeting, welcome, opener_in}
-use Rattle.mux_drill.specs.Generator.{drawn, message_of}
-use Rattle.mux_drill.specs.declared.generator.Message.{Message}
+use Rattle.mux_drill.specs.Generator.{drawn, drill_message_of}
+use Rattle.mux_drill.specs.declared.generator.DrillMessage.{DrillMessage}
 use Rattle.mux_drill.specs.declared.plan.Plan.{Plan}
 use Rattle.mux_drill.specs.declared.stage.DrillStage.{DrillStage}
 use Rattle.mux_drill.specs.declared.stage.DrillStage.TheVariants.{Unopened, Accepting, Entering, Confirming, Sending, Echoing, Adjusting, Closing, ClosingBack, Leaving, Ending}
@@ -17,16 +17,16 @@ abbrev pub bare : Turn → DrillStep
 bare turn = record { up = []; client = 0; down = []; turn = turn; says = [] }
 
 -- message i
-abbrev pub message_at : Plan → ℕ → Message
-message_at plan i = message_of plan.clients (drawn plan.seed (suc i)) i
+abbrev pub message_at : Plan → ℕ → DrillMessage
+message_at plan i = drill_message_of plan.clients (drawn plan.seed (suc i)) i
 
 -- the message before message i
-abbrev pub message_before : Plan → ℕ → Message
-message_before plan i = message_of plan.clients (drawn plan.seed i) (i - 1)
+abbrev pub message_before : Plan → ℕ → DrillMessage
+message_before plan i = drill_message_of plan.clients (drawn plan.seed i) (i - 1)
 
 -- before message i is sent, or the first CLOSE, the adjustment of the message before has to be
 -- written to the server
-abbrev pub settled_up : Message → ℕ → List ℕ
+abbrev pub settled_up : DrillMessage → ℕ → List ℕ
 settled_up before i = if i == 0 then [] else adjust_frame (before.client - 1) before.len
 
 -- before the first, the last client's welcome has to be written
@@ -48,7 +48,7 @@ confirming client number = record {
 }
 
 -- message i is sent
-abbrev pub sending : ℕ → ℕ → Message → Message → DrillStep
+abbrev pub sending : ℕ → ℕ → DrillMessage → DrillMessage → DrillStep
 sending clients i before m = record {
   up = settled_up before i;
   client = clients;
@@ -58,7 +58,7 @@ sending clients i before m = record {
 }
 
 -- the server answers it
-abbrev pub echoing : ℕ → Message → DrillStep
+abbrev pub echoing : ℕ → DrillMessage → DrillStep
 echoing number m = record {
   up = data_frame (m.client - 1) m.len m.byte;
   client = 0;
@@ -68,7 +68,7 @@ echoing number m = record {
 }
 
 -- its client answers that
-abbrev pub adjusting : Message → DrillStep
+abbrev pub adjusting : DrillMessage → DrillStep
 adjusting m = record {
   up = [];
   client = m.client;
@@ -78,7 +78,7 @@ adjusting m = record {
 }
 
 -- a client sends CLOSE, the first after so many messages
-abbrev pub closing : ℕ → ℕ → Message → ℕ → DrillStep
+abbrev pub closing : ℕ → ℕ → DrillMessage → ℕ → DrillStep
 closing clients messages before client = record {
   up = if client == 1 then settled_up before messages else [];
   client = clients;

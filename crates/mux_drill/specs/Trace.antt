@@ -162,7 +162,7 @@ counting plan (Leaving c) len tally = record tally { closed = counted tally.clos
 counting plan _ len tally = tally
 
 -- a step of the plan, the number drawn last and what was counted
-pub record IsTrace (plan : Plan) (stage : DrillStage) (x : ℕ) (tally : Tally) : Type 0 where
+pub record IsDrillTrace (plan : Plan) (stage : DrillStage) (x : ℕ) (tally : Tally) : Type 0 where
   pub sound : IsPlan plan
   pub first : 1 ≤ place_of stage
   pub last : place_of stage ≤ last_of plan stage

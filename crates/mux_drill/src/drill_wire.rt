@@ -2,21 +2,22 @@ ghost use Rattle.std.specs.Prelude.{◌≡◌, ◌≢◌, [], false, IsErr, leng
 ghost use Rattle.mux_outside.specs.Seen.{seen_after_close, seen_after_connect, seen_after_listen, seen_after_note, seen_after_silence};
 ghost use Rattle.mux_outside.specs.Wire.{JoinFaults, MakeFaults, MayWait, MayWrite, OpenFaults, OwnFits, TurnFaults, TurnFits, WroteFaults, WroteFits};
 ghost use Rattle.mux_outside.specs.WireState.{seeing, state_after_join, state_after_open, state_after_wait, state_after_write};
+ghost use Rattle.mux_outside.specs.declared.house_mark.HouseMark.TheVariants.{HouseSaid};
 ghost use Rattle.mux_outside.specs.declared.turn.Turn.TheVariants.{End, NoMemory};
 ghost use Rattle.mux_outside.specs.declared.turn.Want.TheVariants.{Read, WriteOnly};
 ghost use Rattle.mux_outside.specs.declared.turn.Wrote.TheVariants.{NoMemory as NoMemoryToWrite};
 ghost use Rattle.mux_drill.specs.Plan.{plan_of};
-ghost use Rattle.mux_drill.specs.Play.{GivesNext, piece_of};
-ghost use Rattle.mux_drill.specs.declared.play.Change.TheVariants.{Nothing};
+ghost use Rattle.mux_drill.specs.Play.{GivesNextTurn, drill_piece_of};
+ghost use Rattle.mux_drill.specs.declared.play.PlayChange.TheVariants.{Nothing};
 ghost use Rattle.mux_drill.specs.declared.stage.DrillStage.TheVariants.{Ending};
 
 use crate::plan::Plan;
-use crate::play::{Change, Given, Play};
+use crate::play::{Given, Play, PlayChange};
 use mux_outside::{FileError, HouseMark, Piece, Streams, Tally, Turn, Want, Wire, WireLog, Wrote};
 use ssh_fields::OutOfMemory;
 use std::alloc::Global;
 
-/// A wire in memory, which plays the clients and the server of a drill, and tells everything. It
+/// A wire in memory, which plays the clients and the server of a drill, and records everything. It
 /// opens no listener and no stream of the master's own.
 #[derive(Drop)]
 pub struct DrillWire {
@@ -28,11 +29,11 @@ pub struct DrillWire {
 }
 
 impl DrillWire {
-    ghost use Rattle.mux_drill.specs.DrillWire.{IsNew};
+    ghost use Rattle.mux_drill.specs.DrillWire.{IsNewDrill};
 
     /// A wire that isn't open.
     pub fn new(alloc: Global) -> DrillWire
-        ensures { IsNew result }
+        ensures { IsNewDrill result }
     {
         DrillWire {
             alloc,
@@ -50,7 +51,7 @@ impl DrillWire {
 }
 
 impl Wire for DrillWire {
-    ghost use Rattle.mux_drill.specs.DrillWire.{CountsToTheEnd, Opens, Plays, SamePlay, TakesAll, tally_of};
+    ghost use Rattle.mux_drill.specs.DrillWire.{CountsToTheEnd, DrillOpens, Plays, SamePlay, TakesAll, tally_of};
 
     ghost state = { λ w. record w.log.state { tally = tally_of w } };
 
@@ -60,7 +61,7 @@ impl Wire for DrillWire {
         ensures state { self.new.log.state ≡ state_after_open result control.now transport.now
             self.old.log.state.tally self.old.log.state }
         ensures cause { OpenFaults result self.old.log.faults self.new.log.faults }
-        ensures exact { Opens result (plan_of transport.now) self.old self.new }
+        ensures exact { DrillOpens result (plan_of transport.now) self.old self.new }
     {
         let Some(plan) = Plan::read(self.alloc, transport)? else {
             return self.log.opened(control, transport, false);
@@ -151,6 +152,15 @@ impl Wire for DrillWire {
         self.log.noted(m)
     }
 
+    fn note_said(&mut self, piece: &[u8]) -> Result<(), OutOfMemory>
+        ensures state { self.new.log.state
+            ≡ seeing (seen_after_note result (HouseSaid piece.now)) self.old.log.state }
+        ensures faults { self.new.log.faults ≡ self.old.log.faults }
+        ensures same { SamePlay self.old self.new }
+    {
+        self.log.noted_said(piece)
+    }
+
     fn listen(&mut self, host: &[u8], port: u32) -> Result<u64, FileError>
         ensures state { self.new.log.state
             ≡ seeing (seen_after_listen result host.now port) self.old.log.state }
@@ -199,10 +209,10 @@ impl DrillWire {
     fn given(&self, waiting: &Streams, want: Want) -> Given
         requires may { MayWait waiting.now want self.now.log.state.seen }
         ensures turn { TurnFits result.turn want self.now.log.state.seen
-            (piece_of result.change self.now.play) }
+            (drill_piece_of result.change self.now.play) }
         ensures own_turn { OwnFits result.turn self.now.log.state.seen }
         ensures gives { want ≡ Read → result.turn ≢ NoMemory
-            → GivesNext self.now.play self.now.log.state.seen result }
+            → GivesNextTurn self.now.play self.now.log.state.seen result }
         ensures starved { result.turn ≡ NoMemory → result.change ≡ Nothing }
         ensures ends { result.turn ≡ End 0 → self.now.play.trace.stage ≡ Ending }
         ensures frees { want ≡ WriteOnly → result.change ≡ Nothing }
@@ -211,7 +221,7 @@ impl DrillWire {
             Want::Read => self.play.next(&self.log),
             Want::WriteOnly => Given {
                 turn: Turn::Writable(waiting.as_slice()[0]),
-                change: Change::Nothing,
+                change: PlayChange::Nothing,
             },
         }
     }

@@ -1,6 +1,6 @@
 ghost use Rattle.std.specs.Prelude.{◌≡◌, ◌≤◌, ◌^◌, ◌<◌, [], ◌++◌, drop, take, ◌-◌, length, replicate, IfOk, OnOk, OnErr};
 ghost use Rattle.conf_rules.specs.Texts.{is_empty};
-ghost use Rattle.mux_drill.specs.Inboxes.{unread_at, with_more, without_first, without_last, stands_first, all_read};
+ghost use Rattle.mux_drill.specs.Inboxes.{unread_at, with_more_bytes, without_first_message, without_last, stands_first, all_read};
 
 use ssh_fields::OutOfMemory;
 use std::alloc::Global;
@@ -124,7 +124,7 @@ impl Inboxes {
 
     /// Writes bytes to a stream. An `Err` changes nothing.
     pub fn add(&mut self, stream: u64, bytes: &[u8]) -> Result<(), OutOfMemory>
-        ensures ok { OnOk result (self.new ≡ with_more stream bytes.now self.old) }
+        ensures ok { OnOk result (self.new ≡ with_more_bytes stream bytes.now self.old) }
         ensures err { OnErr result (self.new ≡ self.old) }
     {
         let i = stream as usize;
@@ -136,7 +136,7 @@ impl Inboxes {
 
     /// Reads so many bytes of a stream.
     pub fn read(&mut self, stream: u64, count: usize)
-        ensures { self.new ≡ without_first stream count self.old }
+        ensures { self.new ≡ without_first_message stream count self.old }
     {
         let i = stream as usize;
         if i < self.boxes.len() {

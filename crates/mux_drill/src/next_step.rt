@@ -7,7 +7,7 @@ ghost use Rattle.mux_drill.specs.Steps.{step_at};
 
 use crate::draw::draw;
 use crate::frames::opener_in;
-use crate::generator::Message;
+use crate::generator::DrillMessage;
 use crate::picks::Picks;
 use crate::plan::Plan;
 use crate::stage::DrillStage;
@@ -39,16 +39,22 @@ pub fn step_of(
         DrillStage::Entering(client) => DrillStep::entering(alloc, client),
         DrillStage::Confirming(client) => DrillStep::confirming(alloc, client, opener_in(waiting)),
         DrillStage::Sending(i) => {
-            let before = Message::before(clients, x, i);
-            DrillStep::sending(alloc, clients, i, before, Message::of(clients, draw(x), i))
+            let before = DrillMessage::before(clients, x, i);
+            DrillStep::sending(
+                alloc,
+                clients,
+                i,
+                before,
+                DrillMessage::of(clients, draw(x), i),
+            )
         }
         DrillStage::Echoing(i) => {
-            let message = Message::of(clients, x, i);
+            let message = DrillMessage::of(clients, x, i);
             DrillStep::echoing(alloc, picks.at(message.client), message)
         }
-        DrillStage::Adjusting(i) => DrillStep::adjusting(alloc, Message::of(clients, x, i)),
+        DrillStage::Adjusting(i) => DrillStep::adjusting(alloc, DrillMessage::of(clients, x, i)),
         DrillStage::Closing(client) => {
-            let before = Message::before(clients, x, plan.messages);
+            let before = DrillMessage::before(clients, x, plan.messages);
             DrillStep::closing(alloc, clients, plan.messages, before, client)
         }
         DrillStage::ClosingBack(client) => DrillStep::closing_back(alloc, picks.at(client), client),

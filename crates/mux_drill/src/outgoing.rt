@@ -9,15 +9,15 @@ const PIECE: usize = 37;
 
 /// What a stream is saying, and how much of it was given.
 #[derive(Drop)]
-pub struct Outgoing {
+pub struct DrillOutgoing {
     stream: u64,
     text: Text,
     given: usize,
 }
 
-impl Model for Outgoing {
+impl Model for DrillOutgoing {
     ghost use Rattle.std.specs.Prelude.{drop, length, ◌≤◌};
-    ghost use Rattle.mux_drill.specs.Outgoing.{Said};
+    ghost use Rattle.mux_drill.specs.DrillOutgoing.{Said};
 
     ghost Value = { Said };
 
@@ -26,14 +26,14 @@ impl Model for Outgoing {
     ghost invariant = { λ s. s.given ≤ length s.text };
 }
 
-impl Outgoing {
-    ghost use Rattle.mux_drill.specs.Outgoing.{gone_on};
+impl DrillOutgoing {
+    ghost use Rattle.mux_drill.specs.DrillOutgoing.{gone_on};
 
     /// A stream sends a text.
-    pub fn new(stream: u64, text: Text) -> Outgoing
+    pub fn new(stream: u64, text: Text) -> DrillOutgoing
         ensures { result ≡ record { stream = stream; rest = text } }
     {
-        Outgoing {
+        DrillOutgoing {
             stream,
             text,
             given: 0,
@@ -41,10 +41,10 @@ impl Outgoing {
     }
 
     /// Nothing is sent.
-    pub fn nothing(alloc: Global) -> Outgoing
+    pub fn nothing(alloc: Global) -> DrillOutgoing
         ensures { result ≡ record { stream = 0; rest = [] } }
     {
-        Outgoing::new(0, Text::new(alloc))
+        DrillOutgoing::new(0, Text::new(alloc))
     }
 
     pub fn stream(&self) -> u64

@@ -6,12 +6,12 @@ ghost use Rattle.mux_outside.specs.declared.turn.Want.TheVariants.{Read};
 ghost use Rattle.mux_outside.specs.declared.turn.Turn.TheVariants.{End, NoMemory};
 ghost use Rattle.mux_drill.specs.declared.stage.DrillStage.TheVariants.{Ending};
 ghost use Rattle.mux_drill.specs.Plan.{IsPlan};
-ghost use Rattle.mux_drill.specs.Play.{speaks, may_happen, is_met, next_step, next_turn, next_piece, next_change, piece_of, changed, begun, speaker_of, picks_after, IsNothing, Starts, GivesNext};
-ghost use Rattle.mux_drill.specs.declared.play.Change.TheVariants.{Nothing};
+ghost use Rattle.mux_drill.specs.Play.{speaks, may_happen, is_met, next_step, next_turn, next_piece, next_change, drill_piece_of, changed, begun, speaker_of, picks_after, IsNothing, PlayStarts, GivesNextTurn};
+ghost use Rattle.mux_drill.specs.declared.play.PlayChange.TheVariants.{Nothing};
 
 use crate::frames::opener_in;
 use crate::inboxes::Inboxes;
-use crate::outgoing::{Outgoing, first_piece};
+use crate::outgoing::{DrillOutgoing, first_piece};
 use crate::picks::Picks;
 use crate::plan::Plan;
 use crate::stage::DrillStage;
@@ -27,14 +27,14 @@ use std::alloc::Global;
 pub struct Play {
     pub alloc: Global,
     pub trace: Trace,
-    pub said: Outgoing,
+    pub said: DrillOutgoing,
     pub unread: Inboxes,
     pub picks: Picks,
 }
 
 /// What a turn leaves.
 #[derive(Drop)]
-pub enum Change {
+pub enum PlayChange {
     /// All stays.
     Nothing,
     /// A stream gave a piece more.
@@ -47,7 +47,7 @@ pub enum Change {
 #[derive(Drop)]
 pub struct Given {
     pub turn: Turn,
-    pub change: Change,
+    pub change: PlayChange,
 }
 
 // Whether what is outside lets a turn happen.
@@ -98,7 +98,7 @@ impl Play {
         Play {
             alloc,
             trace: Trace::unopened(),
-            said: Outgoing::nothing(alloc),
+            said: DrillOutgoing::nothing(alloc),
             unread: Inboxes::new(alloc),
             picks: Picks::new(),
         }
@@ -107,13 +107,13 @@ impl Play {
     /// The start of a plan.
     pub fn start(alloc: Global, plan: Plan) -> Result<Play, OutOfMemory>
         requires { IsPlan plan }
-        ensures { IfOk result (Starts plan) }
+        ensures { IfOk result (PlayStarts plan) }
     {
         let unread = Inboxes::empty(alloc, plan.clients + 1)?;
         Ok(Play {
             alloc,
             trace: Trace::start(plan),
-            said: Outgoing::nothing(alloc),
+            said: DrillOutgoing::nothing(alloc),
             unread,
             picks: Picks::new(),
         })
@@ -123,9 +123,9 @@ impl Play {
     pub fn next(&self, log: &WireLog) -> Given
         requires { IsTrue (among 0 log.now.state.seen.streams) }
         ensures fits { TurnFits result.turn Read log.now.state.seen
-            (piece_of result.change self.now) }
+            (drill_piece_of result.change self.now) }
         ensures own_turn { log.now.state.seen.own ≡ [] → OwnFits result.turn log.now.state.seen }
-        ensures gives { result.turn ≢ NoMemory → GivesNext self.now log.now.state.seen result }
+        ensures gives { result.turn ≢ NoMemory → GivesNextTurn self.now log.now.state.seen result }
         ensures starved { result.turn ≡ NoMemory → result.change ≡ Nothing }
         ensures ends { result.turn ≡ End 0 → self.now.trace.stage ≡ Ending }
     {
@@ -141,21 +141,21 @@ impl Play {
         requires server { IsTrue (among 0 log.now.state.seen.streams) }
         requires speaks { speaks self.now.said ≡ true }
         ensures fits { TurnFits result.turn Read log.now.state.seen
-            (piece_of result.change self.now) }
+            (drill_piece_of result.change self.now) }
         ensures own_turn { log.now.state.seen.own ≡ [] → OwnFits result.turn log.now.state.seen }
-        ensures gives { result.turn ≢ NoMemory → GivesNext self.now log.now.state.seen result }
+        ensures gives { result.turn ≢ NoMemory → GivesNextTurn self.now log.now.state.seen result }
         ensures starved { result.turn ≢ NoMemory }
         ensures ends { result.turn ≢ End 0 }
     {
         if !log.streams().contains(self.said.stream()) {
             return Given {
                 turn: Turn::Failed(0),
-                change: Change::Nothing,
+                change: PlayChange::Nothing,
             };
         }
         Given {
             turn: Turn::Got(self.said.stream()),
-            change: Change::GoesOn,
+            change: PlayChange::GoesOn,
         }
     }
 
@@ -164,50 +164,50 @@ impl Play {
         requires server { IsTrue (among 0 log.now.state.seen.streams) }
         requires silent { speaks self.now.said ≡ false }
         ensures fits { TurnFits result.turn Read log.now.state.seen
-            (piece_of result.change self.now) }
+            (drill_piece_of result.change self.now) }
         ensures own_turn { log.now.state.seen.own ≡ [] → OwnFits result.turn log.now.state.seen }
-        ensures gives { result.turn ≢ NoMemory → GivesNext self.now log.now.state.seen result }
+        ensures gives { result.turn ≢ NoMemory → GivesNextTurn self.now log.now.state.seen result }
         ensures starved { result.turn ≡ NoMemory → result.change ≡ Nothing }
         ensures ends { result.turn ≡ End 0 → self.now.trace.stage ≡ Ending }
     {
         let Ok(step) = self.trace.step(self.alloc, &self.picks, self.unread.at(0)) else {
             return Given {
                 turn: Turn::NoMemory,
-                change: Change::Nothing,
+                change: PlayChange::Nothing,
             };
         };
         if !is_met(&step, log, &self.unread) {
             return Given {
                 turn: Turn::Failed(0),
-                change: Change::Nothing,
+                change: PlayChange::Nothing,
             };
         }
         Given {
             turn: step.turn,
-            change: Change::Takes(step),
+            change: PlayChange::Takes(step),
         }
     }
 
     /// The bytes that the turn of this change gives, if it gives any.
-    pub fn piece<'a>(&'a self, change: &'a Change) -> &'a [u8]
-        ensures piece { result.now ≡ piece_of change.now self.now }
+    pub fn piece<'a>(&'a self, change: &'a PlayChange) -> &'a [u8]
+        ensures piece { result.now ≡ drill_piece_of change.now self.now }
         ensures short { length result.now ≤ 37 }
     {
         match change {
-            Change::Nothing => &[],
-            Change::GoesOn => first_piece(self.said.rest()),
-            Change::Takes(step) => first_piece(step.says.as_bytes()),
+            PlayChange::Nothing => &[],
+            PlayChange::GoesOn => first_piece(self.said.rest()),
+            PlayChange::Takes(step) => first_piece(step.says.as_bytes()),
         }
     }
 
     /// Keeps what a turn leaves.
-    pub fn keep(&mut self, change: Change)
+    pub fn keep(&mut self, change: PlayChange)
         ensures { self.new ≡ changed change self.old }
     {
         match change {
-            Change::Nothing => {}
-            Change::GoesOn => self.said.go_on(),
-            Change::Takes(step) => self.take(step),
+            PlayChange::Nothing => {}
+            PlayChange::GoesOn => self.said.go_on(),
+            PlayChange::Takes(step) => self.take(step),
         }
     }
 
@@ -220,7 +220,7 @@ impl Play {
         self.unread.read(0, step.up.as_bytes().len());
         self.unread.read(step.client, step.down.as_bytes().len());
         self.trace.advance();
-        self.said = Outgoing::new(speaker_of(step.turn), step.says);
+        self.said = DrillOutgoing::new(speaker_of(step.turn), step.says);
         self.said.go_on();
     }
 }

@@ -1,14 +1,14 @@
 //! The steps of a drill.
 ghost use Rattle.std.specs.Prelude.{◌≡◌, ◌≤◌, ◌-◌, ◌==◌, if◌then◌else◌, [], IfOk, slice_index};
 ghost use Rattle.mux_drill.specs.Frames.{greeting, welcome, close_frame};
-ghost use Rattle.mux_drill.specs.Generator.{IsMessage};
+ghost use Rattle.mux_drill.specs.Generator.{IsDrillMessage};
 ghost use Rattle.mux_drill.specs.Steps.{bare, settled_up, settled_down, welcome_before, confirming, sending, echoing, adjusting, closing};
 ghost use Rattle.mux_outside.specs.declared.turn.Turn.TheVariants.{Got, End};
 
 use crate::frames::{
     add_adjust, add_close, add_confirmation, add_data, add_greeting, add_open, add_welcome,
 };
-use crate::generator::Message;
+use crate::generator::DrillMessage;
 use mux_outside::Turn;
 use ssh_fields::{OutOfMemory, Text};
 use std::alloc::Global;
@@ -67,13 +67,13 @@ impl DrillStep {
         alloc: Global,
         clients: u64,
         i: u64,
-        before: Message,
-        message: Message,
+        before: DrillMessage,
+        message: DrillMessage,
     ) -> Result<DrillStep, OutOfMemory>
         requires some { 1 ≤ clients }
         requires few { clients ≤ 64 }
-        requires earlier { IsMessage before }
-        requires sound { IsMessage message }
+        requires earlier { IsDrillMessage before }
+        requires sound { IsDrillMessage message }
         ensures { IfOk result (λ step. step ≡ sending clients i before message) }
     {
         let up = settled_up(alloc, before, i)?;
@@ -88,8 +88,12 @@ impl DrillStep {
     }
 
     /// The server answers it, to the number of its client.
-    pub fn echoing(alloc: Global, number: u32, message: Message) -> Result<DrillStep, OutOfMemory>
-        requires { IsMessage message }
+    pub fn echoing(
+        alloc: Global,
+        number: u32,
+        message: DrillMessage,
+    ) -> Result<DrillStep, OutOfMemory>
+        requires { IsDrillMessage message }
         ensures { IfOk result (λ step. step ≡ echoing number message) }
     {
         let mut step = DrillStep::bare(alloc, Turn::Got(0));
@@ -101,8 +105,8 @@ impl DrillStep {
     }
 
     /// Its client answers that.
-    pub fn adjusting(alloc: Global, message: Message) -> Result<DrillStep, OutOfMemory>
-        requires { IsMessage message }
+    pub fn adjusting(alloc: Global, message: DrillMessage) -> Result<DrillStep, OutOfMemory>
+        requires { IsDrillMessage message }
         ensures { IfOk result (λ step. step ≡ adjusting message) }
     {
         let mut step = DrillStep::bare(alloc, Turn::Got(message.client));
@@ -118,14 +122,14 @@ impl DrillStep {
         alloc: Global,
         clients: u64,
         messages: u64,
-        before: Message,
+        before: DrillMessage,
         client: u64,
     ) -> Result<DrillStep, OutOfMemory>
         requires some { 1 ≤ clients }
         requires few { clients ≤ 64 }
         requires first { 1 ≤ client }
         requires last { client ≤ clients }
-        requires earlier { IsMessage before }
+        requires earlier { IsDrillMessage before }
         ensures { IfOk result (λ step. step ≡ closing clients messages before client) }
     {
         let mut step = DrillStep::before_close(alloc, clients, messages, before, client)?;
@@ -138,12 +142,12 @@ impl DrillStep {
         alloc: Global,
         clients: u64,
         messages: u64,
-        before: Message,
+        before: DrillMessage,
         client: u64,
     ) -> Result<DrillStep, OutOfMemory>
         requires some { 1 ≤ clients }
         requires few { clients ≤ 64 }
-        requires earlier { IsMessage before }
+        requires earlier { IsDrillMessage before }
         ensures { IfOk result (λ step.
             step ≡ record (closing clients messages before client) { says = [] }) }
     {
@@ -182,8 +186,8 @@ impl DrillStep {
 }
 
 // The adjustment of the message before.
-fn settled_up(alloc: Global, before: Message, i: u64) -> Result<Text, OutOfMemory>
-    requires { IsMessage before }
+fn settled_up(alloc: Global, before: DrillMessage, i: u64) -> Result<Text, OutOfMemory>
+    requires { IsDrillMessage before }
     ensures { IfOk result (λ up. up ≡ settled_up before i) }
 {
     let mut up = Text::new(alloc);

@@ -21,13 +21,13 @@ pub struct Trace {
 }
 
 impl Model for Trace {
-    ghost use Rattle.mux_drill.specs.Trace.{Spot, IsTrace};
+    ghost use Rattle.mux_drill.specs.Trace.{Spot, IsDrillTrace};
 
     ghost Value = { Spot };
 
     ghost view = { λ c. record { plan = c.plan; stage = c.stage } };
 
-    ghost invariant = { λ c. IsTrace c.plan c.stage c.x c.tally };
+    ghost invariant = { λ c. IsDrillTrace c.plan c.stage c.x c.tally };
 }
 
 impl Trace {

@@ -1,2 +1,4 @@
+mod Bytes
+mod Own
 mod Passes
 mod Rows

@@ -5,8 +5,8 @@ use Rattle.mux_outside.specs.declared.turn.Turn.{Turn}
 use Rattle.mux_outside.specs.declared.turn.Turn.TheVariants.{Accepted, Got, End, Writable, Failed, Joined, NoMemory}
 use Rattle.mux_edge.specs.Ready.{IsLookedFor}
 use Rattle.mux_edge.specs.Shares.{PassesOwn}
-use Rattle.mux_edge.specs.Sockets.{IsOf, Serves}
-use Rattle.mux_edge.specs.declared.numbers.Numbers.{Numbers}
+use Rattle.mux_edge.specs.Sockets.{IsTurnOf, ServesReady}
+use Rattle.mux_edge.specs.declared.numbers.StreamNumbers.{StreamNumbers}
 use Rattle.mux_edge.specs.declared.table.ready.Ready.{Ready}
 use Rattle.mux_edge.specs.declared.table.ready.Ready.TheVariants.{Accept, Join, Read, Write, Connect}
 
@@ -23,7 +23,7 @@ joined : (listener : ℕ) (own : Option ℕ) (turn : Turn) → IsSomeAnd own (λ
 joined listener None turn serves = absurd serves
 joined listener (Some t) turn serves = subst PassesOwn (sym serves) tt
 
-read : (number : ℕ) (turn : Turn) → is_own number ≡ false → IsOf number turn → PassesOwn turn
+read : (number : ℕ) (turn : Turn) → is_own number ≡ false → IsTurnOf number turn → PassesOwn turn
 read number (Accepted k) clients serves = tt
 read number (Got t) clients serves = ap is_own serves ∙ clients
 read number (End t) clients serves = ap is_own serves ∙ clients
@@ -32,7 +32,7 @@ read number (Failed t) clients serves = tt
 read number (Joined l t) clients serves = tt
 read number NoMemory clients serves = tt
 
-served : (ready : Ready) (numbers : Numbers) (turn : Turn) → IsLookedFor true ready → Serves ready numbers turn → PassesOwn turn
+served : (ready : Ready) (numbers : StreamNumbers) (turn : Turn) → IsLookedFor true ready → ServesReady ready numbers turn → PassesOwn turn
 served Accept numbers turn looked serves = accepted numbers.client turn serves
 served (Join listener) numbers turn looked serves = joined listener numbers.own turn serves
 served (Read number) numbers turn looked serves = read number turn looked serves
@@ -40,6 +40,6 @@ served (Write number) numbers turn looked serves = subst PassesOwn (sym serves) 
 served (Connect number) numbers turn looked serves = elim serves [ inl w ↦ subst PassesOwn (sym w) tt | inr f ↦ subst PassesOwn (sym f) tt ]
 
 -- so a turn that serves it passes them
-pub passes : (at : Option ℕ) (items : List Ready) (held : Bool) (ready : Ready) (numbers : Numbers) (turn : Turn) → IfSome at (λ i. IsSomeAnd (slice_get items i) (IsLookedFor held)) → IsSomeAnd at (λ i. slice_get items i ≡ Some ready) → Serves ready numbers turn → held ≡ true → PassesOwn turn
+pub passes : (at : Option ℕ) (items : List Ready) (held : Bool) (ready : Ready) (numbers : StreamNumbers) (turn : Turn) → IfSome at (λ i. IsSomeAnd (slice_get items i) (IsLookedFor held)) → IsSomeAnd at (λ i. slice_get items i ≡ Some ready) → ServesReady ready numbers turn → held ≡ true → PassesOwn turn
 passes at items held ready numbers turn found there serves is_held =
     served ready numbers turn (subst (λ (b : Bool). IsLookedFor b ready) is_held (looked_for at items held ready found there)) serves

@@ -1,4 +1,4 @@
--- What a look at a connection that was begun says of its stream.
+-- What a look at a connection that was begun shows of its stream.
 use Rattle.std.specs.Prelude.{ℕ, Bool, true, false, Result, Ok, Err, Option, Some, None}
 use Rattle.mux_outside.specs.declared.turn.Turn.{Turn}
 use Rattle.mux_outside.specs.declared.turn.Turn.TheVariants.{Writable, Failed}

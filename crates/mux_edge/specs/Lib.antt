@@ -2,7 +2,9 @@ pub mod Connections
 pub mod Entries
 pub mod Names
 pub mod Ready
+pub mod Recorded
 pub mod Shares
+pub mod Socket
 pub mod Sockets
 pub mod StreamTable
 pub mod Targets

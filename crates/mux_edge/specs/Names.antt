@@ -43,14 +43,14 @@ IsStreamRow line ip =
 -- ---- the whole output
 
 -- the lines with this byte at the front of the first
-abbrev pub in_front : ℕ → List (List ℕ) → List (List ℕ)
-in_front b [] = (b ∷ []) ∷ []
-in_front b (line ∷ lines) = (b ∷ line) ∷ lines
+abbrev pub in_first_line : ℕ → List (List ℕ) → List (List ℕ)
+in_first_line b [] = (b ∷ []) ∷ []
+in_first_line b (line ∷ lines) = (b ∷ line) ∷ lines
 
 -- the lines of a text
 abbrev pub lines_of : List ℕ → List (List ℕ)
 lines_of [] = []
-lines_of (b ∷ bs) = if b == 10 then [] ∷ lines_of bs else in_front b (lines_of bs)
+lines_of (b ∷ bs) = if b == 10 then [] ∷ lines_of bs else in_first_line b (lines_of bs)
 
 -- a line adds the address that it is a row of, and nothing else
 abbrev pub AddsRow : List ℕ → List IpAddr → List IpAddr → Type 0

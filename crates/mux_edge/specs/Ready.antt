@@ -7,8 +7,8 @@ use Rattle.mux_edge.specs.declared.table.ready.Ready.{Ready}
 use Rattle.mux_edge.specs.declared.table.ready.Ready.TheVariants.{Accept, Join, Read, Write, Connect}
 
 -- one more takes memory
-abbrev pub IsFull : ReadyQueue → Type 0
-IsFull queue = deque_capacity queue.items ≤ deque_len queue.items
+abbrev pub IsReadyFull : ReadyQueue → Type 0
+IsReadyFull queue = deque_capacity queue.items ≤ deque_len queue.items
 
 -- where the master's own streams are held back, none of them is read; all else is looked for
 abbrev pub IsLookedFor : Bool → Ready → Type 0
@@ -19,12 +19,12 @@ IsLookedFor holds_own (Write number) = Unit {0}
 IsLookedFor holds_own (Connect number) = Unit {0}
 
 -- this is of clients
-abbrev pub is_accept : Ready → Bool
-is_accept Accept = true
-is_accept (Join listener) = false
-is_accept (Read number) = false
-is_accept (Write number) = false
-is_accept (Connect number) = false
+abbrev pub is_ready_accept : Ready → Bool
+is_ready_accept Accept = true
+is_ready_accept (Join listener) = false
+is_ready_accept (Read number) = false
+is_ready_accept (Write number) = false
+is_ready_accept (Connect number) = false
 
 -- this is of the listener of this number
 abbrev pub is_join : ℕ → Ready → Bool

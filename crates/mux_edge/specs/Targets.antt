@@ -5,8 +5,8 @@ use Rattle.mux_edge.specs.declared.lookups.Known.TheVariants.{Addresses, LookedU
 use Rattle.mux_edge.specs.declared.targets.Target.{Target}
 
 -- how many addresses are left to be tried
-abbrev pub left_of : Target → ℕ
-left_of target =
+abbrev pub addresses_left_of : Target → ℕ
+addresses_left_of target =
     unwrap_or (option_map (λ addresses. length addresses.items) target.addresses) 0 - target.tried
 
 -- whether it waits for the look-up of this name

@@ -5,31 +5,31 @@ use Rattle.mux_edge.specs.declared.stream.Stream.{Stream}
 use Rattle.mux_edge.specs.declared.stream.Stream.TheVariants.{Unix, Tcp, Begun}
 
 -- a stream over a Unix socket
-abbrev pub IsOverUnix : Stream → Type 0
+abbrev pub IsOverUnix : {U T : Type 0} → Stream U T → Type 0
 IsOverUnix (Unix s) = Unit {0}
 IsOverUnix (Tcp s) = ⊥
 IsOverUnix Begun = ⊥
 
 -- a stream over TCP
-abbrev pub IsOverTcp : Stream → Type 0
+abbrev pub IsOverTcp : {U T : Type 0} → Stream U T → Type 0
 IsOverTcp (Unix s) = ⊥
 IsOverTcp (Tcp s) = Unit {0}
 IsOverTcp Begun = ⊥
 
 -- descriptors can be passed beside the bytes of a stream
-abbrev pub passes_descriptors : Stream → Bool
+abbrev pub passes_descriptors : {U T : Type 0} → Stream U T → Bool
 passes_descriptors (Unix s) = true
 passes_descriptors (Tcp s) = false
 passes_descriptors Begun = false
 
 -- a stream without a socket so far
-abbrev pub is_begun : Stream → Bool
+abbrev pub is_begun : {U T : Type 0} → Stream U T → Bool
 is_begun (Unix s) = false
 is_begun (Tcp s) = false
 is_begun Begun = true
 
 -- a transport that has a slash is a Unix socket's path, and any other an address and port for TCP
-abbrev pub IsOver : Stream → List ℕ → Type 0
-IsOver (Unix s) transport = list_any (λ byte. byte == 47) transport ≡ true
-IsOver (Tcp s) transport = list_any (λ byte. byte == 47) transport ≡ false
-IsOver Begun transport = ⊥
+abbrev pub IsOverTransport : {U T : Type 0} → Stream U T → List ℕ → Type 0
+IsOverTransport (Unix s) transport = list_any (λ byte. byte == 47) transport ≡ true
+IsOverTransport (Tcp s) transport = list_any (λ byte. byte == 47) transport ≡ false
+IsOverTransport Begun transport = ⊥

@@ -10,7 +10,7 @@ pub trait Children {
     /// Whether one of them is to be looked after soon.
     fn is_busy(&self) -> bool;
 
-    /// Drops those that are gone.
+    /// Drops those that have ended.
     fn reap(&mut self);
 
     /// Has one look up a name, and write its addresses there. `Err`: none was started, since there

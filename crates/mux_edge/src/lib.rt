@@ -11,7 +11,9 @@ mod lookups;
 mod names;
 mod numbers;
 pub mod opened;
+mod real;
 mod sink;
+mod socket;
 mod sockets;
 mod stream;
 mod table;
@@ -20,9 +22,12 @@ mod turns;
 
 pub use children::Children;
 pub use faults::{count_failed, count_made, file_error};
-pub use numbers::{Numbers, keep_listener, keep_stream, next_number, numbers_to_give};
+pub use numbers::{StreamNumbers, keep_listener, keep_stream, next_number};
+pub use real::{RealSockets, RealStream, RealTable};
 pub use sink::RealSink;
+pub use socket::{Socket, TcpSocket, UnixSocket};
 pub use sockets::Sockets;
 pub use stream::Stream;
-pub use table::{OwnListener, Ready, ReadyQueue, Shares, StreamEntry, StreamTable};
-pub use turns::turn_of;
+pub use table::{
+    MOST_OWN_STREAMS, OwnListener, Ready, ReadyQueue, Shares, StreamEntry, StreamTable,
+};

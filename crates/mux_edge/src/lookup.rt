@@ -62,7 +62,7 @@ impl Lookup {
         })
     }
 
-    /// Goes on with it: it is over if it lasts too long, and then nothing that was received counts.
+    /// Goes on with it: it ends if it lasts too long, and then nothing that was received counts.
     pub fn go_on(&mut self, now: Option<Instant>) -> Result<(), AllocError>
         ensures name { self.new.name ≡ self.old.name }
         ensures late { OnOk result (IsNone now → self.new.over ≡ true) }
@@ -77,7 +77,7 @@ impl Lookup {
         Ok(())
     }
 
-    // Reads what the child has written so far. It is over at its end, and where it writes too much.
+    // Reads what the child has written so far. It ends with the output, and where that is too long.
     fn receive(&mut self) -> Result<(), AllocError>
         ensures name { self.new.name ≡ self.old.name }
     {
@@ -103,7 +103,7 @@ impl Lookup {
     }
 }
 
-/// Whether so many seconds aren't over. Without a clock they are.
+/// Whether so many seconds haven't passed. Without a clock they have.
 pub fn is_within(seconds: u64, since: Instant, now: Option<Instant>) -> bool
     ensures { IsNone now → result ≡ false }
 {

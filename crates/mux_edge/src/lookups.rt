@@ -5,6 +5,7 @@ ghost use Rattle.indexmap.specs.IndexMap.{get, index_map_len};
 
 use crate::lookup::{Lookup, is_within};
 use crate::names::addresses_of;
+use crate::socket::{TcpSocket, UnixSocket};
 use crate::stream::Stream;
 use crate::targets::Target;
 use indexmap::IndexMap;
@@ -40,9 +41,9 @@ pub enum Known {
     Nothing,
 }
 
-/// The look-ups under way, the addresses that were had within the last seconds, and the streams
+/// The look-ups under way, the addresses that were found in the last seconds, and the streams
 /// that connect to names. A look-up has the number of the stream that began it as the system's
-/// token, which that stream has only once the look-up is over. It ends with the last stream that
+/// token, which that stream has only once the look-up has ended. It ends with the last stream that
 /// waits for it, so a number that is given again is no look-up's any more.
 #[derive(Drop)]
 pub struct Lookups {
@@ -143,12 +144,12 @@ impl Lookups {
     }
 
     /// Connects a stream to the next of its addresses, once they are known. `Err`: none is left.
-    pub fn connect<N: Net>(
+    pub fn connect<N: Net, U: UnixSocket, T: TcpSocket>(
         &mut self,
         rt: &N,
         registry: &Registry,
         number: u64,
-        stream: &mut Stream,
+        stream: &mut Stream<U, T>,
     ) -> io::Result<()>
         ensures unknown { get nat_eq self.old.targets number ≡ None → IsErr result }
         ensures waits { IsSomeAnd (get nat_eq self.old.targets number)
@@ -174,7 +175,7 @@ impl Lookups {
         Ok(())
     }
 
-    /// Removes a look-up that is over, and reports its addresses: its number, where there was one.
+    /// Removes one look-up that has ended, and reports its addresses: its number, if there was one.
     pub fn end_one(&mut self, now: Option<Instant>) -> Result<Option<u64>, AllocError>
         ensures gone { IfOk result (λ over. IfSome over
             (λ number. get nat_eq self.new.running number ≡ None)) }

@@ -10,11 +10,11 @@ use std::net::IpAddr;
 // The longest name of a host.
 const LONGEST_NAME: usize = 255;
 
-// What a row says of an address for a stream.
+// What stands in a row after an address for a stream.
 const STREAM: &[u8] = b"STREAM";
 
-/// Whether a host may be looked up: it is a name of at most 255 bytes that no reader of words takes
-/// for an option.
+/// Whether a host may be looked up: it is a name of at most 255 bytes that no program reads as an
+/// option.
 pub fn is_name(host: &[u8]) -> bool
     ensures { result ≡ is_name host.now }
 {

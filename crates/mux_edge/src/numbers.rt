@@ -7,25 +7,25 @@ ghost use Rattle.mux_edge.specs.Sockets.{MayBeGiven};
 
 use mux_outside::{FileError, Want, WireState};
 
-/// The numbers that may be given now. `None`: nothing that would get one is taken in.
+/// The numbers that may be given now. `None`: nothing that would get one is accepted.
 #[derive(Clone, Copy)]
-pub struct Numbers {
+pub struct StreamNumbers {
     /// for a client
     pub client: Option<u64>,
-    /// for a socket that is joined at a listener of the master's own
+    /// for a socket that is accepted at a listener of the master's own
     pub own: Option<u64>,
 }
 
 /// The numbers that may be given now.
-pub fn numbers_to_give(state: &WireState, want: Want) -> Numbers
+pub fn numbers_to_give(state: &WireState, want: Want) -> StreamNumbers
     ensures { MayBeGiven result want state.now.seen }
 {
     match want {
-        Want::Read => Numbers {
+        Want::Read => StreamNumbers {
             client: state.next_client(),
             own: state.next_own(),
         },
-        Want::WriteOnly => Numbers {
+        Want::WriteOnly => StreamNumbers {
             client: None,
             own: None,
         },

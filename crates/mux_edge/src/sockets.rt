@@ -1,17 +1,19 @@
 //! The sockets of a run, with the look-ups of names.
-ghost use Rattle.std.specs.Prelude.{◌≡◌, None, OnOk, nat_eq, true};
+ghost use Rattle.std.specs.Prelude.{◌≡◌, ◌≢◌, None, OnOk, Some, nat_eq, true};
 ghost use Rattle.indexmap.specs.IndexMap.{get};
 ghost use Rattle.mux_outside.specs.declared.turn.Want.TheVariants.{WriteOnly};
-ghost use Rattle.mux_edge.specs.Entries.{HasEntry, IsBlocked, Stands};
+ghost use Rattle.mux_edge.specs.Entries.{HasEntry, HasFewOwn, IsBlocked, Stands};
 ghost use Rattle.mux_edge.specs.Names.{is_name};
+ghost use Rattle.mux_edge.specs.Recorded.{LosesNone, ReportsLost};
 ghost use Rattle.mux_edge.specs.Shares.{PassesOwn, holds_own};
 ghost use Rattle.mux_edge.specs.Sockets.{FoundFits};
 ghost use Rattle.mux_edge.specs.StreamTable.{Touches};
-ghost use Rattle.mux_edge.specs.declared.numbers.Numbers.{Numbers};
+ghost use Rattle.mux_edge.specs.declared.numbers.StreamNumbers.{StreamNumbers};
 
 use crate::children::Children;
 use crate::lookups::{Known, Lookups};
-use crate::numbers::Numbers;
+use crate::numbers::StreamNumbers;
+use crate::socket::{TcpSocket, UnixSocket};
 use crate::stream::Stream;
 use crate::table::StreamTable;
 use crate::turns::failure_of;
@@ -24,15 +26,15 @@ use std::time::{Clock, Instant};
 /// The sockets of a run, the names that are looked up to connect to them, and the children that
 /// look these up.
 #[derive(Drop)]
-pub struct Sockets<C: Children + Drop> {
-    pub table: StreamTable,
+pub struct Sockets<C: Children + Drop, U: UnixSocket, T: TcpSocket> {
+    pub table: StreamTable<U, T>,
     lookups: Lookups,
     children: C,
 }
 
-impl<C: Children + Drop> Sockets<C> {
+impl<C: Children + Drop, U: UnixSocket, T: TcpSocket> Sockets<C, U, T> {
     /// These sockets. Nothing is looked up.
-    pub fn new(alloc: Global, table: StreamTable, children: C) -> Sockets<C>
+    pub fn new(alloc: Global, table: StreamTable<U, T>, children: C) -> Sockets<C, U, T>
         ensures table { result.table ≡ table }
         ensures children { result.children ≡ children }
     {
@@ -43,9 +45,10 @@ impl<C: Children + Drop> Sockets<C> {
         }
     }
 
-    /// Lets go of a stream.
+    /// Drops a stream.
     pub fn remove(&mut self, number: u64)
         ensures gone { get nat_eq self.new.table.entries number ≡ None }
+        ensures apart { number ≢ 0 → self.new.table.outbox ≡ self.old.table.outbox }
         ensures rest { Touches number self.old.table self.new.table }
     {
         if let Some(lookup) = self.lookups.forget(number) {
@@ -56,17 +59,19 @@ impl<C: Children + Drop> Sockets<C> {
 
     /// What happens next. A turn is given for the writes of the waiting streams alone, or for all
     /// that can be read too; and for what was written, whatever is waited for. A client and a
-    /// stream that is joined get the given number; without one none is accepted.
+    /// stream that is accepted get the given number; without one none is accepted.
     pub fn next<N: Net + Clock>(
         &mut self,
         rt: &N,
         waiting: &[u64],
         want: Want,
-        numbers: Numbers,
+        numbers: StreamNumbers,
         into: &mut Piece,
     ) -> Turn
         ensures fits { FoundFits result numbers into.old into.new }
         ensures stands { Stands result self.new.table.entries }
+        ensures bytes { ReportsLost U.remaining T.remaining U.contents T.contents (Some result) into.new self.old.table self.new.table }
+        ensures few { HasFewOwn self.old.table.entries → HasFewOwn self.new.table.entries }
         ensures passes { holds_own waiting.now self.old.table.shares ≡ true → PassesOwn result }
         ensures fails { want ≡ WriteOnly → self.old.table.broken ≡ true → result ≡ Turn.Failed 0 }
         ensures listener { self.new.table.listener ≡ self.old.table.listener }
@@ -100,40 +105,42 @@ impl<C: Children + Drop> Sockets<C> {
 
     // Notes what became ready, and waits for it where nothing is. A round begins.
     fn look<N: Clock>(&mut self, rt: &N, want: Want, some: bool) -> io::Result<()>
-        ensures { self.new.table.listener ≡ self.old.table.listener }
+        ensures bytes { LosesNone U.remaining T.remaining U.contents T.contents self.old.table self.new.table }
+        ensures few { HasFewOwn self.old.table.entries → HasFewOwn self.new.table.entries }
+        ensures listener { self.new.table.listener ≡ self.old.table.listener }
     {
         let is_busy = self.lookups.is_busy() || self.children.is_busy();
         self.table.look(&mut self.lookups, want, some, is_busy)?;
-        if self.look_up(rt)? {
-            self.table.note_begun();
-        }
-        self.table.begin_round();
+        let is_one_over = look_up(rt, &mut self.lookups, &mut self.children)?;
+        self.table.begin_round(is_one_over);
         Ok(())
-    }
-
-    // Goes on with the look-ups: whether one is over.
-    fn look_up<N: Clock>(&mut self, rt: &N) -> Result<bool, AllocError>
-        ensures { self.new.table ≡ self.old.table }
-    {
-        self.children.reap();
-        if !self.lookups.is_busy() {
-            return Ok(false);
-        }
-        let now = Instant::now(rt).ok();
-        self.lookups.go_on(now)?;
-        let mut ended = false;
-        for _ in 0..u64::MAX {
-            let Some(number) = self.lookups.end_one(now)? else {
-                break;
-            };
-            self.children.end(number);
-            ended = true;
-        }
-        Ok(ended)
     }
 }
 
-impl<C: Children + Drop> Sockets<C> {
+// Goes on with the look-ups: whether one has ended.
+fn look_up<C: Children + Drop, N: Clock>(
+    rt: &N,
+    lookups: &mut Lookups,
+    children: &mut C,
+) -> Result<bool, AllocError> {
+    children.reap();
+    if !lookups.is_busy() {
+        return Ok(false);
+    }
+    let now = Instant::now(rt).ok();
+    lookups.go_on(now)?;
+    let mut is_one_over = false;
+    for _ in 0..u64::MAX {
+        let Some(number) = lookups.end_one(now)? else {
+            break;
+        };
+        children.end(number);
+        is_one_over = true;
+    }
+    Ok(is_one_over)
+}
+
+impl<C: Children + Drop, U: UnixSocket, T: TcpSocket> Sockets<C, U, T> {
     /// Begins to look up a name, to connect to it with a stream of this number.
     pub fn connect_by_name<N: Net + Clock>(
         &mut self,
@@ -162,8 +169,8 @@ impl<C: Children + Drop> Sockets<C> {
         }
     }
 
-    // Notes where a stream connects to, and looks the name up where nobody does: whether its
-    // addresses are known already. After an `Err` the caller lets go of the stream.
+    // Notes where a stream connects to, and looks the name up where no look-up of it is under way:
+    // whether its addresses are known already. After an `Err` the caller drops the stream.
     fn begin<N: Net + Clock>(
         &mut self,
         rt: &N,

@@ -1,30 +1,34 @@
 //! A stream over a Unix socket or over TCP, whose calls do not wait. It has no socket yet while the
 //! name of its host is looked up.
-ghost use Rattle.std.specs.Prelude.{◌≡◌, false, true, Ok, IfOk, IsErr, IsNone, IsSome};
+ghost use Rattle.std.specs.Prelude.{◌≡◌, None, false, true, Ok, IfOk, IfSome, IsErr, IsNone, IsSome};
+ghost use Rattle.mux_edge.specs.Recorded.{KeepsSocket, ended_once, of_socket};
+ghost use Rattle.mux_edge.specs.Socket.{RecordsMade};
 ghost use Rattle.mux_edge.specs.Transport.{IsOverTcp, IsOverUnix, is_begun, passes_descriptors};
 
-use mio::net::{TcpStream, UnixStream};
+use crate::socket::{TcpSocket, UnixSocket};
 use mio::{Interest, Registry, Token};
+use mux_exchange::Channel;
+use mux_outside::Piece;
 use std::io;
-use std::io::{ErrorKind, Read, Write};
+use std::io::ErrorKind;
 use std::net::{Net, Shutdown, SocketAddr};
 
 #[derive(Drop)]
-pub enum Stream {
-    Unix(UnixStream),
-    Tcp(TcpStream),
+pub enum Stream<U: UnixSocket, T: TcpSocket> {
+    Unix(U),
+    Tcp(T),
     /// without a socket so far
     Begun,
 }
 
-impl Stream {
+impl<U: UnixSocket, T: TcpSocket> Stream<U, T> {
     /// Begins to connect to an address.
-    pub fn connect<R: Net>(rt: &R, address: SocketAddr) -> io::Result<Stream>
-        ensures { IfOk result IsOverTcp }
+    pub fn connect<R: Net>(rt: &R, address: SocketAddr) -> io::Result<Stream<U, T>>
+        ensures over { IfOk result IsOverTcp }
+        ensures target { IfOk result (λ stream.
+            IfSome (of_socket (λ _. None) T.target stream) (λ to. to ≡ address)) }
     {
-        let stream = TcpStream::connect(rt, address)?;
-        stream.set_nodelay(true)?;
-        Ok(Stream::Tcp(stream))
+        Ok(Stream::Tcp(T::connect(rt, address)?))
     }
 
     /// Whether descriptors can be passed beside its bytes.
@@ -41,10 +45,11 @@ impl Stream {
         matches!(self, Stream::Begun)
     }
 
-    /// Has the system tell of what comes and of what can be written, over TCP also of urgent bytes.
+    /// Has the system report what comes and what can be written, over TCP also urgent bytes.
     pub fn register(&mut self, registry: &Registry, token: Token) -> io::Result<()>
         ensures begun { is_begun self.old ≡ true → result ≡ Ok tt }
         ensures same { is_begun self.new ≡ is_begun self.old }
+        ensures socket { KeepsSocket U.keeps T.keeps self.old self.new }
     {
         let both = Interest::READABLE | Interest::WRITABLE;
         match self {
@@ -55,26 +60,34 @@ impl Stream {
     }
 }
 
-impl Stream {
+impl<U: UnixSocket, T: TcpSocket> Stream<U, T> {
     /// Whether a connection that was begun is made. An `Err`: it isn't and won't be.
     pub fn is_made(&self) -> io::Result<bool>
         ensures unix { IsOverUnix self.now → result ≡ Ok true }
         ensures begun { is_begun self.now ≡ true → result ≡ Ok false }
+        ensures recorded { RecordsMade (of_socket (λ _. None) T.made self.now) result }
     {
         match self {
             Stream::Unix(_) => Ok(true),
-            Stream::Tcp(stream) => made_of(stream.take_error()?, stream.peer_addr().is_ok()),
+            Stream::Tcp(stream) => made_of(stream.error()?, stream.has_peer()),
             Stream::Begun => Ok(false),
         }
     }
 
-    /// Says the end to the other side. A stream that can't be told shows it at the next read.
-    pub fn finish(&self) {
-        let _ = match self {
-            Stream::Unix(stream) => stream.shutdown(finished_half()),
-            Stream::Tcp(stream) => stream.shutdown(finished_half()),
-            Stream::Begun => Ok(()),
-        };
+    /// Sends the end to the other side.
+    pub fn finish(&mut self)
+        ensures ended { of_socket U.ended T.ended self.new
+            ≡ ended_once (of_socket U.ended T.ended self.old) }
+        ensures unread { of_socket U.remaining T.remaining self.new
+            ≡ of_socket U.remaining T.remaining self.old }
+        ensures unwritten { of_socket U.contents T.contents self.new
+            ≡ of_socket U.contents T.contents self.old }
+    {
+        match self {
+            Stream::Unix(stream) => stream.end(finished_half()),
+            Stream::Tcp(stream) => stream.end(finished_half()),
+            Stream::Begun => {}
+        }
     }
 }
 
@@ -89,33 +102,31 @@ fn made_of(error: Option<io::Error>, has_peer: bool) -> io::Result<bool>
     }
 }
 
-// Which half of a stream ends where its end is said: what comes is still read.
+// Which half of a stream ends where its end is sent: what comes is still read.
 fn finished_half() -> Shutdown
     ensures { result ≡ Shutdown.Write }
 {
     Shutdown::Write
 }
 
-impl Read for Stream {
-    fn read(&mut self, buf: &mut [u8]) -> io::Result<usize> {
-        match self {
-            Stream::Unix(stream) => stream.read(buf),
-            Stream::Tcp(stream) => stream.read(buf),
-            Stream::Begun => Err(io::Error::from(ErrorKind::WouldBlock)),
-        }
-    }
-}
+impl<U: UnixSocket, T: TcpSocket> Channel for Stream<U, T> {
+    ghost remaining = { of_socket U.remaining T.remaining };
 
-impl Write for Stream {
-    fn write(&mut self, buf: &[u8]) -> io::Result<usize> {
+    ghost contents = { of_socket U.contents T.contents };
+
+    fn read_once(&mut self, into: &mut Piece, most: usize) -> io::Result<usize> {
         match self {
-            Stream::Unix(stream) => stream.write(buf),
-            Stream::Tcp(stream) => stream.write(buf),
+            Stream::Unix(stream) => stream.read_once(into, most),
+            Stream::Tcp(stream) => stream.read_once(into, most),
             Stream::Begun => Err(io::Error::from(ErrorKind::WouldBlock)),
         }
     }
 
-    fn flush(&mut self) -> io::Result<()> {
-        Ok(())
+    fn write_once(&mut self, bytes: &[u8]) -> io::Result<usize> {
+        match self {
+            Stream::Unix(stream) => stream.write_once(bytes),
+            Stream::Tcp(stream) => stream.write_once(bytes),
+            Stream::Begun => Err(io::Error::from(ErrorKind::WouldBlock)),
+        }
     }
 }

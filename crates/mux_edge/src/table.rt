@@ -1,9 +1,11 @@
 //! The sockets of streams and listeners, and which of them are ready.
-ghost use Rattle.std.specs.Prelude.{◌≡◌, ◌≢◌, None, OnOk, false, true, IfOk, IsNone, IsSome, nat_eq};
-ghost use Rattle.mux_edge.specs.Entries.{HasEntry, IsBlocked, MayPass};
+ghost use Rattle.std.specs.Prelude.{◌≡◌, ◌≢◌, ◌≤◌, ◌↔◌, IsTrue, None, OnErr, OnOk, false, true, IfOk, IsNone, IsSome, IsSomeAnd, nat_eq};
+ghost use Rattle.mux_outside.specs.OwnStreams.{is_own};
+ghost use Rattle.mux_edge.specs.Entries.{EntriesStay, HasEntry, HasFewOwn, HasPlace, IsBlocked, MayPass, own_streams};
+ghost use Rattle.mux_edge.specs.Recorded.{KeepsSocket, SocketsStay};
 ghost use Rattle.mux_edge.specs.StreamTable.{Touches};
 ghost use Rattle.mux_edge.specs.Transport.{passes_descriptors};
-ghost use Rattle.indexmap.specs.IndexMap.{get};
+ghost use Rattle.indexmap.specs.IndexMap.{IsUnchanged, get};
 
 mod look;
 mod outgoing;
@@ -15,66 +17,54 @@ mod shares;
 pub use self::ready::{OwnListener, Ready, ReadyQueue, StreamEntry};
 pub use self::shares::Shares;
 use crate::lookups::Lookups;
+use crate::socket::{TcpSocket, UnixSocket};
 use crate::stream::Stream;
 use indexmap::IndexMap;
 use mio::net::UnixListener;
 use mio::{Events, Interest, Poll, Registry, Token};
 use mux_exchange::Outbox;
-use mux_outside::Piece;
+use mux_outside::{Piece, is_own};
 use std::alloc::{AllocError, Global};
 use std::io;
+use std::io::ErrorKind;
 use std::net::Net;
 
 /// The sockets of a run, each under the number of its stream or listener, which is the system's
 /// token for it too.
 ///
-/// A read of the master's own streams takes no more bytes than one message carries, any other read
-/// takes a full piece at most.
-///
-/// The system tells once that bytes came, and not again while they are there. So a stream stays
-/// noted until a read shows that none are left: one that would wait, or one that takes fewer bytes
-/// than it may (epoll(7)). Such a short read shows less where descriptors may be passed, since a
-/// read of a Unix socket stops at them, so on the streams of clients: the bytes behind a descriptor
-/// may be there, and the system doesn't tell of them. So a client whose read was short is doubted:
-/// it is read once more when nothing came for a while, or when the system was asked often since.
-/// Nobody passes any on the server's stream. There, and over TCP, a read stops short at urgent bytes
-/// and before the end: once the system told of one, or of an error, a short read shows nothing any
-/// more.
-///
-/// Few bytes to the server go to its socket together: they wait in an outbox until the system is
-/// asked again, which is never done before the socket was given them or took no more. The end of the
-/// table, or of the stream, gives it what it takes of them. Where a write to that socket fails, what
-/// the server still says is read first, and then its stream fails.
-///
-/// Of a stream that is paused, or whose connection isn't made, it is kept that it may be read,
-/// since the system won't tell again.
-///
-/// What becomes ready goes behind what was ready before, and the system is asked again when all
-/// that was ready then was served at most twice. So no stream is passed over for longer than that.
-///
-/// While the server's stream is waited for, the master's own streams are read no further than the
-/// clients are. What is ready of them keeps its place, and is passed over.
-pub struct StreamTable {
+/// - **Reading.** The system reports once that bytes came (epoll(7)). So a stream stays noted until
+///   a read would wait, or is short. At a Unix socket a read stops at a passed descriptor: a client
+///   whose read was short is read once more when nothing came for a while, or when the system was
+///   asked often since. After a report of an error, the end or urgent bytes this is not so.
+/// - **Writing.** Few bytes to the server wait in an outbox. Its socket is given them before the
+///   system is asked again, and at the end. If that fails, what the server still sends is read first.
+/// - **Order.** What becomes ready goes after what was ready before. The system is asked again when
+///   all of that was served at most twice.
+/// - **The master's own streams.** They are at most `MOST_OWN_STREAMS`. At that number, who connects
+///   waits in the backlog, and no connection is begun. While the server's stream is waited for, they
+///   are read no further than the clients are. That one may be read is kept while it is paused or
+///   its connection isn't made.
+pub struct StreamTable<U: UnixSocket, T: TcpSocket> {
     poll: Poll,
     events: Events,
     /// `None`: no client comes, as at first and after `stop_listening`
     pub listener: Option<UnixListener>,
-    pub entries: IndexMap<u64, StreamEntry>,
+    pub entries: IndexMap<u64, StreamEntry<U, T>>,
     /// the listeners of the master's own
     pub own_listeners: IndexMap<u64, OwnListener>,
-    /// an accept failed for want of descriptors or memory, and is tried again
+    /// an accept failed for lack of descriptors or memory, and is tried again
     pub pauses: bool,
-    /// the same at a listener of the master's own
+    /// the same at a listener of the master's own, or it has as many streams as it may have
     pub joins_pause: bool,
     pub ready: ReadyQueue,
     pub shares: Shares,
     /// what is read into
     pub spare: Piece,
-    /// what was taken for the server's stream, and wasn't given to its socket yet
+    /// what was accepted for the server's stream, and wasn't given to its socket yet
     pub outbox: Outbox,
-    /// its socket takes none of that for now
+    /// its socket accepts none of that for now
     pub full: bool,
-    /// a write to its socket failed, which is told once its last words were read
+    /// a write to its socket failed, which is reported once its last words were read
     pub broken: bool,
     /// some streams are doubted, and so often the system was asked since
     pub doubts: Option<u32>,
@@ -86,11 +76,20 @@ const LISTENER: Token = Token(usize::MAX);
 // How many events one look takes.
 const EVENTS: usize = 64;
 
-impl StreamTable {
+/// How many streams of its own the master has at a time, at most. With 64 clients, its listeners,
+/// look-ups and files it then stays within the usual limit of 1,024 descriptors.
+pub const MOST_OWN_STREAMS: usize = 512;
+
+impl<U: UnixSocket, T: TcpSocket> StreamTable<U, T> {
     /// Stream 0 alone, without a listener.
-    pub fn alone<N: Net>(rt: &N, alloc: Global, stream: Stream) -> io::Result<StreamTable>
+    pub fn alone<N: Net>(
+        rt: &N,
+        alloc: Global,
+        stream: Stream<U, T>,
+    ) -> io::Result<StreamTable<U, T>>
         ensures server { IfOk result (λ table. HasEntry 0 table.entries) }
         ensures deaf { IfOk result (λ table. IsNone table.listener) }
+        ensures few { IfOk result (λ table. HasFewOwn table.entries) }
     {
         let mut table = StreamTable::new(rt, alloc)?;
         table.add(0, stream, false)?;
@@ -98,8 +97,9 @@ impl StreamTable {
     }
 
     // No stream yet.
-    fn new<N: Net>(rt: &N, alloc: Global) -> io::Result<StreamTable>
-        ensures { IfOk result (λ table. IsNone table.listener) }
+    fn new<N: Net>(rt: &N, alloc: Global) -> io::Result<StreamTable<U, T>>
+        ensures deaf { IfOk result (λ table. IsNone table.listener) }
+        ensures few { IfOk result (λ table. HasFewOwn table.entries) }
     {
         let poll = Poll::new(rt)?;
         let events = Events::with_capacity(alloc, EVENTS)?;
@@ -109,8 +109,15 @@ impl StreamTable {
     }
 
     // No stream yet, over this.
-    fn over(alloc: Global, poll: Poll, events: Events, spare: Piece, outbox: Outbox) -> StreamTable
-        ensures { IsNone result.listener }
+    fn over(
+        alloc: Global,
+        poll: Poll,
+        events: Events,
+        spare: Piece,
+        outbox: Outbox,
+    ) -> StreamTable<U, T>
+        ensures deaf { IsNone result.listener }
+        ensures few { HasFewOwn result.entries }
     {
         StreamTable {
             poll,
@@ -131,16 +138,65 @@ impl StreamTable {
     }
 
     /// Takes a stream in, with room for all that can be ready. Whoever is a client may pass
-    /// descriptors.
-    pub fn add(&mut self, number: u64, mut stream: Stream, connecting: bool) -> io::Result<()>
+    /// descriptors. One of the master's own isn't taken in where it has as many as it may have.
+    pub fn add(&mut self, number: u64, stream: Stream<U, T>, connecting: bool) -> io::Result<()>
         ensures there { OnOk result (HasEntry number self.new.entries) }
+        ensures taken { OnOk result (IsSomeAnd (get nat_eq self.new.entries number)
+            (λ entry. KeepsSocket U.keeps T.keeps stream entry.stream)) }
+        ensures not_taken { OnErr result (EntriesStay self.old.entries self.new.entries) }
+        ensures outbox { self.new.outbox ≡ self.old.outbox }
         ensures client { OnOk result (number ≢ 0 → passes_descriptors stream ≡ true
             → MayPass number self.new.entries) }
         ensures waits { OnOk result (connecting ≡ true → IsBlocked number self.new.entries) }
         ensures rest { Touches number self.old self.new }
     {
+        self.make_place(number)?;
+        self.put(number, stream, connecting)
+    }
+
+    // Makes a place for one more stream, with room for all that can be ready. One of the master's
+    // own has none where there are as many as there may be.
+    fn make_place(&mut self, number: u64) -> io::Result<()>
+        ensures place { OnOk result (HasPlace number self.new.entries) }
+        ensures entries { IsUnchanged self.old.entries self.new.entries }
+        ensures rest { self.new
+            ≡ record self.old { entries = self.new.entries; ready = self.new.ready } }
+    {
+        if is_own(number) && self.has_most_own() {
+            return Err(io::Error::from(ErrorKind::Other));
+        }
         self.make_room()?;
         self.entries.reserve(1)?;
+        Ok(())
+    }
+
+    // Whether the master has as many streams of its own as it may have.
+    fn has_most_own(&self) -> bool
+        ensures { IsTrue result ↔ (MOST_OWN_STREAMS ≤ own_streams self.now.entries) }
+    {
+        self.own_streams() >= MOST_OWN_STREAMS
+    }
+
+    // How many streams are the master's own.
+    fn own_streams(&self) -> usize
+        ensures { result ≡ own_streams self.now.entries }
+    {
+        self.entries.keys().filter(|n| is_own(**n)).count()
+    }
+
+    // Puts a stream into the place that was made for it.
+    fn put(&mut self, number: u64, mut stream: Stream<U, T>, connecting: bool) -> io::Result<()>
+        requires place { HasPlace number self.old.entries }
+        ensures there { OnOk result (HasEntry number self.new.entries) }
+        ensures taken { OnOk result (IsSomeAnd (get nat_eq self.new.entries number)
+            (λ entry. KeepsSocket U.keeps T.keeps stream entry.stream)) }
+        ensures not_taken { OnErr result (EntriesStay self.old.entries self.new.entries) }
+        ensures outbox { self.new.outbox ≡ self.old.outbox }
+        ensures client { OnOk result (number ≢ 0 → passes_descriptors stream ≡ true
+            → MayPass number self.new.entries) }
+        ensures waits { OnOk result (connecting ≡ true → IsBlocked number self.new.entries) }
+        ensures rest { Touches number self.old self.new }
+    {
         let passes = number != 0 && stream.passes_descriptors();
         stream.register(self.poll.registry(), Token(number as usize))?;
         let entry = StreamEntry::new(stream, passes, connecting);
@@ -148,7 +204,7 @@ impl StreamTable {
         Ok(())
     }
 
-    /// What the system tells of new sockets by.
+    /// What has the system report of new sockets.
     pub fn registry(&self) -> &Registry {
         self.poll.registry()
     }
@@ -161,9 +217,10 @@ impl StreamTable {
         self.ready.reserve(all.saturating_add(1))
     }
 
-    /// Lets go of a stream.
+    /// Drops a stream.
     pub fn remove(&mut self, number: u64)
         ensures gone { get nat_eq self.new.entries number ≡ None }
+        ensures apart { number ≢ 0 → self.new.outbox ≡ self.old.outbox }
         ensures rest { Touches number self.old self.new }
     {
         self.give_last(number);
@@ -189,7 +246,7 @@ impl StreamTable {
         Ok(())
     }
 
-    /// Accepts no more clients, and lets go of the listener.
+    /// Accepts no more clients, and drops the listener.
     pub fn stop_listening(&mut self)
         ensures deaf { IsNone self.new.listener }
         ensures unpaused { self.new.pauses ≡ false }
@@ -210,19 +267,16 @@ impl StreamTable {
     }
 }
 
-impl StreamTable {
-    /// Notes the streams that wait for look-ups, of which one is over.
-    pub fn note_begun(&mut self)
-        ensures { self.new ≡ record self.old { entries = self.new.entries; ready = self.new.ready } }
-    {
-        note_begun(&mut self.entries, &mut self.ready);
-    }
-
-    /// A round begins.
-    pub fn begin_round(&mut self)
-        ensures entries { self.new.entries ≡ self.old.entries }
+impl<U: UnixSocket, T: TcpSocket> StreamTable<U, T> {
+    /// A round begins. Where a look-up has ended, the streams that wait for one are noted.
+    pub fn begin_round(&mut self, is_one_over: bool)
+        ensures sockets { SocketsStay self.old.entries self.new.entries }
+        ensures outbox { self.new.outbox ≡ self.old.outbox }
         ensures listener { self.new.listener ≡ self.old.listener }
     {
+        if is_one_over {
+            note_begun(&mut self.entries, &mut self.ready);
+        }
         if self.pauses {
             self.accept_again();
         }
@@ -231,7 +285,7 @@ impl StreamTable {
     }
 }
 
-impl Drop for StreamTable {
+impl<U: UnixSocket, T: TcpSocket> Drop for StreamTable<U, T> {
     fn drop(mut self) {
         self.give_last(0);
         let StreamTable {
@@ -253,11 +307,39 @@ impl Drop for StreamTable {
     }
 }
 
-// Notes the streams that wait for look-ups, of which one is over.
-fn note_begun(entries: &mut IndexMap<u64, StreamEntry>, ready: &mut ReadyQueue) {
-    for (number, entry) in entries.iter_mut() {
-        if entry.stream.is_begun() && !entry.ended {
-            let _ = ready.note_connect(*number, entry);
+// Notes the streams that wait for look-ups, of which one has ended.
+fn note_begun<U: UnixSocket, T: TcpSocket>(
+    entries: &mut IndexMap<u64, StreamEntry<U, T>>,
+    ready: &mut ReadyQueue,
+)
+    ensures { SocketsStay entries.old entries.new }
+{
+    for at in 0..entries.len() {
+        if let Some(number) = number_at(entries, at) {
+            note_if_begun(number, entries, ready);
         }
     }
+}
+
+// Notes a stream, if it waits for a look-up.
+fn note_if_begun<U: UnixSocket, T: TcpSocket>(
+    number: u64,
+    entries: &mut IndexMap<u64, StreamEntry<U, T>>,
+    ready: &mut ReadyQueue,
+)
+    ensures { SocketsStay entries.old entries.new }
+{
+    if let Some(entry) = entries.get_mut(&number) {
+        if entry.stream.is_begun() && !entry.ended {
+            let _ = ready.note_connect(number, entry);
+        }
+    }
+}
+
+// The number of the stream at this place.
+fn number_at<U: UnixSocket, T: TcpSocket>(
+    entries: &IndexMap<u64, StreamEntry<U, T>>,
+    at: usize,
+) -> Option<u64> {
+    entries.get_index(at).map(|(number, _)| *number)
 }

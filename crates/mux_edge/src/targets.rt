@@ -2,6 +2,7 @@
 ghost use Rattle.std.specs.Prelude.{◌≡◌, ◌<◌, ◌+◌, Some, OnErr, OnSome, IfSome, IfNone, slice_get};
 ghost use Rattle.std.specs.Net.Socket.{socket_ip, socket_port};
 
+use crate::socket::{TcpSocket, UnixSocket};
 use crate::stream::Stream;
 use mio::{Registry, Token};
 use std::io;
@@ -13,13 +14,13 @@ use std::net::{IpAddr, Net, SocketAddr};
 pub struct Target {
     pub name: Vec<u8>,
     pub port: u16,
-    /// `None`: the look-up isn't over
+    /// `None`: the look-up hasn't ended
     pub addresses: Option<Vec<IpAddr>>,
     pub tried: usize,
 }
 
 impl Target {
-    ghost use Rattle.mux_edge.specs.Targets.{awaits, left_of};
+    ghost use Rattle.mux_edge.specs.Targets.{awaits, addresses_left_of};
 
     // The address that is tried next.
     fn next(&mut self) -> Option<SocketAddr>
@@ -27,22 +28,23 @@ impl Target {
         ensures in_turn { IfSome result (λ address. IfSome self.old.addresses (λ addresses.
             slice_get addresses.items self.old.tried ≡ Some (socket_ip address))) }
         ensures moved { OnSome result (self.new ≡ record self.old { tried = self.old.tried + 1 }) }
-        ensures fewer { OnSome result (left_of self.new < left_of self.old) }
-        ensures none_left { IfNone result (left_of self.new ≡ 0) }
+        ensures fewer { OnSome result (addresses_left_of self.new < addresses_left_of self.old) }
+        ensures none_left { IfNone result (addresses_left_of self.new ≡ 0) }
     {
         let address = *self.addresses.as_ref()?.get(self.tried)?;
         self.tried = self.tried.saturating_add(1);
         Some(SocketAddr::new(address, self.port))
     }
 
-    /// Begins to connect to the next address that takes it, under this number. `Err`: none is left.
-    pub fn connect<N: Net>(
+    /// Begins to connect to the next address that can be tried, under this number. `Err`: none is
+    /// left.
+    pub fn connect<N: Net, U: UnixSocket, T: TcpSocket>(
         &mut self,
         rt: &N,
         registry: &Registry,
         number: u64,
-    ) -> io::Result<Stream>
-        ensures none_left { OnErr result (left_of self.new ≡ 0) }
+    ) -> io::Result<Stream<U, T>>
+        ensures none_left { OnErr result (addresses_left_of self.new ≡ 0) }
     {
         while let Some(address) = self.next() {
             if let Ok(stream) = connected(rt, registry, number, address) {
@@ -61,12 +63,12 @@ impl Target {
 }
 
 // Begins to connect to an address, under this number.
-fn connected<N: Net>(
+fn connected<N: Net, U: UnixSocket, T: TcpSocket>(
     rt: &N,
     registry: &Registry,
     number: u64,
     address: SocketAddr,
-) -> io::Result<Stream> {
+) -> io::Result<Stream<U, T>> {
     let mut stream = Stream::connect(rt, address)?;
     stream.register(registry, Token(number as usize))?;
     Ok(stream)

@@ -1,21 +1,22 @@
 //! The turn that a wire gives for what its sockets found.
-ghost use Rattle.std.specs.Prelude.{◌≡◌, ◌≢◌, ◌⊎◌, ◌&&◌, not, ℕ, List, true, IsTrue};
+ghost use Rattle.std.specs.Prelude.{◌≡◌, ◌≢◌, ◌⊎◌, ◌&&◌, not, ℕ, List, [], Some, true, IsTrue};
 ghost use Rattle.std.specs.IoError.{error_kind};
 ghost use Rattle.mux_outside.specs.OwnStreams.{is_own, is_silent};
 ghost use Rattle.mux_outside.specs.Streams.{among};
 ghost use Rattle.mux_outside.specs.Wire.{OwnFits, TurnFits};
 ghost use Rattle.mux_outside.specs.WireState.{opens_stream};
 ghost use Rattle.mux_outside.specs.declared.turn.Turn.TheVariants.{NoMemory};
+ghost use Rattle.mux_edge.specs.Recorded.{reported};
 ghost use Rattle.mux_edge.specs.Sockets.{FoundFits, MayBeGiven};
-ghost use Rattle.mux_edge.specs.declared.numbers.Numbers.{Numbers};
+ghost use Rattle.mux_edge.specs.declared.numbers.StreamNumbers.{StreamNumbers};
 
-use crate::numbers::Numbers;
+use crate::numbers::StreamNumbers;
 use mux_outside::{Turn, Want, WireState, is_own};
 use std::io;
 use std::io::ErrorKind;
 
 /// The turn of what the sockets found. What they may not find is a fault of the server's stream.
-pub fn turn_of(state: &WireState, found: Turn, want: Want, numbers: Numbers) -> Turn
+pub fn turn_of(state: &WireState, found: Turn, want: Want, numbers: StreamNumbers) -> Turn
     requires numbers { MayBeGiven numbers want state.now.seen }
     requires server { IsTrue (among 0 state.now.seen.streams) }
     ensures turn { (before now : List ℕ) → FoundFits found numbers before now
@@ -24,6 +25,7 @@ pub fn turn_of(state: &WireState, found: Turn, want: Want, numbers: Numbers) -> 
     ensures recorded { (before now : List ℕ) → FoundFits found numbers before now
         → TurnFits found want state.now.seen now → OwnFits found state.now.seen
         → result ≡ found }
+    ensures as_found { result ≢ Turn.Failed 0 → result ≡ found }
     ensures kept { (before now : List ℕ) → FoundFits found numbers before now
         → (opens_stream result ≡ true) ⊎ (result ≡ NoMemory) → now ≡ before }
 {
@@ -55,7 +57,8 @@ fn gives(state: &WireState, stream: u64) -> bool
 pub fn failure_of(e: &io::Error) -> Turn
     ensures memory { error_kind e.now ≡ ErrorKind.OutOfMemory → result ≡ Turn.NoMemory }
     ensures other { error_kind e.now ≢ ErrorKind.OutOfMemory → result ≡ Turn.Failed 0 }
-    ensures fits { (numbers : Numbers) (piece : List ℕ) → FoundFits result numbers piece piece }
+    ensures fits { (numbers : StreamNumbers) (piece : List ℕ) → FoundFits result numbers piece piece }
+    ensures no_bytes { (stream : ℕ) (bytes : List ℕ) → reported (Some result) stream bytes ≡ [] }
 {
     match e.kind() {
         ErrorKind::OutOfMemory => Turn::NoMemory,

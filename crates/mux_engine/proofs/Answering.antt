@@ -4,7 +4,7 @@ use Rattle.std.specs.Prelude.{Result, Ok, Err, IsErr}
 use Rattle.std.specs.Result.{result_unwrap_or}
 use Rattle.mux_outside.specs.Counts.{Rose}
 use Rattle.mux_outside.specs.Faults.{Faults}
-use Rattle.mux_outside.specs.House.{Known, nothing_known}
+use Rattle.mux_outside.specs.House.{HouseState, Known, nothing_known}
 use Rattle.mux_outside.specs.HouseCalls.{HandsOn, HouseCall}
 use Rattle.mux_outside.specs.OwnStreams.{is_one, is_own, numbers_of}
 use Rattle.mux_outside.specs.Seen.{Seen}
@@ -15,12 +15,12 @@ use Rattle.mux_outside.specs.declared.house_mark.HouseMark.{HouseMark}
 use Rattle.mux_outside.specs.declared.mark.Mark.{Mark}
 use Rattle.mux_history.specs.declared.ended.Ended.{Ended}
 use Rattle.mux_history.specs.declared.ended.Ended.TheVariants as ended
-use Rattle.mux_history.specs.declared.limits.TheConstants.{HOUSE}
 use Rattle.mux_history.specs.Policy.{Policy}
 use Rattle.mux_history.specs.Promises.{turns_in}
 use Rattle.mux_state.specs.State.{State}
-use Rattle.mux_engine.specs.Counted.{Spent, Stops, Well}
-use Rattle.mux_engine.specs.Rests.{IsByRow, ended_as, refused_if}
+use Rattle.mux_engine.specs.Counted.{Spent, RunStops, Well}
+use Rattle.mux_engine.specs.Owned.{IsOwnOffered}
+use Rattle.mux_engine.specs.Rests.{IsByRow, ended_as, start_refused_if}
 use Rattle.mux_engine.specs.Run.{IsRun}
 use Rattle.mux_engine.specs.Serving.{Promised, Serving, StaysOrFails}
 use Rattle.mux_engine.specs.Sides.{Housed, IsAlone, Resting, Side}
@@ -34,11 +34,11 @@ use Rattle.mux_engine.proofs.Spending.{spent-then, stops-spent}
 -- ---- the answer
 
 -- the answer with a forwarder that is present just so
-pub answer-is : (answer : Ended) (o : Option Ended) (p q must : Bool) (refused : Option ℕ) → p ≡ q → answer ≡ ended_as o (refused_if p must refused) → answer ≡ ended_as o (refused_if q must refused)
-answer-is answer o p q must refused e is = is ∙ ap (λ b. ended_as o (refused_if b must refused)) e
+pub answer-is : (answer : Ended) (o : Option Ended) (p q must : Bool) (refused : Option ℕ) → p ≡ q → answer ≡ ended_as o (start_refused_if p must refused) → answer ≡ ended_as o (start_refused_if q must refused)
+answer-is answer o p q must refused e is = is ∙ ap (λ b. ended_as o (start_refused_if b must refused)) e
 
 -- what was refused when the turns were over, with a forwarder that receives no request after them
-pub over-still : {T : Type 0} (present must : T → Bool) (refused : T → Option ℕ) (h h' : T) (p : Bool) → h' ≡ h → present h ≡ p → refused_if (present h) (must h) (refused h) ≢ None → refused_if p (must h') (refused h') ≢ None
+pub over-still : {T : Type 0} (present must : T → Bool) (refused : T → Option ℕ) (h h' : T) (p : Bool) → h' ≡ h → present h ≡ p → start_refused_if (present h) (must h) (refused h) ≢ None → start_refused_if p (must h') (refused h') ≢ None
 over-still present must refused h h' p e f some none = some (refused-same (present h) p (must h) (must h') (refused h) (refused h') f (ap must (sym e)) (ap refused (sym e)) ∙ none)
 
 given-all : (all : Bool) (given turns : ℕ) (mid : Option Ended) (r : Option ℕ) → (all ≡ true → given ≡ turns) → (all ≡ false → mid ≡ None → r ≢ None) → mid ≡ None → r ≡ None → given ≡ turns
@@ -73,10 +73,6 @@ failed-whole answer mid new f g h i r le le' rose stays is e = rose-behind f.ser
 
 -- ---- what is promised
 
--- no stream but that of the forwarder
-only-house : (t : ℕ) → is_own t ≡ false → among t (HOUSE ∷ []) ≡ false
-only-house t other = ap (λ b. b || false) (test-other HOUSE t (λ q. true-false (ap is_own q ∙ other)))
-
 module _ {May : HouseReply → Type 0} {Rest : Resting} {before : Option (List HouseMark)} {policy : Policy} {pid : ℕ} {start : Option (List Mark)} where
   -- no stream is held back yet, and none failed
   pub none-held : {now : Side} {seen : Seen} {given : ℕ} {todo : List ℕ} {s : State} (held failed : List ℕ) → held ≡ [] → failed ≡ [] → Serving May Rest before now policy pid start seen [] [] given todo s → Serving May Rest before now policy pid start seen held failed given todo s
@@ -86,19 +82,19 @@ module _ {May : HouseReply → Type 0} {Rest : Resting} {before : Option (List H
   none-given v z = sym v.turns ∙ ap turns_in z
 
   -- a run that went to its end
-  pub ran-whole : {now : Side} {seen : Seen} {held failed : List ℕ} {s : State} (stands stands' : List HouseCall → Type 0) (turns given : ℕ) (all : Bool) (mid : Option Ended) (m n : Faults) (refused : Option ℕ) (answer : Ended)
-      → Serving May Rest before now policy pid start seen held failed (given + 0) (HOUSE ∷ []) s → now.unnoted ≡ [] → HandsOn stands stands' now.calls
+  pub ran-whole : {now : Side} {seen : Seen} {held failed : List ℕ} {s : State} (stands : List HouseCall → Type 0) (last : HouseState) (turns given : ℕ) (all : Bool) (mid : Option Ended) (m n : Faults) (refused : Option ℕ) (answer : Ended)
+      → Serving May Rest before now policy pid start seen held failed (given + 0) [] s → now.unnoted ≡ [] → HandsOn stands last.stands now.calls → ((t : ℕ) → is_one t seen.own ≡ true → IsOwnOffered (last.queue t) held failed t)
       → given ≤ turns → (all ≡ true → given ≡ turns) → StaysOrFails mid s.ended m n → (all ≡ false → mid ≡ None → refused ≢ None) → answer ≡ ended_as s.ended refused
-      → IsRun May Rest.rests stands stands' Rest.present policy pid turns before now.recorded start seen refused answer
-  ran-whole {now} {seen} {held} {failed} {s} stands stands' turns given all mid m n refused answer v noted hands le every stays over is =
-      subst (λ (a : Ended). IsRun May Rest.rests stands stands' Rest.present policy pid turns before now.recorded start seen refused a) (sym is)
-      (ends-run May Rest stands stands' before policy pid turns start refused now seen held failed (given + 0) (HOUSE ∷ []) s (ended_as s.ended refused) v noted hands only-house (none-more given turns le)
+      → IsRun May Rest.rests stands last Rest.present policy pid turns before now.recorded start seen refused answer
+  ran-whole {now} {seen} {held} {failed} {s} stands last turns given all mid m n refused answer v noted hands offered le every stays over is =
+      subst (λ (a : Ended). IsRun May Rest.rests stands last Rest.present policy pid turns before now.recorded start seen refused a) (sym is)
+      (ends-run May Rest stands last before policy pid turns start refused now seen held failed (given + 0) s (ended_as s.ended refused) v noted hands offered (none-more given turns le)
       (ends-so turns v.journal s.ended refused (λ on none. v.turns ∙ let g : given ≡ turns = given-all all given turns mid refused every over (fails-on mid s.ended m n stays on) none in (omega (arith, g)))))
 
   -- one that was cut short as memory ran out
-  pub ran-starved : {E : Type 0} {now : Option (List HouseMark)} {seen : Seen} {refused : Option ℕ} (stands stands' : List HouseCall → Type 0) (turns given : ℕ) (r : Result Ended E) → IsErr r → given ≤ turns → Promised May Rest before now policy pid start seen.recorded given → IsRun May Rest.rests stands stands' Rest.present policy pid turns before now start seen refused (result_unwrap_or r ended.OutOfMemory)
-  ran-starved stands stands' turns given (Ok x) h le p = absurd (let z : false ≡ true = h in cc)
-  ran-starved {E} {now} {seen} {refused} stands stands' turns given (Err e) h le p = ends-starved May Rest stands stands' before policy pid turns start refused now seen (promised-more given turns le p)
+  pub ran-starved : {E : Type 0} {now : Option (List HouseMark)} {seen : Seen} {refused : Option ℕ} (stands : List HouseCall → Type 0) (last : HouseState) (turns given : ℕ) (r : Result Ended E) → IsErr r → given ≤ turns → Promised May Rest before now policy pid start seen.recorded given → IsRun May Rest.rests stands last Rest.present policy pid turns before now start seen refused (result_unwrap_or r ended.OutOfMemory)
+  ran-starved stands last turns given (Ok x) h le p = absurd (let z : false ≡ true = h in cc)
+  ran-starved {E} {now} {seen} {refused} stands last turns given (Err e) h le p = ends-starved May Rest stands last before policy pid turns start refused now seen (promised-more given turns le p)
 
 -- ---- what is counted
 
@@ -107,12 +103,12 @@ pub spent-from : (present all : Bool) (turns : ℕ) (a b c : CallCounts) → b �
 spent-from present all turns a b c e s = subst (λ (x : CallCounts). Spent present all turns x c) e s
 
 pub stops-whole : (present all must : Bool) (turns : ℕ) (answer : Ended) (a b c d : CallCounts) (mid new : Option Ended) (m n : Faults) (refused : Option ℕ)
-    → b ≡ a → Spent present all turns b c → Well 0 c d → StaysOrFails mid new m n → IsByRow mid → (all ≡ false → mid ≡ None → refused_if present must refused ≢ None) → (present ≡ false → turns ≡ 0 → new ≡ None) → answer ≡ ended_as new (refused_if present must refused)
-    → Stops present turns answer a d
+    → b ≡ a → Spent present all turns b c → Well 0 c d → StaysOrFails mid new m n → IsByRow mid → (all ≡ false → mid ≡ None → start_refused_if present must refused ≢ None) → (present ≡ false → turns ≡ 0 → new ≡ None) → answer ≡ ended_as new (start_refused_if present must refused)
+    → RunStops present turns answer a d
 stops-whole present all must turns answer a b c d mid new m n refused same spent well stays row over idle is =
     stops-spent present all turns answer a d (spent-then present all turns a c d (spent-from present all turns a b c same spent) well)
-    (λ p q e. ends-unspent mid new m n (refused_if present must refused) stays (λ on. over q on (refused-none present must refused p)) row.unspent (sym is ∙ e))
-    (λ p z. is ∙ ends-spent new (refused_if present must refused) (idle p z) (refused-none present must refused p))
+    (λ p q e. ends-unspent mid new m n (start_refused_if present must refused) stays (λ on. over q on (refused-none present must refused p)) row.unspent (sym is ∙ e))
+    (λ p z. is ∙ ends-spent new (start_refused_if present must refused) (idle p z) (refused-none present must refused p))
 
 -- ---- the start
 

@@ -18,7 +18,7 @@ use Rattle.mux_history.specs.declared.ended.Ended.TheVariants as ended
 use Rattle.mux_state.specs.declared.event.Event.{Event}
 use Rattle.mux_state.specs.declared.event.Event.TheVariants.{Accepted, FromClient, ClientEnd, ClientFailed, HouseSays, FromServer, ServerEnd, ServerFailed}
 use Rattle.mux_state.specs.State.{State, numbers, queue_in}
-use Rattle.mux_state.specs.Events.{Keeps, MayEnd, SameStreams, Records, here}
+use Rattle.mux_state.specs.Events.{EngineKeeps, MayEnd, SameStreams, MarkRecords, here}
 use Rattle.mux_engine.specs.Counted.{Counts, Cut, Waited, Well}
 use Rattle.mux_engine.proofs.Comes.{StaysBy, came-none, came-one, came-then, came-wait}
 use Rattle.mux_engine.specs.Serving.{IsOfferedTo, StaysOrFails}
@@ -122,7 +122,7 @@ pub record Failing (k : ℕ) (old new : State) : Type 0 where
 same-here : (old new : State) → SameStreams old new → here new ≡ here old
 same-here old new s = ap (λ l. l ++ new.refused) s.clients ∙ ap (λ l. numbers old.clients ++ l) s.refused
 
-client-fails : (k j : ℕ) (old new : State) → j ≢ 0 → j ≡ k → Keeps (ClientFailed j) old new → (old.ended ≡ None → new.ended ≡ None) → Failing k old new
+client-fails : (k j : ℕ) (old new : State) → j ≢ 0 → j ≡ k → EngineKeeps (ClientFailed j) old new → (old.ended ≡ None → new.ended ≡ None) → Failing k old new
 client-fails k j old new nz same keeps ends = by_end old.ended refl
   where
     by_end : (o : Option Ended) → old.ended ≡ o → Failing k old new
@@ -145,7 +145,7 @@ client-fails k j old new nz same keeps ends = by_end old.ended refl
       client = λ z. ap (λ (t : State). t.ended) s;
     }
 
-server-fails : (k : ℕ) (old new : State) → k ≡ 0 → Keeps ServerFailed old new → (old.ended ≡ None → new.ended ≡ Some ended.ServerFailed) → Failing k old new
+server-fails : (k : ℕ) (old new : State) → k ≡ 0 → EngineKeeps ServerFailed old new → (old.ended ≡ None → new.ended ≡ Some ended.ServerFailed) → Failing k old new
 server-fails k old new zero keeps ends = by_end old.ended refl
   where
     none-some : (cause : Ended) → new.ended ≡ Some cause → new.ended ≢ None
@@ -175,7 +175,7 @@ abbrev stream-of : Mark → ℕ
 stream-of (WriteFails k) = k
 stream-of mark = 0
 
-pub failing : (e : Event) (k : ℕ) (old new : State) → Records e (WriteFails k) → Keeps e old new → (old.ended ≡ None → MayEnd e new.ended) → Failing k old new
+pub failing : (e : Event) (k : ℕ) (old new : State) → MarkRecords e (WriteFails k) → EngineKeeps e old new → (old.ended ≡ None → MayEnd e new.ended) → Failing k old new
 failing (Accepted j) k old new t keeps ends = absurd (cc)
 failing (FromClient j bytes) k old new t keeps ends = absurd (let z = t.1 in cc)
 failing (ClientEnd j) k old new t keeps ends = absurd (let z = t.1 in cc)

@@ -9,7 +9,7 @@ use Rattle.ssh_grammar.specs.Control.{Control, OpenForward, CloseForward}
 use Rattle.ssh_grammar.specs.ReadControl.{read_control}
 use Rattle.ssh_grammar.specs.Said.{Outgoing, Body, Payload, BadFraming, InProxy, parse, said}
 use Rattle.ssh_grammar.specs.declared.fault.BadControl.{BadControl}
-use Rattle.mux_outside.specs.House.{Known, OpenAsk}
+use Rattle.mux_outside.specs.House.{Known, OpenAsk, known_after_ask}
 use Rattle.mux_outside.specs.declared.house.HouseReply.{HouseReply}
 use Rattle.mux_outside.specs.declared.house.HouseReply.TheVariants.{Done, Port, Refused, Later}
 use Rattle.mux_outside.specs.declared.house_mark.HouseMark.{HouseMark}
@@ -25,11 +25,12 @@ use Rattle.mux_history.specs.Promises.{MayGive}
 use Rattle.mux_history.specs.Rows.{Item, Row, Says, Gone, ServerFailed}
 use Rattle.mux_history.proofs.LawfulItems.{treat-item}
 use Rattle.mux_bounds.proofs.Entries.{EachItem, by-more, each-unless, lists, next, setting, with-reply}
-use Rattle.mux_peers.specs.Asked.{asked_by, asked_of, item_asks, known_after, reading_asks, sending_asks}
-use Rattle.mux_peers.specs.Starved.{BeginsWith}
+use Rattle.mux_peers.specs.Asked.{asked_by, asks_of_rows, item_asks, known_after, reading_asks, sending_asks}
+use Rattle.mux_peers.specs.Starved.{BeginsWithAsked}
 use Rattle.mux_state.specs.State.{State}
 use Rattle.mux_state.specs.Stands.{GoesBy, Stands, log}
-use Rattle.mux_engine.specs.Sides.{asks_in}
+use Rattle.mux_engine.specs.Answers.{opens_after}
+use Rattle.mux_engine.specs.Sides.{ask_marks_in}
 use Rattle.mux_engine.proofs.Marks.{asks-more, log-same}
 
 -- requests of clients of which this holds
@@ -52,7 +53,7 @@ none-asked (HouseAnswer client id reply ∷ marks) each = absurd each.0
 none-asked (HouseOrder order number ∷ marks) each = absurd each.0
 
 -- all of them are asks
-pub all-asks : (P : ℕ → Type 0) (marks : List HouseMark) → EachAsked P marks → asks_in marks ≡ marks
+pub all-asks : (P : ℕ → Type 0) (marks : List HouseMark) → EachAsked P marks → ask_marks_in marks ≡ marks
 all-asks P [] each = refl
 all-asks P (HouseAsked client id opening ask reply ∷ marks) each = ap (λ l. HouseAsked client id opening ask reply ∷ l) (all-asks P marks each.1)
 all-asks P (HouseIn ∷ marks) each = absurd each.0
@@ -92,11 +93,11 @@ module _ (P : ℕ → Type 0) where
 
   record Grows (rows rows' : List Row) : Type 0 where
     more : List HouseMark
-    is : asked_of rows' ≡ asked_of rows ++ more
+    is : asks_of_rows rows' ≡ asks_of_rows rows ++ more
     each : EachAsked P more
 
   grows-none : (rows : List Row) → Grows rows rows
-  grows-none rows = record { more = []; is = sym (append-nil (asked_of rows)); each = tt }
+  grows-none rows = record { more = []; is = sym (append-nil (asks_of_rows rows)); each = tt }
 
   module _ (policy : Policy) (pid : ℕ) (picks : List ℕ) (given : List HouseReply) where
     grows-one : (rows : List Row) (item : Item) → Speaks item → Grows rows (more_of (setting policy pid picks given) rows item)
@@ -112,7 +113,7 @@ module _ (P : ℕ → Type 0) where
     grows-all rows (item ∷ xs) each =
         let one : Grows rows (more_of (setting policy pid picks given) rows item) = grows-one rows item each.0 in
         let rest : Grows (more_of (setting policy pid picks given) rows item) (more_all (setting policy pid picks given) (more_of (setting policy pid picks given) rows item) xs) = grows-all (more_of (setting policy pid picks given) rows item) xs each.1 in
-        record { more = one.more ++ rest.more; is = rest.is ∙ (ap (λ l. l ++ rest.more) one.is ∙ append_assoc (asked_of rows) one.more rest.more); each = each-append P one.more rest.more one.each rest.each }
+        record { more = one.more ++ rest.more; is = rest.is ∙ (ap (λ l. l ++ rest.more) one.is ∙ append_assoc (asks_of_rows rows) one.more rest.more); each = each-append P one.more rest.more one.each rest.each }
 
   -- ---- the items of a mark
 
@@ -150,9 +151,9 @@ module _ (P : ℕ → Type 0) where
   mark-speaks before (Ends k) p = by-server k (server_end (parse InProxy (bytes_of 0 before)).rest ∷ []) (unless_own k (Gone k ∷ [])) (end-speaks (parse InProxy (bytes_of 0 before)).rest) (λ nz. each-unless Speaks k (Gone k ∷ []) (λ e. (tt, tt)))
   mark-speaks before (Fails k) p = by-server k (ServerFailed ∷ []) (unless_own k (Gone k ∷ [])) (tt, tt) (λ nz. each-unless Speaks k (Gone k ∷ []) (λ e. (tt, tt)))
   mark-speaks before (WriteFails k) p = by-server k (ServerFailed ∷ []) (unless_own k (Gone k ∷ [])) (tt, tt) (λ nz. each-unless Speaks k (Gone k ∷ []) (λ e. (tt, tt)))
-  mark-speaks before (Takes k bytes) p = each-unless Speaks k _ (λ e. (tt, tt))
+  mark-speaks before (Takes k bytes accepts) p = each-unless Speaks k _ (λ e. (tt, tt))
   mark-speaks before (Accepts k) p = (tt, tt)
-  mark-speaks before (Waits waiting want streams listens) p = tt
+  mark-speaks before (Waits waiting want streams shown) p = tt
   mark-speaks before (Frees k) p = tt
   mark-speaks before (Holds k) p = tt
   mark-speaks before (Joins l k) p = tt
@@ -171,13 +172,13 @@ module _ (P : ℕ → Type 0) where
       let ps : List ℕ = (picked ++ g.picks) ++ [] in
       let rs : List HouseReply = (replies ++ g.replies) ++ [] in
       let grown : Grows (log s ps rs marks) (log s ps rs (mark ∷ marks)) = grows-all s.core.policy s.pid ps rs (log s ps rs marks) (items_in marks mark) (mark-speaks marks mark p) in
-      subst (EachAsked P) (append_cancel_left (asked_of (log s ps rs marks)) grown.more g.asks (sym grown.is ∙ (ap asked_of (sym (log-same s s' ps rs (mark ∷ marks) same_policy same_pid)) ∙ g.asked [] []))) grown.each
+      subst (EachAsked P) (append_cancel_left (asks_of_rows (log s ps rs marks)) grown.more g.asks (sym grown.is ∙ (ap asks_of_rows (sym (log-same s s' ps rs (mark ∷ marks) same_policy same_pid)) ∙ g.asked [] []))) grown.each
 
 -- the first of what the rows of a mark ask are asks
-pub begins-asked : (P : ℕ → Type 0) (s : State) (ps : List ℕ) (rs : List HouseReply) (mark : Mark) (marks : List Mark) (asks : List HouseMark) → SentBy P mark → BeginsWith (asked_of (log s ps rs marks)) asks (asked_of (log s ps rs (mark ∷ marks))) → EachAsked P asks
+pub begins-asked : (P : ℕ → Type 0) (s : State) (ps : List ℕ) (rs : List HouseReply) (mark : Mark) (marks : List Mark) (asks : List HouseMark) → SentBy P mark → BeginsWithAsked (asks_of_rows (log s ps rs marks)) asks (asks_of_rows (log s ps rs (mark ∷ marks))) → EachAsked P asks
 begins-asked P s ps rs mark marks asks p b =
     let grown : Grows P (log s ps rs marks) (log s ps rs (mark ∷ marks)) = grows-all P s.core.policy s.pid ps rs (log s ps rs marks) (items_in marks mark) (mark-speaks P marks mark p) in
-    each-front P asks b.rest (subst (EachAsked P) (append_cancel_left (asked_of (log s ps rs marks)) grown.more (asks ++ b.rest) (sym grown.is ∙ b.all_is)) grown.each)
+    each-front P asks b.rest (subst (EachAsked P) (append_cancel_left (asks_of_rows (log s ps rs marks)) grown.more (asks ++ b.rest) (sym grown.is ∙ b.all_is)) grown.each)
 
 -- whoever replies may, where nothing was asked
 pub goes-unasked : {May May' : HouseReply → Type 0} {recorded recorded' : Option (List HouseMark)} {picked : List ℕ} {replies : List HouseReply} {s s' : State} {mark : Mark} {marks : List Mark} {closed : List ℕ} (st : Stands picked replies s marks closed) (g : GoesBy May' recorded recorded' picked replies s s' mark marks closed)
@@ -221,3 +222,13 @@ asked-accepted journal (HouseSaid bytes ∷ asks) known each all = absurd each.0
 asked-accepted journal (HouseTook n ∷ asks) known each all = absurd each.0
 asked-accepted journal (HouseAnswer client id reply ∷ asks) known each all = absurd each.0
 asked-accepted journal (HouseOrder order number ∷ asks) known each all = absurd each.0
+
+-- they are what is known of the forwarder after these
+pub opens-known : (P : ℕ → Type 0) (asks : List HouseMark) (known : Known) → EachAsked P asks → (known_after asks known).asks ≡ opens_after asks known.asks
+opens-known P [] known each = refl
+opens-known P (HouseAsked client id opening ask reply ∷ asks) known each = opens-known P asks (known_after_ask reply client id opening known) each.1
+opens-known P (HouseIn ∷ asks) known each = absurd each.0
+opens-known P (HouseSaid bytes ∷ asks) known each = absurd each.0
+opens-known P (HouseTook n ∷ asks) known each = absurd each.0
+opens-known P (HouseAnswer client id reply ∷ asks) known each = absurd each.0
+opens-known P (HouseOrder order number ∷ asks) known each = absurd each.0

@@ -1,4 +1,4 @@
--- What the calls that a journal has say of the streams of the house.
+-- What the calls that a journal has say of the streams of the forwarder.
 use Rattle.std.proofs.Common.{◌≡◌, ℕ, Bool, true, false, not, ◌&&◌, List, [], ◌∷◌, ◌++◌, refl, sym, ap, ◌∙◌, subst, cond, inl, inr, append_assoc, append-nil}
 use Rattle.std.specs.Prelude.{◌==◌}
 use Rattle.std.proofs.lemmas.Bool.Decides.{eqb_tells}
@@ -11,13 +11,13 @@ use Rattle.mux_outside.specs.declared.mark.Mark.{Mark}
 use Rattle.mux_outside.specs.declared.mark.Mark.TheVariants.{Waits, Accepts, Gets, Ends, Frees, Fails, Takes, Holds, WriteFails, Joins, House}
 use Rattle.mux_history.specs.declared.limits.TheConstants.{HOUSE}
 use Rattle.mux_history.specs.Log.{Setting}
-use Rattle.mux_history.specs.Journal.{bytes_in, bytes_of, house_sent, is_own_stream, log_of_journal, taken_by, taken_in}
+use Rattle.mux_history.specs.Journal.{bytes_in, bytes_of, house_sent, is_own_stream, log_of_journal, taken_by, bytes_taken_in}
 use Rattle.mux_history.specs.Pending.{pending}
 use Rattle.mux_engine.specs.CallLaws.{IsGivenAll, IsRecordedAll, bytes_got, got_by, bytes_took, took_by}
 use Rattle.mux_engine.specs.Called.{calls_at, calls_in, house_calls}
 use Rattle.mux_engine.proofs.Lists.{test-other, true-false}
 
--- ---- a stream of the house's own
+-- ---- a stream of the forwarder's own
 
 own-first : (b c : Bool) → (b && c) ≡ true → b ≡ true
 own-first true c e = refl
@@ -72,9 +72,9 @@ got-at setting before (Ends k) t own = got-none t (Turns (End k)) refl (is_own k
 got-at setting before (Frees k) t own = got-none t (Turns (Writable k)) refl (is_own k)
 got-at setting before (Fails k) t own = got-none t (Turns (Failed k)) refl (is_own k)
 got-at setting before (WriteFails k) t own = got-none t (Turns (Failed k)) refl (is_own k)
-got-at setting before (Takes k bytes) t own = got-none t (call.Takes k bytes) refl (is_own k)
+got-at setting before (Takes k bytes accepts) t own = got-none t (call.Takes k bytes) refl (is_own k)
 got-at setting before (House mark) t own = got-house t (pending HOUSE (log_of_journal setting before)) mark ∙ sym (ap (λ (b : Bool). elim b as (λ _. List ℕ) [ true ↦ house_sent mark | false ↦ [] ]) (no-house t own))
-got-at setting before (Waits waiting want streams listens) t own = refl
+got-at setting before (Waits waiting want streams shown) t own = refl
 got-at setting before (Accepts k) t own = refl
 got-at setting before (Holds k) t own = refl
 
@@ -85,7 +85,7 @@ given-all setting (mark ∷ before) t own =
     ∙ (ap (λ l. l ++ bytes_got t (calls_at setting before mark)) (given-all setting before t own)
     ∙ ap (λ l. bytes_of t before ++ l) (got-at setting before mark t own))
 
--- ---- bytes that it took
+-- ---- bytes that it accepted
 
 took-append : (t : ℕ) (a b : List HouseCall) → bytes_took t (a ++ b) ≡ bytes_took t a ++ bytes_took t b
 took-append t [] b = refl
@@ -103,8 +103,8 @@ took-house t waiting (HouseAsked client id opening ask reply) = refl
 took-house t waiting (HouseAnswer client id reply) = refl
 took-house t waiting (HouseOrder order number) = refl
 
-took-at : (setting : Setting) (before : List Mark) (mark : Mark) (t : ℕ) → is_own_stream t ≡ true → bytes_took t (calls_at setting before mark) ≡ taken_in t mark
-took-at setting before (Takes k bytes) t own = by_test (k == t) refl (is_own k) refl
+took-at : (setting : Setting) (before : List Mark) (mark : Mark) (t : ℕ) → is_own_stream t ≡ true → bytes_took t (calls_at setting before mark) ≡ bytes_taken_in t mark
+took-at setting before (Takes k bytes accepts) t own = by_test (k == t) refl (is_own k) refl
   where
     by_test : (b : Bool) → (k == t) ≡ b → (c : Bool) → is_own k ≡ c → bytes_took t (cond c (call.Takes k bytes ∷ []) []) ≡ elim b as (λ _. List ℕ) [ true ↦ bytes | false ↦ [] ]
     by_test b e true f = append-nil (cond (k == t) bytes []) ∙ ap (λ (x : Bool). cond x bytes []) e ∙ by_flag b
@@ -124,7 +124,7 @@ took-at setting before (Frees k) t own = took-none t (Turns (Writable k)) refl (
 took-at setting before (Fails k) t own = took-none t (Turns (Failed k)) refl (is_own k)
 took-at setting before (WriteFails k) t own = took-none t (Turns (Failed k)) refl (is_own k)
 took-at setting before (House mark) t own = took-house t (pending HOUSE (log_of_journal setting before)) mark
-took-at setting before (Waits waiting want streams listens) t own = refl
+took-at setting before (Waits waiting want streams shown) t own = refl
 took-at setting before (Accepts k) t own = refl
 took-at setting before (Holds k) t own = refl
 

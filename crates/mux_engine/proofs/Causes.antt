@@ -16,12 +16,12 @@ use Rattle.mux_history.specs.declared.broke.Break.TheVariants as broke
 use Rattle.mux_history.specs.declared.ended.Ended.{Ended}
 use Rattle.mux_history.specs.declared.ended.Ended.TheVariants as ended
 use Rattle.mux_history.specs.Rows.{Item, Row}
-use Rattle.mux_history.specs.Solo.{end_of}
+use Rattle.mux_history.specs.Solo.{run_end_of}
 use Rattle.mux_history.specs.Journal.{bytes_of, is_own_stream, new_received, new_sayings, unless_own}
 use Rattle.mux_history.specs.Log.{more_all}
 use Rattle.mux_state.specs.State.{State}
 use Rattle.mux_state.specs.Stands.{GoesBy, Stands, log, setting}
-use Rattle.mux_state.specs.Events.{MayEnd, Records}
+use Rattle.mux_state.specs.Events.{MayEnd, MarkRecords}
 use Rattle.mux_state.specs.declared.event.Event.{Event}
 use Rattle.mux_state.specs.declared.event.Event.TheVariants.{Accepted, FromClient, ClientEnd, ClientFailed, HouseSays, FromServer, ServerEnd, ServerFailed}
 use Rattle.mux_engine.specs.Came.{BrokenBy, EndsFor, OverBy, WentUp}
@@ -47,21 +47,21 @@ module _ (s : State) (picks : List ℕ) (replies : List HouseReply) (marks : Lis
   abbrev rows : List Row
   rows = log s picks replies marks
 
-  client-ends : (k : ℕ) (bytes : List ℕ) → k ≢ 0 → EndsFor k (end_of rows) → EndsFor k (end_of (log s picks replies (Gets k bytes ∷ marks)))
+  client-ends : (k : ℕ) (bytes : List ℕ) → k ≢ 0 → EndsFor k (run_end_of rows) → EndsFor k (run_end_of (log s picks replies (Gets k bytes ∷ marks)))
   client-ends k bytes nz n = by_stream (k == 0) refl
     where
-      by_own : (b : Bool) → EndsFor k (end_of (more_all (setting s picks replies) rows (elim b as (λ _. List Item) [ true ↦ [] | false ↦ new_sayings k (bytes_of k marks) (bytes_of k marks ++ bytes) ])))
+      by_own : (b : Bool) → EndsFor k (run_end_of (more_all (setting s picks replies) rows (elim b as (λ _. List Item) [ true ↦ [] | false ↦ new_sayings k (bytes_of k marks) (bytes_of k marks ++ bytes) ])))
       by_own true = n
       by_own false = says-for s.core.policy s.pid picks replies k (drop (length (said (bytes_of k marks))) (said (bytes_of k marks ++ bytes))) rows n
 
-      by_stream : (b : Bool) → (k == 0) ≡ b → EndsFor k (end_of (log s picks replies (Gets k bytes ∷ marks)))
+      by_stream : (b : Bool) → (k == 0) ≡ b → EndsFor k (run_end_of (log s picks replies (Gets k bytes ∷ marks)))
       by_stream true e = absurd (nz (eqb-true k 0 e))
-      by_stream false e = subst (λ (b : Bool). EndsFor k (end_of (more_all (setting s picks replies) rows (elim b as (λ _. List Item) [ true ↦ new_received (bytes_of 0 marks) (bytes_of 0 marks ++ bytes) | false ↦ unless_own k (new_sayings k (bytes_of k marks) (bytes_of k marks ++ bytes)) ])))) (sym e) (by_own (is_own_stream k))
+      by_stream false e = subst (λ (b : Bool). EndsFor k (run_end_of (more_all (setting s picks replies) rows (elim b as (λ _. List Item) [ true ↦ new_received (bytes_of 0 marks) (bytes_of 0 marks ++ bytes) | false ↦ unless_own k (new_sayings k (bytes_of k marks) (bytes_of k marks ++ bytes)) ])))) (sym e) (by_own (is_own_stream k))
 
-  server-ends : (bytes : List ℕ) → EndsReceived (end_of rows) → EndsReceived (end_of (log s picks replies (Gets 0 bytes ∷ marks)))
+  server-ends : (bytes : List ℕ) → EndsReceived (run_end_of rows) → EndsReceived (run_end_of (log s picks replies (Gets 0 bytes ∷ marks)))
   server-ends bytes n = receives-ends s.core.policy s.pid picks replies (drop (length (parse InProxy (bytes_of 0 marks)).says) (parse InProxy (bytes_of 0 marks ++ bytes)).says) rows n
 
-  end-ends : EndsCut (end_of rows) → EndsCut (end_of (log s picks replies (Ends 0 ∷ marks)))
+  end-ends : EndsCut (run_end_of rows) → EndsCut (run_end_of (log s picks replies (Ends 0 ∷ marks)))
   end-ends n = end-cuts s.core.policy s.pid picks replies (parse InProxy (bytes_of 0 marks)).rest rows n
 
 -- ---- an event
@@ -74,17 +74,17 @@ module _ {May : HouseReply → Type 0} {recorded recorded' : Option (List Asked)
   abbrev replies-then : List HouseReply
   replies-then = (given ++ g.replies) ++ []
 
-  went-on : end_of (log s picks-then replies-then marks) ≡ None
-  went-on = subst (λ (q : List ℕ). end_of (log s q replies-then marks) ≡ None) (sym (append_assoc picked g.picks []))
-      (subst (λ (q : List HouseReply). end_of (log s (picked ++ (g.picks ++ [])) q marks) ≡ None) (sym (append_assoc given g.replies []))
+  went-on : run_end_of (log s picks-then replies-then marks) ≡ None
+  went-on = subst (λ (q : List ℕ). run_end_of (log s q replies-then marks) ≡ None) (sym (append_assoc picked g.picks []))
+      (subst (λ (q : List HouseReply). run_end_of (log s (picked ++ (g.picks ++ [])) q marks) ≡ None) (sym (append_assoc given g.replies []))
       (sym (st.at (g.picks ++ []) (g.replies ++ [])).rows.ended_is ∙ live))
 
   -- the run ends as its rows do
-  ends-as : (P : Option Ended → Type 0) (m : Mark) → mark ≡ m → P None → (P (end_of (log s picks-then replies-then marks)) → P (end_of (log s picks-then replies-then (m ∷ marks)))) → P s'.ended
-  ends-as P m is none step = subst P (sym ((g.stands.at [] []).rows.ended_is ∙ (ap end_of (log-same s s' picks-then replies-then (mark ∷ marks) policy pid) ∙ ap (λ (x : Mark). end_of (log s picks-then replies-then (x ∷ marks))) is)))
+  ends-as : (P : Option Ended → Type 0) (m : Mark) → mark ≡ m → P None → (P (run_end_of (log s picks-then replies-then marks)) → P (run_end_of (log s picks-then replies-then (m ∷ marks)))) → P s'.ended
+  ends-as P m is none step = subst P (sym ((g.stands.at [] []).rows.ended_is ∙ (ap run_end_of (log-same s s' picks-then replies-then (mark ∷ marks) policy pid) ∙ ap (λ (x : Mark). run_end_of (log s picks-then replies-then (x ∷ marks))) is)))
       (step (subst P (sym went-on) none))
 
-  pub event-by : (e : Event) → Records e mark → ByEvent e s'.ended
+  pub event-by : (e : Event) → MarkRecords e mark → ByEvent e s'.ended
   event-by (FromClient k bytes) t = ends-as (EndsFor k) (Gets k bytes.now) t.1 tt (client-ends s picks-then replies-then marks k bytes.now t.0)
   event-by (FromServer bytes) t = ends-as EndsReceived (Gets 0 bytes.now) t tt (server-ends s picks-then replies-then marks bytes.now)
   event-by ServerEnd t = ends-as EndsCut (Ends 0) t tt (end-ends s picks-then replies-then marks)

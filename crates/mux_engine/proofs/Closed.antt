@@ -23,9 +23,8 @@ use Rattle.mux_history.proofs.Wires.{wire-keeps}
 use Rattle.mux_peers.proofs.Stood.{own_row}
 use Rattle.mux_state.specs.State.{State, closed_by, first_of, is_here}
 use Rattle.mux_state.specs.Events.{here}
-use Rattle.mux_state.specs.Stands.{Closes, IsFirst, Stands, Represents, log, not_closed}
-use Rattle.mux_engine.specs.Answers.{EachDeferred}
-use Rattle.mux_engine.specs.Serving.{IsSound, IsUnseen, IsUnused, Serving}
+use Rattle.mux_state.specs.Stands.{Closes, IsFirstLost, Stands, EngineRepresents, log, not_closed}
+use Rattle.mux_engine.specs.Serving.{IsRunSound, IsUnseen, IsUnused, Serving}
 use Rattle.mux_engine.specs.Sides.{Housed, Resting, Side}
 use Rattle.mux_engine.proofs.Lists.{among-here, among-less, none-without, or-true, own-or-house, test-other, true-false, without-other}
 use Rattle.mux_engine.proofs.Logs.{out-more}
@@ -36,7 +35,7 @@ use Rattle.mux_engine.proofs.Taken.{here-less}
 abbrev in-losses : ℕ → List (ℕ × Option Why) → Bool
 in-losses k ls = list_any (λ l. l.0 == k) ls
 
-first-in : (k : ℕ) (ls : List (ℕ × Option Why)) → IsFirst k ls → in-losses k ls ≡ true
+first-in : (k : ℕ) (ls : List (ℕ × Option Why)) → IsFirstLost k ls → in-losses k ls ≡ true
 first-in k [] f = absurd f
 first-in k (l ∷ ls) f = ap (λ b. b || in-losses k ls) (eq-eqb l.0 k f)
 
@@ -82,17 +81,17 @@ loss-is-out k (row ∷ rows) h = elim (split-losses k (losses rows) (loss_by row
 ]
 
 -- so is the one that is closed first
-first-out : {picked : List ℕ} {replies : List HouseReply} {s : State} {marks : List Mark} {closed : List ℕ} (st : Stands picked replies s marks closed) (k : ℕ) → IsFirst k s.leaving → (in-losses k (filter (not_closed closed) (losses (log s (picked ++ []) (replies ++ []) marks))) ≡ true) × (is_out (rows_of k (log s (picked ++ []) (replies ++ []) marks)) ≡ true)
+first-out : {picked : List ℕ} {replies : List HouseReply} {s : State} {marks : List Mark} {closed : List ℕ} (st : Stands picked replies s marks closed) (k : ℕ) → IsFirstLost k s.leaving → (in-losses k (filter (not_closed closed) (losses (log s (picked ++ []) (replies ++ []) marks))) ≡ true) × (is_out (rows_of k (log s (picked ++ []) (replies ++ []) marks)) ≡ true)
 first-out {picked} {replies} {s} {marks} {closed} st k first =
     let rows : List Row = log s (picked ++ []) (replies ++ []) marks in
-    let v : Represents (picked ++ []) (replies ++ []) (length picked) st.asks s marks closed = st.at [] [] in
+    let v : EngineRepresents (picked ++ []) (replies ++ []) (length picked) st.asks s marks closed = st.at [] [] in
     let listed : in-losses k (filter (not_closed closed) (losses rows)) ≡ true = subst (λ ls. in-losses k ls ≡ true) v.rows.leaving_are (first-in k s.leaving first) in
     (listed, loss-is-out k rows (unfiltered k (not_closed closed) (losses rows) listed))
 
 -- so the server's stream is never closed
-pub first-nonzero : {picked : List ℕ} {replies : List HouseReply} {s : State} {marks : List Mark} {closed : List ℕ} (st : Stands picked replies s marks closed) (k : ℕ) → IsFirst k s.leaving → k ≢ 0
+pub first-nonzero : {picked : List ℕ} {replies : List HouseReply} {s : State} {marks : List Mark} {closed : List ℕ} (st : Stands picked replies s marks closed) (k : ℕ) → IsFirstLost k s.leaving → k ≢ 0
 first-nonzero {picked} {replies} {s} {marks} {closed} st k first e =
-    let v : Represents (picked ++ []) (replies ++ []) (length picked) st.asks s marks closed = st.at [] [] in
+    let v : EngineRepresents (picked ++ []) (replies ++ []) (length picked) st.asks s marks closed = st.at [] [] in
     true-false (sym (first-out st k first).1 ∙ (ap (λ j. is_out (rows_of j (log s (picked ++ []) (replies ++ []) marks))) e ∙ v.rows.server_in))
 
 -- what passes a test on the numbers passes it
@@ -113,10 +112,10 @@ passes k closed (l ∷ ls) h = by_test (not_closed closed l) refl h (passes k cl
     by_test false p h ih = ih h
 
 -- it is here until then
-pub first-here : {picked : List ℕ} {replies : List HouseReply} {s : State} {marks : List Mark} {closed : List ℕ} (st : Stands picked replies s marks closed) (k : ℕ) → IsFirst k s.leaving → among k (here s) ≡ true
+pub first-here : {picked : List ℕ} {replies : List HouseReply} {s : State} {marks : List Mark} {closed : List ℕ} (st : Stands picked replies s marks closed) (k : ℕ) → IsFirstLost k s.leaving → among k (here s) ≡ true
 first-here {picked} {replies} {s} {marks} {closed} st k first = among-here s k ∙ by_here (is_here s k) refl
   where
-    v : Represents (picked ++ []) (replies ++ []) (length picked) st.asks s marks closed
+    v : EngineRepresents (picked ++ []) (replies ++ []) (length picked) st.asks s marks closed
     v = st.at [] []
 
     by_here : (b : Bool) → is_here s k ≡ b → b ≡ true
@@ -151,14 +150,14 @@ stays-all k (t ∷ own) e = by_head (t.number == k) e (stays-all k own)
     by_head true e ih = true-false e
     by_head false e ih = ap (λ l. t ∷ l) (ih e)
 
-pub none-closed : {May : HouseReply → Type 0} {Rest : Resting} {before : Option (List HouseMark)} {now : Side} {policy : Policy} {pid : ℕ} {start : Option (List Mark)} {seen : Seen} {held failed : List ℕ} {given : ℕ} {todo : List ℕ} {s : State} (v : Serving May Rest before now policy pid start seen held failed given todo s) (k : ℕ) → IsFirst k s.leaving → is_one k seen.own ≡ false
+pub none-closed : {May : HouseReply → Type 0} {Rest : Resting} {before : Option (List HouseMark)} {now : Side} {policy : Policy} {pid : ℕ} {start : Option (List Mark)} {seen : Seen} {held failed : List ℕ} {given : ℕ} {todo : List ℕ} {s : State} (v : Serving May Rest before now policy pid start seen held failed given todo s) (k : ℕ) → IsFirstLost k s.leaving → is_one k seen.own ≡ false
 none-closed {seen = seen} {s = s} v k first = elim (eqb_tells k HOUSE) [
   | inl q ↦ ap (λ i. is_one i seen.own) q.1 ∙ own-apart seen v.journal v.places HOUSE (house-shut v)
   | inr q ↦ client-apart seen v.journal v.places k (own-or-house k (v.apart k (first-here v.stands k first)) q.1)
 ]
 
 unfoldable pub serve-closed : {May : HouseReply → Type 0} {Rest : Resting} {before : Option (List HouseMark)} {now : Side} {policy : Policy} {pid : ℕ} {start : Option (List Mark)} {seen : Seen} {held failed : List ℕ} {given : ℕ} {todo : List ℕ} {s : State} (v : Serving May Rest before now policy pid start seen held failed given todo s) (k : ℕ)
-    → IsFirst k s.leaving → Closes s (closed_by s k) k → Serving May Rest before now policy pid start (seen_after_close k seen) (without k held) failed given todo (closed_by s k)
+    → IsFirstLost k s.leaving → Closes s (closed_by s k) k → Serving May Rest before now policy pid start (seen_after_close k seen) (without k held) failed given todo (closed_by s k)
 serve-closed {May} {Rest} {before} {now} {policy} {pid} {start} {seen} {held} {failed} {given} {todo} {s} v k first closes =
     let nz : k ≢ 0 = first-nonzero v.stands k first in
     let st : Stands v.picked v.replies (closed_by s k) v.journal (k ∷ v.closed) = closes v.picked v.replies v.journal v.closed v.stands in
@@ -177,7 +176,7 @@ serve-closed {May} {Rest} {before} {now} {policy} {pid} {start} {seen} {held} {f
       asked = v.asked ∙ sym asks;
       called = v.called;
       askers = v.askers;
-      deferred = subst (λ (l : List HouseMark). EachDeferred l now.asks) (sym asks) v.deferred;
+      opens = v.opens;
       house_in = v.house_in;
       house_there = v.house_there;
       rested = v.rested;
@@ -198,14 +197,15 @@ serve-closed {May} {Rest} {before} {now} {policy} {pid} {start} {seen} {held} {f
       unseen = λ j lt le. let u : IsUnseen v.journal seen.blocked j = v.unseen j lt le in record { not_accepted = u.not_accepted; never_blocked = u.never_blocked; not_blocked = among-less k j seen.blocked u.not_blocked };
       unused = λ j free. let u : IsUnused v.journal seen j = v.unused j free in record { not_open = among-less k j seen.streams u.not_open; never_blocked = u.never_blocked; not_blocked = among-less k j seen.blocked u.not_blocked; never_failed = u.never_failed };
       failed_are = λ t own a f. v.failed_are t own (was-among k t seen.streams a).0 f;
+      failed_did = v.failed_did;
       receives = v.receives;
-      sound = λ picks later. let old : IsSound (by_lists policy pid (v.picked ++ picks) (v.replies ++ later)) v.journal todo s = v.sound picks later in
+      sound = λ picks later. let old : IsRunSound (by_lists policy pid (v.picked ++ picks) (v.replies ++ later)) v.journal todo s = v.sound picks later in
           record { kept = old.kept; failed_out = old.failed_out; settled = old.settled };
     }
 
 -- ---- the master's own streams stay
 
-pub housed-closed : {May : HouseReply → Type 0} {Rest : Resting} {before : Option (List HouseMark)} {now : Side} {policy : Policy} {pid : ℕ} {start : Option (List Mark)} {seen : Seen} {held failed : List ℕ} {given : ℕ} {todo : List ℕ} {s : State} (v : Serving May Rest before now policy pid start seen held failed given todo s) (k : ℕ) → IsFirst k s.leaving → (known : Known) (own : List ℕ) → Housed known seen own → Housed known (seen_after_close k seen) own
+pub housed-closed : {May : HouseReply → Type 0} {Rest : Resting} {before : Option (List HouseMark)} {now : Side} {policy : Policy} {pid : ℕ} {start : Option (List Mark)} {seen : Seen} {held failed : List ℕ} {given : ℕ} {todo : List ℕ} {s : State} (v : Serving May Rest before now policy pid start seen held failed given todo s) (k : ℕ) → IsFirstLost k s.leaving → (known : Known) (own : List ℕ) → Housed known seen own → Housed known (seen_after_close k seen) own
 housed-closed {seen = seen} {s = s} v k first known own h =
     record {
       ordering = h.ordering;
@@ -240,12 +240,12 @@ filter-short p (l ∷ ls) = by_test (p l) (filter-short p ls)
     by_test true ih = omega arith
     by_test false ih = omega arith
 
-pub fewer : (k : ℕ) (ls : List (ℕ × Option Why)) → IsFirst k ls → length (filter (λ (l : ℕ × Option Why). not (l.0 == k)) ls) < length ls
+pub fewer : (k : ℕ) (ls : List (ℕ × Option Why)) → IsFirstLost k ls → length (filter (λ (l : ℕ × Option Why). not (l.0 == k)) ls) < length ls
 fewer k [] f = absurd f
 fewer k (l ∷ ls) f = let e : filter (λ (l : ℕ × Option Why). not (l.0 == k)) (l ∷ ls) ≡ filter (λ (l : ℕ × Option Why). not (l.0 == k)) ls = ap (λ b. cond (not b) (l ∷ filter (λ (l : ℕ × Option Why). not (l.0 == k)) ls) (filter (λ (l : ℕ × Option Why). not (l.0 == k)) ls)) (eq-eqb l.0 k f) in
     let s : length (filter (λ (l : ℕ × Option Why). not (l.0 == k)) ls) ≤ length ls = filter-short (λ (l : ℕ × Option Why). not (l.0 == k)) ls in
     omega (arith, ap length e)
 
-pub first-is : (k : ℕ) (why : Option Why) (ls : List (ℕ × Option Why)) → first_of ls ≡ Some (k, why) → IsFirst k ls
+pub first-is : (k : ℕ) (why : Option Why) (ls : List (ℕ × Option Why)) → first_of ls ≡ Some (k, why) → IsFirstLost k ls
 first-is k why [] e = absurd (cc)
 first-is k why (l ∷ ls) e = let p : l ≡ (k, why) = cc in ap (λ (x : ℕ × Option Why). x.0) p

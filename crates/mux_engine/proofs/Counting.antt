@@ -16,7 +16,7 @@ use Rattle.mux_history.specs.declared.ended.Ended.{Ended}
 use Rattle.mux_history.specs.declared.ended.Ended.TheVariants as ended
 use Rattle.mux_state.specs.declared.event.Event.{Event}
 use Rattle.mux_state.specs.declared.event.Event.TheVariants.{Accepted, FromClient, ClientEnd, ClientFailed, HouseSays, FromServer, ServerEnd, ServerFailed}
-use Rattle.mux_state.specs.Events.{MayEnd, Records}
+use Rattle.mux_state.specs.Events.{MayEnd, MarkRecords}
 use Rattle.mux_engine.specs.Counted.{Counts, Cut}
 use Rattle.mux_engine.specs.Rests.{IsByRow}
 use Rattle.mux_engine.specs.Turns.{IsEventOf}
@@ -84,7 +84,7 @@ abbrev stream-of : Mark → ℕ
 stream-of (Fails k) = k
 stream-of mark = 0
 
-failed-stream : (e : Event) (k : ℕ) → IsServerFailed e → Records e (Fails k) → k ≡ 0
+failed-stream : (e : Event) (k : ℕ) → IsServerFailed e → MarkRecords e (Fails k) → k ≡ 0
 failed-stream ServerFailed k is t = elim t [ inl m ↦ ap stream-of m | inr m ↦ absurd (cc) ]
 failed-stream (Accepted j) k is t = absurd is
 failed-stream (ClientEnd j) k is t = absurd is
@@ -94,7 +94,7 @@ failed-stream (FromClient j bytes) k is t = absurd is
 failed-stream (FromServer bytes) k is t = absurd is
 failed-stream ServerEnd k is t = absurd is
 
-not-recorded : (e : Event) (mark : Mark) → IsServerFailed e → Records e mark → (mark ≡ Fails 0 → ⊥) → (mark ≡ WriteFails 0 → ⊥) → ⊥
+not-recorded : (e : Event) (mark : Mark) → IsServerFailed e → MarkRecords e mark → (mark ≡ Fails 0 → ⊥) → (mark ≡ WriteFails 0 → ⊥) → ⊥
 not-recorded ServerFailed mark is t f g = elim t [ inl m ↦ f m | inr m ↦ g m ]
 not-recorded (Accepted j) mark is t f g = is
 not-recorded (ClientEnd j) mark is t f g = is

@@ -11,19 +11,19 @@ use Rattle.mux_history.specs.declared.ended.Ended.{Ended}
 use Rattle.mux_history.specs.declared.ended.Ended.TheVariants as ended
 use Rattle.mux_history.specs.Promises.{EndsAs, turns_in}
 use Rattle.mux_engine.specs.Came.{Came}
-use Rattle.mux_engine.specs.Rests.{EndsSo, HasEnded, IsByRow, LeavesPlaces, ended_as, refused_if}
+use Rattle.mux_engine.specs.Rests.{EndsSo, HasEnded, IsByRow, LeavesPlaces, ended_as, start_refused_if}
 use Rattle.mux_engine.specs.Serving.{StaysOrFails}
 use Rattle.mux_engine.specs.Wires.{Untouched}
 use Rattle.mux_engine.proofs.Comes.{over-later, over-live, over-present, over-same}
 use Rattle.mux_engine.proofs.Counting.{rose-behind}
 
-pub refused-none : (present must : Bool) (refused : Option ℕ) → present ≡ false → refused_if present must refused ≡ None
+pub refused-none : (present must : Bool) (refused : Option ℕ) → present ≡ false → start_refused_if present must refused ≡ None
 refused-none false must refused p = refl
 refused-none true must refused p = absurd (cc)
 
 -- the forwarding that was refused, where nothing changed
-pub refused-same : (p q m n : Bool) (r s : Option ℕ) → p ≡ q → m ≡ n → r ≡ s → refused_if p m r ≡ refused_if q n s
-refused-same p q m n r s e f g = ap (λ b. refused_if b m r) e ∙ (ap (λ b. refused_if q b r) f ∙ ap (refused_if q n) g)
+pub refused-same : (p q m n : Bool) (r s : Option ℕ) → p ≡ q → m ≡ n → r ≡ s → start_refused_if p m r ≡ start_refused_if q n s
+refused-same p q m n r s e f g = ap (λ b. start_refused_if b m r) e ∙ (ap (λ b. start_refused_if q b r) f ∙ ap (start_refused_if q n) g)
 
 pub fails-on : (old new : Option Ended) (a b : Faults) → StaysOrFails old new a b → new ≡ None → old ≡ None
 fails-on old new a b (inl s) is = sym s.0 ∙ is

@@ -1,4 +1,4 @@
--- How what is said, and the end of the server's stream, may end a run.
+-- How what is sent, and the end of the server's stream, may end a run.
 use Rattle.std.proofs.Common.{ℕ, Bool, true, false, ◌&&◌, List, [], ◌∷◌, length, map, Option, Some, None, Result, Ok, Err, refl, sym, subst}
 use Rattle.std.specs.Prelude.{◌==◌, nat_lt, not}
 use Rattle.ssh_grammar.specs.declared.fault.Bad.{Bad}
@@ -33,7 +33,7 @@ use Rattle.mux_history.specs.Requests.{Ask, asker}
 use Rattle.mux_history.specs.Rows.{Row, rows_of, loses, Item, Heard, Says, Fate, Goes, Refused, Drop, End}
 use Rattle.mux_history.specs.Said.{Outcome, confirmed_at, drops, fails_open, is_failing, is_full_of_asks, on_breach, on_confirmed, on_unused, on_waiting, sent_summary, sent_open, sent_payload, sent_request, sends, sends_as, sends_if, sends_open, silent, waiting_at, reason_for, text_for}
 use Rattle.mux_history.specs.Settings.{by_lists}
-use Rattle.mux_history.specs.Solo.{end_of}
+use Rattle.mux_history.specs.Solo.{run_end_of}
 use Rattle.mux_history.specs.Journal.{received_item, sent_item, server_end}
 use Rattle.mux_history.specs.Log.{all_recorded, bare, fate_with, received_row, makes_next, more_all, more_of, next_row, overflow, queued, row_of, sent_by_client, treat}
 use Rattle.mux_history.specs.Pending.{waiting_down}
@@ -200,11 +200,11 @@ outgoing-for policy pid k own pick (Body body) given = body-for pid k given (gre
 outgoing-for policy pid k own pick (Payload p) given = lives-as (EndsFor k) (sent_payload policy k own pick p).ends (fine-payload policy k own pick p)
 outgoing-for policy pid k own pick (BadFraming fault) given = tt
 
--- what a client says ends it so, whatever it said before
+-- what a client sends ends it so, whatever it sent before
 abbrev pub SendsAs : (Option Ended → Type 0) → Policy → ℕ → ℕ → Outgoing → Type 0
 SendsAs P policy pid k x = (own : List Row) (pick : ℕ) (reply : Option HouseReply) → EndsAs P (sent_by_client policy pid k own pick x reply).ends
 
--- a row of what a client says ends as that does
+-- a row of what a client sends ends as that does
 pub said-as : (P : Option Ended → Type 0) (policy : Policy) (pid : ℕ) (picks : List ℕ) (given : List HouseReply) (k : ℕ) (x : Outgoing) → SendsAs P policy pid k x → (rows : List Row) → EndsAs P (next_row (by_lists policy pid picks given) rows (sent_item k x)).fate
 said-as P policy pid picks given k x ends rows = by_outgoing x ends
   where
@@ -226,7 +226,7 @@ said-as P policy pid picks given k x ends rows = by_outgoing x ends
 pub said-for : (policy : Policy) (pid : ℕ) (picks : List ℕ) (given : List HouseReply) (k : ℕ) (x : Outgoing) (rows : List Row) → EndsAs (EndsFor k) (next_row (by_lists policy pid picks given) rows (sent_item k x)).fate
 said-for policy pid picks given k x rows = said-as (EndsFor k) policy pid picks given k x (λ own pick reply. outgoing-for policy pid k own pick x reply) rows
 
--- ---- what the server says
+-- ---- what the server sends
 
 -- a break that no end of the stream makes
 abbrev pub Uncut : Break → Type 0
@@ -383,23 +383,23 @@ module _ (P : Option Ended → Type 0) (policy : Policy) (pid : ℕ) (picks : Li
   fate-ends before Refused h n = n
   fate-ends before (Drop cause) h n = n
 
-  pub one-ends : (item : Item) (rows : List Row) → EndsAs P (next_row (by_lists policy pid picks given) rows item).fate → P (end_of rows) → P (end_of (more_of (by_lists policy pid picks given) rows item))
+  pub one-ends : (item : Item) (rows : List Row) → EndsAs P (next_row (by_lists policy pid picks given) rows item).fate → P (run_end_of rows) → P (run_end_of (more_of (by_lists policy pid picks given) rows item))
   one-ends item rows h n = by_makes (makes_next rows item)
     where
       row : Row
       row = next_row (by_lists policy pid picks given) rows item
 
-      by_makes : (b : Bool) → P (end_of (elim b as (λ _. List Row) [ false ↦ rows | true ↦ row ∷ rows ]))
-      by_makes true = fate-ends (end_of rows) row.fate h n
+      by_makes : (b : Bool) → P (run_end_of (elim b as (λ _. List Row) [ false ↦ rows | true ↦ row ∷ rows ]))
+      by_makes true = fate-ends (run_end_of rows) row.fate h n
       by_makes false = n
 
-pub says-for : (policy : Policy) (pid : ℕ) (picks : List ℕ) (given : List HouseReply) (k : ℕ) (xs : List Outgoing) (rows : List Row) → EndsFor k (end_of rows) → EndsFor k (end_of (more_all (by_lists policy pid picks given) rows (map (sent_item k) xs)))
+pub says-for : (policy : Policy) (pid : ℕ) (picks : List ℕ) (given : List HouseReply) (k : ℕ) (xs : List Outgoing) (rows : List Row) → EndsFor k (run_end_of rows) → EndsFor k (run_end_of (more_all (by_lists policy pid picks given) rows (map (sent_item k) xs)))
 says-for policy pid picks given k [] rows n = n
 says-for policy pid picks given k (x ∷ xs) rows n = says-for policy pid picks given k xs (more_of (by_lists policy pid picks given) rows (sent_item k x)) (one-ends (EndsFor k) policy pid picks given (sent_item k x) rows (said-for policy pid picks given k x rows) n)
 
-pub receives-ends : (policy : Policy) (pid : ℕ) (picks : List ℕ) (given : List HouseReply) (xs : List Outgoing) (rows : List Row) → EndsReceived (end_of rows) → EndsReceived (end_of (more_all (by_lists policy pid picks given) rows (map received_item xs)))
+pub receives-ends : (policy : Policy) (pid : ℕ) (picks : List ℕ) (given : List HouseReply) (xs : List Outgoing) (rows : List Row) → EndsReceived (run_end_of rows) → EndsReceived (run_end_of (more_all (by_lists policy pid picks given) rows (map received_item xs)))
 receives-ends policy pid picks given [] rows n = n
 receives-ends policy pid picks given (x ∷ xs) rows n = receives-ends policy pid picks given xs (more_of (by_lists policy pid picks given) rows (received_item x)) (one-ends EndsReceived policy pid picks given (received_item x) rows (heard-ends policy pid picks given x rows) n)
 
-pub end-cuts : (policy : Policy) (pid : ℕ) (picks : List ℕ) (given : List HouseReply) (rest : List ℕ) (rows : List Row) → EndsCut (end_of rows) → EndsCut (end_of (more_all (by_lists policy pid picks given) rows (server_end rest ∷ [])))
+pub end-cuts : (policy : Policy) (pid : ℕ) (picks : List ℕ) (given : List HouseReply) (rest : List ℕ) (rows : List Row) → EndsCut (run_end_of rows) → EndsCut (run_end_of (more_all (by_lists policy pid picks given) rows (server_end rest ∷ [])))
 end-cuts policy pid picks given rest rows n = one-ends EndsCut policy pid picks given (server_end rest) rows (cut-ends policy pid picks given rest rows) n

@@ -5,7 +5,7 @@ use Rattle.mux_outside.specs.House.{HouseState}
 use Rattle.mux_outside.specs.WireState.{WireState}
 use Rattle.mux_outside.specs.declared.house.HouseReply.{HouseReply}
 use Rattle.mux_engine.specs.Serving.{Scene}
-use Rattle.mux_engine.specs.Sides.{SameHouse, SamePlaces}
+use Rattle.mux_engine.specs.Sides.{SameHouse, SameSockets}
 use Rattle.mux_engine.proofs.Following.{Ran, ran-none, ran-then}
 use Rattle.mux_engine.proofs.HouseCalls.{house-then, same-house}
 use Rattle.mux_engine.proofs.Places.{places-same, places-then}
@@ -17,7 +17,7 @@ pub record Goes {T : Type 0} (May : HouseReply → Type 0) (state : T → HouseS
   pub ran : Ran May state a b s s' 0 todo rest
   pub known : SameHouse (state a).known (state b).known
   pub must : (state b).must ≡ (state a).must
-  pub places : SamePlaces old.seen new.seen
+  pub places : SameSockets old.seen new.seen
   pub wire : WorkedOwn old new f f'
 
 module _ {T : Type 0} {May : HouseReply → Type 0} {state : T → HouseState} where

@@ -30,7 +30,7 @@ use Rattle.mux_history.specs.Rows.{Row, rows_of, Item, Admit, Gone, Fate, Goes, 
 use Rattle.mux_history.specs.Rows as row
 use Rattle.mux_history.specs.Said.{Outcome, silent, records}
 use Rattle.mux_history.specs.Settings.{by_lists}
-use Rattle.mux_history.specs.Solo.{end_of}
+use Rattle.mux_history.specs.Solo.{run_end_of}
 use Rattle.mux_engine.specs.Called.{HasSentNothing, StandsGreeting, calls_at, calls_in, is_piece}
 use Rattle.mux_engine.specs.Came.{EndedBy, EndsFor, OverBy}
 use Rattle.mux_engine.specs.Places.{IsOfOthers}
@@ -123,7 +123,7 @@ module _ (policy : Policy) (pid : ℕ) (picks : List ℕ) (given : List HouseRep
   AllSpare [] = Unit {0}
   AllSpare (item ∷ items) = Spares item × AllSpare items
 
-  all-other : (items : List Item) (rows : List Row) → AllSpare items → ByOther (end_of rows) → ByOther (end_of (more_all set rows items))
+  all-other : (items : List Item) (rows : List Row) → AllSpare items → ByOther (run_end_of rows) → ByOther (run_end_of (more_all set rows items))
   all-other [] rows spare h = h
   all-other (item ∷ items) rows spare h = all-other items (more_of set rows item) spare.1 (one-ends ByOther policy pid picks given item rows (spare.0 rows) h)
 
@@ -197,20 +197,20 @@ module _ (policy : Policy) (pid : ℕ) (picks : List ℕ) (given : List HouseRep
       by_stream false = unless-spare (is_own_stream k) (Gone k ∷ []) (spare-gone k)
 
   spare-in : (before : List Mark) (m : Mark) → IsOfOthers before m → AllCalm (said (bytes_of HOUSE (m ∷ before))) → AllSpare (items_in before m)
-  spare-in before (mark.Waits waiting want streams listens) others calm = tt
+  spare-in before (mark.Waits waiting want streams shown) others calm = tt
   spare-in before (mark.Accepts k) others calm = spare-admit k
   spare-in before (mark.Gets k bytes) others calm = spare-gets before k bytes (λ e. true-false (sym (eq-eqb k HOUSE e) ∙ others))
   spare-in before (mark.Ends k) others calm = spare-ends before k
   spare-in before (mark.Frees k) others calm = tt
   spare-in before (mark.Fails k) others calm = spare-fails k
-  spare-in before (mark.Takes k bytes) others calm = unless-spare (is_own_stream k) (row.Took k (length bytes) ∷ []) (λ rows. tt, tt)
+  spare-in before (mark.Takes k bytes accepts) others calm = unless-spare (is_own_stream k) (row.Took k (length bytes) ∷ []) (λ rows. tt, tt)
   spare-in before (mark.Holds k) others calm = tt
   spare-in before (mark.WriteFails k) others calm = spare-fails k
   spare-in before (mark.Joins l k) others calm = tt
   spare-in before (mark.House m) others calm = spare-marked before m calm
 
   -- where the calls of the forwarder greet first, no row ends the run for the forwarder
-  pub other-ends : (journal : List Mark) → Throughout IsOfOthers journal → GreetsFirst (calls_in set journal) → ByOther (end_of (log_of_journal set journal))
+  pub other-ends : (journal : List Mark) → Throughout IsOfOthers journal → GreetsFirst (calls_in set journal) → ByOther (run_end_of (log_of_journal set journal))
   other-ends [] others greets = tt
   other-ends (m ∷ before) others greets =
       all-other (items_in before m) (log_of_journal set before) (spare-in before m others.0 (calm-said (bytes_of HOUSE (m ∷ before)) (journal-greets set (m ∷ before) others greets)))
@@ -241,15 +241,15 @@ greets-since : (present : Bool) (stands stands' : List HouseCall → Type 0) (si
 greets-since present stands stands' since calls none stood hands greets p = greets-behind calls since none (greets p (calls ++ since) (hands calls stood))
 
 -- what came by the end of a run whose forwarder greets first
-pub run-came : {May : HouseReply → Type 0} {Rest : AtWaits} (house : HouseState) (stands' : List HouseCall → Type 0) (policy : Policy) (pid turns : ℕ) (before now : Option (List HouseMark)) (start : Option (List Mark)) (seen : Seen) (refused : Option ℕ) (answer : Ended) (a b : CallCounts)
-    → IsRun May Rest house.stands stands' house.known.present policy pid turns before now start seen refused answer → (answer ≢ ended.OutOfMemory → StandsGreeting house.known.present stands') → OverBy house.known.present (Some answer) a b → HasSentNothing house → EndedBy answer a b
-run-came house stands' policy pid turns before now start seen refused answer a b run greets over silent = counted-other house.known.present answer a b other over
+pub run-came : {May : HouseReply → Type 0} {Rest : AtWaits} (house last : HouseState) (policy : Policy) (pid turns : ℕ) (before now : Option (List HouseMark)) (start : Option (List Mark)) (seen : Seen) (refused : Option ℕ) (answer : Ended) (a b : CallCounts)
+    → IsRun May Rest house.stands last house.known.present policy pid turns before now start seen refused answer → (answer ≢ ended.OutOfMemory → StandsGreeting house.known.present last.stands) → OverBy house.known.present (Some answer) a b → HasSentNothing house → EndedBy answer a b
+run-came house last policy pid turns before now start seen refused answer a b run greets over silent = counted-other house.known.present answer a b other over
   where
     set : Setting
-    set = by_lists policy pid run.picks run.replies
+    set = by_lists policy pid run.choices.picks run.choices.replies
 
     other : answer ≢ ended.OutOfMemory → house.known.present ≡ true → ByOther (Some answer)
     other ne p = let was = silent p in
-        answered-other turns run.journal refused (end_of (log_of_journal set run.journal)) answer (run.ends ne).end
-        (other-ends policy pid run.picks run.replies run.journal run.own_streams.others
-        (greets-since house.known.present house.stands stands' (calls_in set run.journal) was.0 was.1.0 was.1.1 (run.handed ne) (greets ne) p))
+        answered-other turns run.wire.journal refused (run_end_of (log_of_journal set run.wire.journal)) answer (run.ends ne).end
+        (other-ends policy pid run.choices.picks run.choices.replies run.wire.journal run.wire.own_streams.others
+        (greets-since house.known.present house.stands last.stands (calls_in set run.wire.journal) was.0 was.1.0 was.1.1 (run.forwarder.handed ne) (greets ne) p))

@@ -1,5 +1,5 @@
--- What a house says that greets first: the two messages of the greeting, and behind them frames of SSH
--- messages.
+-- What a forwarder sends that greets first: the two messages of the greeting, and after them frames
+-- of SSH messages.
 use Rattle.std.proofs.Common.{◌≡◌, ℕ, zero, suc, Bool, true, false, List, [], ◌∷◌, ◌++◌, length, map, drop, Option, Some, None, refl, sym, ap, ◌∙◌, subst, inl, inr, ◌⊎◌, append_assoc, append-nil, cond}
 use Rattle.std.specs.Prelude.{◌==◌}
 use Rattle.std.specs.List.{list_any}
@@ -27,7 +27,7 @@ use Rattle.mux_history.specs.Promises.{Throughout}
 use Rattle.mux_engine.specs.Called.{calls_at, calls_in, house_calls, is_piece}
 use Rattle.mux_engine.specs.Places.{IsOfOthers}
 
--- ---- what the house said, by its calls
+-- ---- what the forwarder sent, by its calls
 
 abbrev piece : HouseCall → List ℕ
 piece (Marks (HouseSaid bytes)) = bytes
@@ -45,7 +45,7 @@ own-pieces : (b : Bool) (one : HouseCall) → piece one ≡ [] → pieces (cond 
 own-pieces true one none = ap (λ l. l ++ []) none
 own-pieces false one none = refl
 
--- the house itself has no stream that gives anything
+-- the forwarder itself has no stream that gives anything
 other-bytes : (t : ℕ) (bytes : List ℕ) → (t == HOUSE) ≡ false → bytes_in HOUSE (mark.Gets t bytes) ≡ []
 other-bytes t bytes other = ap (λ b. elim b as (λ _. List ℕ) [ true ↦ bytes | false ↦ [] ]) other
 
@@ -58,13 +58,13 @@ house-pieces waiting (HouseAnswer client id reply) = refl
 house-pieces waiting (HouseOrder order number) = refl
 
 mark-pieces : (set : Setting) (before : List Mark) (m : Mark) → IsOfOthers before m → pieces (calls_at set before m) ≡ bytes_in HOUSE m
-mark-pieces set before (mark.Waits waiting want streams listens) others = refl
+mark-pieces set before (mark.Waits waiting want streams shown) others = refl
 mark-pieces set before (mark.Accepts k) others = refl
 mark-pieces set before (mark.Gets t bytes) others = own-pieces (is_own t) (Turns (call.Got t bytes)) refl ∙ sym (other-bytes t bytes others)
 mark-pieces set before (mark.Ends t) others = own-pieces (is_own t) (Turns (call.End t)) refl
 mark-pieces set before (mark.Frees t) others = own-pieces (is_own t) (Turns (call.Writable t)) refl
 mark-pieces set before (mark.Fails t) others = own-pieces (is_own t) (Turns (call.Failed t)) refl
-mark-pieces set before (mark.Takes t bytes) others = own-pieces (is_own t) (Takes t bytes) refl
+mark-pieces set before (mark.Takes t bytes accepts) others = own-pieces (is_own t) (Takes t bytes) refl
 mark-pieces set before (mark.Holds t) others = refl
 mark-pieces set before (mark.WriteFails t) others = own-pieces (is_own t) (Turns (call.Failed t)) refl
 mark-pieces set before (mark.Joins l t) others = refl
@@ -91,7 +91,7 @@ greets-before (Receives bytes ∷ a) b h = greets-before a b h
 greets-before (Turns happening ∷ a) b h = greets-before a b h
 greets-before (Takes stream bytes ∷ a) b h = greets-before a b h
 
--- behind calls of which none gave a piece
+-- after calls of which none gave a piece
 pub greets-behind : (a b : List HouseCall) → list_any is_piece a ≡ false → GreetsFirst (a ++ b) → GreetsFirst b
 greets-behind [] b none h = h
 greets-behind (Begins starts ∷ a) b none h = greets-behind a b none h
@@ -125,9 +125,9 @@ greeting-pieces (Takes stream bytes ∷ later) h = greeting-pieces later h
 pub journal-greets : (set : Setting) (journal : List Mark) → Throughout IsOfOthers journal → GreetsFirst (calls_in set journal) → Greeting (bytes_of HOUSE journal)
 journal-greets set journal others greets = subst Greeting (sym (journal-pieces set journal others)) (greeting-pieces (calls_in set journal) greets)
 
--- ---- what is said so
+-- ---- what is sent so
 
--- it is so of all that is said
+-- it is so of all that is sent
 abbrev pub AllSo : (Outgoing → Type 0) → List Outgoing → Type 0
 AllSo So [] = Unit {0}
 AllSo So (x ∷ xs) = So x × AllSo So xs

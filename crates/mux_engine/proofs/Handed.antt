@@ -1,5 +1,5 @@
 -- What a call of wait makes of all that holds while a wire is served, with what was taken in behind it.
-use Rattle.std.proofs.Common.{◌≡◌, ◌≤◌, ◌<◌, ◌+◌, ℕ, Bool, true, false, ◌||◌, List, [], ◌∷◌, ◌++◌, length, drop, Option, Some, None, refl, sym, ap, ◌∙◌, subst, inl, inr, ◌⊎◌, cond, arith, append_assoc, MatchResult, OnOk}
+use Rattle.std.proofs.Common.{◌≡◌, ◌≤◌, ◌<◌, ◌+◌, ℕ, Bool, true, false, not, ◌||◌, List, [], ◌∷◌, ◌++◌, length, drop, Option, Some, None, refl, sym, ap, ◌∙◌, subst, inl, inr, ◌⊎◌, cond, arith, append_assoc, MatchResult, OnOk}
 use Rattle.std.specs.Prelude.{◌==◌, filter, IsTrue, Result, Ok, Err}
 use Rattle.std.specs.Option.{option_map}
 use Rattle.std.proofs.lemmas.Bool.Decides.{eqb_tells}
@@ -28,14 +28,15 @@ use Rattle.mux_outside.specs.declared.turn.Turn.{Turn}
 use Rattle.mux_outside.specs.declared.turn.Turn.TheVariants as turn
 use Rattle.mux_outside.specs.declared.turn.Want.{Want}
 use Rattle.mux_history.specs.Policy.{Policy}
+use Rattle.mux_history.specs.Promises.{is_empty}
 use Rattle.mux_peers.specs.Asked.{known_after}
 use Rattle.mux_state.specs.State.{State}
 use Rattle.mux_state.specs.Stands.{CutsShort}
 use Rattle.mux_state.specs.Events.{here}
 use Rattle.mux_state.specs.declared.event.Event.{Event}
 use Rattle.mux_engine.specs.Asking.{Applied, AppliesSo}
-use Rattle.mux_engine.specs.Owned.{waits_for}
-use Rattle.mux_engine.specs.Rests.{HasNoneToClose, IsReady, IsReadyFor, refusal_of, refused_if}
+use Rattle.mux_engine.specs.Owned.{waits_for_own}
+use Rattle.mux_engine.specs.Rests.{HasNoneToClose, IsHouseReady, IsReadyFor, start_refusal_of, start_refused_if}
 use Rattle.mux_engine.specs.Serving.{Promised, Serving}
 use Rattle.mux_engine.specs.Sides.{Housed, IsAlone, Resting, RestsOf, SameHouse, Side, Together, noted}
 use Rattle.mux_engine.specs.declared.room.Lists.{Lists}
@@ -49,12 +50,12 @@ use Rattle.mux_engine.proofs.Owns.{among-one, end-numbers}
 use Rattle.mux_engine.proofs.OwnTurns.{client-frees, offered-again, own-ends, own-failed, own-frees, own-gets, own-joins}
 use Rattle.mux_engine.proofs.Recorded.{records-none, recorded-none}
 use Rattle.mux_engine.proofs.Turned.{EventAt, event-cut, event-ends, event-goes}
-use Rattle.mux_engine.proofs.Waits.{Offered, seen-waiting, wait-mark, waited}
+use Rattle.mux_engine.proofs.Waits.{Offered, filter-both, seen-waiting, wait-mark, waited}
 use Rattle.mux_engine.proofs.WireTurns.{client-number, event-at, now-waiting, of-turn}
 
 -- ---- what holds at a wait, and what is known of its answer
 
--- nobody leaves, the run goes on, and each stream was offered what waits for it
+-- no client leaves, the run goes on, and each stream was offered what waits for it
 pub record AtWait (Rest : Resting) (now : Side) (seen : Seen) (own held failed : List ℕ) (queue : ℕ → List ℕ) (s : State) : Type 0 where
   pub none : s.leaving ≡ []
   pub admitted : s.refused ≡ []
@@ -62,19 +63,19 @@ pub record AtWait (Rest : Resting) (now : Side) (seen : Seen) (own held failed :
   pub offered : Offered seen own held failed queue
   pub receives : seen.listens ≡ s.listening
   pub all_noted : now.unnoted ≡ []
-  pub rests : Rest.rests (want_of s) now.recorded now.calls seen.listeners seen.own
+  pub rests : Rest.rests (want_of s) now.recorded now.calls seen.listeners seen.own (filter (waits_for_own queue failed) own) (filter (λ t. not (among t failed)) own)
 
--- where there is a house and no refusal may be, none came
-none-refused : (present must : Bool) (refused : Option ℕ) → IsTrue present → refused_if present must refused ≡ None → IsTrue must → refused ≡ None
+-- where there is a forwarder and no refusal may be, none came
+none-refused : (present must : Bool) (refused : Option ℕ) → IsTrue present → start_refused_if present must refused ≡ None → IsTrue must → refused ≡ None
 none-refused true true refused p e m = e
 none-refused true false refused p e m = true-false (sym m)
 none-refused false must refused p e m = true-false (sym p)
 
--- what a turn of the run begins with: the house is ready for a wait, and nothing ends the run
+-- what a turn of the run begins with: the forwarder is ready for a wait, and nothing ends the run
 pub record BeginsTurn (house : HouseState) (wire : WireState) (lists : Lists) (s : State) : Type 0 where
   pub together : Together house wire lists
   pub ready : IsReadyFor house lists s
-  pub permitted : refusal_of house ≡ None
+  pub permitted : start_refusal_of house ≡ None
   pub closed : HasNoneToClose s
   pub on : s.ended ≡ None
   pub receives : wire.seen.listens ≡ s.listening
@@ -100,21 +101,22 @@ at-wait state first house calls wire lists s b hands = let housed = b.together.h
       refl,
       hands,
       record { listeners_are = housed.listeners; streams_are = housed.streams; none_awaited = housed.ordering },
+      filter-both (λ t. not (among t lists.failed)) (λ t. not (is_empty ((state house).queue t))) lists.own,
     ),
   );
 }
 
 -- the wire gave this turn
 pub record HasWaited (seen seen' : Seen) (own failed : List ℕ) (queue : ℕ → List ℕ) (s : State) (t : Turn) (bytes : List ℕ) : Type 0 where
-  pub seen_is : seen' ≡ seen_after_turn t (s.waiting ++ filter (waits_for queue failed) own) (want_of s) bytes seen
+  pub seen_is : seen' ≡ seen_after_turn t (s.waiting ++ filter (waits_for_own queue failed) own) (want_of s) bytes seen
   pub are : AreBytes bytes
   pub fits : TurnFits t (want_of s) seen bytes
   pub own_fits : OwnFits t seen
 
-pub has-waited : (wire wire' : WireState) (own failed : List ℕ) (queue : ℕ → List ℕ) (s : State) (t : Turn) (bytes got : List ℕ) (todo waiting : List ℕ) (want : Want) (tally : Tally) → wire' ≡ state_after_wait t todo want bytes tally wire → todo ≡ waiting ++ filter (waits_for queue failed) own → waiting ≡ s.waiting → want ≡ want_of s → AreBytes got → got ≡ bytes
+pub has-waited : (wire wire' : WireState) (own failed : List ℕ) (queue : ℕ → List ℕ) (s : State) (t : Turn) (bytes got : List ℕ) (todo waiting : List ℕ) (want : Want) (tally : Tally) → wire' ≡ state_after_wait t todo want bytes tally wire → todo ≡ waiting ++ filter (waits_for_own queue failed) own → waiting ≡ s.waiting → want ≡ want_of s → AreBytes got → got ≡ bytes
     → TurnFits t want wire.seen bytes → OwnFits t wire.seen → HasWaited wire.seen wire'.seen own failed queue s t bytes
 has-waited wire wire' own failed queue s t bytes got todo waiting want tally after todo_is waiting_is want_is are same fits own_fits = record {
-  seen_is = ap (λ (x : WireState). x.seen) after ∙ (ap (λ (l : List ℕ). seen_after_turn t l want bytes wire.seen) (todo_is ∙ ap (λ (l : List ℕ). l ++ filter (waits_for queue failed) own) waiting_is) ∙ ap (λ (w : Want). seen_after_turn t (s.waiting ++ filter (waits_for queue failed) own) w bytes wire.seen) want_is);
+  seen_is = ap (λ (x : WireState). x.seen) after ∙ (ap (λ (l : List ℕ). seen_after_turn t l want bytes wire.seen) (todo_is ∙ ap (λ (l : List ℕ). l ++ filter (waits_for_own queue failed) own) waiting_is) ∙ ap (λ (w : Want). seen_after_turn t (s.waiting ++ filter (waits_for_own queue failed) own) w bytes wire.seen) want_is);
   are = subst AreBytes same are;
   fits = subst (λ (w : Want). TurnFits t w wire.seen bytes) want_is fits;
   own_fits = own_fits;
@@ -128,7 +130,7 @@ drop-all : (xs : List HouseMark) → drop (length xs) xs ≡ []
 drop-all [] = refl
 drop-all (x ∷ xs) = drop-all xs
 
--- asks change nothing else of what is known of a house
+-- asks change nothing else of what is known of a forwarder
 pub after-asks : (asks : List HouseMark) (known : Known) → SameHouse known (known_after asks known)
 after-asks [] known = record { present = refl; ordering = refl; listeners = refl; streams = refl }
 after-asks (HouseAsked client id opening ask reply ∷ asks) known = let r = after-asks asks (record known { asks = _ }) in record { present = r.present; ordering = r.ordering; listeners = r.listeners; streams = r.streams }
@@ -138,11 +140,11 @@ after-asks (HouseTook size ∷ asks) known = after-asks asks known
 after-asks (HouseAnswer client id reply ∷ asks) known = after-asks asks known
 after-asks (HouseOrder order number ∷ asks) known = after-asks asks known
 
--- ---- an event that was told
+-- ---- an event that was recorded
 
 module _ {May : HouseReply → Type 0} {Rest : Resting} {before : Option (List HouseMark)} {now : Side} {policy : Policy} {pid : ℕ} {start : Option (List Mark)} {seen : Seen} {held failed : List ℕ} {given : ℕ} {s : State}
     (v : Serving May Rest before now policy pid start seen held failed given [] s) (live : s.ended ≡ None) (e : Event) (seen' : Seen) (given' : ℕ) (at : EventAt v live e seen' given') where
-  -- it was taken in, and all asks were noted; or there was no memory for that
+  -- it was applied, and all requests were noted; or there was no memory for that
   pub event-applies : {A E : Type 0} (r : Result A E) (s' : State) (asks : List HouseMark) (recorded recorded' : Option (List HouseMark)) (known known' : Known) (seen0 seen'' : Seen) → seen0 ≡ seen' → now.recorded ≡ recorded → now.asks ≡ known.asks → now.let_in ≡ known.present
       → Applied r May e s s' asks recorded recorded' known known' seen0 seen'' → MatchResult r (λ x. Serving May Rest before (noted recorded' known' (now.calls ++ calls_of asks)) policy pid start seen'' held failed given' (0 ∷ here s') s') (λ x. Promised May Rest before recorded' policy pid start seen''.recorded given')
   event-applies (Ok x) s' asks recorded recorded' known known' seen0 seen'' is same_recorded same_asks same_present h =
@@ -167,7 +169,7 @@ module _ {May : HouseReply → Type 0} {Rest : Resting} {before : Option (List H
   recorded-waiting = now-waiting v a.none a.admitted a.live a.offered a.receives a.all_noted a.rests
 
   abbrev seen-then : Turn → List ℕ → Seen
-  seen-then t bytes = seen_after_turn t (s.waiting ++ filter (waits_for queue failed) own) (want_of s) bytes seen
+  seen-then t bytes = seen_after_turn t (s.waiting ++ filter (waits_for_own queue failed) own) (want_of s) bytes seen
 
   module _ {seen' : Seen} {t : Turn} {bytes : List ℕ} (w : HasWaited seen seen' own failed queue s t bytes) where
     event-there : (e : Event) → IsEventOf e t bytes → EventAt (now-waiting v a.none a.admitted a.live a.offered a.receives a.all_noted a.rests) a.live e (seen-then t bytes) (given + 1)
@@ -184,7 +186,7 @@ module _ {May : HouseReply → Type 0} {Rest : Resting} {before : Option (List H
     turn-ends (Ok x) e next s' asks recorded recorded' known known' seen'' h = event-ends (now-waiting v a.none a.admitted a.live a.offered a.receives a.all_noted a.rests) a.live e (seen-then t bytes) (given + 1) (event-there e next) s' asks recorded recorded' known known' seen' seen'' (length asks) h
     turn-ends (Err x) e next s' asks recorded recorded' known known' seen'' h = tt
 
-    -- one of the master's own listeners or streams told something
+    -- one of the master's own listeners or streams gave something
     by-turn : (o : OwnTurn) → IsOwnOf o t bytes → Serving May Rest before (calling now (Turns (happening_of o) ∷ [])) policy pid start (seen-then t bytes) (held_received o held) (failed_received o failed) (given + 1) (0 ∷ here s) s
     unfolding waited serve-alone serve-on
     by-turn (recorded.Joined l k) next =
@@ -221,7 +223,7 @@ module _ {May : HouseReply → Type 0} {Rest : Resting} {before : Option (List H
     pub turn-owns : (o : OwnTurn) → IsOwnOf o t bytes → Serving May Rest before (calling now (Turns (happening_of o) ∷ [])) policy pid start seen' (held_received o held) (failed_received o failed) (given + 1) (0 ∷ here s) s
     turn-owns o next = subst (λ (x : Seen). Serving May Rest before (calling now (Turns (happening_of o) ∷ [])) policy pid start x (held_received o held) (failed_received o failed) (given + 1) (0 ∷ here s) s) (sym w.seen_is) (by-turn o next)
 
-    -- a stream of the server or a client takes bytes again
+    -- a stream of the server or a client accepts bytes again
     by-room : (k : ℕ) → is_own k ≡ false → t ≡ turn.Writable k → Serving May Rest before now policy pid start (seen-then t bytes) (without k held) failed (given + 1) (0 ∷ here s) s
     unfolding waited serve-alone serve-on
     by-room k client is =
@@ -239,7 +241,7 @@ module _ {May : HouseReply → Type 0} {Rest : Resting} {before : Option (List H
     turn-starved is = cut-here v now.recorded seen'.recorded (given + 1) []
         (ap (λ (x : Seen). x.recorded) w.seen_is ∙ (ap (λ (x : Turn). (seen-then x bytes).recorded) is ∙ recorded-none seen.recorded)) (records-none now.recorded) refl (omega arith)
 
--- ---- the house's streams and listeners
+-- ---- the forwarder's streams and listeners
 
 -- where the same are open
 pub housed-as : (known known' : Known) (seen seen' : Seen) (own : List ℕ) → Housed known seen own → known'.ordering ≡ known.ordering → known'.listeners ≡ known.listeners → known'.streams ≡ known.streams → seen'.listeners ≡ seen.listeners → seen'.own ≡ seen.own → seen'.streams ≡ seen.streams → seen'.last_own ≡ seen.last_own → Housed known' seen' own
@@ -274,7 +276,7 @@ no-client known seen own h k client = by_one (is_one k seen.own) refl
     by_one false e = refl
     by_one true e = true-false (sym (h.places.numbered k e) ∙ client)
 
--- behind what a client or the server told
+-- after what a client or the server gave
 event-housed : (known : Known) (seen : Seen) (own waiting : List ℕ) (want : Want) (t : Turn) (bytes : List ℕ) (e : Event) → Housed known seen own → TurnFits t want seen bytes → IsEventOf e t bytes → Housed known (seen_after_turn t waiting want bytes seen) own
 event-housed known seen own waiting want (turn.Accepted k) bytes e h fits next =
     let client : is_own k ≡ false = client-number k (let n : k ≡ seen.last + 1 = fits.2 in let l : seen.last < LAST_CLIENT = fits.3 in omega arith) in
@@ -304,7 +306,7 @@ event-housed known seen own waiting want turn.NoMemory bytes e h fits next = abs
 pub turn-housed : {A E : Type 0} (r : Result A E) (May : HouseReply → Type 0) {seen seen' : Seen} {own failed : List ℕ} {queue : ℕ → List ℕ} {s : State} {t : Turn} {bytes : List ℕ} → HasWaited seen seen' own failed queue s t bytes → (e : Event) → IsEventOf e t bytes → (s' : State) (asks : List HouseMark) (recorded recorded' : Option (List HouseMark)) (known known' : Known) (seen'' : Seen)
     → Applied r May e s s' asks recorded recorded' known known' seen' seen'' → Housed known seen own → OnOk r (Housed known' seen'' own)
 turn-housed (Ok x) May {seen = seen} {seen' = seen'} {own = own} {failed = failed} {queue = queue} {s = s} {t = t} {bytes = bytes} w e next s' asks recorded recorded' known known' seen'' h housed =
-    let all : List ℕ = s.waiting ++ filter (waits_for queue failed) own in
+    let all : List ℕ = s.waiting ++ filter (waits_for_own queue failed) own in
     let then : Seen = seen_after_turn t all (want_of s) bytes seen in
     let same : SameHouse known known' = subst (SameHouse known) (sym h.known_is) (after-asks asks known) in
     housed-as known known' then seen'' own (event-housed known seen own all (want_of s) t bytes e housed w.fits next) same.ordering same.listeners same.streams
@@ -316,7 +318,7 @@ pub turn-house : {A E : Type 0} (r : Result A E) (May : HouseReply → Type 0) (
 turn-house (Ok x) May e s s' asks recorded recorded' known known' seen seen' h = subst (SameHouse known) (sym h.known_is) (after-asks asks known)
 turn-house (Err x) May e s s' asks recorded recorded' known known' seen seen' h = tt
 
--- ---- what the house may be told
+-- ---- what the forwarder may be given
 
 -- a number is new to it that is new to the wire
 new-to : (known : Known) (seen : Seen) (own : List ℕ) → Housed known seen own → (k : ℕ) → IsNewOwn seen.last_own k → IsNewTo known k
@@ -341,7 +343,7 @@ there known alone k one = by_present known.present refl
     by_present true e = refl
     by_present false e = true-false (sym one ∙ ap (is_one k) (alone.streams e))
 
-pub turn-fits : {seen seen' : Seen} {own failed held : List ℕ} {queue : ℕ → List ℕ} {s : State} {t : Turn} {bytes : List ℕ} → HasWaited seen seen' own failed queue s t bytes → (o : OwnTurn) → IsOwnOf o t bytes → (known : Known) (quiet : Quiet) → Housed known seen own → IsAlone known → IsReady known quiet queue held failed own s → OwnTurnFits o known quiet
+pub turn-fits : {seen seen' : Seen} {own failed held : List ℕ} {queue : ℕ → List ℕ} {s : State} {t : Turn} {bytes : List ℕ} → HasWaited seen seen' own failed queue s t bytes → (o : OwnTurn) → IsOwnOf o t bytes → (known : Known) (quiet : Quiet) → Housed known seen own → IsAlone known → IsHouseReady known quiet queue held failed own s → OwnTurnFits o known quiet
 turn-fits {seen = seen} {own = own} {s = s} {t = t} {bytes = bytes} w o next known quiet h alone ready = by_turn o next
   where
     Fits : Turn → Type 0
@@ -370,16 +372,16 @@ turn-fits {seen = seen} {own = own} {s = s} {t = t} {bytes = bytes} w o next kno
     by_turn (recorded.Writable k) next = let f : Fits (turn.Writable k) = subst Fits next.1 w.fits in one k f.0 next.0
     by_turn (recorded.Failed k) next = let f : Fits (turn.Failed k) = subst Fits next.1 w.fits in one k f next.0
 
--- ---- what the house knows then
+-- ---- what the forwarder knows then
 
--- where there is no house it still has nothing
+-- where there is no forwarder it still has nothing
 pub alone-as : (known known' : Known) → SameHouse known known' → IsAlone known → IsAlone known'
 alone-as known known' same alone = record {
   listeners = λ out. same.listeners ∙ alone.listeners (sym same.present ∙ out);
   streams = λ out. same.streams ∙ alone.streams (sym same.present ∙ out);
 }
 
--- of what is told, it keeps whether it is there and its asks
+-- of what is recorded, it keeps whether it is there and its asks
 pub record SameAsks (known known' : Known) : Type 0 where
   pub present : known'.present ≡ known.present
   pub asks : known'.asks ≡ known.asks
@@ -462,18 +464,18 @@ own-housed (recorded.Failed k) known seen own waiting want bytes t h fits next =
 
 pub turn-own-housed : {seen seen' : Seen} {own failed : List ℕ} {queue : ℕ → List ℕ} {s : State} {t : Turn} {bytes : List ℕ} → HasWaited seen seen' own failed queue s t bytes → (o : OwnTurn) → IsOwnOf o t bytes → (known known' : Known) (own' : List ℕ) → Housed known seen own → known' ≡ known_after_own_turn o known → own' ≡ own_received o own → Housed known' seen' own'
 turn-own-housed {seen = seen} {seen' = seen'} {own = own} {failed = failed} {queue = queue} {s = s} {t = t} {bytes = bytes} w o next known known' own' h e f =
-    let all : List ℕ = s.waiting ++ filter (waits_for queue failed) own in
+    let all : List ℕ = s.waiting ++ filter (waits_for_own queue failed) own in
     subst (λ (k : Known). Housed k seen' own') (sym e) (subst (λ (l : List ℕ). Housed (known_after_own_turn o known) seen' l) (sym f)
     (subst (λ (x : Seen). Housed (known_after_own_turn o known) x (own_received o own)) (sym w.seen_is) (own-housed o known seen own all (want_of s) bytes t h w.own_fits next)))
 
 -- where a stream only takes bytes again
 pub room-housed : {seen seen' : Seen} {own failed : List ℕ} {queue : ℕ → List ℕ} {s : State} {t : Turn} {bytes : List ℕ} → HasWaited seen seen' own failed queue s t bytes → (k : ℕ) → t ≡ turn.Writable k → (known : Known) → Housed known seen own → Housed known seen' own
 room-housed {seen = seen} {own = own} {failed = failed} {queue = queue} {s = s} {bytes = bytes} w k is known h =
-    let all : List ℕ = s.waiting ++ filter (waits_for queue failed) own in
+    let all : List ℕ = s.waiting ++ filter (waits_for_own queue failed) own in
     subst (λ (x : Seen). Housed known x own) (sym w.seen_is) (subst (λ (x : Turn). Housed known (seen_after_turn x all (want_of s) bytes seen) own) (sym is)
     (housed-as known known seen (seen_after_turn (turn.Writable k) all (want_of s) bytes seen) own h refl refl refl refl refl refl refl))
 
--- where there is no house nothing comes of it
+-- where there is no forwarder nothing is given by it
 pub alone-heard : (o : OwnTurn) (known known' : Known) (quiet : Quiet) → OwnTurnFits o known quiet → known' ≡ known_after_own_turn o known → IsAlone known → IsAlone known'
 alone-heard (recorded.Joined l k) known known' quiet fits e alone = record {
   listeners = λ out. ap (λ (x : Known). x.listeners) e ∙ alone.listeners (sym (ap (λ (x : Known). x.present) e) ∙ out);

@@ -12,7 +12,7 @@ use Rattle.mux_outside.specs.declared.mark.Mark.TheVariants.{House}
 use Rattle.mux_outside.specs.HouseCalls.{HandsOn, calls_of}
 use Rattle.mux_peers.specs.Asked.{Applies, RecordsAsks, known_after}
 use Rattle.mux_state.specs.declared.event.Event.{Event}
-use Rattle.mux_state.specs.Events.{EndsBy, Keeps, Records}
+use Rattle.mux_state.specs.Events.{EndsBy, EngineKeeps, MarkRecords}
 use Rattle.mux_state.specs.Stands.{GoesOn}
 use Rattle.mux_state.specs.State.{State}
 use Rattle.mux_engine.specs.Asking.{Applied, AppliesSo}
@@ -22,7 +22,7 @@ use Rattle.mux_engine.proofs.Lists.{true-false}
 use Rattle.mux_engine.proofs.Noted.{seen-with}
 
 with-streams : (n : ℕ) (asks : List HouseMark) (seen seen' : Seen) → seen' ≡ seen-with (take n asks) seen → SameStreams seen seen'
-with-streams n asks seen seen' e = subst (SameStreams seen) (sym e) record { places = record { streams = refl; listeners = refl; own = refl; last_own = refl }; blocked = refl }
+with-streams n asks seen seen' e = subst (SameStreams seen) (sym e) record { places = record { streams = refl; listeners = refl; own = refl; last_own = refl; silence = λ l. l }; blocked = refl }
 
 -- ---- so many are noted
 
@@ -43,12 +43,12 @@ noted-next asks i m seen mid seen' less is so next =
 all-asked : {A E : Type 0} {x : A} (none asks : List HouseMark) (old new : HouseState) → none ≡ [] → (h : Applies {A = A} {E = E} (Ok x) none asks old new) → asks ≡ h.more
 all-asked none asks old new empty h = h.noted ∙ ap (λ (l : List HouseMark). l ++ h.more) empty
 
-pub applies-so : {A E : Type 0} {x : A} {May : HouseReply → Type 0} (e : Event) (s s' : State) (none asks : List HouseMark) (old new : HouseState) (seen seen' : Seen) (n : ℕ) → none ≡ [] → ((mark : Mark) → Records e mark → GoesOn May (Some none) (Some asks) s s' mark) → Applies {A = A} {E = E} (Ok x) none asks old new
-    → Keeps e s s' → ((mark : Mark) → Records e mark → EndsBy e s s' mark) → seen' ≡ seen-with (take n asks) seen → AppliesSo May e s s' asks old.recorded new.recorded old.known new.known seen seen' n
+pub applies-so : {A E : Type 0} {x : A} {May : HouseReply → Type 0} (e : Event) (s s' : State) (none asks : List HouseMark) (old new : HouseState) (seen seen' : Seen) (n : ℕ) → none ≡ [] → ((mark : Mark) → MarkRecords e mark → GoesOn May (Some none) (Some asks) s s' mark) → Applies {A = A} {E = E} (Ok x) none asks old new
+    → EngineKeeps e s s' → ((mark : Mark) → MarkRecords e mark → EndsBy e s s' mark) → seen' ≡ seen-with (take n asks) seen → AppliesSo May e s s' asks old.recorded new.recorded old.known new.known seen seen' n
 applies-so {May = May} e s s' none asks old new seen seen' n empty goes applies keeps ends is =
     let same : asks ≡ applies.more = all-asked none asks old new empty applies in
     record {
-      goes = subst (λ (l : List HouseMark). (mark : Mark) → Records e mark → GoesOn May (Some l) (Some asks) s s' mark) empty goes;
+      goes = subst (λ (l : List HouseMark). (mark : Mark) → MarkRecords e mark → GoesOn May (Some l) (Some asks) s s' mark) empty goes;
       keeps = keeps;
       ends = ends;
       recorded_is = subst (RecordsAsks old.recorded new.recorded) (ap (λ (l : List HouseMark). applies.more ++ l) applies.all_noted ∙ (append-nil applies.more ∙ sym same)) applies.recorded;

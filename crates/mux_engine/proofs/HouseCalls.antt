@@ -20,12 +20,12 @@ use Rattle.mux_history.specs.Journal.{is_accepted}
 use Rattle.mux_peers.specs.Asked.{RecordsAsks}
 use Rattle.mux_state.specs.State.{State, queue_in, taken}
 use Rattle.mux_state.specs.declared.event.Event.TheVariants.{Accepted, HouseSays}
-use Rattle.mux_state.specs.Events.{EndsBy, Keeps, Records, here}
+use Rattle.mux_state.specs.Events.{EndsBy, EngineKeeps, MarkRecords, here}
 use Rattle.mux_state.specs.Stands.{GoesAlone, GoesOn, Stands}
-use Rattle.mux_engine.specs.Answers.{EachDeferred, is_deferred}
+use Rattle.mux_engine.specs.Answers.{opens_after}
 use Rattle.mux_engine.specs.Called.{Handed}
 use Rattle.mux_engine.specs.Serving.{Promised, Serving}
-use Rattle.mux_engine.specs.Sides.{Housed, Resting, SameHouse, SamePlaces, SameStreams, Side, noted, noting}
+use Rattle.mux_engine.specs.Sides.{Housed, Resting, SameHouse, SameSockets, SameStreams, Side, house_marks, noted, noting}
 use Rattle.mux_engine.proofs.Cuts.{serve-recorded}
 use Rattle.mux_engine.proofs.HouseTakes.{house-takes}
 use Rattle.mux_engine.proofs.HouseTurns.{accepted-zero, cut-answers, house-answers, house-let-in, reply-asked, reply-so, rest-so}
@@ -60,7 +60,7 @@ reply-covers xs ys e t a = by_test (0 == t) (sym (ap (λ l. among t (0 ∷ l)) e
 
 -- ---- what is known of the forwarder and seen of the wire stays
 
-pub housed-still : (known known' : Known) (seen seen' : Seen) (own : List ℕ) → Housed known seen own → SameHouse known known' → SamePlaces seen seen' → Housed known' seen' own
+pub housed-still : (known known' : Known) (seen seen' : Seen) (own : List ℕ) → Housed known seen own → SameHouse known known' → SameSockets seen seen' → Housed known' seen' own
 housed-still known known' seen seen' own o same places = record {
   ordering = same.ordering ∙ o.ordering;
   listeners = same.listeners ∙ (o.listeners ∙ sym places.listeners);
@@ -79,16 +79,16 @@ pub same-house : (known known' : Known) → known' ≡ known → SameHouse known
 same-house known known' e = subst (SameHouse known) (sym e) record { present = refl; ordering = refl; listeners = refl; streams = refl }
 
 pub streams-same : (seen seen' : Seen) → seen' ≡ seen → SameStreams seen seen'
-streams-same seen seen' e = subst (SameStreams seen) (sym e) record { places = record { streams = refl; listeners = refl; own = refl; last_own = refl }; blocked = refl }
+streams-same seen seen' e = subst (SameStreams seen) (sym e) record { places = record { streams = refl; listeners = refl; own = refl; last_own = refl; silence = λ l. l }; blocked = refl }
 
 -- a mark was noted, or there was no memory for it
 pub streams-note : {E : Type 0} (r : Result (Unit {0}) E) (mark : HouseMark) (old new : Seen) → new ≡ seen_after_note r mark old → SameStreams old new
-streams-note (Ok x) mark old new e = subst (SameStreams old) (sym e) record { places = record { streams = refl; listeners = refl; own = refl; last_own = refl }; blocked = refl }
+streams-note (Ok x) mark old new e = subst (SameStreams old) (sym e) record { places = record { streams = refl; listeners = refl; own = refl; last_own = refl; silence = λ l. l }; blocked = refl }
 streams-note (Err x) mark old new e = streams-same old new e
 
 pub streams-then : (a b c : Seen) → SameStreams a b → SameStreams b c → SameStreams a c
 streams-then a b c x y = record {
-  places = record { streams = y.places.streams ∙ x.places.streams; listeners = y.places.listeners ∙ x.places.listeners; own = y.places.own ∙ x.places.own; last_own = y.places.last_own ∙ x.places.last_own };
+  places = record { streams = y.places.streams ∙ x.places.streams; listeners = y.places.listeners ∙ x.places.listeners; own = y.places.own ∙ x.places.own; last_own = y.places.last_own ∙ x.places.last_own; silence = λ l. x.places.silence (y.places.silence l) };
   blocked = y.blocked ∙ x.blocked;
 }
 
@@ -116,33 +116,20 @@ same-noted {May} {Rest} {before} {policy} {pid} {start} {seen} {held} {failed} {
     subst (λ (x : Option (List HouseMark)). Serving May Rest before (noted x known' calls) policy pid start seen held failed given todo s) (sym t)
     (subst (λ (x : Known). Serving May Rest before (noted recorded x calls) policy pid start seen held failed given todo s) (sym k) v)
 
--- ---- other asks are open
-
 module _ {May : HouseReply → Type 0} {Rest : Resting} {before : Option (List HouseMark)} {policy : Policy} {pid : ℕ} {start : Option (List Mark)} {seen : Seen} {held failed : List ℕ} {given : ℕ} {todo : List ℕ} {s : State} where
-  serve-asks : {now : Side} (v : Serving May Rest before now policy pid start seen held failed given todo s) (asks : List OpenAsk) → All (λ (a : OpenAsk). IsTrue (is_accepted a.client v.journal)) asks → EachDeferred v.stands.asks asks → Serving May Rest before (record now { asks = asks }) policy pid start seen held failed given todo s
-  serve-asks {now} v asks all deferred = serve-as v (record now { asks = asks }) seen.listens todo record {
-    house = v.house;
-    asked = v.asked;
-    called = v.called;
-    askers = all;
-    deferred = deferred;
-    house_in = v.house_in;
-    house_there = v.house_there;
-  } v.receives (λ t a. inl a)
-
   -- ---- something was reported to it
 
   -- it recorded this and requested nothing
   pub took-recorded : {recorded recorded' : Option (List HouseMark)} {known : Known} {calls : List HouseCall} (known' : Known) (n : ℕ) → Serving May Rest before (noted recorded known calls) policy pid start seen held failed given todo s → RecordsAsks recorded recorded' (HouseTook n ∷ []) → known' ≡ known → Serving May Rest before (noting (HouseTook n ∷ []) recorded' known' calls) policy pid start seen held failed given todo s
   took-recorded {recorded} {recorded'} {known} {calls} known' n v h e =
       subst (λ (k : Known). Serving May Rest before (noting (HouseTook n ∷ []) recorded' k calls) policy pid start seen held failed given todo s) (sym e)
-      (serve-recorded v (noting (HouseTook n ∷ []) recorded' known calls) (HouseTook n ∷ []) h refl refl refl refl (sym (append-nil calls)))
+      (serve-recorded v (noting (HouseTook n ∷ []) recorded' known calls) (HouseTook n ∷ []) h refl refl v.askers refl refl (sym (append-nil calls)))
 
   -- it recorded nothing
   pub recorded-nothing : {recorded recorded' : Option (List HouseMark)} {known : Known} {calls : List HouseCall} (known' : Known) → Serving May Rest before (noted recorded known calls) policy pid start seen held failed given todo s → RecordsAsks recorded recorded' [] → known' ≡ known → Serving May Rest before (noted recorded' known' calls) policy pid start seen held failed given todo s
   recorded-nothing {recorded} {recorded'} {known} {calls} known' v h e =
       subst (λ (k : Known). Serving May Rest before (noted recorded' k calls) policy pid start seen held failed given todo s) (sym e)
-      (serve-recorded v (noted recorded' known calls) [] h refl refl refl refl (sym (append-nil calls)))
+      (serve-recorded v (noted recorded' known calls) [] h refl refl v.askers refl refl (sym (append-nil calls)))
 
   -- a call had no outcome
   pub still-handed : {stands mid stands' : List HouseCall → Type 0} {recorded recorded' : Option (List HouseMark)} {known : Known} {calls : List HouseCall} (known' : Known) → HandsOn stands mid calls → HandsOn mid stands' [] → RecordsAsks recorded recorded' [] → known' ≡ known → Serving May Rest before (noted recorded known calls) policy pid start seen held failed given todo s
@@ -153,28 +140,22 @@ module _ {May : HouseReply → Type 0} {Rest : Resting} {before : Option (List H
   pub answer-recorded : {recorded recorded' : Option (List HouseMark)} {calls : List HouseCall} (known : Known) (client id : ℕ) (reply : HouseReply) → Serving May Rest before (noted recorded known calls) policy pid start seen held failed given todo s → RecordsAsks recorded recorded' (HouseAnswer client id reply ∷ [])
       → Serving May Rest before (noting (HouseAnswer client id reply ∷ []) recorded' (record known { asks = without_ask client id known.asks }) (calls ++ calls_of (HouseAnswer client id reply ∷ []))) policy pid start seen held failed given todo s
   answer-recorded {recorded} {recorded'} {calls} known client id reply v h =
-      let w = serve-recorded v (noting (HouseAnswer client id reply ∷ []) recorded' known (calls ++ calls_of (HouseAnswer client id reply ∷ []))) (HouseAnswer client id reply ∷ []) h refl refl refl refl refl in
-      serve-asks w (without_ask client id known.asks) (rest-so (λ (a : OpenAsk). IsTrue (is_accepted a.client w.journal)) client id known.asks w.askers)
-      (rest-so (λ (a : OpenAsk). IsTrue (list_any (is_deferred a.client a.id) w.stands.asks)) client id known.asks w.deferred)
+      serve-recorded v (noting (HouseAnswer client id reply ∷ []) recorded' (record known { asks = without_ask client id known.asks }) (calls ++ calls_of (HouseAnswer client id reply ∷ []))) (HouseAnswer client id reply ∷ []) h refl refl (rest-so (λ (a : OpenAsk). IsTrue (is_accepted a.client v.journal)) client id known.asks v.askers) refl refl refl
 
   -- to a client that was accepted
   pub answer-asked : {recorded recorded' : Option (List HouseMark)} {calls : List HouseCall} (known : Known) (client id : ℕ) (reply : HouseReply) (v : Serving May Rest before (noted recorded known calls) policy pid start seen held failed given todo s) (h : RecordsAsks recorded recorded' (HouseAnswer client id reply ∷ [])) → ReplyFits reply client id known.asks → is_accepted client (answer-recorded known client id reply v h).journal ≡ true
-  unfolding answer-recorded serve-asks serve-as
-  answer-asked {recorded} {recorded'} {calls} known client id reply v h fits =
-      let w = serve-recorded v (noting (HouseAnswer client id reply ∷ []) recorded' known (calls ++ calls_of (HouseAnswer client id reply ∷ []))) (HouseAnswer client id reply ∷ []) h refl refl refl refl refl in
-      reply-asked w.journal reply client id known.asks fits w.askers
+  unfolding answer-recorded serve-recorded serve-as
+  answer-asked known client id reply v h fits = reply-asked v.journal reply client id known.asks fits v.askers
 
-  -- to a request that was deferred
-  pub answer-deferred : {recorded recorded' : Option (List HouseMark)} {calls : List HouseCall} (known : Known) (client id : ℕ) (reply : HouseReply) (v : Serving May Rest before (noted recorded known calls) policy pid start seen held failed given todo s) (h : RecordsAsks recorded recorded' (HouseAnswer client id reply ∷ [])) → ReplyFits reply client id known.asks → list_any (is_deferred client id) (answer-recorded known client id reply v h).stands.asks ≡ true
-  unfolding answer-recorded serve-asks serve-as
-  answer-deferred {recorded} {recorded'} {calls} known client id reply v h fits =
-      let w = serve-recorded v (noting (HouseAnswer client id reply ∷ []) recorded' known (calls ++ calls_of (HouseAnswer client id reply ∷ []))) (HouseAnswer client id reply ∷ []) h refl refl refl refl refl in
-      reply-so (λ k i. list_any (is_deferred k i) w.stands.asks ≡ true) reply client id known.asks fits w.deferred
+  -- to a request that is open by the journal
+  pub answer-open : {recorded recorded' : Option (List HouseMark)} {calls : List HouseCall} (known : Known) (client id : ℕ) (reply : HouseReply) (v : Serving May Rest before (noted recorded known calls) policy pid start seen held failed given todo s) (h : RecordsAsks recorded recorded' (HouseAnswer client id reply ∷ [])) → ReplyFits reply client id known.asks → ReplyFits reply client id (opens_after (house_marks (answer-recorded known client id reply v h).journal) [])
+  unfolding answer-recorded serve-recorded serve-as
+  answer-open known client id reply v h fits = subst (ReplyFits reply client id) (v.opens ∙ ap (λ (l : List HouseMark). opens_after l []) (append-nil (house_marks v.journal))) fits
 
 -- ---- it is admitted
 
 module _ {May : HouseReply → Type 0} {Rest : Resting} {before : Option (List HouseMark)} {now : Side} {policy : Policy} {pid : ℕ} {start : Option (List Mark)} {seen : Seen} {held failed : List ℕ} {given : ℕ} {s : State} where
-  pub let-in : {May' : HouseReply → Type 0} {recorded recorded' : Option (List HouseMark)} (v : Serving May Rest before now policy pid start seen held failed given (0 ∷ here s) s) (s' : State) → v.journal ≡ [] → Rest.present ≡ true → s.ended ≡ None → s.refused ≡ [] → GoesOn May' recorded recorded' s s' (Accepts HOUSE) → Keeps (Accepted HOUSE) s s'
+  pub let-in : {May' : HouseReply → Type 0} {recorded recorded' : Option (List HouseMark)} (v : Serving May Rest before now policy pid start seen held failed given (0 ∷ here s) s) (s' : State) → v.journal ≡ [] → Rest.present ≡ true → s.ended ≡ None → s.refused ≡ [] → GoesOn May' recorded recorded' s s' (Accepts HOUSE) → EngineKeeps (Accepted HOUSE) s s'
       → Serving May Rest before (record now { let_in = true }) policy pid start (seen-with (HouseIn ∷ []) seen) held failed given (0 ∷ here s') s'
   let-in v s' first there live admitted goes keeps =
       house-let-in v first there live admitted (let-in-covers (here s) (here s') (came (Accepted HOUSE) HOUSE s s' refl admitted (keeps.streams live))) goes keeps
@@ -198,7 +179,7 @@ module _ {May : HouseReply → Type 0} {Rest : Resting} {before : Option (List H
       by_in false e = true-false (sym (ap (λ b. b || among HOUSE s.refused) (queue-present s HOUSE bytes queue some no-server)) ∙ ((v.stands.at [] []).bytes.strange HOUSE e).not_here)
 
   pub handed : {recorded recorded' : Option (List HouseMark)} {known : Known} {calls : List HouseCall} (known' : Known) (v : Serving May Rest before (noted recorded known calls) policy pid start seen held failed given (0 ∷ here s) s) (s' : State) (bytes : List ℕ) → RecordsAsks recorded recorded' (HouseTook (length bytes) ∷ []) → known' ≡ known → bytes ≡ queue_in s HOUSE → 0 < length bytes
-      → ((picked : List ℕ) (replies : List HouseReply) (marks : List Mark) (closed : List ℕ) → Stands picked replies s marks closed → among HOUSE closed ≡ false → Waiting bytes HOUSE s picked replies marks) → s' ≡ taken s HOUSE (length bytes) → GoesAlone s s' (Takes HOUSE bytes) → Serving May Rest before (noted recorded' known' (calls ++ Receives bytes ∷ [])) policy pid start (seen-with (HouseTook (length bytes) ∷ []) seen) held failed given (0 ∷ without HOUSE (here s')) s'
+      → ((picked : List ℕ) (replies : List HouseReply) (marks : List Mark) (closed : List ℕ) → Stands picked replies s marks closed → among HOUSE closed ≡ false → Waiting bytes HOUSE s picked replies marks) → s' ≡ taken s HOUSE (length bytes) → GoesAlone s s' (Takes HOUSE bytes true) → Serving May Rest before (noted recorded' known' (calls ++ Receives bytes ∷ [])) policy pid start (seen-with (HouseTook (length bytes) ∷ []) seen) held failed given (0 ∷ without HOUSE (here s')) s'
   handed {recorded} {recorded'} {known} known' v s' bytes h e queue some waiting is goes =
       let w = took-recorded known' (length bytes) v h e in
       house-takes w s' bytes refl (waits-in w bytes queue some) (took-covers (here s) (here s') (took-run s s' HOUSE (length bytes) is).streams) queue some (waiting w.picked w.replies w.journal w.closed w.stands (not-closed w)) is goes
@@ -219,21 +200,21 @@ module _ {May : HouseReply → Type 0} {Rest : Resting} {before : Option (List H
   no-server-asked v client asked z = true-false (sym asked ∙ (ap (λ i. is_accepted i v.journal) z ∙ accepted-zero v.journal v.of_wire.lawful))
 
   pub answered : {May' : HouseReply → Type 0} {mid mid' recorded recorded' : Option (List HouseMark)} {calls : List HouseCall} (known known' : Known) (v : Serving May Rest before (noted recorded known calls) policy pid start seen held failed given (0 ∷ without HOUSE (here s)) s) (s' : State) (client id : ℕ) (reply : HouseReply) → known.present ≡ true → s.ended ≡ None → ReplyFits reply client id known.asks → RecordsAsks recorded recorded' (HouseAnswer client id reply ∷ [])
-      → known' ≡ record known { asks = without_ask client id known.asks } → ((mark : Mark) → Records (HouseSays client id reply) mark → GoesOn May' mid mid' s s' mark) → Keeps (HouseSays client id reply) s s' → Serving May Rest before (noted recorded' known' (calls ++ calls_of (HouseAnswer client id reply ∷ []))) policy pid start (seen-with (HouseAnswer client id reply ∷ []) seen) held failed given (0 ∷ here s') s'
+      → known' ≡ record known { asks = without_ask client id known.asks } → ((mark : Mark) → MarkRecords (HouseSays client id reply) mark → GoesOn May' mid mid' s s' mark) → EngineKeeps (HouseSays client id reply) s s' → Serving May Rest before (noted recorded' known' (calls ++ calls_of (HouseAnswer client id reply ∷ []))) policy pid start (seen-with (HouseAnswer client id reply ∷ []) seen) held failed given (0 ∷ here s') s'
   answered {recorded' = recorded'} {calls = calls} known known' v s' client id reply within live fits h e goes keeps =
       let w = answer-recorded known client id reply v h in
       let asked : is_accepted client w.journal ≡ true = answer-asked known client id reply v h fits in
       let nz : client ≢ 0 = no-server-asked w client asked in
       subst (λ (k : Known). Serving May Rest before (noted recorded' k (calls ++ calls_of (HouseAnswer client id reply ∷ []))) policy pid start (seen-with (HouseAnswer client id reply ∷ []) seen) held failed given (0 ∷ here s') s') (sym e)
-      (house-answers w client id reply [] refl within asked (answer-deferred known client id reply v h fits) live (reply-covers (here s) (here s') (stayed (HouseSays client id reply) (House (HouseAnswer client id reply)) s s' (nz, refl) tt (keeps.streams live))) (goes (House (HouseAnswer client id reply)) (nz, refl)) keeps)
+      (house-answers w client id reply refl within asked (answer-open known client id reply v h fits) live (reply-covers (here s) (here s') (stayed (HouseSays client id reply) (House (HouseAnswer client id reply)) s s' (nz, refl) tt (keeps.streams live))) (goes (House (HouseAnswer client id reply)) (nz, refl)) keeps)
 
   -- which doesn't end the run
-  pub answered-live : {recorded : Option (List HouseMark)} {calls : List HouseCall} (known : Known) {todo : List ℕ} (v : Serving May Rest before (noted recorded known calls) policy pid start seen held failed given todo s) (s' : State) (client id : ℕ) (reply : HouseReply) → s.ended ≡ None → ReplyFits reply client id known.asks → ((mark : Mark) → Records (HouseSays client id reply) mark → EndsBy (HouseSays client id reply) s s' mark) → s'.ended ≡ None
+  pub answered-live : {recorded : Option (List HouseMark)} {calls : List HouseCall} (known : Known) {todo : List ℕ} (v : Serving May Rest before (noted recorded known calls) policy pid start seen held failed given todo s) (s' : State) (client id : ℕ) (reply : HouseReply) → s.ended ≡ None → ReplyFits reply client id known.asks → ((mark : Mark) → MarkRecords (HouseSays client id reply) mark → EndsBy (HouseSays client id reply) s s' mark) → s'.ended ≡ None
   answered-live known v s' client id reply live fits ends =
       let asked : is_accepted client v.journal ≡ true = reply-asked v.journal reply client id known.asks fits v.askers in
       let nz : client ≢ 0 = no-server-asked v client asked in
       ends (House (HouseAnswer client id reply)) (nz, refl) v.picked v.replies v.journal v.closed v.stands (nz, asked) live
 
   -- there was no memory for its answer
-  pub cut-answered : {recorded recorded' : Option (List HouseMark)} {calls : List HouseCall} (known : Known) {todo : List ℕ} (v : Serving May Rest before (noted recorded known calls) policy pid start seen held failed given todo s) (client id : ℕ) (reply : HouseReply) → known.present ≡ true → ReplyFits reply client id known.asks → RecordsAsks recorded recorded' (HouseAnswer client id reply ∷ []) → Promised May Rest before recorded' policy pid start (seen-with (HouseAnswer client id reply ∷ []) seen).recorded given
-  cut-answered known v client id reply within fits h = cut-answers (answer-recorded known client id reply v h) client id reply [] refl within (answer-asked known client id reply v h fits) (answer-deferred known client id reply v h fits)
+  pub cut-answered : {recorded recorded' : Option (List HouseMark)} {calls : List HouseCall} (known : Known) {todo : List ℕ} (v : Serving May Rest before (noted recorded known calls) policy pid start seen held failed given todo s) (client id : ℕ) (reply : HouseReply) → known.present ≡ true → s.ended ≡ None → ReplyFits reply client id known.asks → RecordsAsks recorded recorded' (HouseAnswer client id reply ∷ []) → Promised May Rest before recorded' policy pid start (seen-with (HouseAnswer client id reply ∷ []) seen).recorded given
+  cut-answered known v client id reply within live fits h = cut-answers (answer-recorded known client id reply v h) client id reply refl within (answer-asked known client id reply v h fits) (answer-open known client id reply v h fits) live

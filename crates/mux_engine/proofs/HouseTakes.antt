@@ -21,16 +21,15 @@ use Rattle.mux_history.specs.Journal.{is_accepted, log_of_journal}
 use Rattle.mux_history.specs.Promises.{IsSettled}
 use Rattle.mux_history.proofs.PendingSteps.{take-leaves}
 use Rattle.mux_history.proofs.Wires.{wire-keeps}
-use Rattle.mux_peers.specs.Asked.{asked_of}
+use Rattle.mux_peers.specs.Asked.{asks_of_rows}
 use Rattle.mux_state.specs.State.{State, queue_in, taken}
-use Rattle.mux_state.specs.Events.{Records, here}
+use Rattle.mux_state.specs.Events.{MarkRecords, here}
 use Rattle.mux_state.specs.declared.event.Event.{Event}
 use Rattle.mux_state.specs.Stands.{GoesAlone, RowsFit, Stands}
 use Rattle.mux_state.proofs.Twins.{house-client, stands-alike}
-use Rattle.mux_engine.specs.Serving.{IsSound, Serving, is_open}
+use Rattle.mux_engine.specs.Serving.{IsRunSound, Serving, is_open}
 use Rattle.mux_engine.specs.Sides.{Resting, Side}
 use Rattle.mux_engine.proofs.Called.{CallsOn, calls-heard}
-use Rattle.mux_engine.proofs.Deferred.{still-deferred}
 use Rattle.mux_engine.proofs.Lists.{among-open, test-other, true-false, without-other}
 use Rattle.mux_engine.proofs.Logs.{log-out, settled-as, took-log}
 use Rattle.mux_engine.proofs.Marks.{log-is, serve-alone}
@@ -74,26 +73,25 @@ module _ {May : HouseReply → Type 0} {Rest : Resting} {before : Option (List H
   -- ---- it accepted all
 
   pub house-takes : {todo : List ℕ} (v : Serving May Rest before now policy pid start seen held failed given todo s) (s' : State) (bytes : List ℕ) → now.unnoted ≡ HouseTook (length bytes) ∷ [] → now.let_in ≡ true → ((t : ℕ) → HOUSE ≢ t → among t (0 ∷ without HOUSE (here s')) ≡ false → among t todo ≡ false)
-      → bytes ≡ queue_in s HOUSE → 0 < length bytes → Waiting bytes HOUSE s v.picked v.replies v.journal → s' ≡ taken s HOUSE (length bytes) → GoesAlone s s' (Takes HOUSE bytes) → Serving May Rest before (record now { unnoted = []; calls = now.calls ++ Receives bytes ∷ [] }) policy pid start (seen-with (HouseTook (length bytes) ∷ []) seen) held failed given (0 ∷ without HOUSE (here s')) s'
+      → bytes ≡ queue_in s HOUSE → 0 < length bytes → Waiting bytes HOUSE s v.picked v.replies v.journal → s' ≡ taken s HOUSE (length bytes) → GoesAlone s s' (Takes HOUSE bytes true) → Serving May Rest before (record now { unnoted = []; calls = now.calls ++ Receives bytes ∷ [] }) policy pid start (seen-with (HouseTook (length bytes) ∷ []) seen) held failed given (0 ∷ without HOUSE (here s')) s'
   house-takes {todo} v s' bytes e within covers queue some waiting is goes =
       let n : ℕ = length bytes in
       let mark : Mark = House (HouseTook n) in
-      let alike = house-client.takes v.journal bytes n refl in
+      let alike = house-client.takes v.journal bytes true n refl in
       let same : SameRun s s' = took-run s s' HOUSE n is in
-      let st0 : Stands v.picked v.replies s' (Takes HOUSE bytes ∷ v.journal) v.closed = goes v.picked v.replies v.journal v.closed v.stands ((λ nz. queue-present s HOUSE bytes queue some nz), refl) in
+      let st0 : Stands v.picked v.replies s' (Takes HOUSE bytes true ∷ v.journal) v.closed = goes v.picked v.replies v.journal v.closed v.stands ((λ nz. queue-present s HOUSE bytes queue some nz), refl) in
       serve-alone v (record now { unnoted = []; calls = now.calls ++ Receives bytes ∷ [] }) (seen-with (HouseTook n ∷ []) seen) held failed given (0 ∷ without HOUSE (here s')) s' mark
-      (stands-alike (Takes HOUSE bytes ∷ v.journal) (mark ∷ v.journal) v.picked v.replies s' v.closed alike st0)
-      (λ picks replies. ap asked_of (sym (alike.log (by_lists s'.core.policy s'.pid picks replies))) ∙ took-asks s s' HOUSE bytes v.journal same picks replies) record {
+      (stands-alike (Takes HOUSE bytes true ∷ v.journal) (mark ∷ v.journal) v.picked v.replies s' v.closed alike st0)
+      (λ picks replies. ap asks_of_rows (sym (alike.log (by_lists s'.core.policy s'.pid picks replies))) ∙ took-asks s s' HOUSE bytes true v.journal same picks replies) record {
         recorded = refl;
         policy_is = same.policy;
         pid_is = same.pid;
-        notes = record { more = []; recorded_is = records-none now.recorded; noted_is = sym e ∙ sym (append-nil now.unnoted); asks_are = refl };
+        notes = record { more = []; recorded_is = records-none now.recorded; noted_is = sym e ∙ sym (append-nil now.unnoted); asks_are = refl; opens_are = refl };
         called = λ picks later.
             let set : Setting = by_lists policy pid (v.picked ++ picks) (v.replies ++ later) in
             let was : pending HOUSE (log_of_journal set v.journal) ≡ bytes = sym (waiting picks later ∙ ap (pending HOUSE) (log-is s policy pid (v.picked ++ picks) (v.replies ++ later) v.journal v.policy_is v.pid_is)) in
             subst (λ (l : List ℕ). CallsOn now (record now { unnoted = []; calls = now.calls ++ Receives bytes ∷ [] }) (Receives l ∷ [])) (sym (ap (take n) was ∙ take-all bytes)) (calls-heard now n bytes e);
         askers = askers-more v mark;
-        deferred = still-deferred now (record now { unnoted = []; calls = now.calls ++ Receives bytes ∷ [] }) [] refl;
         house_in = v.house_in;
         house_there = v.house_there;
         rested = λ picks later. tt;
@@ -102,11 +100,11 @@ module _ {May : HouseReply → Type 0} {Rest : Resting} {before : Option (List H
         placed = placed-still v mark (seen-with (HouseTook n ∷ []) seen) s' ((wire-keeps seen v.journal).note (HouseTook n) (v.house_in ∙ within) refl v.of_wire) refl refl refl refl refl same.streams (λ t. refl) (λ t. refl) (λ t. refl) (owns-plain v.journal seen (seen-with (HouseTook n ∷ []) seen) mark tt v.places refl refl refl);
         sound = λ picks later.
             let set : Setting = by_lists policy pid (v.picked ++ picks) (v.replies ++ later) in
-            let old : IsSound set v.journal todo s = v.sound picks later in
+            let old : IsRunSound set v.journal todo s = v.sound picks later in
             let step : TakeStep HOUSE n (log_of_journal set v.journal) = take-leaves HOUSE n (log_of_journal set v.journal) in
             let was : pending HOUSE (log_of_journal set v.journal) ≡ bytes = sym (waiting picks later ∙ ap (pending HOUSE) (log-is s policy pid (v.picked ++ picks) (v.replies ++ later) v.journal v.policy_is v.pid_is)) in
             record {
-              promise = record { takes = tt; waits = tt; speaks = tt; open_streams = tt; answers = tt };
+              promise = record { takes = tt; waits = tt; speaks = tt; open_streams = tt; answers = tt; after_end = tt; silence = tt };
               failed_out = λ t client w live. log-out set mark v.journal t (old.failed_out t client w (sym same.ended ∙ live));
               settled = λ t client a. elim (eqb_tells HOUSE t) [
                 | inl q ↦ inl (ap (λ i. pending i (log_of_journal set (mark ∷ v.journal))) (sym q.1) ∙ (ap (pending HOUSE) (took-log policy pid (v.picked ++ picks) (v.replies ++ later) (log_of_journal set v.journal) HOUSE n) ∙ (step.own ∙ (ap (drop n) was ∙ drop-all bytes))))
@@ -117,7 +115,7 @@ module _ {May : HouseReply → Type 0} {Rest : Resting} {before : Option (List H
 
   -- ---- it sent something
 
-  pub house-said : (v : Serving May Rest before now policy pid start seen held failed given [] s) (live : s.ended ≡ None) (e : Event) (bytes : List ℕ) → now.unnoted ≡ HouseSaid bytes ∷ [] → now.let_in ≡ true → Records e (Gets HOUSE bytes) → 0 < length bytes → length bytes ≤ 65536 → AreBytes bytes → length (queue_in s 0) < READING_STOPS_AT
+  pub house-said : (v : Serving May Rest before now policy pid start seen held failed given [] s) (live : s.ended ≡ None) (e : Event) (bytes : List ℕ) → now.unnoted ≡ HouseSaid bytes ∷ [] → now.let_in ≡ true → MarkRecords e (Gets HOUSE bytes) → 0 < length bytes → length bytes ≤ 65536 → AreBytes bytes → length (queue_in s 0) < READING_STOPS_AT
       → EventAt v live e (seen-with (HouseSaid bytes ∷ []) seen) (given + 1)
   house-said v live e bytes noted within records some few are room =
       let mark : Mark = House (HouseSaid bytes) in

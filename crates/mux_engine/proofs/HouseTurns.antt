@@ -4,7 +4,7 @@ use Rattle.std.proofs.Common.{◌≡◌, ◌≢◌, ◌<◌, ℕ, Bool, true, fa
 use Rattle.std.specs.Prelude.{◌==◌, All, IsTrue}
 use Rattle.std.specs.List.{list_any}
 use Rattle.std.proofs.lemmas.Bool.{eqb-true}
-use Rattle.std.proofs.lemmas.List.Elements.{All-cons, All-head, All-tail}
+use Rattle.std.proofs.lemmas.List.Elements.{All-cons, All-head, All-tail, filter-append}
 use Rattle.mux_outside.specs.House.{OpenAsk, ReplyFits, is_ask, without_ask}
 use Rattle.mux_outside.specs.Seen.{Seen}
 use Rattle.mux_outside.specs.Streams.{among}
@@ -17,23 +17,22 @@ use Rattle.mux_outside.specs.declared.mark.Mark.TheVariants.{Waits, Accepts, Get
 use Rattle.mux_history.specs.declared.limits.TheConstants.{HOUSE}
 use Rattle.mux_history.specs.Policy.{Policy}
 use Rattle.mux_history.specs.Journal.{IsLawful, is_accepted}
-use Rattle.mux_history.specs.Promises.{turns_in}
+use Rattle.mux_history.specs.Promises.{is_asked, turns_in}
 use Rattle.mux_history.proofs.Wires.{wire-keeps}
 use Rattle.mux_state.specs.State.{State}
-use Rattle.mux_state.specs.Events.{Keeps, here}
+use Rattle.mux_state.specs.Events.{EngineKeeps, here}
 use Rattle.mux_state.specs.declared.event.Event.TheVariants.{Accepted, HouseSays}
 use Rattle.mux_state.specs.Stands.{GoesOn}
 use Rattle.mux_state.proofs.Twins.{house-client}
-use Rattle.mux_engine.specs.Answers.{is_deferred}
+use Rattle.mux_engine.specs.Answers.{opens_after}
 use Rattle.mux_engine.specs.Serving.{Promised, Serving}
-use Rattle.mux_engine.specs.Sides.{Resting, Side}
+use Rattle.mux_engine.specs.Sides.{Resting, Side, ask_marks_in, house_marks}
 use Rattle.mux_engine.proofs.Asks.{goes-asked, goes-unasked, none-asked, unasked-none}
 use Rattle.mux_engine.proofs.Called.{calls-none, calls-recorded}
 use Rattle.mux_engine.proofs.Cuts.{cut-next, now-asked, of-streams, on-next}
-use Rattle.mux_engine.proofs.Deferred.{still-deferred}
 use Rattle.mux_engine.proofs.Happened.{placed-house-in, serve-event}
 use Rattle.mux_engine.proofs.Lists.{or-true, test-other, true-false}
-use Rattle.mux_engine.proofs.Marks.{Notes, asked-at}
+use Rattle.mux_engine.proofs.Marks.{Notes, asked-at, rows-go-on}
 use Rattle.mux_engine.proofs.Noted.{seen-with}
 use Rattle.mux_engine.proofs.Owns.{owns-plain}
 use Rattle.mux_engine.proofs.Places.{placed-still}
@@ -48,12 +47,12 @@ accepted-zero [] l = refl
 accepted-zero (Accepts k ∷ j) l = let lt = l.0 in ap (λ b. cond b true (is_accepted 0 j)) (test-other k 0 (λ e. absurd (omega (arith, lt.0, e)))) ∙ accepted-zero j l.1
 accepted-zero (House HouseIn ∷ j) l = accepted-zero j l.1
 accepted-zero (House m ∷ j) l = accepted-zero j l.1
-accepted-zero (Waits waiting want streams listens ∷ j) l = accepted-zero j l.1
+accepted-zero (Waits waiting want streams shown ∷ j) l = accepted-zero j l.1
 accepted-zero (Gets k bytes ∷ j) l = accepted-zero j l.1
 accepted-zero (Ends k ∷ j) l = accepted-zero j l.1
 accepted-zero (Frees k ∷ j) l = accepted-zero j l.1
 accepted-zero (Fails k ∷ j) l = accepted-zero j l.1
-accepted-zero (Takes k bytes ∷ j) l = accepted-zero j l.1
+accepted-zero (Takes k bytes accepts ∷ j) l = accepted-zero j l.1
 accepted-zero (Holds k ∷ j) l = accepted-zero j l.1
 accepted-zero (WriteFails k ∷ j) l = accepted-zero j l.1
 accepted-zero (Joins l' k ∷ j) l = accepted-zero j l.1
@@ -122,7 +121,7 @@ module _ {May : HouseReply → Type 0} {Rest : Resting} {before : Option (List H
   alone : v.journal ≡ [] → is_accepted HOUSE v.journal ≡ false
   alone e = ap (is_accepted HOUSE) e
 
-  pub house-let-in : {May' : HouseReply → Type 0} {recorded recorded' : Option (List HouseMark)} {s' : State} → v.journal ≡ [] → Rest.present ≡ true → s.ended ≡ None → s.refused ≡ [] → ((t : ℕ) → among t (0 ∷ here s') ≡ false → among t todo ≡ false) → GoesOn May' recorded recorded' s s' (Accepts HOUSE) → Keeps (Accepted HOUSE) s s'
+  pub house-let-in : {May' : HouseReply → Type 0} {recorded recorded' : Option (List HouseMark)} {s' : State} → v.journal ≡ [] → Rest.present ≡ true → s.ended ≡ None → s.refused ≡ [] → ((t : ℕ) → among t (0 ∷ here s') ≡ false → among t todo ≡ false) → GoesOn May' recorded recorded' s s' (Accepts HOUSE) → EngineKeeps (Accepted HOUSE) s s'
       → Serving May Rest before (record now { let_in = true }) policy pid start (seen-with (HouseIn ∷ []) seen) held failed given (0 ∷ here s') s'
   house-let-in {s' = s'} first there live admitted covers goes keeps =
       let g0 = goes v.picked v.replies v.journal v.closed v.stands ((λ e. absurd (omega (arith, e))), alone first, refl) in
@@ -131,8 +130,8 @@ module _ {May : HouseReply → Type 0} {Rest : Resting} {before : Option (List H
       let g = goes-unasked {May = May} v.stands g1 none in
       serve-event v (House HouseIn) g (record now { let_in = true }) (seen-with (HouseIn ∷ []) seen) held failed given keeps.policy keeps.pid live tt covers
       (λ j c e. true-false (sym c ∙ (ap (λ i. among i v.closed) (sym e) ∙ ((v.stands.at [] []).bytes.strange HOUSE (alone first)).not_closed_yet))) (λ picks later. tt) (λ picks later. tt)
-      (subst (Notes now (record now { let_in = true }) (House HouseIn)) (sym (unasked-none May v.stands g1 none)) (record { more = []; recorded_is = records-none now.recorded; noted_is = sym (append-nil now.unnoted); asks_are = refl })) (λ set. calls-none now)
-      (askers-more v (House HouseIn)) (still-deferred now (record now { let_in = true }) g.asks refl) refl (λ e. there) (λ set. tt) (λ e. true-false (sym there ∙ e)) v.turns refl
+      (subst (Notes now (record now { let_in = true }) (House HouseIn)) (sym (unasked-none May v.stands g1 none)) (record { more = []; recorded_is = records-none now.recorded; noted_is = sym (append-nil now.unnoted); asks_are = refl; opens_are = refl })) (λ set. calls-none now)
+      (askers-more v (House HouseIn)) refl (λ e. there) (λ set. tt) (λ e. true-false (sym there ∙ e)) v.turns refl
       (placed-house-in v (seen-with (HouseIn ∷ []) seen) s' ((wire-keeps seen v.journal).note HouseIn first refl v.of_wire) refl refl refl refl refl (came (Accepted HOUSE) HOUSE s s' refl admitted (keeps.streams live))
       (owns-plain v.journal seen (seen-with (HouseIn ∷ []) seen) (House HouseIn) tt v.places refl refl refl))
 
@@ -140,28 +139,32 @@ module _ {May : HouseReply → Type 0} {Rest : Resting} {before : Option (List H
   pub cut-let-in : v.journal ≡ [] → Rest.present ≡ true → Promised May Rest before now.recorded policy pid start (seen-with (HouseIn ∷ []) seen).recorded given
   cut-let-in first there = cut-next v now.recorded (seen-with (HouseIn ∷ []) seen).recorded given (House HouseIn) [] now.unnoted refl (records-none now.recorded) (sym (append-nil now.unnoted))
       (of-streams seen.streams seen.blocked seen.last (House HouseIn ∷ v.journal) ((wire-keeps seen v.journal).note HouseIn first refl v.of_wire)) (record { opened = tt; gives = tt; writes = tt; joins = tt; others = refl })
-      (let w : turns_in v.journal ≡ given = v.turns in omega arith) (λ set. tt) (λ e. true-false (sym there ∙ e)) (on-next v (House HouseIn)) (λ set. inr (0, refl)) (λ picks later. record { takes = tt; waits = tt; speaks = tt; open_streams = tt; answers = tt })
+      (let w : turns_in v.journal ≡ given = v.turns in omega arith) (λ set. tt) (λ e. true-false (sym there ∙ e)) (on-next v (House HouseIn)) (λ set. inr (0, refl)) (λ picks later. record { takes = tt; waits = tt; speaks = tt; open_streams = tt; answers = tt; after_end = tt; silence = tt })
 
   -- ---- it answers
 
-  pub house-answers : {May' : HouseReply → Type 0} {recorded recorded' : Option (List HouseMark)} {s' : State} (client id : ℕ) (reply : HouseReply) (rest : List HouseMark) → now.unnoted ≡ HouseAnswer client id reply ∷ rest → now.let_in ≡ true → is_accepted client v.journal ≡ true → list_any (is_deferred client id) v.stands.asks ≡ true → s.ended ≡ None → ((t : ℕ) → among t (0 ∷ here s') ≡ false → among t todo ≡ false)
-      → GoesOn May' recorded recorded' s s' (House (HouseAnswer client id reply)) → Keeps (HouseSays client id reply) s s' → Serving May Rest before (record now { unnoted = rest }) policy pid start (seen-with (HouseAnswer client id reply ∷ []) seen) held failed given (0 ∷ here s') s'
-  house-answers {s' = s'} client id reply rest e within asked due live covers goes keeps =
+  -- all that was requested is noted where only this answer isn't
+  all-asked : (client id : ℕ) (reply : HouseReply) → now.unnoted ≡ HouseAnswer client id reply ∷ [] → ask_marks_in (house_marks v.journal) ≡ v.stands.asks
+  all-asked client id reply e = sym (filter-append is_asked (house_marks v.journal) (HouseAnswer client id reply ∷ []) ∙ append-nil (ask_marks_in (house_marks v.journal))) ∙ (ap (λ (l : List HouseMark). ask_marks_in (house_marks v.journal ++ l)) (sym e) ∙ v.asked)
+
+  pub house-answers : {May' : HouseReply → Type 0} {recorded recorded' : Option (List HouseMark)} {s' : State} (client id : ℕ) (reply : HouseReply) → now.unnoted ≡ HouseAnswer client id reply ∷ [] → now.let_in ≡ true → is_accepted client v.journal ≡ true → ReplyFits reply client id (opens_after (house_marks v.journal) []) → s.ended ≡ None → ((t : ℕ) → among t (0 ∷ here s') ≡ false → among t todo ≡ false)
+      → GoesOn May' recorded recorded' s s' (House (HouseAnswer client id reply)) → EngineKeeps (HouseSays client id reply) s s' → Serving May Rest before (record now { unnoted = [] }) policy pid start (seen-with (HouseAnswer client id reply ∷ []) seen) held failed given (0 ∷ here s') s'
+  house-answers {s' = s'} client id reply e within asked due live covers goes keeps =
       let m : HouseMark = HouseAnswer client id reply in
       let nz : client ≢ 0 = λ z. true-false (sym asked ∙ (ap (λ i. is_accepted i v.journal) z ∙ accepted-zero v.journal v.of_wire.lawful)) in
       let g1 = goes v.picked v.replies v.journal v.closed v.stands (nz, asked) in
       let none = none-asked g1.asks (goes-asked (λ j. ⊥) g1 keeps.policy keeps.pid tt) in
       let g = goes-unasked {May = May} v.stands g1 none in
-      serve-event v (House m) g (record now { unnoted = rest }) (seen-with (m ∷ []) seen) held failed given keeps.policy keeps.pid live tt covers (λ j c. tt) (λ picks later. tt)
-      (λ picks later. ap (list_any (is_deferred client id)) (asked-at v g.picks g.replies (v.picked ++ g.picks) (v.replies ++ g.replies) refl refl picks later) ∙ due)
-      (subst (Notes now (record now { unnoted = rest }) (House m)) (sym (unasked-none May v.stands g1 none)) (record { more = []; recorded_is = records-none now.recorded; noted_is = sym e ∙ sym (append-nil now.unnoted); asks_are = refl }))
-      (λ set. calls-recorded now (record now { unnoted = rest }) (m ∷ []) [] (sym e ∙ sym (append-nil now.unnoted)) (sym (append-nil now.calls)))
-      (askers-more v (House m)) (still-deferred now (record now { unnoted = rest }) g.asks refl) v.house_in v.house_there (λ set. tt) (λ e. true-false (sym (v.house_there within) ∙ e)) v.turns refl
+      serve-event v (House m) g (record now { unnoted = [] }) (seen-with (m ∷ []) seen) held failed given keeps.policy keeps.pid live tt covers (λ j c. tt) (λ picks later. tt)
+      (λ picks later. record { asked = all-asked client id reply e ∙ sym (asked-at v g.picks g.replies (v.picked ++ g.picks) (v.replies ++ g.replies) refl refl picks later); fits = due })
+      (subst (Notes now (record now { unnoted = [] }) (House m)) (sym (unasked-none May v.stands g1 none)) (record { more = []; recorded_is = records-none now.recorded; noted_is = sym e ∙ sym (append-nil now.unnoted); asks_are = refl; opens_are = refl }))
+      (λ set. calls-recorded now (record now { unnoted = [] }) (m ∷ []) [] (sym e ∙ sym (append-nil now.unnoted)) (sym (append-nil now.calls)))
+      (askers-more v (House m)) v.house_in v.house_there (λ set. tt) (λ e. true-false (sym (v.house_there within) ∙ e)) v.turns refl
       (placed-still v (House m) (seen-with (m ∷ []) seen) s' ((wire-keeps seen v.journal).note m asked refl v.of_wire) refl refl refl refl refl (stayed (HouseSays client id reply) (House m) s s' (nz, refl) tt (keeps.streams live)) (λ t. refl) (λ t. refl) (λ t. refl)
       (owns-plain v.journal seen (seen-with (m ∷ []) seen) (House m) tt v.places refl refl refl))
 
-  pub cut-answers : (client id : ℕ) (reply : HouseReply) (rest : List HouseMark) → now.unnoted ≡ HouseAnswer client id reply ∷ rest → now.let_in ≡ true → is_accepted client v.journal ≡ true → list_any (is_deferred client id) v.stands.asks ≡ true → Promised May Rest before now.recorded policy pid start (seen-with (HouseAnswer client id reply ∷ []) seen).recorded given
-  cut-answers client id reply rest e within asked due = let m : HouseMark = HouseAnswer client id reply in
-      cut-next v now.recorded (seen-with (m ∷ []) seen).recorded given (House m) [] rest refl (records-none now.recorded) (sym e ∙ sym (append-nil now.unnoted))
+  pub cut-answers : (client id : ℕ) (reply : HouseReply) → now.unnoted ≡ HouseAnswer client id reply ∷ [] → now.let_in ≡ true → is_accepted client v.journal ≡ true → ReplyFits reply client id (opens_after (house_marks v.journal) []) → s.ended ≡ None → Promised May Rest before now.recorded policy pid start (seen-with (HouseAnswer client id reply ∷ []) seen).recorded given
+  cut-answers client id reply e within asked due live = let m : HouseMark = HouseAnswer client id reply in
+      cut-next v now.recorded (seen-with (m ∷ []) seen).recorded given (House m) [] [] refl (records-none now.recorded) (sym e ∙ sym (append-nil now.unnoted))
       (of-streams seen.streams seen.blocked seen.last (House m ∷ v.journal) ((wire-keeps seen v.journal).note m asked refl v.of_wire)) (record { opened = tt; gives = tt; writes = tt; joins = tt; others = refl })
-      (let w : turns_in v.journal ≡ given = v.turns in omega arith) (λ set. tt) (λ e. true-false (sym (v.house_there within) ∙ e)) (on-next v (House m)) (λ set. inr (0, refl)) (λ picks later. record { takes = tt; waits = tt; speaks = tt; open_streams = tt; answers = ap (list_any (is_deferred client id)) (now-asked v picks later) ∙ due })
+      (let w : turns_in v.journal ≡ given = v.turns in omega arith) (λ set. tt) (λ e. true-false (sym (v.house_there within) ∙ e)) (on-next v (House m)) (λ set. inr (0, refl)) (λ picks later. record { takes = tt; waits = tt; speaks = tt; open_streams = tt; answers = record { asked = all-asked client id reply e ∙ sym (now-asked v picks later); fits = due }; after_end = rows-go-on v live picks later; silence = tt })

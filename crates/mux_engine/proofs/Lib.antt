@@ -8,10 +8,9 @@ mod Closed
 mod Comes
 mod Counting
 mod Cuts
-mod Deferred
+pub mod Deferred
 mod Ending
 mod Fates
-mod First
 mod Following
 mod Going
 mod Greeted
@@ -32,6 +31,7 @@ mod Marks
 mod Noted
 mod Offers
 mod OneWait
+mod Opens
 mod OrderHoused
 mod Ordered
 mod Outs

@@ -1,6 +1,6 @@
 -- Lists of streams, and the streams that are open.
-use Rattle.std.proofs.Common.{◌≡◌, ◌≢◌, ◌<◌, ◌+◌, ℕ, zero, suc, Bool, true, false, not, ◌||◌, ◌&&◌, List, [], ◌∷◌, ◌++◌, length, get_or, drop, refl, sym, ap, ◌∙◌, inl, inr, cond, arith, drop-cons}
-use Rattle.std.specs.Prelude.{◌==◌, filter}
+use Rattle.std.proofs.Common.{◌≡◌, ◌≢◌, ◌<◌, ◌+◌, ℕ, zero, suc, Bool, true, false, not, ◌||◌, ◌&&◌, List, [], ◌∷◌, ◌++◌, length, get_or, take, drop, refl, sym, ap, ◌∙◌, inl, inr, cond, arith, drop-cons, take-suc}
+use Rattle.std.specs.Prelude.{◌==◌, ◌⊎◌, filter}
 use Rattle.std.proofs.lemmas.Bool.{eq-eqb}
 use Rattle.std.proofs.lemmas.Bool.Decides.{eqb_tells}
 use Rattle.std.proofs.lemmas.List.Folds.{list_any-append}
@@ -78,6 +78,16 @@ pub element-among : (i : ℕ) (xs : List ℕ) → i < length xs → among (get_o
 element-among i [] lt = absurd (omega arith)
 element-among zero (x ∷ xs) lt = ap (λ b. b || among x xs) (eq-eqb x x refl)
 element-among (suc i) (x ∷ xs) lt = ap (λ b. (x == get_or xs i 0) || b) (element-among i xs (omega arith)) ∙ or-true (x == get_or xs i 0)
+
+pub among-next : (i t : ℕ) (xs : List ℕ) → i < length xs → among t (take (i + 1) xs) ≡ true → (among t (take i xs) ≡ true) ⊎ (get_or xs i 0 ≡ t)
+among-next i t xs lt h =
+    let k : ℕ = get_or xs i 0 in
+    let e : suc i ≡ i + 1 = omega arith in
+    let last : take (i + 1) xs ≡ take i xs ++ k ∷ [] = ap (λ m. take m xs) (sym e) ∙ take-suc xs i 0 lt in
+    elim (eqb_tells k t) [
+      | inl q ↦ inr q.1
+      | inr q ↦ inl (sym (ap (among t) last ∙ among-other-last k t (take i xs) q.1) ∙ h)
+    ]
 
 pub drop-next : (i : ℕ) (xs : List ℕ) → i < length xs → drop i xs ≡ get_or xs i 0 ∷ drop (i + 1) xs
 drop-next i xs lt = let e : suc i ≡ i + 1 = omega arith in drop-cons xs i 0 lt ∙ ap (λ m. get_or xs i 0 ∷ drop m xs) e

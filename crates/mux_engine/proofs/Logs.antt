@@ -1,10 +1,11 @@
 -- What one mark more makes of the rows: of the other streams it leaves what they had.
-use Rattle.std.proofs.Common.{◌≡◌, ◌≢◌, ℕ, Bool, true, false, not, ◌||◌, ◌&&◌, List, [], ◌∷◌, length, refl, sym, ap, ◌∙◌, inl, inr, cond}
+use Rattle.std.proofs.Common.{◌≡◌, ◌≢◌, ℕ, Bool, true, false, not, ◌||◌, ◌&&◌, List, [], ◌∷◌, ◌++◌, length, refl, sym, ap, ◌∙◌, inl, inr, cond}
 use Rattle.std.specs.Prelude.{◌==◌}
 use Rattle.std.proofs.lemmas.Bool.Decides.{eqb_tells}
 use Rattle.mux_outside.specs.declared.house.HouseReply.{HouseReply}
 use Rattle.mux_outside.specs.declared.mark.Mark.{Mark}
 use Rattle.mux_outside.specs.declared.mark.Mark.TheVariants.{Waits, Accepts, Gets, Ends, Frees, Fails, Takes, Holds, WriteFails, Joins, House}
+use Rattle.mux_outside.specs.Streams.{among}
 use Rattle.mux_history.specs.Policy.{Policy}
 use Rattle.mux_history.specs.Rows.{Row, rows_of, is_out, is_end, is_ended, loses, is_refusal, Item, Gone, Took, ServerFailed}
 use Rattle.mux_history.specs.Pending.{pending, pending_down, pending_up}
@@ -17,7 +18,7 @@ use Rattle.mux_history.proofs.OwnRows.{idle_row}
 use Rattle.mux_history.proofs.PendingSteps.{take-leaves}
 use Rattle.mux_peers.proofs.Losses.{gone-row}
 use Rattle.mux_peers.proofs.Stood.{own_row}
-use Rattle.mux_engine.proofs.Lists.{or-true, test-other, true-false}
+use Rattle.mux_engine.proofs.Lists.{among-other-last, or-true, test-other, test-same, true-false}
 
 more-yes : (set : Setting) (rows : List Row) (item : Item) → makes_next rows item ≡ true → more_of set rows item ≡ next_row set rows item ∷ rows
 more-yes set rows item e = ap (λ b. elim b as (λ _. List Row) [ false ↦ rows | true ↦ next_row set rows item ∷ rows ]) e
@@ -103,6 +104,24 @@ lost-out policy pid picks replies k marks nz client live = ap (λ r. is_out (row
     by_out true e = ap (λ r. is_out (rows_of k r)) (more-no set rows (Gone k) (next-is true e)) ∙ e
     by_out false e = ap (λ r. is_out (rows_of k r)) (more-yes set rows (Gone k) (next-is false e)) ∙ (ap is_out (own_row k (next_row set rows (Gone k)) rows (gone-client policy pid picks replies k rows)) ∙ ap (λ (row : Row). (loses row || is_refusal row.fate) || is_out (rows_of k rows)) (gone-row policy pid picks replies k rows))
 
+no-wish : (b c : Bool) → (not (b && false) && c) ≡ c
+no-wish true c = refl
+no-wish false c = refl
+
+-- it wishes nothing
+pub lost-listens : (policy : Policy) (pid : ℕ) (picks : List ℕ) (replies : List HouseReply) (k : ℕ) (marks : List Mark) → k ≢ 0 → is_own_stream k ≡ false → (let set : Setting = by_lists policy pid picks replies in listens (log_of_journal set (WriteFails k ∷ marks)) ≡ listens (log_of_journal set marks))
+lost-listens policy pid picks replies k marks nz client = ap listens (lost-log policy pid picks replies k marks nz client) ∙ by_made (makes_next rows (Gone k))
+  where
+    set : Setting
+    set = by_lists policy pid picks replies
+
+    rows : List Row
+    rows = log_of_journal set marks
+
+    by_made : (b : Bool) → listens (elim b as (λ _. List Row) [ false ↦ rows | true ↦ next_row set rows (Gone k) ∷ rows ]) ≡ listens rows
+    by_made true = ap (λ (row : Row). listens (row ∷ rows)) (gone-row policy pid picks replies k rows) ∙ no-wish true (listens rows)
+    by_made false = refl
+
 -- ---- the other streams
 
 one-other : (set : Setting) (t : ℕ) (item : Item) (rows : List Row) → ((next_row set rows item).client == t) ≡ false → rows_of t (more_of set rows item) ≡ rows_of t rows
@@ -139,8 +158,8 @@ failed-pending policy pid picks replies k t marks ne nz = by_number (log_of_jour
     by_number : (rows : List Row) → pending t rows ≡ pending_down (rows_of t rows)
     by_number rows = ap (λ b. elim b as (λ _. List ℕ) [ true ↦ pending_up rows | false ↦ pending_down (rows_of t rows) ]) (test-other t 0 nz)
 
-pub took-pending : (policy : Policy) (pid : ℕ) (picks : List ℕ) (replies : List HouseReply) (k t : ℕ) (bytes : List ℕ) (marks : List Mark) → k ≢ t → (let set : Setting = by_lists policy pid picks replies in pending t (log_of_journal set (Takes k bytes ∷ marks)) ≡ pending t (log_of_journal set marks))
-took-pending policy pid picks replies k t bytes marks ne = by_own (is_own_stream k)
+pub took-pending : (policy : Policy) (pid : ℕ) (picks : List ℕ) (replies : List HouseReply) (k t : ℕ) (bytes : List ℕ) (accepts : Bool) (marks : List Mark) → k ≢ t → (let set : Setting = by_lists policy pid picks replies in pending t (log_of_journal set (Takes k bytes accepts ∷ marks)) ≡ pending t (log_of_journal set marks))
+took-pending policy pid picks replies k t bytes accepts marks ne = by_own (is_own_stream k)
   where
     set : Setting
     set = by_lists policy pid picks replies
@@ -156,13 +175,13 @@ took-pending policy pid picks replies k t bytes marks ne = by_own (is_own_stream
 
 -- the stream of a mark
 abbrev pub mark_stream : Mark → ℕ
-mark_stream (Waits waiting want streams listens) = 0
+mark_stream (Waits waiting want streams shown) = 0
 mark_stream (Accepts k) = k
 mark_stream (Gets k bytes) = k
 mark_stream (Ends k) = k
 mark_stream (Frees k) = k
 mark_stream (Fails k) = k
-mark_stream (Takes k bytes) = k
+mark_stream (Takes k bytes accepts) = k
 mark_stream (Holds k) = k
 mark_stream (WriteFails k) = k
 mark_stream (Joins l k) = k
@@ -174,12 +193,12 @@ NotHouse (House m) = ⊥
 NotHouse mark = Unit {0}
 
 pub blocked-other : (mark : Mark) (journal : List Mark) (t : ℕ) → NotHouse mark → mark_stream mark ≢ t → is_blocked t (mark ∷ journal) ≡ is_blocked t journal
-blocked-other (Waits waiting want streams listens) journal t plain ne = refl
+blocked-other (Waits waiting want streams shown) journal t plain ne = refl
 blocked-other (Accepts k) journal t plain ne = refl
 blocked-other (Gets k bytes) journal t plain ne = refl
 blocked-other (Ends k) journal t plain ne = refl
 blocked-other (Fails k) journal t plain ne = refl
-blocked-other (Takes k bytes) journal t plain ne = refl
+blocked-other (Takes k bytes accepts) journal t plain ne = refl
 blocked-other (WriteFails k) journal t plain ne = refl
 blocked-other (Holds k) journal t plain ne = ap (λ b. elim b as (λ _. Bool) [ true ↦ true | false ↦ is_blocked t journal ]) (test-other k t ne)
 blocked-other (Frees k) journal t plain ne = ap (λ b. elim b as (λ _. Bool) [ true ↦ false | false ↦ is_blocked t journal ]) (test-other k t ne)
@@ -187,13 +206,13 @@ blocked-other (Joins l k) journal t plain ne = refl
 blocked-other (House m) journal t plain ne = absurd plain
 
 pub failed-other : (mark : Mark) (journal : List Mark) (t : ℕ) → mark_stream mark ≢ t → write_failed t (mark ∷ journal) ≡ write_failed t journal
-failed-other (Waits waiting want streams listens) journal t ne = refl
+failed-other (Waits waiting want streams shown) journal t ne = refl
 failed-other (Accepts k) journal t ne = refl
 failed-other (Gets k bytes) journal t ne = refl
 failed-other (Ends k) journal t ne = refl
 failed-other (Fails k) journal t ne = refl
 failed-other (Frees k) journal t ne = refl
-failed-other (Takes k bytes) journal t ne = ap (λ b. elim b as (λ _. Bool) [ true ↦ false | false ↦ write_failed t journal ]) (test-other k t ne)
+failed-other (Takes k bytes accepts) journal t ne = ap (λ b. elim b as (λ _. Bool) [ true ↦ false | false ↦ write_failed t journal ]) (test-other k t ne)
 failed-other (Holds k) journal t ne = ap (λ b. elim b as (λ _. Bool) [ true ↦ false | false ↦ write_failed t journal ]) (test-other k t ne)
 failed-other (WriteFails k) journal t ne = ap (λ b. elim b as (λ _. Bool) [ true ↦ true | false ↦ write_failed t journal ]) (test-other k t ne)
 failed-other (Joins l k) journal t ne = refl
@@ -207,12 +226,12 @@ NotArrival mark = Unit {0}
 
 pub accepted-same : (mark : Mark) (journal : List Mark) (k : ℕ) → NotArrival mark → is_accepted k (mark ∷ journal) ≡ is_accepted k journal
 accepted-same (Accepts j) journal k n = absurd n
-accepted-same (Waits waiting want streams listens) journal k n = refl
+accepted-same (Waits waiting want streams shown) journal k n = refl
 accepted-same (Gets j bytes) journal k n = refl
 accepted-same (Ends j) journal k n = refl
 accepted-same (Frees j) journal k n = refl
 accepted-same (Fails j) journal k n = refl
-accepted-same (Takes j bytes) journal k n = refl
+accepted-same (Takes j bytes accepts) journal k n = refl
 accepted-same (Holds j) journal k n = refl
 accepted-same (WriteFails j) journal k n = refl
 accepted-same (Joins l j) journal k n = refl
@@ -222,6 +241,38 @@ accepted-same (House m) journal k n = absurd n
 pub has-failed-other : (k t : ℕ) (journal : List Mark) → k ≢ t → (elim (k == t) as (λ _. Bool) [ true ↦ true | false ↦ has_failed t journal ]) ≡ has_failed t journal
 has-failed-other k t journal ne = ap (λ b. elim b as (λ _. Bool) [ true ↦ true | false ↦ has_failed t journal ]) (test-other k t ne)
 
+-- a stream that failed has failed for ever
+pub failed-more : (mark : Mark) (journal : List Mark) (t : ℕ) → has_failed t journal ≡ true → has_failed t (mark ∷ journal) ≡ true
+failed-more (Fails k) journal t f = by_test (k == t) f
+  where
+    by_test : (b : Bool) → has_failed t journal ≡ true → (elim b as (λ _. Bool) [ true ↦ true | false ↦ has_failed t journal ]) ≡ true
+    by_test true f = refl
+    by_test false f = f
+failed-more (WriteFails k) journal t f = by_test (k == t) f
+  where
+    by_test : (b : Bool) → has_failed t journal ≡ true → (elim b as (λ _. Bool) [ true ↦ true | false ↦ has_failed t journal ]) ≡ true
+    by_test true f = refl
+    by_test false f = f
+failed-more (Waits waiting want streams shown) journal t f = f
+failed-more (Accepts k) journal t f = f
+failed-more (Gets k bytes) journal t f = f
+failed-more (Ends k) journal t f = f
+failed-more (Frees k) journal t f = f
+failed-more (Takes k bytes accepts) journal t f = f
+failed-more (Holds k) journal t f = f
+failed-more (Joins l k) journal t f = f
+failed-more (House m) journal t f = f
+
+pub has-failed-same : (k : ℕ) (journal : List Mark) → (elim (k == k) as (λ _. Bool) [ true ↦ true | false ↦ has_failed k journal ]) ≡ true
+has-failed-same k journal = ap (λ b. elim b as (λ _. Bool) [ true ↦ true | false ↦ has_failed k journal ]) (test-same k)
+
+-- those in a list failed, and one more did
+pub failed-last : (mark : Mark) (journal : List Mark) (k : ℕ) (failed : List ℕ) → has_failed k (mark ∷ journal) ≡ true → ((t : ℕ) → among t failed ≡ true → has_failed t journal ≡ true) → (t : ℕ) → among t (failed ++ k ∷ []) ≡ true → has_failed t (mark ∷ journal) ≡ true
+failed-last mark journal k failed now did t a = elim (eqb_tells k t) [
+  | inl q ↦ ap (λ i. has_failed i (mark ∷ journal)) (sym q.1) ∙ now
+  | inr q ↦ failed-more mark journal t (did t (sym (among-other-last k t failed q.1) ∙ a))
+]
+
 cond-true : (b : Bool) → cond b true true ≡ true
 cond-true true = refl
 cond-true false = refl
@@ -230,12 +281,12 @@ cond-true false = refl
 pub accepted-more : (mark : Mark) (journal : List Mark) (k : ℕ) → is_accepted k journal ≡ true → is_accepted k (mark ∷ journal) ≡ true
 accepted-more (Accepts j) journal k a = ap (λ b. cond (j == k) true b) a ∙ cond-true (j == k)
 accepted-more (House m) journal k a = ap (λ b. cond (lets_in k m) true b) a ∙ cond-true (lets_in k m)
-accepted-more (Waits waiting want streams listens) journal k a = a
+accepted-more (Waits waiting want streams shown) journal k a = a
 accepted-more (Gets j bytes) journal k a = a
 accepted-more (Ends j) journal k a = a
 accepted-more (Frees j) journal k a = a
 accepted-more (Fails j) journal k a = a
-accepted-more (Takes j bytes) journal k a = a
+accepted-more (Takes j bytes accepts) journal k a = a
 accepted-more (Holds j) journal k a = a
 accepted-more (WriteFails j) journal k a = a
 accepted-more (Joins l j) journal k a = a
@@ -246,8 +297,8 @@ holds-blocked k t marks b e = ap (λ c. elim c as (λ _. Bool) [ true ↦ true |
 pub holds-failed : (k t : ℕ) (marks : List Mark) (b : Bool) → (k == t) ≡ b → write_failed t (Holds k ∷ marks) ≡ (elim b as (λ _. Bool) [ true ↦ false | false ↦ write_failed t marks ])
 holds-failed k t marks b e = ap (λ c. elim c as (λ _. Bool) [ true ↦ false | false ↦ write_failed t marks ]) e
 
-pub takes-failed : (k t : ℕ) (bytes : List ℕ) (marks : List Mark) (b : Bool) → (k == t) ≡ b → write_failed t (Takes k bytes ∷ marks) ≡ (elim b as (λ _. Bool) [ true ↦ false | false ↦ write_failed t marks ])
-takes-failed k t bytes marks b e = ap (λ c. elim c as (λ _. Bool) [ true ↦ false | false ↦ write_failed t marks ]) e
+pub takes-failed : (k t : ℕ) (bytes : List ℕ) (accepts : Bool) (marks : List Mark) (b : Bool) → (k == t) ≡ b → write_failed t (Takes k bytes accepts ∷ marks) ≡ (elim b as (λ _. Bool) [ true ↦ false | false ↦ write_failed t marks ])
+takes-failed k t bytes accepts marks b e = ap (λ c. elim c as (λ _. Bool) [ true ↦ false | false ↦ write_failed t marks ]) e
 
 pub fails-failed : (k t : ℕ) (marks : List Mark) (b : Bool) → (k == t) ≡ b → write_failed t (WriteFails k ∷ marks) ≡ (elim b as (λ _. Bool) [ true ↦ true | false ↦ write_failed t marks ])
 fails-failed k t marks b e = ap (λ c. elim c as (λ _. Bool) [ true ↦ true | false ↦ write_failed t marks ]) e

@@ -62,7 +62,7 @@ not-empty [] e = refl
 not-empty (b ∷ q) e = true-false e
 
 -- what is in neither of two lists
-pub neither : (t : ℕ) (xs ys : List ℕ) → among t (xs ++ ys) ≡ false → (among t xs ≡ false) × (among t ys ≡ false)
+neither : (t : ℕ) (xs ys : List ℕ) → among t (xs ++ ys) ≡ false → (among t xs ≡ false) × (among t ys ≡ false)
 neither t xs ys e = split (among t xs) (among t ys) (sym (list_any-append (λ (i : ℕ). i == t) xs ys) ∙ e)
   where
     split : (a b : Bool) → (a || b) ≡ false → (a ≡ false) × (b ≡ false)

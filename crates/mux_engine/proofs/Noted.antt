@@ -34,9 +34,9 @@ module _ {May : HouseReply → Type 0} {Rest : Resting} {before : Option (List H
       let m : HouseMark = HouseAsked client id opening ask reply in
       let alike = own-silent.asked v.journal client id opening ask reply in
       serve-quiet v (record now { unnoted = rest }) (seen-with (m ∷ []) seen) held failed given (House m)
-      (record { log = alike.log; blocked = λ t client. refl; unwritten = λ t client. refl; promise = λ set. record { takes = tt; waits = tt; speaks = tt; open_streams = tt; answers = tt }; rested = λ set. tt; absent = λ e. refl; house = refl })
+      (record { log = alike.log; blocked = λ t client. refl; unwritten = λ t client. refl; promise = λ picks later. record { takes = tt; waits = tt; speaks = tt; open_streams = tt; answers = tt; after_end = tt; silence = tt }; rested = λ set. tt; absent = λ e. refl; house = refl })
       (stands-alike v.journal (House m ∷ v.journal) v.picked v.replies s v.closed alike v.stands)
-      (record { more = []; recorded_is = records-none now.recorded; noted_is = sym e ∙ sym (append-nil now.unnoted); asks_are = refl })
+      (record { more = []; recorded_is = records-none now.recorded; noted_is = sym e ∙ sym (append-nil now.unnoted); asks_are = refl; opens_are = refl })
       (λ set. calls-recorded now (record now { unnoted = rest }) (m ∷ []) [] (sym e ∙ sym (append-nil now.unnoted)) (sym (append-nil now.calls)))
       refl refl refl v.turns
       (placed-still v (House m) (seen-with (m ∷ []) seen) s ((wire-keeps seen v.journal).note m tt refl v.of_wire) refl refl refl refl refl refl (λ t. refl) (λ t. refl) (λ t. refl)

@@ -24,12 +24,12 @@ use Rattle.mux_state.specs.declared.event.Event.{Event}
 use Rattle.mux_engine.specs.Asking.{AppliesEvent}
 use Rattle.mux_engine.specs.Came.{OverBy}
 use Rattle.mux_engine.specs.Counted.{Counts}
-use Rattle.mux_engine.specs.Owned.{waits_for}
+use Rattle.mux_engine.specs.Owned.{waits_for_own}
 use Rattle.mux_engine.specs.Rests.{EndsSo}
 use Rattle.mux_engine.specs.Serving.{RunsOn, ServedWith, Serving, scene, scene_of}
 use Rattle.mux_engine.specs.Sides.{Housed, IsAlone, RestsOf, SameHouse, StaysHouse, Together, noted}
 use Rattle.mux_engine.specs.Turns.{IsEventOf, IsOwnOf, failed_received, held_received, own_received, want_of}
-use Rattle.mux_engine.specs.Wires.{IsIdle, Untouched, Works}
+use Rattle.mux_engine.specs.Wires.{IsIdleWire, Untouched, Works}
 use Rattle.mux_engine.specs.declared.room.Lists.{Lists}
 use Rattle.mux_engine.proofs.Arms.{on-err, on-ok}
 use Rattle.mux_engine.proofs.Called.{handed-more, handed-none}
@@ -91,7 +91,7 @@ works-unlisted (Ok x) w f is = absurd (let z : false ≡ true = is in cc)
 works-unlisted (Err x) w f is = record { keeps = keeps-none w f; calls = cut-none 1 w.calls }
 
 -- the wait reported an event, which was applied
-pub works-event : {A E : Type 0} (r : Result A E) {old mid new : WireState} {f g h : Faults} (e : Event) (t : Turn) (waiting : List ℕ) (want : Want) (bytes : List ℕ) → IsEventOf e t bytes → mid ≡ state_after_wait t waiting want bytes mid.tally old → TurnFaults t f g → IsIdle mid new g h → Works 1 r old new f h
+pub works-event : {A E : Type 0} (r : Result A E) {old mid new : WireState} {f g h : Faults} (e : Event) (t : Turn) (waiting : List ℕ) (want : Want) (bytes : List ℕ) → IsEventOf e t bytes → mid ≡ state_after_wait t waiting want bytes mid.tally old → TurnFaults t f g → IsIdleWire mid new g h → Works 1 r old new f h
 works-event r {old = old} {mid = mid} e t waiting want bytes next after cause applied =
     let waited : Works 1 r old mid _ _ = record {
       keeps = keeps-wait t waiting want bytes after cause;
@@ -116,7 +116,7 @@ module _ {T : Type 0} {May : HouseReply → Type 0} {state : T → HouseState} {
 
   -- where there is no forwarder no stream was accepted
   unjoined : (state house).known.present ≡ false → wire1.seen.last_own ≡ wire.seen.last_own
-  unjoined = wait-opens t (s.waiting ++ filter (waits_for (state house).queue lists.failed) lists.own) (want_of s) bytes (state house).known wire.seen wire1.seen lists.own b.together.housed b.together.alone w.own_fits w.seen_is
+  unjoined = wait-opens t (s.waiting ++ filter (waits_for_own (state house).queue lists.failed) lists.own) (want_of s) bytes (state house).known wire.seen wire1.seen lists.own b.together.housed b.together.alone w.own_fits w.seen_is
 
   -- ---- an event
 

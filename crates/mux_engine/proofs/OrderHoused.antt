@@ -12,7 +12,7 @@ use Rattle.mux_outside.specs.Streams.{among, without}
 use Rattle.mux_outside.specs.declared.order.Order.{Order}
 use Rattle.mux_outside.specs.declared.order.Order.TheVariants.{Listen, Connect, Unlisten, Pause, Resume, Finish, Close}
 use Rattle.mux_outside.specs.declared.own_streams.OwnStream.{OwnStream}
-use Rattle.mux_engine.specs.Orders.{HasOrdered, MadeBy, known_carried, own_carried, seen_carried}
+use Rattle.mux_engine.specs.Orders.{HasOrdered, OrderMadeBy, known_carried, own_carried, seen_carried}
 use Rattle.mux_engine.specs.Sides.{Housed}
 use Rattle.mux_engine.proofs.Closed.{was-among}
 use Rattle.mux_engine.proofs.Lists.{among-last, among-other-last, or-last, test-other, test-same, true-false, without-other}
@@ -101,7 +101,7 @@ changed f h known seen own o = record {
   };
 }
 
-pub order-housed : (order : Order) (number : Option ℕ) (known : Known) (seen : Seen) (own : List ℕ) → Housed known seen own → MadeBy order number seen → Housed (known_carried order number (known_after_order (Some order) known)) (seen_carried order number seen) (own_carried order number own)
+pub order-housed : (order : Order) (number : Option ℕ) (known : Known) (seen : Seen) (own : List ℕ) → Housed known seen own → OrderMadeBy order number seen → Housed (known_carried order number (known_after_order (Some order) known)) (seen_carried order number seen) (own_carried order number own)
 order-housed (Listen host port) (Some n) known seen own o new = record {
   ordering = refl;
   listeners = ap (λ l. l ++ n ∷ []) o.listeners;
@@ -167,7 +167,7 @@ order-housed (Close k) number known seen own o new = record {
 }
 
 -- and once it is noted, which changes nothing of it
-pub housed-done : (order : Order) (number : Option ℕ) (known known' : Known) (seen seen0 seen' : Seen) (own own' : List ℕ) → HasOrdered order known seen own → MadeBy order number seen → known' ≡ known_carried order number known → seen0 ≡ seen_carried order number seen → own' ≡ own_carried order number own
+pub housed-done : (order : Order) (number : Option ℕ) (known known' : Known) (seen seen0 seen' : Seen) (own own' : List ℕ) → HasOrdered order known seen own → OrderMadeBy order number seen → known' ≡ known_carried order number known → seen0 ≡ seen_carried order number seen → own' ≡ own_carried order number own
     → seen'.listeners ≡ seen0.listeners → seen'.own ≡ seen0.own → seen'.streams ≡ seen0.streams → seen'.last_own ≡ seen0.last_own → Housed known' seen' own'
 housed-done order number known known' seen seen0 seen' own own' h made e f i ls os ss last =
     let a : Housed (known_carried order number (known_after_order (Some order) h.before)) (seen_carried order number seen) (own_carried order number own) = order-housed order number h.before seen own h.housed made in
@@ -186,7 +186,7 @@ housed-done order number known known' seen seen0 seen' own own' h made e f i ls 
       };
     }
 
-pub housed-noted : {E : Type 0} (r : Result (Unit {0}) E) (order : Order) (number : Option ℕ) (known known' : Known) (seen seen0 seen' : Seen) (own own' : List ℕ) (m : HouseMark) → HasOrdered order known seen own → MadeBy order number seen → known' ≡ known_carried order number known → seen0 ≡ seen_carried order number seen → own' ≡ own_carried order number own
+pub housed-noted : {E : Type 0} (r : Result (Unit {0}) E) (order : Order) (number : Option ℕ) (known known' : Known) (seen seen0 seen' : Seen) (own own' : List ℕ) (m : HouseMark) → HasOrdered order known seen own → OrderMadeBy order number seen → known' ≡ known_carried order number known → seen0 ≡ seen_carried order number seen → own' ≡ own_carried order number own
     → seen' ≡ seen_after_note r m seen0 → OnOk r (Housed known' seen' own')
 housed-noted (Ok x) order number known known' seen seen0 seen' own own' m h made e f i after =
     housed-done order number known known' seen seen0 seen' own own' h made e f i (ap (λ (x : Seen). x.listeners) after) (ap (λ (x : Seen). x.own) after) (ap (λ (x : Seen). x.streams) after) (ap (λ (x : Seen). x.last_own) after)

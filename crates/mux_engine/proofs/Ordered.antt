@@ -1,6 +1,6 @@
 -- What an order that was carried out makes of what holds while a wire is served.
 use Rattle.std.proofs.Common.{◌≡◌, ◌≢◌, ◌≤◌, ◌<◌, ◌+◌, ℕ, Bool, true, false, not, ◌||◌, List, [], ◌∷◌, ◌++◌, Option, Some, None, refl, sym, ap, ◌∙◌, subst, inl, inr, cond, arith, append-nil}
-use Rattle.std.specs.Prelude.{◌==◌, filter, IsTrue, MatchResult, Result, Ok, Err}
+use Rattle.std.specs.Prelude.{◌==◌, filter, All, IsTrue, MatchResult, Result, Ok, Err}
 use Rattle.std.specs.Option.{option_map}
 use Rattle.std.proofs.lemmas.Bool.Decides.{eqb_tells}
 use Rattle.std.proofs.lemmas.List.Elements.{filter-append}
@@ -21,23 +21,24 @@ use Rattle.mux_outside.specs.declared.order.Order.{Order}
 use Rattle.mux_outside.specs.declared.order.Order.TheVariants.{Listen, Connect, Unlisten, Pause, Resume, Finish, Close}
 use Rattle.mux_history.specs.Policy.{Policy}
 use Rattle.mux_history.specs.Log.{Setting}
-use Rattle.mux_history.specs.Journal.{is_blocked, is_own_stream}
+use Rattle.mux_history.specs.Journal.{is_accepted, is_blocked, is_own_stream}
 use Rattle.mux_history.specs.Promises.{has_failed, not_own}
 use Rattle.mux_history.specs.Wires.{OfWire, is_connect}
 use Rattle.mux_history.proofs.Wires.{wire-keeps}
 use Rattle.mux_state.specs.State.{State}
 use Rattle.mux_state.proofs.Twins.{own-silent, stands-alike}
+use Rattle.mux_engine.specs.Answers.{opens_after}
 use Rattle.mux_engine.specs.Called.{calls_at}
-use Rattle.mux_engine.specs.Orders.{HasOrdered, MadeBy, failed_carried, held_carried, known_carried, makes, more_recorded, seen_carried, told_carried}
+use Rattle.mux_engine.specs.Orders.{HasOrdered, OrderMadeBy, failed_carried, held_carried, known_carried, makes, more_recorded, seen_carried, told_carried}
 use Rattle.mux_engine.specs.Places.{listeners_ordered, own_ordered}
-use Rattle.mux_engine.specs.Serving.{IsFree, IsUnseen, IsUnused, Promised, Serving}
-use Rattle.mux_engine.specs.Sides.{Resting, Side, asks_in, noted, noting}
+use Rattle.mux_engine.specs.Serving.{IsFreeForOwn, IsUnseen, IsUnused, Promised, Serving}
+use Rattle.mux_engine.specs.Sides.{Resting, Side, ask_marks_in, noted, noting}
 use Rattle.mux_engine.proofs.Called.{CallsOn, calls-recorded}
 use Rattle.mux_engine.proofs.Closed.{both-tests, was-among}
 use Rattle.mux_engine.proofs.Cuts.{cut-here, serve-recorded}
 use Rattle.mux_engine.proofs.Happened.{last-or}
 use Rattle.mux_engine.proofs.Lists.{among-last, among-less, among-other-last, or-last, own-stream, test-other, true-false, without-other}
-use Rattle.mux_engine.proofs.Marks.{Notes, Placed}
+use Rattle.mux_engine.proofs.Marks.{Notes, Placed, rows-go-on}
 use Rattle.mux_engine.proofs.Owns.{Owns, finish-numbers, less-numbers, owns-by, pause-numbers, streams-more}
 use Rattle.mux_engine.proofs.Places.{placed-still}
 use Rattle.mux_engine.proofs.Quiet.{serve-quiet}
@@ -85,7 +86,7 @@ module _ {May : HouseReply → Type 0} {Rest : Resting} {before : Option (List H
   owns-order : (order : Order) (number : Option ℕ) (seen' : Seen) → seen'.own ≡ own_ordered order number seen.own → seen'.listeners ≡ listeners_ordered order number seen.listeners → filter is_own seen'.streams ≡ numbers_of seen'.own → Owns v.journal seen' (House (HouseOrder order number))
   owns-order order number seen' own listeners streams = owns-by v.journal seen seen' (House (HouseOrder order number)) v.places record { opened = tt; gives = tt; writes = tt; joins = tt; others = refl } own listeners streams
 
-  later-free : (n j : ℕ) → IsNewOwn seen.last_own n → IsFree n j → IsFree seen.last_own j
+  later-free : (n j : ℕ) → IsNewOwn seen.last_own n → IsFreeForOwn n j → IsFreeForOwn seen.last_own j
   later-free n j new (inl free) = inl (free.0, let a : n < j = free.1 in let b : seen.last_own < n = new.above in omega arith)
   later-free n j new (inr house) = inr house
 
@@ -94,7 +95,7 @@ module _ {May : HouseReply → Type 0} {Rest : Resting} {before : Option (List H
   placed-listens host port n new =
       let m : HouseMark = HouseOrder (Listen host port) (Some n) in
       let seen' : Seen = seen-noted m (seen_carried (Listen host port) (Some n) seen) in
-      let u : (j : ℕ) → IsFree n j → IsUnused v.journal seen j = λ j free. v.unused j (later-free n j new free) in
+      let u : (j : ℕ) → IsFreeForOwn n j → IsUnused v.journal seen j = λ j free. v.unused j (later-free n j new free) in
       record {
         of_wire = (wire-keeps seen v.journal).note m tt refl v.of_wire;
         open_are = v.open_are;
@@ -104,11 +105,12 @@ module _ {May : HouseReply → Type 0} {Rest : Resting} {before : Option (List H
         unseen = λ j lt le. let w : IsUnseen v.journal seen.blocked j = v.unseen j lt le in record { not_accepted = w.not_accepted; never_blocked = w.never_blocked; not_blocked = w.not_blocked };
         unused = λ j free. record { not_open = (u j free).not_open; never_blocked = (u j free).never_blocked; not_blocked = (u j free).not_blocked; never_failed = (u j free).never_failed };
         failed_are = v.failed_are;
+        failed_did = v.failed_did;
         listens = λ l. l;
         owns = owns-order (Listen host port) (Some n) seen' refl refl v.places.streams;
       }
 
-  made-apart : (n j : ℕ) → IsNewOwn seen.last_own n → IsFree n j → n ≢ j
+  made-apart : (n j : ℕ) → IsNewOwn seen.last_own n → IsFreeForOwn n j → n ≢ j
   made-apart n j new (inl free) e = let a : n < j = free.1 in absurd (omega (arith, a, e))
   made-apart n j new (inr house) e = let a : n ≤ LAST_OWN = new.at_most in absurd (omega (arith, a, e, house))
 
@@ -140,6 +142,7 @@ module _ {May : HouseReply → Type 0} {Rest : Resting} {before : Option (List H
           | inl q ↦ true-false (sym f ∙ subst (λ (i : ℕ). has_failed i v.journal ≡ false) q.1 fresh.never_failed)
           | inr q ↦ v.failed_are t own (last-or n t seen.streams a q.1) f
         ];
+        failed_did = v.failed_did;
         listens = λ l. l;
         owns = owns-order (Connect host port) (Some n) (seen-noted m (seen_carried (Connect host port) (Some n) seen)) refl refl (streams-more seen v.journal n v.places new.own);
       }
@@ -161,54 +164,56 @@ module _ {May : HouseReply → Type 0} {Rest : Resting} {before : Option (List H
         unseen = λ j lt le. let u : IsUnseen v.journal seen.blocked j = v.unseen j lt le in record { not_accepted = u.not_accepted; never_blocked = u.never_blocked; not_blocked = among-less k j seen.blocked u.not_blocked };
         unused = λ j free. let u : IsUnused v.journal seen j = v.unused j free in record { not_open = among-less k j seen.streams u.not_open; never_blocked = u.never_blocked; not_blocked = among-less k j seen.blocked u.not_blocked; never_failed = u.never_failed };
         failed_are = λ t is a f. let w = was-among k t seen.streams a in without-other k t failed w.1 ∙ v.failed_are t is w.0 f;
+        failed_did = λ t a. v.failed_did t (was-among k t failed a).0;
         listens = λ l. l;
         owns = owns-order (Close k) None (seen-noted m (seen_carried (Close k) None seen)) refl refl (both-tests is_own (λ i. not (i == k)) seen.streams ∙ (ap (without k) v.places.streams ∙ less-numbers k seen.own));
       }
 
   -- where it is noted
-  noted-order : now.let_in ≡ true → (order : Order) (number : Option ℕ) (now' : Side) (seen' : Seen) (held' failed' : List ℕ) → ((t : ℕ) → is_own_stream t ≡ false → is_blocked t (House (HouseOrder order number) ∷ v.journal) ≡ is_blocked t v.journal) → Notes now now' (House (HouseOrder order number)) [] → ((set : Setting) → CallsOn now now' (calls_at set v.journal (House (HouseOrder order number)))) → now'.asks ≡ now.asks → now'.let_in ≡ now.let_in
+  noted-order : now.let_in ≡ true → s.ended ≡ None → (order : Order) (number : Option ℕ) (now' : Side) (seen' : Seen) (held' failed' : List ℕ) → ((t : ℕ) → is_own_stream t ≡ false → is_blocked t (House (HouseOrder order number) ∷ v.journal) ≡ is_blocked t v.journal) → Notes now now' (House (HouseOrder order number)) [] → ((set : Setting) → CallsOn now now' (calls_at set v.journal (House (HouseOrder order number)))) → now'.asks ≡ now.asks → now'.let_in ≡ now.let_in
       → seen'.recorded ≡ option_map (λ m. m ++ House (HouseOrder order number) ∷ []) seen.recorded → Placed s v.journal seen seen' held' failed' (House (HouseOrder order number)) → Serving May Rest before now' policy pid start seen' held' failed' (given + 1) todo s
-  noted-order inside order number now' seen' held' failed' blocked notes called asks within recorded placed =
+  noted-order inside live order number now' seen' held' failed' blocked notes called asks within recorded placed =
       let mark : Mark = House (HouseOrder order number) in
       let alike = own-silent.ordered v.journal order number in
       serve-quiet v now' seen' held' failed' (given + 1) mark
-      (record { log = alike.log; blocked = blocked; unwritten = λ t client. refl; promise = λ set. record { takes = tt; waits = tt; speaks = tt; open_streams = tt; answers = tt }; rested = λ set. tt; absent = λ e. true-false (sym (v.house_there inside) ∙ e); house = refl })
+      (record { log = alike.log; blocked = blocked; unwritten = λ t client. refl; promise = λ picks later. record { takes = tt; waits = tt; speaks = tt; open_streams = tt; answers = tt; after_end = rows-go-on v live picks later; silence = tt }; rested = λ set. tt; absent = λ e. true-false (sym (v.house_there inside) ∙ e); house = refl })
       (stands-alike v.journal (mark ∷ v.journal) v.picked v.replies s v.closed alike v.stands) notes called asks within recorded (ap (λ n. n + 1) v.turns) placed
 
   abbrev done-side : Order → Option ℕ → Option (List HouseMark) → Side
   done-side order number recorded' = record now { recorded = recorded'; unnoted = []; calls = now.calls ++ calls_of (more_recorded order number) }
 
-  notes-of : (order : Order) (number : Option ℕ) (recorded' : Option (List HouseMark)) → now.unnoted ≡ order_marks (Some order) → recorded' ≡ option_map (λ l. l ++ more_recorded order number) now.recorded → order_marks (Some order) ++ more_recorded order number ≡ HouseOrder order number ∷ [] → asks_in (more_recorded order number) ≡ [] → Notes now (done-side order number recorded') (House (HouseOrder order number)) []
-  notes-of order number recorded' noted e same none = record {
+  notes-of : (order : Order) (number : Option ℕ) (recorded' : Option (List HouseMark)) → now.unnoted ≡ order_marks (Some order) → recorded' ≡ option_map (λ l. l ++ more_recorded order number) now.recorded → order_marks (Some order) ++ more_recorded order number ≡ HouseOrder order number ∷ [] → ask_marks_in (more_recorded order number) ≡ [] → now.asks ≡ opens_after (more_recorded order number) now.asks → Notes now (done-side order number recorded') (House (HouseOrder order number)) []
+  notes-of order number recorded' noted e same none opens = record {
     more = more_recorded order number;
     recorded_is = e;
     noted_is = sym (ap (λ l. l ++ more_recorded order number) noted ∙ same);
     asks_are = none;
+    opens_are = opens;
   }
 
   called-of : (order : Order) (number : Option ℕ) (recorded' : Option (List HouseMark)) → now.unnoted ≡ order_marks (Some order) → order_marks (Some order) ++ more_recorded order number ≡ HouseOrder order number ∷ [] → (set : Setting) → CallsOn now (done-side order number recorded') (calls_at set v.journal (House (HouseOrder order number)))
   called-of order number recorded' noted same set = calls-recorded now (done-side order number recorded') (HouseOrder order number ∷ []) (more_recorded order number) (sym (ap (λ l. l ++ more_recorded order number) noted ∙ same)) refl
 
   -- all of it
-  pub order-done : now.let_in ≡ true → (order : Order) (number : Option ℕ) (recorded' : Option (List HouseMark)) → MadeBy order number seen → OwnedBy order → now.unnoted ≡ order_marks (Some order) → recorded' ≡ option_map (λ l. l ++ more_recorded order number) now.recorded
+  pub order-done : now.let_in ≡ true → s.ended ≡ None → (order : Order) (number : Option ℕ) (recorded' : Option (List HouseMark)) → OrderMadeBy order number seen → OwnedBy order → now.unnoted ≡ order_marks (Some order) → recorded' ≡ option_map (λ l. l ++ more_recorded order number) now.recorded
       → Serving May Rest before (done-side order number recorded') policy pid start (seen-noted (HouseOrder order number) (seen_carried order number seen)) (held_carried order number held) (failed_carried order failed) (given + 1) todo s
-  order-done inside (Listen host port) (Some n) recorded' made own noted e = noted-order inside (Listen host port) (Some n) (done-side (Listen host port) (Some n) recorded') _ _ _ (λ t client. refl) (notes-of (Listen host port) (Some n) recorded' noted e refl refl) (called-of (Listen host port) (Some n) recorded' noted refl) refl refl refl (placed-listens host port n made)
-  order-done inside (Listen host port) None recorded' made own noted e = noted-order inside (Listen host port) None (done-side (Listen host port) None recorded') _ _ _ (λ t client. refl) (notes-of (Listen host port) None recorded' noted e refl refl) (called-of (Listen host port) None recorded' noted refl) refl refl refl (placed-plain (Listen host port) None refl _ refl refl refl refl refl (λ t. refl) (owns-order (Listen host port) None _ refl refl v.places.streams))
-  order-done inside (Connect host port) (Some n) recorded' made own noted e = noted-order inside (Connect host port) (Some n) (done-side (Connect host port) (Some n) recorded') _ _ _ (λ t client. connects-other host port n t (λ q. true-false (sym (new-own n made) ∙ (ap is_own_stream q ∙ client)))) (notes-of (Connect host port) (Some n) recorded' noted e refl refl) (called-of (Connect host port) (Some n) recorded' noted refl) refl refl refl (placed-connects host port n made)
-  order-done inside (Connect host port) None recorded' made own noted e = noted-order inside (Connect host port) None (done-side (Connect host port) None recorded') _ _ _ (λ t client. refl) (notes-of (Connect host port) None recorded' noted e refl refl) (called-of (Connect host port) None recorded' noted refl) refl refl refl (placed-plain (Connect host port) None refl _ refl refl refl refl refl (λ t. refl) (owns-order (Connect host port) None _ refl refl v.places.streams))
-  order-done inside (Unlisten l) None recorded' made own noted e = noted-order inside (Unlisten l) None (done-side (Unlisten l) None recorded') _ _ _ (λ t client. refl) (notes-of (Unlisten l) None recorded' noted e refl refl) (called-of (Unlisten l) None recorded' noted refl) refl refl refl (placed-plain (Unlisten l) None refl _ refl refl refl refl refl (λ t. refl) (owns-order (Unlisten l) None _ refl refl v.places.streams))
-  order-done inside (Pause k) None recorded' made own noted e = noted-order inside (Pause k) None (done-side (Pause k) None recorded') _ _ _ (λ t client. refl) (notes-of (Pause k) None recorded' noted e refl refl) (called-of (Pause k) None recorded' noted refl) refl refl refl (placed-plain (Pause k) None refl _ refl refl refl refl refl (λ t. refl) (owns-order (Pause k) None _ refl refl (v.places.streams ∙ sym (pause-numbers true k seen.own))))
-  order-done inside (Resume k) None recorded' made own noted e = noted-order inside (Resume k) None (done-side (Resume k) None recorded') _ _ _ (λ t client. refl) (notes-of (Resume k) None recorded' noted e refl refl) (called-of (Resume k) None recorded' noted refl) refl refl refl (placed-plain (Resume k) None refl _ refl refl refl refl refl (λ t. refl) (owns-order (Resume k) None _ refl refl (v.places.streams ∙ sym (pause-numbers false k seen.own))))
-  order-done inside (Finish k) None recorded' made own noted e = noted-order inside (Finish k) None (done-side (Finish k) None recorded') _ _ _ (λ t client. refl) (notes-of (Finish k) None recorded' noted e refl refl) (called-of (Finish k) None recorded' noted refl) refl refl refl (placed-plain (Finish k) None refl _ refl refl refl refl refl (λ t. refl) (owns-order (Finish k) None _ refl refl (v.places.streams ∙ sym (finish-numbers k seen.own))))
-  order-done inside (Close k) None recorded' made own noted e = noted-order inside (Close k) None (done-side (Close k) None recorded') _ _ _ (λ t client. refl) (notes-of (Close k) None recorded' noted e refl refl) (called-of (Close k) None recorded' noted refl) refl refl refl (placed-closes k own)
-  order-done inside (Unlisten l) (Some n) recorded' made own noted e = absurd (let z : Some n ≡ None = made in cc)
-  order-done inside (Pause k) (Some n) recorded' made own noted e = absurd (let z : Some n ≡ None = made in cc)
-  order-done inside (Resume k) (Some n) recorded' made own noted e = absurd (let z : Some n ≡ None = made in cc)
-  order-done inside (Finish k) (Some n) recorded' made own noted e = absurd (let z : Some n ≡ None = made in cc)
-  order-done inside (Close k) (Some n) recorded' made own noted e = absurd (let z : Some n ≡ None = made in cc)
+  order-done inside live (Listen host port) (Some n) recorded' made own noted e = noted-order inside live (Listen host port) (Some n) (done-side (Listen host port) (Some n) recorded') _ _ _ (λ t client. refl) (notes-of (Listen host port) (Some n) recorded' noted e refl refl refl) (called-of (Listen host port) (Some n) recorded' noted refl) refl refl refl (placed-listens host port n made)
+  order-done inside live (Listen host port) None recorded' made own noted e = noted-order inside live (Listen host port) None (done-side (Listen host port) None recorded') _ _ _ (λ t client. refl) (notes-of (Listen host port) None recorded' noted e refl refl refl) (called-of (Listen host port) None recorded' noted refl) refl refl refl (placed-plain (Listen host port) None refl _ refl refl refl refl refl (λ t. refl) (owns-order (Listen host port) None _ refl refl v.places.streams))
+  order-done inside live (Connect host port) (Some n) recorded' made own noted e = noted-order inside live (Connect host port) (Some n) (done-side (Connect host port) (Some n) recorded') _ _ _ (λ t client. connects-other host port n t (λ q. true-false (sym (new-own n made) ∙ (ap is_own_stream q ∙ client)))) (notes-of (Connect host port) (Some n) recorded' noted e refl refl refl) (called-of (Connect host port) (Some n) recorded' noted refl) refl refl refl (placed-connects host port n made)
+  order-done inside live (Connect host port) None recorded' made own noted e = noted-order inside live (Connect host port) None (done-side (Connect host port) None recorded') _ _ _ (λ t client. refl) (notes-of (Connect host port) None recorded' noted e refl refl refl) (called-of (Connect host port) None recorded' noted refl) refl refl refl (placed-plain (Connect host port) None refl _ refl refl refl refl refl (λ t. refl) (owns-order (Connect host port) None _ refl refl v.places.streams))
+  order-done inside live (Unlisten l) None recorded' made own noted e = noted-order inside live (Unlisten l) None (done-side (Unlisten l) None recorded') _ _ _ (λ t client. refl) (notes-of (Unlisten l) None recorded' noted e refl refl refl) (called-of (Unlisten l) None recorded' noted refl) refl refl refl (placed-plain (Unlisten l) None refl _ refl refl refl refl refl (λ t. refl) (owns-order (Unlisten l) None _ refl refl v.places.streams))
+  order-done inside live (Pause k) None recorded' made own noted e = noted-order inside live (Pause k) None (done-side (Pause k) None recorded') _ _ _ (λ t client. refl) (notes-of (Pause k) None recorded' noted e refl refl refl) (called-of (Pause k) None recorded' noted refl) refl refl refl (placed-plain (Pause k) None refl _ refl refl refl refl refl (λ t. refl) (owns-order (Pause k) None _ refl refl (v.places.streams ∙ sym (pause-numbers true k seen.own))))
+  order-done inside live (Resume k) None recorded' made own noted e = noted-order inside live (Resume k) None (done-side (Resume k) None recorded') _ _ _ (λ t client. refl) (notes-of (Resume k) None recorded' noted e refl refl refl) (called-of (Resume k) None recorded' noted refl) refl refl refl (placed-plain (Resume k) None refl _ refl refl refl refl refl (λ t. refl) (owns-order (Resume k) None _ refl refl (v.places.streams ∙ sym (pause-numbers false k seen.own))))
+  order-done inside live (Finish k) None recorded' made own noted e = noted-order inside live (Finish k) None (done-side (Finish k) None recorded') _ _ _ (λ t client. refl) (notes-of (Finish k) None recorded' noted e refl refl refl) (called-of (Finish k) None recorded' noted refl) refl refl refl (placed-plain (Finish k) None refl _ refl refl refl refl refl (λ t. refl) (owns-order (Finish k) None _ refl refl (v.places.streams ∙ sym (finish-numbers k seen.own))))
+  order-done inside live (Close k) None recorded' made own noted e = noted-order inside live (Close k) None (done-side (Close k) None recorded') _ _ _ (λ t client. refl) (notes-of (Close k) None recorded' noted e refl refl refl) (called-of (Close k) None recorded' noted refl) refl refl refl (placed-closes k own)
+  order-done inside live (Unlisten l) (Some n) recorded' made own noted e = absurd (let z : Some n ≡ None = made in cc)
+  order-done inside live (Pause k) (Some n) recorded' made own noted e = absurd (let z : Some n ≡ None = made in cc)
+  order-done inside live (Resume k) (Some n) recorded' made own noted e = absurd (let z : Some n ≡ None = made in cc)
+  order-done inside live (Finish k) (Some n) recorded' made own noted e = absurd (let z : Some n ≡ None = made in cc)
+  order-done inside live (Close k) (Some n) recorded' made own noted e = absurd (let z : Some n ≡ None = made in cc)
 
-  -- an order is no ask
-  no-asks : (order : Order) (number : Option ℕ) → asks_in (more_recorded order number) ≡ []
+  -- an order is no request
+  no-asks : (order : Order) (number : Option ℕ) → ask_marks_in (more_recorded order number) ≡ []
   no-asks (Listen host port) number = refl
   no-asks (Connect host port) number = refl
   no-asks (Unlisten l) number = refl
@@ -218,11 +223,11 @@ module _ {May : HouseReply → Type 0} {Rest : Resting} {before : Option (List H
   no-asks (Close t) number = refl
 
   -- whether or not there is memory to note it
-  pub order-noted : {E : Type 0} (r : Result (Unit {0}) E) (order : Order) (number : Option ℕ) (side : Side) (seen0 seen' : Seen) (held' failed' : List ℕ) → now.let_in ≡ true → MadeBy order number seen → OwnedBy order → now.unnoted ≡ order_marks (Some order)
+  pub order-noted : {E : Type 0} (r : Result (Unit {0}) E) (order : Order) (number : Option ℕ) (side : Side) (seen0 seen' : Seen) (held' failed' : List ℕ) → now.let_in ≡ true → s.ended ≡ None → OrderMadeBy order number seen → OwnedBy order → now.unnoted ≡ order_marks (Some order)
       → side.recorded ≡ option_map (λ l. l ++ more_recorded order number) now.recorded → side.asks ≡ now.asks → side.unnoted ≡ [] → side.let_in ≡ now.let_in → side.calls ≡ now.calls ++ calls_of (more_recorded order number) → seen0 ≡ seen_carried order number seen → seen0.recorded ≡ seen.recorded → seen' ≡ seen_after_note r (HouseOrder order number) seen0 → held' ≡ held_carried order number held → failed' ≡ failed_carried order failed
       → MatchResult r (λ x. Serving May Rest before side policy pid start seen' held' failed' (given + 1) todo s) (λ e. Promised May Rest before side.recorded policy pid start seen'.recorded (given + 1))
-  order-noted (Ok x) order number side seen0 seen' held' failed' inside made own noted recorded asks unnoted within called carried same after held_is failed_is =
-      let done : Serving May Rest before (done-side order number side.recorded) policy pid start (seen-noted (HouseOrder order number) (seen_carried order number seen)) (held_carried order number held) (failed_carried order failed) (given + 1) todo s = order-done inside order number side.recorded made own noted recorded in
+  order-noted (Ok x) order number side seen0 seen' held' failed' inside live made own noted recorded asks unnoted within called carried same after held_is failed_is =
+      let done : Serving May Rest before (done-side order number side.recorded) policy pid start (seen-noted (HouseOrder order number) (seen_carried order number seen)) (held_carried order number held) (failed_carried order failed) (given + 1) todo s = order-done inside live order number side.recorded made own noted recorded in
       let at : Serving May Rest before side policy pid start (seen-noted (HouseOrder order number) (seen_carried order number seen)) (held_carried order number held) (failed_carried order failed) (given + 1) todo s =
       subst (λ (l : List OpenAsk). Serving May Rest before (record side { asks = l }) policy pid start (seen-noted (HouseOrder order number) (seen_carried order number seen)) (held_carried order number held) (failed_carried order failed) (given + 1) todo s) (sym asks)
       (subst (λ (l : List HouseMark). Serving May Rest before (record side { asks = now.asks; unnoted = l }) policy pid start (seen-noted (HouseOrder order number) (seen_carried order number seen)) (held_carried order number held) (failed_carried order failed) (given + 1) todo s) (sym unnoted)
@@ -231,12 +236,12 @@ module _ {May : HouseReply → Type 0} {Rest : Resting} {before : Option (List H
       subst (λ (l : List ℕ). Serving May Rest before side policy pid start seen' l failed' (given + 1) todo s) (sym held_is)
       (subst (λ (l : List ℕ). Serving May Rest before side policy pid start seen' (held_carried order number held) l (given + 1) todo s) (sym failed_is)
       (subst (λ (x : Seen). Serving May Rest before side policy pid start x (held_carried order number held) (failed_carried order failed) (given + 1) todo s) (sym (after ∙ ap (λ (x : Seen). seen-noted (HouseOrder order number) x) carried)) at))
-  order-noted (Err e) order number side seen0 seen' held' failed' inside made own noted recorded asks unnoted within called carried same after held_is failed_is =
+  order-noted (Err e) order number side seen0 seen' held' failed' inside live made own noted recorded asks unnoted within called carried same after held_is failed_is =
       cut-here v side.recorded seen'.recorded (given + 1) (more_recorded order number) (ap (λ (x : Seen). x.recorded) after ∙ same) recorded (no-asks order number) (omega arith)
 
 -- ---- where it makes something
 
--- the order is told as it is carried out
+-- the order is recorded as it is carried out
 pub recorded-noted : (order : Order) (number : Option ℕ) (seen : Seen) → makes order ≡ true → told_carried order number seen ≡ seen_after_note {E = Unit {0}} (Ok tt) (HouseOrder order number) seen
 recorded-noted (Listen host port) number seen e = refl
 recorded-noted (Connect host port) number seen e = refl
@@ -246,7 +251,7 @@ recorded-noted (Resume k) number seen e = cc
 recorded-noted (Finish k) number seen e = cc
 recorded-noted (Close k) number seen e = cc
 
--- or it may be noted behind
+-- or it may be noted after
 pub recorded-later : (order : Order) (number : Option ℕ) (seen : Seen) → makes order ≡ false → told_carried order number seen ≡ seen
 recorded-later (Listen host port) number seen e = cc
 recorded-later (Connect host port) number seen e = cc
@@ -265,7 +270,7 @@ may-note (Resume k) number e = tt
 may-note (Finish k) number e = tt
 may-note (Close k) number e = tt
 
--- ---- what is known of the house then
+-- ---- what is known of the forwarder then
 
 pub carried-recorded : (order : Order) (number : Option ℕ) (seen : Seen) → (seen_carried order number seen).recorded ≡ seen.recorded
 carried-recorded (Listen host port) (Some n) seen = refl
@@ -278,11 +283,11 @@ carried-recorded (Resume k) number seen = refl
 carried-recorded (Finish k) number seen = refl
 carried-recorded (Close k) number seen = refl
 
--- it was made and told, and there was no memory to keep it
+-- it was made and recorded, and there was no memory to keep it
 pub order-lost : {May : HouseReply → Type 0} {Rest : Resting} {before : Option (List HouseMark)} {now : Side} {policy : Policy} {pid : ℕ} {start : Option (List Mark)} {seen : Seen} {held failed : List ℕ} {given : ℕ} {todo : List ℕ} {s : State} (v : Serving May Rest before now policy pid start seen held failed given todo s)
-    → now.let_in ≡ true → (order : Order) (n : ℕ) (recorded' : Option (List HouseMark)) (marks' : Option (List Mark)) → MadeBy order (Some n) seen → OwnedBy order → now.unnoted ≡ order_marks (Some order) → recorded' ≡ option_map (λ l. l ++ more_recorded order (Some n)) now.recorded → marks' ≡ option_map (λ m. m ++ House (HouseOrder order (Some n)) ∷ []) seen.recorded → Promised May Rest before recorded' policy pid start marks' (given + 1)
-order-lost {seen = seen} {given = given} v inside order n recorded' marks' made own noted recorded e =
-    cut-here (order-done v inside order (Some n) recorded' made own noted recorded) recorded' marks' (given + 1) []
+    → now.let_in ≡ true → s.ended ≡ None → (order : Order) (n : ℕ) (recorded' : Option (List HouseMark)) (marks' : Option (List Mark)) → OrderMadeBy order (Some n) seen → OwnedBy order → now.unnoted ≡ order_marks (Some order) → recorded' ≡ option_map (λ l. l ++ more_recorded order (Some n)) now.recorded → marks' ≡ option_map (λ m. m ++ House (HouseOrder order (Some n)) ∷ []) seen.recorded → Promised May Rest before recorded' policy pid start marks' (given + 1)
+order-lost {seen = seen} {given = given} v inside live order n recorded' marks' made own noted recorded e =
+    cut-here (order-done v inside live order (Some n) recorded' made own noted recorded) recorded' marks' (given + 1) []
     (e ∙ ap (λ (t : Option (List Mark)). option_map (λ (m : List Mark). m ++ House (HouseOrder order (Some n)) ∷ []) t) (sym (carried-recorded order (Some n) seen))) (records-none recorded') refl (omega arith)
 
 -- its asks and whether it is there stay
@@ -317,7 +322,7 @@ closes-own (Finish k) known seen own h = tt
 
 -- ---- an order that was just given
 
-order-unasked : (order : Order) → asks_in (order_marks (Some order)) ≡ []
+order-unasked : (order : Order) → ask_marks_in (order_marks (Some order)) ≡ []
 order-unasked (Listen host port) = refl
 order-unasked (Connect host port) = refl
 order-unasked (Unlisten l) = refl
@@ -325,6 +330,16 @@ order-unasked (Pause k) = refl
 order-unasked (Resume k) = refl
 order-unasked (Finish k) = refl
 order-unasked (Close k) = refl
+
+-- it opens no request
+order-opens : (order : Order) (asks : List OpenAsk) → opens_after (order_marks (Some order)) asks ≡ asks
+order-opens (Listen host port) asks = refl
+order-opens (Connect host port) asks = refl
+order-opens (Unlisten l) asks = refl
+order-opens (Pause k) asks = refl
+order-opens (Resume k) asks = refl
+order-opens (Finish k) asks = refl
+order-opens (Close k) asks = refl
 
 order-side : (order : Order) (known : Known) → SameSide known (known_after_order (Some order) known)
 order-side (Listen host port) known = record { asks = refl; present = refl }
@@ -341,4 +356,4 @@ given-side order known known' e = subst (SameSide known) (sym e) (order-side ord
 pub order-given : {May : HouseReply → Type 0} {Rest : Resting} {before : Option (List HouseMark)} {policy : Policy} {pid : ℕ} {start : Option (List Mark)} {seen : Seen} {held failed : List ℕ} {given : ℕ} {todo : List ℕ} {s : State} {calls : List HouseCall} (order : Order) (recorded recorded' : Option (List HouseMark)) (known known' : Known)
     → recorded' ≡ option_map (λ l. l ++ order_marks (Some order)) recorded → known' ≡ known_after_order (Some order) known → Serving May Rest before (noted recorded known calls) policy pid start seen held failed given todo s → Serving May Rest before (noting (order_marks (Some order)) recorded' known' (calls ++ calls_of (order_marks (Some order)))) policy pid start seen held failed given todo s
 order-given {calls = calls} order recorded recorded' known known' e f v = let side = given-side order known known' f in
-    serve-recorded v (noting (order_marks (Some order)) recorded' known' (calls ++ calls_of (order_marks (Some order)))) (order_marks (Some order)) e refl (order-unasked order) side.asks side.present refl
+    serve-recorded v (noting (order_marks (Some order)) recorded' known' (calls ++ calls_of (order_marks (Some order)))) (order_marks (Some order)) e refl (order-unasked order) (subst (λ (l : List OpenAsk). All (λ (a : OpenAsk). IsTrue (is_accepted a.client v.journal)) l) (sym side.asks) v.askers) (side.asks ∙ sym (order-opens order known.asks)) side.present refl

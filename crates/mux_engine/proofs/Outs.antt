@@ -201,10 +201,10 @@ Spares k (Gets j bytes) = Unit {0}
 Spares k (Ends j) = Unit {0}
 Spares k (Fails j) = Unit {0}
 Spares k (WriteFails j) = Unit {0}
-Spares k (Waits waiting want streams listens) = Unit {0}
+Spares k (Waits waiting want streams shown) = Unit {0}
 Spares k (Frees j) = Unit {0}
 Spares k (Holds j) = Unit {0}
-Spares k (Takes j bytes) = ⊥
+Spares k (Takes j bytes accepts) = ⊥
 Spares k (Joins l t) = Unit {0}
 Spares k (House HouseIn) = HOUSE ≢ k
 Spares k (House (HouseTook n)) = ⊥
@@ -225,10 +225,10 @@ mark-pass k before (Gets j bytes) spares = either-pass k (j == 0) (new_received 
 mark-pass k before (Ends j) spares = either-pass k (j == 0) (server_end (parse InProxy (bytes_of 0 before)).rest ∷ []) (unless_own j (Gone j ∷ [])) (end-pass k (parse InProxy (bytes_of 0 before)).rest) (own-pass k j (Gone j ∷ []) (tt, tt))
 mark-pass k before (Fails j) spares = either-pass k (j == 0) (ServerFailed ∷ []) (unless_own j (Gone j ∷ [])) (tt, tt) (own-pass k j (Gone j ∷ []) (tt, tt))
 mark-pass k before (WriteFails j) spares = either-pass k (j == 0) (ServerFailed ∷ []) (unless_own j (Gone j ∷ [])) (tt, tt) (own-pass k j (Gone j ∷ []) (tt, tt))
-mark-pass k before (Waits waiting want streams listens) spares = tt
+mark-pass k before (Waits waiting want streams shown) spares = tt
 mark-pass k before (Frees j) spares = tt
 mark-pass k before (Holds j) spares = tt
-mark-pass k before (Takes j bytes) spares = absurd spares
+mark-pass k before (Takes j bytes accepts) spares = absurd spares
 mark-pass k before (Joins l t) spares = tt
 mark-pass k before (House HouseIn) spares = (spares, tt)
 mark-pass k before (House (HouseSaid bytes)) spares = said-pass k HOUSE (drop (length (said (bytes_of HOUSE before))) (said (bytes_of HOUSE before ++ bytes)))

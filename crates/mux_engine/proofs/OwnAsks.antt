@@ -21,7 +21,7 @@ use Rattle.mux_history.specs.Journal.{is_accepted}
 use Rattle.mux_history.specs.Policy.{Policy}
 use Rattle.mux_peers.specs.Asked.{RecordsAsks}
 use Rattle.mux_state.specs.State.{State}
-use Rattle.mux_state.specs.Events.{Records}
+use Rattle.mux_state.specs.Events.{MarkRecords}
 use Rattle.mux_state.specs.declared.event.Event.{Event}
 use Rattle.mux_state.specs.Stands.{GoesBy, IsAllowed, Stands}
 use Rattle.mux_engine.specs.Asking.{Applied, AppliesSo}
@@ -41,12 +41,12 @@ Anyone k = Unit {0}
 
 said-by : (mark : Mark) → SentBy Anyone mark
 said-by (Gets k bytes) = λ nz. tt
-said-by (Waits waiting want streams listens) = tt
+said-by (Waits waiting want streams shown) = tt
 said-by (Accepts k) = tt
 said-by (Ends k) = tt
 said-by (Frees k) = tt
 said-by (Fails k) = tt
-said-by (Takes k bytes) = tt
+said-by (Takes k bytes accepts) = tt
 said-by (Holds k) = tt
 said-by (WriteFails k) = tt
 said-by (Joins l k) = tt
@@ -66,7 +66,7 @@ asks-are asks more e = held e
 -- an event that a mark records which may come now
 pub record MayCome (e : Event) (s : State) (journal : List Mark) : Type 0 where
   pub mark : Mark
-  pub records : Records e mark
+  pub records : MarkRecords e mark
   pub allowed : IsAllowed s journal mark
 
 module _ {picked : List ℕ} {replies : List HouseReply} {s : State} {journal : List Mark} {closed : List ℕ} (st : Stands picked replies s journal closed) {e : Event} (comes : MayCome e s journal) where
@@ -82,7 +82,7 @@ module _ {picked : List ℕ} {replies : List HouseReply} {s : State} {journal : 
   applied-counted (Err x) May s' asks recorded recorded' known known' seen seen' faults faults' same (inr p) = applies-counted s' asks recorded recorded' known known' seen seen' p.0 faults faults' same p.1
 
 -- what the forwarder sends as a client
-pub house-comes : (e : Event) (s : State) (journal : List Mark) (bytes : List ℕ) → is_accepted HOUSE journal ≡ true → AreBytes bytes → Records e (Gets HOUSE bytes) → MayCome e s journal
+pub house-comes : (e : Event) (s : State) (journal : List Mark) (bytes : List ℕ) → is_accepted HOUSE journal ≡ true → AreBytes bytes → MarkRecords e (Gets HOUSE bytes) → MayCome e s journal
 house-comes e s journal bytes within are records = record { mark = Gets HOUSE bytes; records = records; allowed = ((λ nz. within), are, refl) }
 
 -- ---- a turn of the wire

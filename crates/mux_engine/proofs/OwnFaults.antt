@@ -1,4 +1,5 @@
--- Which calls of a wire leave the orders that got no number within the own faults that were counted.
+-- Which calls of a wire leave the orders that got no number within the own faults that were
+-- counted.
 use Rattle.std.proofs.Common.{◌≡◌, ◌≤◌, ◌+◌, ◌-◌, ◌^◌, ℕ, zero, suc, Bool, true, false, List, [], ◌∷◌, ◌++◌, length, take, Option, Some, None, refl, sym, ap, ◌∙◌, subst, inl, inr, ◌⊎◌, cond, arith, length-append}
 use Rattle.std.specs.Prelude.{filter, map, Result, Ok, Err}
 use Rattle.std.specs.Option.{option_map}
@@ -23,7 +24,7 @@ use Rattle.mux_outside.specs.declared.turn.Wrote.{Wrote}
 use Rattle.mux_outside.specs.declared.turn.Wrote.TheVariants as wrote
 use Rattle.mux_outside.specs.declared.whose.Whose.{Whose}
 use Rattle.mux_outside.specs.declared.whose.Whose.TheVariants.{Server, Client, Own}
-use Rattle.mux_engine.specs.OwnFaults.{OrderCounted, OwnCounted, is_unmade, is_unmade_order, unmade_in}
+use Rattle.mux_engine.specs.OwnFaults.{OrderCounted, OwnCounted, is_order_unmade, is_unmade_order, unmade_in}
 use Rattle.mux_engine.proofs.Asks.{EachAsked}
 
 same-later : (a b : ℕ) → b ≡ a → a ≤ b
@@ -31,7 +32,7 @@ same-later a b e = omega arith
 
 -- ---- first one, then another
 
--- where nothing was told
+-- where nothing was recorded
 pub own-same : (recorded : Option (List Mark)) (faults : ℕ) → OwnCounted recorded recorded faults faults
 own-same recorded faults = record { later = omega arith; counted = inl (omega arith) }
 
@@ -49,11 +50,11 @@ own-then a b c m n o v w = let f : m ≤ n = v.later in let g : n ≤ o = w.late
     both (inl x) (inr y) f g = inr y
     both (inr x) y f g = inr (omega (arith, x, g))
 
--- ---- marks that are told
+-- ---- marks that are recorded
 
-unmade-more : (recorded : Option (List Mark)) (more : List Mark) → filter is_unmade more ≡ [] → unmade_in (option_map (λ m. m ++ more) recorded) ≡ unmade_in recorded
+unmade-more : (recorded : Option (List Mark)) (more : List Mark) → filter is_order_unmade more ≡ [] → unmade_in (option_map (λ m. m ++ more) recorded) ≡ unmade_in recorded
 unmade-more None more none = refl
-unmade-more (Some marks) more none = ap length (filter-append is_unmade marks more) ∙ (length-append (filter is_unmade marks) (filter is_unmade more) ∙ adds (length (filter is_unmade marks)) (length (filter is_unmade more)) (ap length none))
+unmade-more (Some marks) more none = ap length (filter-append is_order_unmade marks more) ∙ (length-append (filter is_order_unmade marks) (filter is_order_unmade more) ∙ adds (length (filter is_order_unmade marks)) (length (filter is_order_unmade more)) (ap length none))
   where
     adds : (m n : ℕ) → n ≡ 0 → m + n ≡ m
     adds m n e = omega arith
@@ -61,15 +62,15 @@ unmade-more (Some marks) more none = ap length (filter-append is_unmade marks mo
 unmade-one : (recorded : Option (List Mark)) (mark : Mark) → unmade_in (option_map (λ m. m ++ mark ∷ []) recorded) ≤ unmade_in recorded + 1
 unmade-one None mark = omega arith
 unmade-one (Some marks) mark =
-    let e : length (filter is_unmade (marks ++ mark ∷ [])) ≡ length (filter is_unmade marks) + length (filter is_unmade (mark ∷ [])) = ap length (filter-append is_unmade marks (mark ∷ [])) ∙ length-append (filter is_unmade marks) (filter is_unmade (mark ∷ [])) in
-    let l : length (filter is_unmade (mark ∷ [])) ≤ 1 = one (is_unmade mark) in omega (arith, e, l)
+    let e : length (filter is_order_unmade (marks ++ mark ∷ [])) ≡ length (filter is_order_unmade marks) + length (filter is_order_unmade (mark ∷ [])) = ap length (filter-append is_order_unmade marks (mark ∷ [])) ∙ length-append (filter is_order_unmade marks) (filter is_order_unmade (mark ∷ [])) in
+    let l : length (filter is_order_unmade (mark ∷ [])) ≤ 1 = one (is_order_unmade mark) in omega (arith, e, l)
   where
     one : (b : Bool) → length (cond b (mark ∷ []) []) ≤ 1
     one true = omega arith
     one false = omega arith
 
 -- none of them is an order that got no number
-pub own-recorded : (recorded recorded' : Option (List Mark)) (more : List Mark) (faults faults' : ℕ) → recorded' ≡ option_map (λ m. m ++ more) recorded → filter is_unmade more ≡ [] → faults ≤ faults' → OwnCounted recorded recorded' faults faults'
+pub own-recorded : (recorded recorded' : Option (List Mark)) (more : List Mark) (faults faults' : ℕ) → recorded' ≡ option_map (λ m. m ++ more) recorded → filter is_order_unmade more ≡ [] → faults ≤ faults' → OwnCounted recorded recorded' faults faults'
 own-recorded recorded recorded' more faults faults' e none l =
     let z : unmade_in recorded' ≡ unmade_in recorded = ap unmade_in e ∙ unmade-more recorded more none in record { later = l; counted = inl (omega (arith, z, l)) }
 
@@ -124,13 +125,13 @@ own-write (wrote.Took j) k bytes old new f f' e c = own-recorded old.recorded ne
 own-write wrote.Later k bytes old new f f' e c = own-recorded old.recorded new.recorded _ f.own f'.own (ap (λ (x : Seen). x.recorded) e) refl (wrote-later wrote.Later k f f' c)
 own-write wrote.NoMemory k bytes old new f f' e c = own-recorded old.recorded new.recorded _ f.own f'.own (ap (λ (x : Seen). x.recorded) e) refl (wrote-later wrote.NoMemory k f f' c)
 
--- a mark of a house was noted that is no such order
-pub own-note : {E : Type 0} (r : Result (Unit {0}) E) (mark : HouseMark) (old new : Seen) (m n : ℕ) → is_unmade (House mark) ≡ false → new ≡ seen_after_note r mark old → n ≡ m → OwnCounted old.recorded new.recorded m n
+-- a mark of a forwarder was noted that is no such order
+pub own-note : {E : Type 0} (r : Result (Unit {0}) E) (mark : HouseMark) (old new : Seen) (m n : ℕ) → is_order_unmade (House mark) ≡ false → new ≡ seen_after_note r mark old → n ≡ m → OwnCounted old.recorded new.recorded m n
 own-note (Ok x) mark old new m n made e f = own-recorded old.recorded new.recorded (House mark ∷ []) m n (ap (λ (x : Seen). x.recorded) e) (ap (λ b. cond b (House mark ∷ []) []) made) (same-later m n f)
 own-note (Err x) mark old new m n made e f = own-still old.recorded new.recorded m n (ap (λ (x : Seen). x.recorded) e) (same-later m n f)
 
 -- asks of clients are none
-asks-made : (P : ℕ → Type 0) (n : ℕ) (asks : List HouseMark) → EachAsked P asks → filter is_unmade (map (λ (a : HouseMark). House a) (take n asks)) ≡ []
+asks-made : (P : ℕ → Type 0) (n : ℕ) (asks : List HouseMark) → EachAsked P asks → filter is_order_unmade (map (λ (a : HouseMark). House a) (take n asks)) ≡ []
 asks-made P zero asks each = refl
 asks-made P (suc n) [] each = refl
 asks-made P (suc n) (HouseAsked client id opening ask reply ∷ asks) each = asks-made P n asks each.1
@@ -151,8 +152,8 @@ made-later (Ok x) f f' c = same-own f f' c
 made-later (Err Failed) f f' c = c.rose.later
 made-later (Err OutOfMemory) f f' c = same-own f f' c
 
--- what an order is told with, behind what was counted for it
-order-step : (order : Order) (number : Option ℕ) (m n : ℕ) → OrderCounted order number m n → ((is_unmade (House (HouseOrder order number)) ≡ false) × (n ≡ m)) ⊎ Rose m n
+-- what an order is recorded with, after what was counted for it
+order-step : (order : Order) (number : Option ℕ) (m n : ℕ) → OrderCounted order number m n → ((is_order_unmade (House (HouseOrder order number)) ≡ false) × (n ≡ m)) ⊎ Rose m n
 order-step (Listen host port) None m n f = inr f
 order-step (Listen host port) (Some k) m n f = inl (refl, f)
 order-step (Connect host port) None m n f = inr f
@@ -186,6 +187,6 @@ made-is (Close t) n = refl
 pub own-made : (order : Order) (k : ℕ) (old new : Option (List Mark)) (m n : ℕ) → new ≡ option_map (λ (l : List Mark). l ++ House (HouseOrder order (Some k)) ∷ []) old → m ≤ n → OwnCounted old new m n
 own-made order k old new m n e le = own-recorded old new (House (HouseOrder order (Some k)) ∷ []) m n e (ap (λ b. cond b (House (HouseOrder order (Some k)) ∷ []) []) (made-is order k)) le
 
--- an order that the wire told
+-- an order that the wire recorded
 pub own-ordered-recorded : (order : Order) (number : Option ℕ) (old : Seen) (new : Option (List Mark)) (m n : ℕ) → new ≡ option_map (λ (l : List Mark). l ++ House (HouseOrder order number) ∷ []) old.recorded → OrderCounted order number m n → OwnCounted old.recorded new m n
 own-ordered-recorded order number old new m n e count = subst (λ (t : Option (List Mark)). OwnCounted old.recorded t m n) (sym e) (own-ordered {E = Unit {0}} (Ok tt) order number old old (seen_after_note {E = Unit {0}} (Ok tt) (HouseOrder order number) old) m n n refl count refl refl)

@@ -29,13 +29,12 @@ use Rattle.mux_state.specs.Events.{here}
 use Rattle.mux_state.proofs.Twins.{own-silent, stands-alike}
 use Rattle.std.proofs.lemmas.List.Folds.{list_any-append}
 use Rattle.mux_engine.specs.Places.{own_marked}
-use Rattle.mux_engine.specs.Serving.{IsFree, IsSound, IsUnseen, IsUnused, Serving}
+use Rattle.mux_engine.specs.Serving.{IsFreeForOwn, IsRunSound, IsUnseen, IsUnused, Serving}
 use Rattle.mux_engine.specs.Sides.{Resting, Side}
 use Rattle.mux_engine.proofs.Called.{calling, calls-behind, calls-other, calls-own}
-use Rattle.mux_engine.proofs.Deferred.{still-deferred}
 use Rattle.mux_engine.proofs.Happened.{last-or, placed-ends, placed-fails, placed-gets}
 use Rattle.mux_engine.proofs.Lists.{among-last, among-open, none-without, or-last, or-none, test-other, test-same, true-false, without-other}
-use Rattle.mux_engine.proofs.Logs.{settled-as}
+use Rattle.mux_engine.proofs.Logs.{failed-last, has-failed-same, settled-as}
 use Rattle.mux_engine.proofs.Marks.{Placed, serve-alone}
 use Rattle.mux_engine.proofs.OwnMarks.{own-is}
 use Rattle.mux_engine.proofs.Owns.{giving, owns-ends, owns-gets, owns-joins, owns-plain}
@@ -75,7 +74,7 @@ module _ {May : HouseReply → Type 0} {Rest : Resting} {before : Option (List H
     -- it gave bytes
     pub own-gets : IsTrue (is_own k) → is_silent k seen.own ≡ false → now.unnoted ≡ [] → (bytes : List ℕ) → AreBytes bytes → Same (Gets k bytes) seen.blocked → Serving May Rest before (calling now (Turns (Got k bytes) ∷ [])) policy pid start seen' held failed given [] s
     own-gets own loud none bytes are m = serve-quiet v (calling now (Turns (Got k bytes) ∷ [])) seen' held failed given (Gets k bytes)
-        (record { log = λ set. given-log set k bytes v.journal (own-is v k own found); blocked = λ t client. refl; unwritten = λ t client. refl; promise = λ set. record { takes = tt; waits = tt; speaks = tt; open_streams = tt; answers = tt }; rested = λ set. tt; absent = λ e. refl; house = refl })
+        (record { log = λ set. given-log set k bytes v.journal (own-is v k own found); blocked = λ t client. refl; unwritten = λ t client. refl; promise = λ picks later. record { takes = tt; waits = tt; speaks = tt; open_streams = tt; answers = tt; after_end = tt; silence = tt }; rested = λ set. tt; absent = λ e. refl; house = refl })
         (stands-given v.picked v.replies s k bytes v.journal v.closed (own-is v k own found) are (here-apart own) v.stands) (notes-calling now (Turns (Got k bytes) ∷ []) (Gets k bytes) refl) (λ set. calls-own now k (Turns (Got k bytes)) own none) refl refl m.recorded v.turns
         (placed-gets v seen' s k bytes found m.of_wire m.streams m.blocked m.last m.last_own m.listens refl
         (owns-gets v.journal seen seen' k bytes v.places (record { opened = tt; gives = giving seen v.journal v.places k found (λ own. loud); writes = tt; joins = tt; others = house-other v k found }) m.streams m.own m.listeners))
@@ -84,7 +83,7 @@ module _ {May : HouseReply → Type 0} {Rest : Resting} {before : Option (List H
     pub own-ends : IsTrue (is_own k) → is_silent k seen.own ≡ false → now.unnoted ≡ [] → Same (Ends k) seen.blocked → Serving May Rest before (calling now (Turns (End k) ∷ [])) policy pid start seen' held failed given [] s
     own-ends own loud none m = let alike = own-silent.ends v.journal k (own-is v k own found) in
         serve-quiet v (calling now (Turns (End k) ∷ [])) seen' held failed given (Ends k)
-        (record { log = alike.log; blocked = λ t client. refl; unwritten = λ t client. refl; promise = λ set. record { takes = tt; waits = tt; speaks = tt; open_streams = tt; answers = tt }; rested = λ set. tt; absent = λ e. refl; house = refl })
+        (record { log = alike.log; blocked = λ t client. refl; unwritten = λ t client. refl; promise = λ picks later. record { takes = tt; waits = tt; speaks = tt; open_streams = tt; answers = tt; after_end = tt; silence = tt }; rested = λ set. tt; absent = λ e. refl; house = refl })
         (stands-alike v.journal (Ends k ∷ v.journal) v.picked v.replies s v.closed alike v.stands) (notes-calling now (Turns (End k) ∷ []) (Ends k) refl) (λ set. calls-own now k (Turns (End k)) own none) refl refl m.recorded v.turns
         (placed-ends v seen' s k found m.of_wire m.streams m.blocked m.last m.last_own m.listens refl
         (owns-ends v.journal seen seen' k v.places (record { opened = tt; gives = giving seen v.journal v.places k found (λ own. loud); writes = tt; joins = tt; others = house-other v k found }) m.streams m.own m.listeners))
@@ -93,22 +92,22 @@ module _ {May : HouseReply → Type 0} {Rest : Resting} {before : Option (List H
     pub own-failed : IsTrue (is_own k) → now.unnoted ≡ [] → Same (Fails k) seen.blocked → Serving May Rest before (calling now (Turns (Failed k) ∷ [])) policy pid start seen' held (failed ++ k ∷ []) given [] s
     own-failed own none m = let alike = own-silent.fails v.journal k (own-is v k own found) in
         serve-quiet v (calling now (Turns (Failed k) ∷ [])) seen' held (failed ++ k ∷ []) given (Fails k)
-        (record { log = alike.log; blocked = λ t client. refl; unwritten = λ t client. refl; promise = λ set. record { takes = tt; waits = tt; speaks = tt; open_streams = tt; answers = tt }; rested = λ set. tt; absent = λ e. refl; house = refl })
+        (record { log = alike.log; blocked = λ t client. refl; unwritten = λ t client. refl; promise = λ picks later. record { takes = tt; waits = tt; speaks = tt; open_streams = tt; answers = tt; after_end = tt; silence = tt }; rested = λ set. tt; absent = λ e. refl; house = refl })
         (stands-alike v.journal (Fails k ∷ v.journal) v.picked v.replies s v.closed alike v.stands) (notes-calling now (Turns (Failed k) ∷ []) (Fails k) refl) (λ set. calls-own now k (Turns (Failed k)) own none) refl refl m.recorded v.turns
         (placed-fails v seen' s (failed ++ k ∷ []) k found m.of_wire m.streams m.blocked m.last m.last_own m.listens refl
-        (λ is. among-last k k failed ∙ (ap (λ b. among k failed || (b || false)) (test-same k) ∙ or-last (among k failed))) (λ t a. among-last k t failed ∙ ap (λ b. b || ((k == t) || false)) a)
+        (λ is. among-last k k failed ∙ (ap (λ b. among k failed || (b || false)) (test-same k) ∙ or-last (among k failed))) (λ t a. among-last k t failed ∙ ap (λ b. b || ((k == t) || false)) a) (failed-last (Fails k) v.journal k failed (has-failed-same k v.journal) v.failed_did)
         (owns-plain v.journal seen seen' (Fails k) (house-other v k found) v.places m.streams m.own m.listeners))
 
     placed-frees : Same (Frees k) (without k seen.blocked) → Placed s v.journal seen seen' (without k held) failed (Frees k)
     placed-frees m = placed-by v (Frees k) seen' (without k held) failed s k found m.of_wire m.streams m.last m.last_own m.listens refl (ap (without k) v.held_is ∙ sym m.blocked)
         (ap (among k) m.blocked ∙ (none-without k seen.blocked ∙ sym (freed k k v.journal true (test-same k)))) (λ t ne. ap (among t) m.blocked ∙ without-other k t seen.blocked ne) (λ t ne. freed k t v.journal false (test-other k t ne)) (λ t. refl) (λ t ne. refl)
-        (λ own f. v.failed_are k own found f) (λ t a. a) (owns-plain v.journal seen seen' (Frees k) (house-other v k found) v.places m.streams m.own m.listeners)
+        (λ own f. v.failed_are k own found f) (λ t a. a) v.failed_did (owns-plain v.journal seen seen' (Frees k) (house-other v k found) v.places m.streams m.own m.listeners)
 
     -- it accepts bytes again
     pub own-frees : IsTrue (is_own k) → now.unnoted ≡ [] → Same (Frees k) (without k seen.blocked) → Serving May Rest before (calling now (Turns (Writable k) ∷ [])) policy pid start seen' (without k held) failed given [] s
     own-frees own none m = let alike = frees-alike k v.journal in
         serve-quiet v (calling now (Turns (Writable k) ∷ [])) seen' (without k held) failed given (Frees k)
-        (record { log = alike.log; blocked = λ t client. freed k t v.journal false (test-other k t (apart-own own t client)); unwritten = λ t client. refl; promise = λ set. record { takes = tt; waits = tt; speaks = tt; open_streams = tt; answers = tt }; rested = λ set. tt; absent = λ e. refl; house = refl })
+        (record { log = alike.log; blocked = λ t client. freed k t v.journal false (test-other k t (apart-own own t client)); unwritten = λ t client. refl; promise = λ picks later. record { takes = tt; waits = tt; speaks = tt; open_streams = tt; answers = tt; after_end = tt; silence = tt }; rested = λ set. tt; absent = λ e. refl; house = refl })
         (stands-alike v.journal (Frees k ∷ v.journal) v.picked v.replies s v.closed alike v.stands) (notes-calling now (Turns (Writable k) ∷ []) (Frees k) refl) (λ set. calls-own now k (Turns (Writable k)) own none) refl refl m.recorded v.turns (placed-frees m)
 
     -- so does the server's or a client's
@@ -122,7 +121,6 @@ module _ {May : HouseReply → Type 0} {Rest : Resting} {before : Option (List H
           notes = notes-none now (Frees k) refl;
           called = λ picks later. calls-other now k (Turns (Writable k)) client;
           askers = askers-more v (Frees k);
-          deferred = still-deferred now now [] refl;
           house_in = v.house_in;
           house_there = v.house_there;
           rested = λ picks later. tt;
@@ -131,9 +129,9 @@ module _ {May : HouseReply → Type 0} {Rest : Resting} {before : Option (List H
           placed = placed-frees m;
           sound = λ picks later.
               let set : Setting = by_lists policy pid (v.picked ++ picks) (v.replies ++ later) in
-              let old : IsSound set v.journal [] s = v.sound picks later in
+              let old : IsRunSound set v.journal [] s = v.sound picks later in
               record {
-                promise = record { takes = tt; waits = tt; speaks = tt; open_streams = tt; answers = tt };
+                promise = record { takes = tt; waits = tt; speaks = tt; open_streams = tt; answers = tt; after_end = tt; silence = tt };
                 failed_out = old.failed_out;
                 settled = λ t is a. settled-as set (Frees k) v.journal t refl (freed k t v.journal false (test-other k t (λ e. shut t a e))) refl (old.settled t is refl);
               };
@@ -149,7 +147,7 @@ module _ {May : HouseReply → Type 0} {Rest : Resting} {before : Option (List H
       let alike = own-silent.joins v.journal l k in
       let fresh : IsUnused v.journal seen k = v.unused k (inl (new.own, new.above)) in
       serve-quiet v (calling now (Turns (Joined l k) ∷ [])) seen' held failed given (Joins l k)
-      (record { log = alike.log; blocked = λ t client. refl; unwritten = λ t client. refl; promise = λ set. record { takes = tt; waits = tt; speaks = tt; open_streams = tt; answers = tt }; rested = λ set. tt; absent = λ e. refl; house = refl })
+      (record { log = alike.log; blocked = λ t client. refl; unwritten = λ t client. refl; promise = λ picks later. record { takes = tt; waits = tt; speaks = tt; open_streams = tt; answers = tt; after_end = tt; silence = tt }; rested = λ set. tt; absent = λ e. refl; house = refl })
       (stands-alike v.journal (Joins l k ∷ v.journal) v.picked v.replies s v.closed alike v.stands) (notes-calling now (Turns (Joined l k) ∷ []) (Joins l k) refl) (λ set. calls-behind now (Turns (Joined l k) ∷ []) none) refl refl recorded v.turns record {
         of_wire = of;
         open_are = ap not_own streams ∙ (filter-append (λ (t : ℕ). not (is_own t)) seen.streams (k ∷ []) ∙ (ap (λ b. not_own seen.streams ++ cond (not b) (k ∷ []) []) new.own ∙ (append-nil (not_own seen.streams) ∙ v.open_are)));
@@ -166,17 +164,18 @@ module _ {May : HouseReply → Type 0} {Rest : Resting} {before : Option (List H
           | inl q ↦ true-false (sym f ∙ subst (λ (i : ℕ). has_failed i v.journal ≡ false) q.1 fresh.never_failed)
           | inr q ↦ v.failed_are t own (last-or k t seen.streams (ap (among t) (sym streams) ∙ a) q.1) f
         ];
+        failed_did = v.failed_did;
         listens = λ x. listens ∙ x;
         owns = owns-joins v.journal seen seen' l k v.places there new.own streams own listeners;
       }
     where
-      earlier : (j : ℕ) → IsFree seen'.last_own j → IsFree seen.last_own j
+      earlier : (j : ℕ) → IsFreeForOwn seen'.last_own j → IsFreeForOwn seen.last_own j
       earlier j (inl free) = inl (free.0, later)
         where
           later : seen.last_own < j
           later = let a : k < j = subst (λ n. n < j) last_own free.1 in let b : seen.last_own < k = new.above in omega arith
       earlier j (inr house) = inr house
 
-      not-new : (j : ℕ) → IsFree seen'.last_own j → k ≡ j → ⊥
+      not-new : (j : ℕ) → IsFreeForOwn seen'.last_own j → k ≡ j → ⊥
       not-new j (inl free) q = let a : k < j = subst (λ n. n < j) last_own free.1 in omega arith
       not-new j (inr house) q = let a : k ≤ LAST_OWN = new.at_most in let b : k ≡ HOUSE = q ∙ house in omega arith

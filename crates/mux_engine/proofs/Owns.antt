@@ -11,38 +11,39 @@ use Rattle.mux_outside.specs.declared.mark.Mark.{Mark}
 use Rattle.mux_outside.specs.declared.mark.Mark.TheVariants.{Waits, Accepts, Gets, Ends, Frees, Fails, Takes, Holds, WriteFails, Joins, House}
 use Rattle.mux_outside.specs.declared.own_streams.OwnStream.{OwnStream}
 use Rattle.mux_history.specs.declared.limits.TheConstants.{HOUSE}
-use Rattle.mux_engine.specs.Places.{HasPlaces, IsGiving, IsPlaced, IsTaking, KeepsOwn, listeners_marked, own_in, own_marked}
-use Rattle.mux_engine.proofs.Lists.{among-filter, test-other, true-false}
+use Rattle.mux_history.specs.Promises.{has_failed}
+use Rattle.mux_engine.specs.Places.{HasPlaces, IsGiving, IsMarkPlaced, IsTaking, KeepsOwn, listeners_marked, own_in, own_marked}
+use Rattle.mux_engine.proofs.Lists.{among-filter, and-second, test-other, true-false}
 
 -- all that is so of them after a mark
 pub record Owns (journal : List Mark) (seen' : Seen) (mark : Mark) : Type 0 where
   pub places : HasPlaces seen' (mark ∷ journal)
-  pub right : IsPlaced journal mark
+  pub right : IsMarkPlaced journal mark
 
-pub keeps-more : (journal : List Mark) (mark : Mark) → IsPlaced journal mark → KeepsOwn journal → KeepsOwn (mark ∷ journal)
+pub keeps-more : (journal : List Mark) (mark : Mark) → IsMarkPlaced journal mark → KeepsOwn journal → KeepsOwn (mark ∷ journal)
 keeps-more journal mark p k = record { opened = (p.opened, k.opened); gives = (p.gives, k.gives); writes = (p.writes, k.writes); joins = (p.joins, k.joins); others = (p.others, k.others) }
 
 -- after one that changes them as the wire does
-pub owns-by : (journal : List Mark) (seen seen' : Seen) (mark : Mark) → HasPlaces seen journal → IsPlaced journal mark → seen'.own ≡ own_marked mark seen.own → seen'.listeners ≡ listeners_marked mark seen.listeners → filter is_own seen'.streams ≡ numbers_of seen'.own → Owns journal seen' mark
+pub owns-by : (journal : List Mark) (seen seen' : Seen) (mark : Mark) → HasPlaces seen journal → IsMarkPlaced journal mark → seen'.own ≡ own_marked mark seen.own → seen'.listeners ≡ listeners_marked mark seen.listeners → filter is_own seen'.streams ≡ numbers_of seen'.own → Owns journal seen' mark
 owns-by journal seen seen' mark p right own listeners streams = record {
   places = record { own = own ∙ ap (own_marked mark) p.own; listeners = listeners ∙ ap (listeners_marked mark) p.listeners; streams = streams };
   right = right;
 }
 
 -- after one that changes nothing of them
-pub owns-as : (journal : List Mark) (seen seen' : Seen) (mark : Mark) → HasPlaces seen journal → IsPlaced journal mark → ((own : List OwnStream) → own_marked mark own ≡ own) → ((listeners : List ℕ) → listeners_marked mark listeners ≡ listeners) → seen'.streams ≡ seen.streams → seen'.own ≡ seen.own → seen'.listeners ≡ seen.listeners → Owns journal seen' mark
+pub owns-as : (journal : List Mark) (seen seen' : Seen) (mark : Mark) → HasPlaces seen journal → IsMarkPlaced journal mark → ((own : List OwnStream) → own_marked mark own ≡ own) → ((listeners : List ℕ) → listeners_marked mark listeners ≡ listeners) → seen'.streams ≡ seen.streams → seen'.own ≡ seen.own → seen'.listeners ≡ seen.listeners → Owns journal seen' mark
 owns-as journal seen seen' mark p right same_own same_listeners streams own listeners =
     owns-by journal seen seen' mark p right (own ∙ sym (same_own seen.own)) (listeners ∙ sym (same_listeners seen.listeners)) (ap (filter is_own) streams ∙ (p.streams ∙ ap numbers_of (sym own)))
 
 -- a mark that records nothing of them
 abbrev pub IsPlain : Mark → Type 0
-IsPlain (Waits waiting want streams listens) = ⊥
+IsPlain (Waits waiting want streams shown) = ⊥
 IsPlain (Accepts k) = Unit {0}
 IsPlain (Gets t bytes) = ⊥
 IsPlain (Ends t) = ⊥
 IsPlain (Frees t) = (t == HOUSE) ≡ false
 IsPlain (Fails t) = (t == HOUSE) ≡ false
-IsPlain (Takes t bytes) = ⊥
+IsPlain (Takes t bytes accepts) = ⊥
 IsPlain (Holds t) = ⊥
 IsPlain (WriteFails t) = ⊥
 IsPlain (Joins l t) = ⊥
@@ -106,6 +107,11 @@ pub own-open : (seen : Seen) (journal : List Mark) → HasPlaces seen journal �
 own-open seen journal p t own found =
     sym (among-one t seen.own) ∙ (ap (among t) (sym p.streams) ∙ (among-filter is_own t seen.streams ∙ (ap (λ b. b && among t seen.streams) own ∙ found)))
 
+-- one of its streams is open
+pub one-open : (seen : Seen) (journal : List Mark) → HasPlaces seen journal → (t : ℕ) → is_one t seen.own ≡ true → among t seen.streams ≡ true
+one-open seen journal p t one =
+    and-second (is_own t) (among t seen.streams) (sym (among-filter is_own t seen.streams) ∙ (ap (among t) p.streams ∙ (among-one t seen.own ∙ one)))
+
 -- with another it is none
 pub own-apart : (seen : Seen) (journal : List Mark) → HasPlaces seen journal → (t : ℕ) → among t seen.streams ≡ false → is_one t seen.own ≡ false
 own-apart seen journal p t shut =
@@ -121,13 +127,13 @@ client-apart seen journal p t client = sym (among-one t seen.own) ∙ (ap (among
 -- ---- marks
 
 pub owns-plain : (journal : List Mark) (seen seen' : Seen) (mark : Mark) → IsPlain mark → HasPlaces seen journal → seen'.streams ≡ seen.streams → seen'.own ≡ seen.own → seen'.listeners ≡ seen.listeners → Owns journal seen' mark
-owns-plain journal seen seen' (Waits waiting want streams_open listens) plain p streams own listeners = absurd plain
+owns-plain journal seen seen' (Waits waiting want streams_open shown) plain p streams own listeners = absurd plain
 owns-plain journal seen seen' (Accepts k) plain p streams own listeners = owns-as journal seen seen' (Accepts k) p record { opened = tt; gives = tt; writes = tt; joins = tt; others = refl } (λ o. refl) (λ l. refl) streams own listeners
 owns-plain journal seen seen' (Gets t bytes) plain p streams own listeners = absurd plain
 owns-plain journal seen seen' (Ends t) plain p streams own listeners = absurd plain
 owns-plain journal seen seen' (Frees t) plain p streams own listeners = owns-as journal seen seen' (Frees t) p record { opened = tt; gives = tt; writes = tt; joins = tt; others = plain } (λ o. refl) (λ l. refl) streams own listeners
 owns-plain journal seen seen' (Fails t) plain p streams own listeners = owns-as journal seen seen' (Fails t) p record { opened = tt; gives = tt; writes = tt; joins = tt; others = plain } (λ o. refl) (λ l. refl) streams own listeners
-owns-plain journal seen seen' (Takes t bytes) plain p streams own listeners = absurd plain
+owns-plain journal seen seen' (Takes t bytes accepts) plain p streams own listeners = absurd plain
 owns-plain journal seen seen' (Holds t) plain p streams own listeners = absurd plain
 owns-plain journal seen seen' (WriteFails t) plain p streams own listeners = absurd plain
 owns-plain journal seen seen' (Joins l t) plain p streams own listeners = absurd plain
@@ -143,16 +149,16 @@ pub client-other : (k : ℕ) → is_own k ≡ false → (k == HOUSE) ≡ false
 client-other k client = test-other k HOUSE (λ e. true-false (sym (ap is_own e) ∙ client))
 
 -- a client or the server gives something, or no more
-pub gives-client : (journal : List Mark) (k : ℕ) (bytes : List ℕ) → is_own k ≡ false → IsPlaced journal (Gets k bytes)
+pub gives-client : (journal : List Mark) (k : ℕ) (bytes : List ℕ) → is_own k ≡ false → IsMarkPlaced journal (Gets k bytes)
 gives-client journal k bytes client = record { opened = tt; gives = λ own. true-false (sym own ∙ client); writes = tt; joins = tt; others = client-other k client }
 
-pub ends-client : (journal : List Mark) (k : ℕ) → is_own k ≡ false → IsPlaced journal (Ends k)
+pub ends-client : (journal : List Mark) (k : ℕ) → is_own k ≡ false → IsMarkPlaced journal (Ends k)
 ends-client journal k client = record { opened = tt; gives = λ own. true-false (sym own ∙ client); writes = tt; joins = tt; others = client-other k client }
 
-pub owns-gets : (journal : List Mark) (seen seen' : Seen) (k : ℕ) (bytes : List ℕ) → HasPlaces seen journal → IsPlaced journal (Gets k bytes) → seen'.streams ≡ seen.streams → seen'.own ≡ seen.own → seen'.listeners ≡ seen.listeners → Owns journal seen' (Gets k bytes)
+pub owns-gets : (journal : List Mark) (seen seen' : Seen) (k : ℕ) (bytes : List ℕ) → HasPlaces seen journal → IsMarkPlaced journal (Gets k bytes) → seen'.streams ≡ seen.streams → seen'.own ≡ seen.own → seen'.listeners ≡ seen.listeners → Owns journal seen' (Gets k bytes)
 owns-gets journal seen seen' k bytes p right = owns-as journal seen seen' (Gets k bytes) p right (λ o. refl) (λ l. refl)
 
-pub owns-ends : (journal : List Mark) (seen seen' : Seen) (k : ℕ) → HasPlaces seen journal → IsPlaced journal (Ends k) → seen'.streams ≡ seen.streams → seen'.own ≡ with_end k seen.own → seen'.listeners ≡ seen.listeners → Owns journal seen' (Ends k)
+pub owns-ends : (journal : List Mark) (seen seen' : Seen) (k : ℕ) → HasPlaces seen journal → IsMarkPlaced journal (Ends k) → seen'.streams ≡ seen.streams → seen'.own ≡ with_end k seen.own → seen'.listeners ≡ seen.listeners → Owns journal seen' (Ends k)
 owns-ends journal seen seen' k p right streams own listeners =
     owns-by journal seen seen' (Ends k) p right own listeners (ap (filter is_own) streams ∙ (p.streams ∙ (sym (end-numbers k seen.own) ∙ ap numbers_of (sym own))))
 
@@ -167,23 +173,24 @@ owns-joins journal seen seen' l k p listens is streams own listeners =
     owns-by journal seen seen' (Joins l k) p record { opened = tt; gives = tt; writes = tt; joins = ap (among l) (sym p.listeners) ∙ listens; others = refl } own listeners (ap (filter is_own) streams ∙ (streams-more seen journal k p is ∙ ap numbers_of (sym own)))
 
 -- what is written
-pub writes-client : (journal : List Mark) (k : ℕ) → is_own k ≡ false → IsTrue (is_own k) → IsTaking k (own_in journal)
+pub writes-client : (journal : List Mark) (k : ℕ) → is_own k ≡ false → IsTrue (is_own k) → IsTaking k journal
 writes-client journal k client own = true-false (sym own ∙ client)
 
-pub takes-placed : (journal : List Mark) (k : ℕ) (bytes : List ℕ) → (IsTrue (is_own k) → IsTaking k (own_in journal)) → (k == HOUSE) ≡ false → IsPlaced journal (Takes k bytes)
-takes-placed journal k bytes takes other = record { opened = tt; gives = tt; writes = takes; joins = tt; others = other }
+pub takes-placed : (journal : List Mark) (k : ℕ) (bytes : List ℕ) (accepts : Bool) → (IsTrue (is_own k) → IsTaking k journal) → (k == HOUSE) ≡ false → IsMarkPlaced journal (Takes k bytes accepts)
+takes-placed journal k bytes accepts takes other = record { opened = tt; gives = tt; writes = takes; joins = tt; others = other }
 
-pub holds-placed : (journal : List Mark) (k : ℕ) → (IsTrue (is_own k) → IsTaking k (own_in journal)) → (k == HOUSE) ≡ false → IsPlaced journal (Holds k)
+pub holds-placed : (journal : List Mark) (k : ℕ) → (IsTrue (is_own k) → IsTaking k journal) → (k == HOUSE) ≡ false → IsMarkPlaced journal (Holds k)
 holds-placed journal k takes other = record { opened = tt; gives = tt; writes = takes; joins = tt; others = other }
 
-pub fails-placed : (journal : List Mark) (k : ℕ) → (IsTrue (is_own k) → IsTaking k (own_in journal)) → (k == HOUSE) ≡ false → IsPlaced journal (WriteFails k)
+pub fails-placed : (journal : List Mark) (k : ℕ) → (IsTrue (is_own k) → IsTaking k journal) → (k == HOUSE) ≡ false → IsMarkPlaced journal (WriteFails k)
 fails-placed journal k takes other = record { opened = tt; gives = tt; writes = takes; joins = tt; others = other }
 
--- an open stream of the master's own that is not finished accepts bytes
-pub taking : (seen : Seen) (journal : List Mark) → HasPlaces seen journal → (k : ℕ) → among k seen.streams ≡ true → is_finished k seen.own ≡ false → IsTrue (is_own k) → IsTaking k (own_in journal)
-taking seen journal p k found unfinished own = record {
+-- an open stream of the master's own that is not finished and has not failed accepts bytes
+pub taking : (seen : Seen) (journal : List Mark) → HasPlaces seen journal → (k : ℕ) → among k seen.streams ≡ true → is_finished k seen.own ≡ false → (IsTrue (is_own k) → has_failed k journal ≡ false) → IsTrue (is_own k) → IsTaking k journal
+taking seen journal p k found unfinished unfailed own = record {
   is = ap (is_one k) (sym p.own) ∙ own-open seen journal p k own found;
   unfinished = ap (is_finished k) (sym p.own) ∙ unfinished;
+  unfailed = unfailed own;
 }
 
 -- one that is not silent gives something

@@ -18,10 +18,11 @@ use Rattle.mux_history.specs.Promises.{has_failed, not_own}
 use Rattle.mux_history.specs.Wires.{OfWire}
 use Rattle.mux_state.specs.State.{State}
 use Rattle.mux_state.specs.Events.{here}
-use Rattle.mux_state.specs.Stands.{Stands, Represents, log}
-use Rattle.mux_engine.specs.Serving.{IsFree, IsUnseen, IsUnused, Serving, is_open}
-use Rattle.mux_engine.specs.Sides.{Resting, SamePlaces, Side}
+use Rattle.mux_state.specs.Stands.{Stands, EngineRepresents, log}
+use Rattle.mux_engine.specs.Serving.{IsFreeForOwn, IsUnseen, IsUnused, Serving, is_open}
+use Rattle.mux_engine.specs.Sides.{Resting, SameSockets, Side}
 use Rattle.mux_engine.proofs.Lists.{among-not-own, among-open, not-own-stream, open-here, own-or-house, test-other, true-false}
+use Rattle.mux_engine.proofs.Logs.{failed-more}
 use Rattle.mux_engine.proofs.Marks.{Placed}
 use Rattle.mux_engine.proofs.Owns.{Owns}
 
@@ -34,7 +35,7 @@ pub record AtStream (s : State) (marks : List Mark) (closed : List ℕ) (k : ℕ
 pub at-stream : {picked : List ℕ} {replies : List HouseReply} {s : State} {marks : List Mark} {closed : List ℕ} (st : Stands picked replies s marks closed) (k : ℕ) → is_open s k ≡ true → AtStream s marks closed k
 at-stream {picked} {replies} {s} {marks} {closed} st k opened = record { not_closed = by_closed (among k closed) refl; accepted = λ nz. by_accepted nz (is_accepted k marks) refl }
   where
-    v : Represents (picked ++ []) (replies ++ []) (length picked) st.asks s marks closed
+    v : EngineRepresents (picked ++ []) (replies ++ []) (length picked) st.asks s marks closed
     v = st.at [] []
 
     by_closed : (b : Bool) → among k closed ≡ b → b ≡ false
@@ -95,7 +96,7 @@ module _ {May : HouseReply → Type 0} {Rest : Resting} {before : Option (List H
       no-own j le = grind (arith, nat_tests)
 
   -- nor has a number that is still free
-  pub apart-unused : (k j : ℕ) → among k seen.streams ≡ true → IsFree seen.last_own j → k ≢ j
+  pub apart-unused : (k j : ℕ) → among k seen.streams ≡ true → IsFreeForOwn seen.last_own j → k ≢ j
   apart-unused k j found free e = true-false (sym found ∙ (ap (λ i. among i seen.streams) e ∙ (v.unused j free).not_open))
 
   -- after a mark of this stream of the wire, where the same are open
@@ -103,8 +104,8 @@ module _ {May : HouseReply → Type 0} {Rest : Resting} {before : Option (List H
       → seen'.streams ≡ seen.streams → seen'.last ≡ seen.last → seen'.last_own ≡ seen.last_own → seen'.listens ≡ seen.listens → here s' ≡ here s → held' ≡ seen'.blocked
       → among k seen'.blocked ≡ is_blocked k (mark ∷ v.journal) → ((t : ℕ) → k ≢ t → among t seen'.blocked ≡ among t seen.blocked) → ((t : ℕ) → k ≢ t → is_blocked t (mark ∷ v.journal) ≡ is_blocked t v.journal)
       → ((t : ℕ) → is_accepted t (mark ∷ v.journal) ≡ is_accepted t v.journal) → ((t : ℕ) → k ≢ t → has_failed t (mark ∷ v.journal) ≡ has_failed t v.journal)
-      → (IsTrue (is_own k) → has_failed k (mark ∷ v.journal) ≡ true → among k failed' ≡ true) → ((t : ℕ) → among t failed ≡ true → among t failed' ≡ true) → Owns v.journal seen' mark → Placed s' v.journal seen seen' held' failed' mark
-  placed-by mark seen' held' failed' s' k found of streams last last_own listens same held_is mine blocked never accepted fails mine_failed grows owns = record {
+      → (IsTrue (is_own k) → has_failed k (mark ∷ v.journal) ≡ true → among k failed' ≡ true) → ((t : ℕ) → among t failed ≡ true → among t failed' ≡ true) → ((t : ℕ) → among t failed' ≡ true → has_failed t (mark ∷ v.journal) ≡ true) → Owns v.journal seen' mark → Placed s' v.journal seen seen' held' failed' mark
+  placed-by mark seen' held' failed' s' k found of streams last last_own listens same held_is mine blocked never accepted fails mine_failed grows did owns = record {
     of_wire = of;
     open_are = ap not_own streams ∙ (v.open_are ∙ ap (λ l. 0 ∷ not_own l) (sym same));
     apart = λ j a. v.apart j (ap (among j) (sym same) ∙ a);
@@ -119,7 +120,7 @@ module _ {May : HouseReply → Type 0} {Rest : Resting} {before : Option (List H
         let ne : k ≢ j = apart-unseen k j found lt' le in
         record { not_accepted = accepted j ∙ u.not_accepted; never_blocked = never j ne ∙ u.never_blocked; not_blocked = blocked j ne ∙ u.not_blocked };
     unused = λ j free.
-        let free' : IsFree seen.last_own j = subst (λ (n : ℕ). IsFree n j) last_own free in
+        let free' : IsFreeForOwn seen.last_own j = subst (λ (n : ℕ). IsFreeForOwn n j) last_own free in
         let u : IsUnused v.journal seen j = v.unused j free' in
         let ne : k ≢ j = apart-unused k j found free' in
         record { not_open = ap (among j) streams ∙ u.not_open; never_blocked = never j ne ∙ u.never_blocked; not_blocked = blocked j ne ∙ u.not_blocked; never_failed = fails j ne ∙ u.never_failed };
@@ -127,6 +128,7 @@ module _ {May : HouseReply → Type 0} {Rest : Resting} {before : Option (List H
       | inl q ↦ subst (λ (i : ℕ). among i failed' ≡ true) q.1 (mine_failed (subst (λ (i : ℕ). IsTrue (is_own i)) (sym q.1) own) (subst (λ (i : ℕ). has_failed i (mark ∷ v.journal) ≡ true) (sym q.1) f))
       | inr q ↦ grows t (v.failed_are t own (ap (among t) (sym streams) ∙ a) (sym (fails t q.1) ∙ f))
     ];
+    failed_did = did;
     listens = λ l. listens ∙ l;
     owns = owns;
   }
@@ -139,15 +141,15 @@ module _ {May : HouseReply → Type 0} {Rest : Resting} {before : Option (List H
   placed-still mark seen' s' of streams blocked last last_own listens same never accepted fails owns =
       placed-by mark seen' held failed s' 0 server-open of streams last last_own listens same (v.held_is ∙ sym blocked)
       (ap (among 0) blocked ∙ (v.blocked_is 0 server-open ∙ sym (never 0))) (λ t ne. ap (among t) blocked) (λ t ne. never t) accepted (λ t ne. fails t)
-      (λ own f. v.failed_are 0 own server-open (sym (fails 0) ∙ f)) (λ t a. a) owns
+      (λ own f. v.failed_are 0 own server-open (sym (fails 0) ∙ f)) (λ t a. a) (λ t a. failed-more mark v.journal t (v.failed_did t a)) owns
 
 -- ---- the same streams and listeners
 
-pub places-same : (old new : Seen) → new ≡ old → SamePlaces old new
-places-same old new e = subst (SamePlaces old) (sym e) record { streams = refl; listeners = refl; own = refl; last_own = refl }
+pub places-same : (old new : Seen) → new ≡ old → SameSockets old new
+places-same old new e = subst (SameSockets old) (sym e) record { streams = refl; listeners = refl; own = refl; last_own = refl; silence = λ l. l }
 
-pub places-write : (answer : Wrote) (k : ℕ) (bytes : List ℕ) (old new : Seen) → new ≡ seen_after_write answer k bytes old → SamePlaces old new
-places-write answer k bytes old new e = subst (SamePlaces old) (sym e) record { streams = refl; listeners = refl; own = refl; last_own = refl }
+pub places-write : (answer : Wrote) (k : ℕ) (bytes : List ℕ) (old new : Seen) → new ≡ seen_after_write answer k bytes old → SameSockets old new
+places-write answer k bytes old new e = subst (SameSockets old) (sym e) record { streams = refl; listeners = refl; own = refl; last_own = refl; silence = λ l. l }
 
-pub places-then : (a b c : Seen) → SamePlaces a b → SamePlaces b c → SamePlaces a c
-places-then a b c x y = record { streams = y.streams ∙ x.streams; listeners = y.listeners ∙ x.listeners; own = y.own ∙ x.own; last_own = y.last_own ∙ x.last_own }
+pub places-then : (a b c : Seen) → SameSockets a b → SameSockets b c → SameSockets a c
+places-then a b c x y = record { streams = y.streams ∙ x.streams; listeners = y.listeners ∙ x.listeners; own = y.own ∙ x.own; last_own = y.last_own ∙ x.last_own; silence = λ l. x.silence (y.silence l) }

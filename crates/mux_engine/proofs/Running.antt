@@ -1,10 +1,10 @@
 -- The turns of a run, one after the other.
-use Rattle.std.proofs.Common.{◌≡◌, ◌≢◌, ◌<◌, ◌+◌, ◌++◌, ◌||◌, ℕ, Bool, true, false, List, [], ◌∷◌, Option, refl, sym, ap, ◌∙◌, subst, inl, inr, arith}
+use Rattle.std.proofs.Common.{◌≡◌, ◌≢◌, ◌<◌, ◌+◌, ◌++◌, ℕ, Bool, true, false, List, [], ◌∷◌, Option, refl, sym, ap, ◌∙◌, subst, inl, inr, arith, append-nil}
 use Rattle.std.specs.Prelude.{if◌then◌else◌, Result, Ok, Err, MatchResult, OnOk}
 use Rattle.mux_outside.specs.House.{Known}
 use Rattle.mux_outside.specs.HouseCalls.{HouseCall}
 use Rattle.mux_outside.specs.Seen.{Seen}
-use Rattle.mux_outside.specs.Streams.{among, without}
+use Rattle.mux_outside.specs.Streams.{without}
 use Rattle.mux_history.specs.declared.limits.TheConstants.{HOUSE}
 use Rattle.mux_outside.specs.declared.house.HouseReply.{HouseReply}
 use Rattle.mux_outside.specs.declared.house_mark.HouseMark.{HouseMark}
@@ -14,8 +14,7 @@ use Rattle.mux_state.specs.State.{State}
 use Rattle.mux_state.specs.Events.{here}
 use Rattle.mux_engine.specs.Serving.{EndsTurn, Promised, Serving, Spends, to_offer}
 use Rattle.mux_engine.specs.Sides.{Resting, Side, noted, outside}
-use Rattle.mux_engine.proofs.Lists.{apart-or-left, test-other, true-false, without-other}
-use Rattle.mux_engine.proofs.Loops.{neither}
+use Rattle.mux_engine.proofs.Lists.{true-false}
 use Rattle.mux_engine.proofs.Todo.{serve-todo}
 
 module _ {May : HouseReply → Type 0} {before : Option (List HouseMark)} {policy : Policy} {pid : ℕ} {start : Option (List Mark)} where
@@ -59,7 +58,7 @@ module _ {May : HouseReply → Type 0} {Rest : Resting} {before : Option (List H
   yet-unsettled true e v = true-false e
   yet-unsettled false e v = v
 
-  pub all-settled : {now : Side} {seen : Seen} {held failed : List ℕ} {given : ℕ} {s : State} (settled : Bool) → settled ≡ true → Serving May Rest before now policy pid start seen held failed given (to_offer settled s) s → Serving May Rest before now policy pid start seen held failed (given + 0) (HOUSE ∷ []) s
+  pub all-settled : {now : Side} {seen : Seen} {held failed : List ℕ} {given : ℕ} {s : State} (settled : Bool) → settled ≡ true → Serving May Rest before now policy pid start seen held failed given (to_offer settled s) s → Serving May Rest before now policy pid start seen held failed (given + 0) [] s
   all-settled {now} {seen} {held} {failed} {given} {s} true e v = given-is given (given + 0) (omega arith) v
   all-settled false e v = true-false (sym e)
 
@@ -103,11 +102,8 @@ let-inside recorded known calls there = ap (side-with recorded known calls) (sym
 
 -- ---- the end
 
--- the streams of clients and then the forwarder are left to be offered something
-pub to-house : {May : HouseReply → Type 0} {Rest : Resting} {before : Option (List HouseMark)} {now : Side} {policy : Policy} {pid : ℕ} {start : Option (List Mark)} {seen : Seen} {held failed : List ℕ} {given : ℕ} {s : State} → Serving May Rest before now policy pid start seen held failed given (0 ∷ here s) s
-    → Serving May Rest before now policy pid start seen held failed given (0 ∷ (without HOUSE (here s) ++ HOUSE ∷ [])) s
-to-house {s = s} v = serve-todo v (0 ∷ (without HOUSE (here s) ++ HOUSE ∷ [])) (λ t a. inl (covers t (apart-or-left 0 t (without HOUSE (here s) ++ HOUSE ∷ []) a)))
-  where
-    covers : (t : ℕ) → (0 ≢ t) × (among t (without HOUSE (here s) ++ HOUSE ∷ []) ≡ false) → among t (0 ∷ here s) ≡ false
-    covers t p = let q = neither t (without HOUSE (here s)) (HOUSE ∷ []) p.1 in let o = apart-or-left HOUSE t [] q.1 in
-        ap (λ b. b || among t (here s)) (test-other 0 t p.0) ∙ (sym (without-other HOUSE t (here s) o.0) ∙ q.0)
+-- the streams of clients are left to be offered something
+pub to-last : {May : HouseReply → Type 0} {Rest : Resting} {before : Option (List HouseMark)} {now : Side} {policy : Policy} {pid : ℕ} {start : Option (List Mark)} {seen : Seen} {held failed : List ℕ} {given : ℕ} {s : State} → Serving May Rest before now policy pid start seen held failed given (0 ∷ without HOUSE (here s)) s
+    → Serving May Rest before now policy pid start seen held failed given (0 ∷ (without HOUSE (here s) ++ [])) s
+to-last {May} {Rest} {before} {now} {policy} {pid} {start} {seen} {held} {failed} {given} {s} v =
+    subst (λ (l : List ℕ). Serving May Rest before now policy pid start seen held failed given (0 ∷ l) s) (sym (append-nil (without HOUSE (here s)))) v

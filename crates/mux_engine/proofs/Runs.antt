@@ -3,9 +3,9 @@ use Rattle.std.proofs.Common.{◌≡◌, ◌≢◌, ◌≤◌, ℕ, Bool, true, 
 use Rattle.std.specs.List.{list_any}
 use Rattle.std.specs.Prelude.{◌==◌, filter, All, IsTrue}
 use Rattle.std.proofs.lemmas.List.Elements.{All-nil}
-use Rattle.mux_outside.specs.House.{OpenAsk}
+use Rattle.mux_outside.specs.House.{HouseState, OpenAsk}
 use Rattle.mux_outside.specs.HouseCalls.{HandsOn, HouseCall, calls_of}
-use Rattle.mux_outside.specs.OwnStreams.{is_own, numbers_of}
+use Rattle.mux_outside.specs.OwnStreams.{is_one, is_own, numbers_of}
 use Rattle.mux_outside.specs.Seen.{Seen}
 use Rattle.mux_outside.specs.Streams.{among}
 use Rattle.mux_outside.specs.declared.mark.Mark.{Mark}
@@ -19,29 +19,32 @@ use Rattle.mux_history.specs.Choices.{numbers_taken, replies_given}
 use Rattle.mux_history.specs.Pending.{pending, pending_up, pending_down}
 use Rattle.mux_history.specs.Log.{Setting}
 use Rattle.mux_history.specs.Settings.{by_lists}
-use Rattle.mux_history.specs.Solo.{end_of}
+use Rattle.mux_history.specs.Solo.{run_end_of}
 use Rattle.mux_history.specs.Right.{AreFresh}
 use Rattle.mux_history.specs.Journal.{Records, log_of_journal}
 use Rattle.mux_history.specs.Promises.{EndsAs, MayGive, not_own, turns_in}
 use Rattle.mux_history.specs.Wires.{OfWire}
 use Rattle.mux_history.proofs.Wires.{wire-keeps}
 use Rattle.mux_bounds.specs.Bounds.{IsLog}
-use Rattle.mux_peers.specs.Asked.{asked_of, RecordsAsks}
+use Rattle.mux_peers.specs.Asked.{asks_of_rows, RecordsAsks}
 use Rattle.mux_state.specs.State.{State, numbers}
 use Rattle.mux_state.specs.Events.{here}
-use Rattle.mux_state.specs.Stands.{Stands, Represents, log}
-use Rattle.mux_engine.specs.Answers.{EachDeferred, is_deferred}
+use Rattle.mux_state.specs.Stands.{Stands, EngineRepresents, log}
+use Rattle.mux_engine.specs.Answers.{opens_after}
 use Rattle.mux_engine.specs.Called.{calls_in}
-use Rattle.mux_engine.specs.Places.{HasPlaces, KeepsOwn}
-use Rattle.mux_engine.specs.Run.{AsksOn, EndsRight, IsOfWire, IsRun, Rested, is_by_house}
-use Rattle.mux_engine.specs.Serving.{IsFree, IsSound, Kept, Promised, Serving}
-use Rattle.mux_engine.specs.Sides.{AtWaits, Resting, Side, asks_in, house_marks}
+use Rattle.mux_engine.specs.Owned.{IsOwnOffered}
+use Rattle.mux_engine.specs.Places.{HasPlaces, KeepsOwn, own_in}
+use Rattle.mux_engine.specs.Run.{AsksOn, EndsRight, IsOfWire, IsOwnSettled, IsRun, KeepsMarks, Rested, is_by_house}
+use Rattle.mux_engine.specs.Serving.{IsFreeForOwn, IsRunSound, Promised, Serving}
+use Rattle.mux_engine.specs.Sides.{AtWaits, Resting, Side, ask_marks_in, house_marks}
 use Rattle.mux_engine.proofs.Cuts.{on-here}
 use Rattle.mux_engine.proofs.Keeps.{keeps-rows, rests-short}
 use Rattle.mux_engine.proofs.Lists.{not-own-stream, test-other, true-false}
 use Rattle.mux_engine.proofs.Marks.{log-is}
+use Rattle.mux_engine.proofs.Owns.{one-open}
 use Rattle.mux_engine.proofs.Recorded.{records-none, recorded-none}
 use Rattle.mux_engine.proofs.Unshared.{takes-unshared}
+use Rattle.mux_engine.proofs.Waits.{handed-all}
 
 -- ---- what nothing leaves
 
@@ -62,70 +65,85 @@ on-again {May} {policy} {pid} {picks} {picks'} {replies} {replies'} {journal} {a
     (subst (λ (l : List HouseMark). AsksOn May policy pid picks replies journal l more) g h))
 
 -- all of a run whose rows are known
-run-of : (May : HouseReply → Type 0) (Rest : AtWaits) (stands stands' : List HouseCall → Type 0) (present : Bool) (before now : Option (List HouseMark)) (policy : Policy) (pid turns : ℕ) (start : Option (List Mark)) (seen : Seen) (refused : Option ℕ) (journal : List Mark) (picks : List ℕ) (replies : List HouseReply) (answer : Ended)
+run-of : (May : HouseReply → Type 0) (Rest : AtWaits) (stands : List HouseCall → Type 0) (last : HouseState) (present : Bool) (before now : Option (List HouseMark)) (policy : Policy) (pid turns : ℕ) (start : Option (List Mark)) (seen : Seen) (refused : Option ℕ) (journal : List Mark) (picks : List ℕ) (replies : List HouseReply) (answer : Ended)
     → IsOfWire journal → KeepsOwn journal → MayGive May replies → Records start seen.recorded journal → turns_in journal ≤ turns
     → (rows : List Row)
-    → Kept (by_lists policy pid picks replies) journal
+    → KeepsMarks (by_lists policy pid picks replies) journal
     → IsLog (by_lists policy pid picks replies) journal rows
     → AreFresh rows → numbers_taken rows ≡ length picks → replies_given rows ≡ length replies
-    → (more more_asks : List HouseMark) → RecordsAsks before now (house_marks journal ++ more) → asks_in (house_marks journal ++ more) ≡ asked_of rows ++ more_asks → AsksOn May policy pid picks replies journal (asked_of rows) more_asks → Rested Rest (by_lists policy pid picks replies) before journal → (present ≡ false → All (λ (mark : Mark). is_by_house mark ≡ false) journal)
+    → (more more_asks : List HouseMark) → RecordsAsks before now (house_marks journal ++ more) → ask_marks_in (house_marks journal ++ more) ≡ asks_of_rows rows ++ more_asks → AsksOn May policy pid picks replies journal (asks_of_rows rows) more_asks → Rested Rest (by_lists policy pid picks replies) before journal → (present ≡ false → All (λ (mark : Mark). is_by_house mark ≡ false) journal)
     → (answer ≢ ended.OutOfMemory → rows ≡ log_of_journal (by_lists policy pid picks replies) journal)
     → (answer ≢ ended.OutOfMemory → RecordsAsks before now (house_marks journal))
-    → (answer ≢ ended.OutOfMemory → asks_in (house_marks journal) ≡ asked_of rows)
-    → (answer ≢ ended.OutOfMemory → HandsOn stands stands' (calls_in (by_lists policy pid picks replies) journal))
+    → (answer ≢ ended.OutOfMemory → ask_marks_in (house_marks journal) ≡ asks_of_rows rows)
+    → (answer ≢ ended.OutOfMemory → HandsOn stands last.stands (calls_in (by_lists policy pid picks replies) journal))
     → (answer ≢ ended.OutOfMemory → HasPlaces seen journal)
-    → (answer ≢ ended.OutOfMemory → EndsRight (by_lists policy pid picks replies) turns journal refused answer)
-    → IsRun May Rest stands stands' present policy pid turns before now start seen refused answer
-run-of May Rest stands stands' present before now policy pid turns start seen refused journal picks replies answer wire own_streams may records given rows kept is fresh numbers answers more more_asks house asked asks_on rested absent whole house_whole asks_whole handed places ends = record {
-  journal = journal;
-  picks = picks;
-  replies = replies;
-  rows = rows;
-  records = records;
-  of_wire = wire;
-  may = may;
-  written = kept.written;
-  open_streams = kept.open_streams;
-  answered = kept.answers;
-  own_streams = own_streams;
-  places = places;
-  is_log = is;
-  whole = whole;
-  fresh = fresh;
-  keeps = λ others is_too others_fresh. keeps-rows policy pid picks replies journal others wire kept.written.waits kept.written.speaks is_too others_fresh;
-  alone = takes-unshared policy pid picks replies journal rows wire.lawful kept.written.takes is fresh;
-  rests = rests-short journal;
-  turns_given = given;
-  numbers = numbers;
-  answers = answers;
-  more = more;
-  more_asks = more_asks;
-  house = house;
-  asked = asked;
-  asks_on = asks_on;
-  house_whole = house_whole;
-  asks_whole = asks_whole;
-  handed = handed;
-  rested = rested;
-  absent = absent;
+    → (answer ≢ ended.OutOfMemory → EndsRight (by_lists policy pid picks replies) turns last.queue journal refused answer)
+    → IsRun May Rest stands last present policy pid turns before now start seen refused answer
+run-of May Rest stands last present before now policy pid turns start seen refused journal picks replies answer wire own_streams may records given rows kept is fresh numbers answers more more_asks house asked asks_on rested absent whole house_whole asks_whole handed places ends = record {
+  choices = record { picks = picks; replies = replies; may = may };
+  wire = record {
+    journal = journal;
+    records = records;
+    of_wire = wire;
+    turns_given = given;
+    rests = rests-short journal;
+    own_streams = own_streams;
+    places = places;
+  };
+  marks = kept;
+  log = record {
+    rows = rows;
+    is_log = is;
+    whole = whole;
+    fresh = fresh;
+    numbers = numbers;
+    answers = answers;
+    keeps = λ others is_too others_fresh. keeps-rows policy pid picks replies journal others wire kept.written.waits kept.written.speaks is_too others_fresh;
+    alone = takes-unshared policy pid picks replies journal rows wire.lawful kept.written.takes is fresh;
+  };
+  forwarder = record {
+    more = more;
+    more_asks = more_asks;
+    house = house;
+    asked = asked;
+    asks_on = asks_on;
+    house_whole = house_whole;
+    asks_whole = asks_whole;
+    handed = handed;
+    rested = rested;
+    absent = absent;
+  };
   ends = ends;
 }
 
-module _ (May : HouseReply → Type 0) (Rest : Resting) (stands stands' : List HouseCall → Type 0) (before : Option (List HouseMark)) (policy : Policy) (pid turns : ℕ) (start : Option (List Mark)) (refused : Option ℕ) where
+-- a stream of the master's own that was offered what waits for it is settled
+own-settled : {May : HouseReply → Type 0} {Rest : Resting} {before : Option (List HouseMark)} {now : Side} {policy : Policy} {pid : ℕ} {start : Option (List Mark)} {seen : Seen} {held failed : List ℕ} {given : ℕ} {todo : List ℕ} {s : State} (v : Serving May Rest before now policy pid start seen held failed given todo s) (queue : ℕ → List ℕ)
+    → ((t : ℕ) → is_one t seen.own ≡ true → IsOwnOffered (queue t) held failed t) → (t : ℕ) → IsTrue (is_one t (own_in v.journal)) → IsOwnSettled queue v.journal t
+own-settled {seen = seen} v queue offered t one =
+    let is : is_one t seen.own ≡ true = ap (is_one t) v.places.own ∙ one in
+    elim (offered t is) [
+      | inl none ↦ inl none
+      | inr r ↦ elim r [
+        | inl h ↦ inr (inl (sym (v.blocked_is t (one-open seen v.journal v.places t is)) ∙ (ap (among t) (sym v.held_is) ∙ h)))
+        | inr f ↦ inr (inr (v.failed_did t f))
+      ]
+    ]
+
+module _ (May : HouseReply → Type 0) (Rest : Resting) (stands : List HouseCall → Type 0) (last : HouseState) (before : Option (List HouseMark)) (policy : Policy) (pid turns : ℕ) (start : Option (List Mark)) (refused : Option ℕ) where
   -- each stream was offered what waits for it, and the run ends so
-  pub ends-run : (now : Side) (seen : Seen) (held failed : List ℕ) (given : ℕ) (todo : List ℕ) (s : State) (answer : Ended) (v : Serving May Rest before now policy pid start seen held failed given todo s) → now.unnoted ≡ [] → HandsOn stands stands' now.calls → ((t : ℕ) → is_own t ≡ false → among t todo ≡ false) → given ≤ turns → EndsAs turns v.journal refused s.ended answer
-      → IsRun May Rest.rests stands stands' Rest.present policy pid turns before now.recorded start seen refused answer
-  ends-run now seen held failed given todo s answer v noted hands offered le ends =
+  pub ends-run : (now : Side) (seen : Seen) (held failed : List ℕ) (given : ℕ) (s : State) (answer : Ended) (v : Serving May Rest before now policy pid start seen held failed given [] s) → now.unnoted ≡ [] → HandsOn stands last.stands now.calls → ((t : ℕ) → is_one t seen.own ≡ true → IsOwnOffered (last.queue t) held failed t) → given ≤ turns → EndsAs turns v.journal refused s.ended answer
+      → IsRun May Rest.rests stands last Rest.present policy pid turns before now.recorded start seen refused answer
+  ends-run now seen held failed given s answer v noted hands offered le ends =
       let picks : List ℕ = v.picked ++ [] in
       let replies : List HouseReply = v.replies ++ [] in
       let rows : List Row = log_of_journal (by_lists policy pid picks replies) v.journal in
       let same : log s picks replies v.journal ≡ rows = log-is s policy pid picks replies v.journal v.policy_is v.pid_is in
-      let at : Represents picks replies (length v.picked) v.stands.asks s v.journal v.closed = v.stands.at [] [] in
+      let at : EngineRepresents picks replies (length v.picked) v.stands.asks s v.journal v.closed = v.stands.at [] [] in
       let fits = at.rows in
-      let sound : IsSound (by_lists policy pid picks replies) v.journal todo s = v.sound [] [] in
-      let asked : asked_of rows ≡ v.stands.asks = ap asked_of (sym same) ∙ fits.asked_is in
+      let sound : IsRunSound (by_lists policy pid picks replies) v.journal [] s = v.sound [] [] in
+      let asked : asks_of_rows rows ≡ v.stands.asks = ap asks_of_rows (sym same) ∙ fits.asked_is in
       let all : house_marks v.journal ++ now.unnoted ≡ house_marks v.journal = ap (λ l. house_marks v.journal ++ l) noted ∙ append-nil (house_marks v.journal) in
-      run-of May Rest.rests stands stands' Rest.present before now.recorded policy pid turns start seen refused v.journal picks replies answer
+      run-of May Rest.rests stands last Rest.present before now.recorded policy pid turns start seen refused v.journal picks replies answer
       (record { lawful = v.of_wire.lawful; asked = v.of_wire.asked }) v.own_streams
       (subst (MayGive May) (sym (append-nil v.replies)) v.may)
       v.records
@@ -134,22 +152,24 @@ module _ (May : HouseReply → Type 0) (Rest : Resting) (stands stands' : List H
       (subst AreFresh same fits.fresh)
       (ap numbers_taken (sym same) ∙ (fits.taken_is ∙ ap length (sym (append-nil v.picked))))
       (ap replies_given (sym same) ∙ (fits.drawn_is ∙ (v.stands.each ∙ ap length (sym (append-nil v.replies)))))
-      now.unnoted [] v.house (v.asked ∙ (sym asked ∙ sym (append-nil (asked_of rows)))) (on-again (sym (append-nil v.picked)) (sym (append-nil v.replies)) (sym asked) (on-here v)) (v.rested [] []) v.absent
+      now.unnoted [] v.house (v.asked ∙ (sym asked ∙ sym (append-nil (asks_of_rows rows)))) (on-again (sym (append-nil v.picked)) (sym (append-nil v.replies)) (sym asked) (on-here v)) (v.rested [] []) v.absent
       (λ ne. refl)
       (λ ne. subst (RecordsAsks before now.recorded) all v.house)
-      (λ ne. ap asks_in (sym all) ∙ (v.asked ∙ sym asked))
-      (λ ne. subst (HandsOn stands stands') (sym (v.called [] []) ∙ (ap (λ l. calls_in (by_lists policy pid picks replies) v.journal ++ calls_of l) noted ∙ append-nil (calls_in (by_lists policy pid picks replies) v.journal))) hands)
+      (λ ne. ap ask_marks_in (sym all) ∙ (v.asked ∙ sym asked))
+      (λ ne. subst (HandsOn stands last.stands) (sym (v.called [] []) ∙ (ap (λ l. calls_in (by_lists policy pid picks replies) v.journal ++ calls_of l) noted ∙ append-nil (calls_in (by_lists policy pid picks replies) v.journal))) hands)
       (λ ne. v.places)
       (λ ne. record {
-        end = subst (λ o. EndsAs turns v.journal refused o answer) (fits.ended_is ∙ ap end_of same) ends;
-        settled = λ t client. sound.settled t (not-own-stream t client) (offered t client);
+        end = subst (λ o. EndsAs turns v.journal refused o answer) (fits.ended_is ∙ ap run_end_of same) ends;
+        settled = λ t client. sound.settled t (not-own-stream t client) refl;
+        handed_over = handed-all v [] [];
+        own_settled = own-settled v last.queue offered;
       })
 
   -- there was no memory
-  pub ends-starved : (now : Option (List HouseMark)) (seen : Seen) → Promised May Rest before now policy pid start seen.recorded turns → IsRun May Rest.rests stands stands' Rest.present policy pid turns before now start seen refused ended.OutOfMemory
+  pub ends-starved : (now : Option (List HouseMark)) (seen : Seen) → Promised May Rest before now policy pid start seen.recorded turns → IsRun May Rest.rests stands last Rest.present policy pid turns before now start seen refused ended.OutOfMemory
   ends-starved now seen p =
       let left = p.left [] [] in
-      run-of May Rest.rests stands stands' Rest.present before now policy pid turns start seen refused p.journal (p.picked ++ []) (p.replies ++ []) ended.OutOfMemory
+      run-of May Rest.rests stands last Rest.present before now policy pid turns start seen refused p.journal (p.picked ++ []) (p.replies ++ []) ended.OutOfMemory
       p.of_wire p.own_streams
       (subst (MayGive May) (sym (append-nil p.replies)) p.may)
       p.records p.turns left.rows left.kept left.is_log left.fresh
@@ -188,8 +208,8 @@ promised-more given more le p = record {
 
 -- ---- the start
 
-of-nothing : (setting : Setting) → Kept setting []
-of-nothing setting = record { written = record { takes = tt; waits = tt; speaks = tt }; open_streams = tt; answers = tt }
+of-nothing : (setting : Setting) → KeepsMarks setting []
+of-nothing setting = record { written = record { takes = tt; waits = tt; speaks = tt }; open_streams = tt; answered = tt; after_end = tt; silence = tt }
 
 -- there was no memory for an engine
 pub starts-starved : (May : HouseReply → Type 0) (Rest : Resting) (house : Option (List HouseMark)) (policy : Policy) (pid : ℕ) (recorded : Option (List Mark)) (given : ℕ) → Promised May Rest house house policy pid recorded recorded given
@@ -230,10 +250,10 @@ starts May Rest now policy pid seen s stands e f clients refused unasked noted o
         may = tt;
         stands = stands;
         house = subst (RecordsAsks now.recorded now.recorded) (sym noted) (records-none now.recorded);
-        asked = ap asks_in noted ∙ sym asks;
+        asked = ap ask_marks_in noted ∙ sym asks;
         called = λ picks later. ap calls_of noted ∙ sym uncalled;
         askers = subst (λ (l : List OpenAsk). All (λ (a : OpenAsk). false ≡ true) l) (sym unasked) (All-nil (λ (a : OpenAsk). false ≡ true));
-        deferred = subst (λ (l : List OpenAsk). EachDeferred stands.asks l) (sym unasked) (All-nil (λ (a : OpenAsk). IsTrue (list_any (is_deferred a.client a.id) stands.asks)));
+        opens = unasked ∙ ap (λ (l : List HouseMark). opens_after l []) (sym noted);
         house_in = sym outside;
         house_there = λ e. true-false (sym e ∙ outside);
         rested = λ picks later. tt;
@@ -250,6 +270,7 @@ starts May Rest now policy pid seen s stands e f clients refused unasked noted o
         unseen = λ k lt le. record { not_accepted = refl; never_blocked = refl; not_blocked = ap (among k) blocked };
         unused = λ k free. record { not_open = ap (among k) streams ∙ no-server k free; never_blocked = refl; not_blocked = ap (among k) blocked; never_failed = refl };
         failed_are = λ t own a f. true-false (sym f);
+        failed_did = λ t a. true-false (sym a);
         receives = λ live h. listens;
         sound = λ picks later. record { kept = of-nothing (by_lists policy pid picks later); failed_out = λ t client w live. true-false (sym w); settled = λ t client a. inl (nothing-pending t) };
       },
@@ -260,6 +281,6 @@ starts May Rest now policy pid seen s stands e f clients refused unasked noted o
     no-asks [] e = refl
     no-asks (a ∷ rest) e = absurd (omega (arith, e))
 
-    no-server : (k : ℕ) → IsFree seen.last_own k → among k (0 ∷ []) ≡ false
+    no-server : (k : ℕ) → IsFreeForOwn seen.last_own k → among k (0 ∷ []) ≡ false
     no-server k (inl free) = ap (λ b. b || false) (test-other 0 k (λ q. true-false (sym free.0 ∙ ap is_own (sym q))))
     no-server k (inr house) = ap (λ b. b || false) (test-other 0 k (λ q. absurd (omega (arith, q, house))))

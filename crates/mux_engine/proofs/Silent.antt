@@ -8,6 +8,7 @@ use Rattle.mux_outside.specs.Streams.{among}
 use Rattle.mux_outside.specs.declared.house.HouseReply.{HouseReply}
 use Rattle.mux_outside.specs.declared.mark.Mark.{Mark}
 use Rattle.mux_outside.specs.declared.mark.Mark.TheVariants.{Waits, Frees, Gets, Holds}
+use Rattle.mux_outside.specs.declared.shown.Shown.{Shown}
 use Rattle.mux_outside.specs.declared.turn.Want.{Want}
 use Rattle.mux_history.specs.Rows.{Item, Row}
 use Rattle.mux_history.specs.Log.{Setting, more_all}
@@ -16,19 +17,19 @@ use Rattle.mux_history.specs.Journal.{bytes_of, is_own_stream, log_of_journal, n
 use Rattle.mux_peers.specs.Among.{numbers}
 use Rattle.mux_peers.specs.State.{ClientState}
 use Rattle.mux_state.specs.State.{State}
-use Rattle.mux_state.specs.Stands.{BytesFit, ClientReads, EachReads, IsStrange, RowsFit, ServerReads, Stands, Represents, log}
-use Rattle.mux_state.specs.Twins.{AreAlike}
+use Rattle.mux_state.specs.Stands.{BytesFit, ClientReads, EachReads, IsStrange, RowsFit, ServerReads, Stands, EngineRepresents, log}
+use Rattle.mux_state.specs.Twins.{AreTwins}
 use Rattle.mux_engine.proofs.Lists.{test-other, true-false}
 
 -- ---- the wire was waited for, or a stream holds back or accepts bytes again
 
-pub waits-alike : (waiting streams : List ℕ) (want : Want) (listens : Bool) (marks : List Mark) → AreAlike marks (Waits waiting want streams listens ∷ marks)
-waits-alike waiting streams want listens marks = record { log = λ set. refl; bytes = λ t. sym (append-nil (bytes_of t marks)); accepted = λ k. refl }
+pub waits-alike : (waiting streams : List ℕ) (want : Want) (shown : Shown) (marks : List Mark) → AreTwins marks (Waits waiting want streams shown ∷ marks)
+waits-alike waiting streams want shown marks = record { log = λ set. refl; bytes = λ t. sym (append-nil (bytes_of t marks)); accepted = λ k. refl }
 
-pub frees-alike : (k : ℕ) (marks : List Mark) → AreAlike marks (Frees k ∷ marks)
+pub frees-alike : (k : ℕ) (marks : List Mark) → AreTwins marks (Frees k ∷ marks)
 frees-alike k marks = record { log = λ set. refl; bytes = λ t. sym (append-nil (bytes_of t marks)); accepted = λ k. refl }
 
-pub holds-alike : (k : ℕ) (marks : List Mark) → AreAlike marks (Holds k ∷ marks)
+pub holds-alike : (k : ℕ) (marks : List Mark) → AreTwins marks (Holds k ∷ marks)
 holds-alike k marks = record { log = λ set. refl; bytes = λ t. sym (append-nil (bytes_of t marks)); accepted = λ k. refl }
 
 -- ---- one of the master's own streams gave bytes
@@ -76,7 +77,7 @@ pub stands-given : (picked : List ℕ) (given : List HouseReply) (s : State) (k 
 stands-given picked given s k bytes marks closed own are apart st = record {
   asks = st.asks;
   each = st.each;
-  at = λ picks replies. let v : Represents (picked ++ picks) (given ++ replies) (length picked) st.asks s marks closed = st.at picks replies in
+  at = λ picks replies. let v : EngineRepresents (picked ++ picks) (given ++ replies) (length picked) st.asks s marks closed = st.at picks replies in
       let is : log s (picked ++ picks) (given ++ replies) marks ≡ log s (picked ++ picks) (given ++ replies) (Gets k bytes ∷ marks) = given-log (by_lists s.core.policy s.pid (picked ++ picks) (given ++ replies)) k bytes marks own in
       record {
         rows = subst (λ (rows : List Row). RowsFit (length picked) st.asks s closed rows) is v.rows;

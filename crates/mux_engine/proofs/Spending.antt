@@ -8,7 +8,7 @@ use Rattle.mux_outside.specs.CallCounts.{CallCounts}
 use Rattle.mux_history.specs.declared.ended.Ended.{Ended}
 use Rattle.mux_history.specs.declared.ended.Ended.TheVariants as ended
 use Rattle.mux_engine.specs.Came.{Came}
-use Rattle.mux_engine.specs.Counted.{Cut, Spent, Stops, Turned, Waited, Well}
+use Rattle.mux_engine.specs.Counted.{Cut, Spent, RunStops, Turned, Waited, Well}
 use Rattle.mux_engine.proofs.Arms.{well-none, well-on}
 use Rattle.mux_engine.proofs.Comes.{came-none, came-then}
 use Rattle.mux_engine.proofs.Counting.{cut-none}
@@ -113,7 +113,7 @@ some-waited : (n a b : ℕ) → n ≢ 0 → Waited n a b → counted a ≤ b
 some-waited n a b nz w = let l : min (a + n) (2 ^ 64 - 1) ≤ b = w.least in omega arith
 
 -- one that was cut short as memory ran out
-pub stops-cut : (present : Bool) (turns : ℕ) (a b : CallCounts) → Cut turns a b → Stops present turns ended.OutOfMemory a b
+pub stops-cut : (present : Bool) (turns : ℕ) (a b : CallCounts) → Cut turns a b → RunStops present turns ended.OutOfMemory a b
 stops-cut present turns a b c = record {
   few = c.few;
   spent = λ p e h. absurd (let z : ended.OutOfMemory ≡ ended.Spent = e in cc);
@@ -131,7 +131,7 @@ cut-from n a b c e w = subst (λ (x : CallCounts). Cut n x c) e w
 pub cut-idle : (n : ℕ) (a b : CallCounts) → b ≡ a → Cut n a b
 cut-idle n a b e = subst (λ (x : CallCounts). Cut n a x) (sym e) (cut-none n a)
 
-pub stops-starved : {E : Type 0} (r : Result Ended E) (present : Bool) (turns : ℕ) (a b : CallCounts) → IsErr r → Cut turns a b → Stops present turns (result_unwrap_or r ended.OutOfMemory) a b
+pub stops-starved : {E : Type 0} (r : Result Ended E) (present : Bool) (turns : ℕ) (a b : CallCounts) → IsErr r → Cut turns a b → RunStops present turns (result_unwrap_or r ended.OutOfMemory) a b
 stops-starved (Ok x) present turns a b h c = absurd (let z : false ≡ true = h in cc)
 stops-starved (Err e) present turns a b h c = stops-cut present turns a b c
 
@@ -156,7 +156,7 @@ spent-then present all turns a b c s w = let f : b.waits ≤ a.waits + turns = s
     kept h = let l : min (b.waits + 0) (2 ^ 64 - 1) ≤ c.waits = w.waited.least in omega arith
 
 -- a run whose turns were spent, or that something ended
-pub stops-spent : (present all : Bool) (turns : ℕ) (answer : Ended) (a b : CallCounts) → Spent present all turns a b → (present ≡ false → all ≡ false → answer ≢ ended.Spent) → (present ≡ false → turns ≡ 0 → answer ≡ ended.Spent) → Stops present turns answer a b
+pub stops-spent : (present all : Bool) (turns : ℕ) (answer : Ended) (a b : CallCounts) → Spent present all turns a b → (present ≡ false → all ≡ false → answer ≢ ended.Spent) → (present ≡ false → turns ≡ 0 → answer ≡ ended.Spent) → RunStops present turns answer a b
 stops-spent present true turns answer a b s unless none = let e : b.wants ≡ a.wants = s.wants in record {
   few = s.few;
   spent = λ p is h. all-waited turns a.waits b.waits (s.all_waited p refl) h;

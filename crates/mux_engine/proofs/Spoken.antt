@@ -1,10 +1,10 @@
 -- What the forwarder sends as a client makes of all that holds while a wire is served.
 use Rattle.std.proofs.Common.{◌≡◌, ◌≤◌, ◌<◌, ◌+◌, ℕ, Bool, true, false, List, [], ◌∷◌, ◌++◌, length, Option, Some, None, refl, sym, ap, ◌∙◌, subst, inl, inr, cond, arith, MatchResult, OnOk}
-use Rattle.std.specs.Prelude.{nat_lt, Result, Ok, Err}
+use Rattle.std.specs.Prelude.{All, IsTrue, nat_lt, Result, Ok, Err}
 use Rattle.std.specs.Option.{option_map}
 use Rattle.std.proofs.lemmas.Bool.Decides.{nat_tests}
 use Rattle.ssh_fields.specs.Fields.{AreBytes}
-use Rattle.mux_outside.specs.House.{HouseState, Known, SendsFits, sends_marks}
+use Rattle.mux_outside.specs.House.{HouseState, Known, OpenAsk, SendsFits, sends_marks}
 use Rattle.mux_outside.specs.HouseCalls.{HandsOn, HouseCall, calls_of}
 use Rattle.mux_outside.specs.Seen.{Seen}
 use Rattle.mux_outside.specs.declared.house.HouseReply.{HouseReply}
@@ -16,10 +16,11 @@ use Rattle.mux_outside.specs.declared.turn.Want.TheVariants.{Read, WriteOnly}
 use Rattle.mux_history.specs.declared.ended.Ended.{Ended}
 use Rattle.mux_history.specs.declared.ended.Ended.TheVariants as ended
 use Rattle.mux_history.specs.declared.limits.TheConstants.{HOUSE, READING_STOPS_AT}
+use Rattle.mux_history.specs.Journal.{is_accepted}
 use Rattle.mux_history.specs.Policy.{Policy}
 use Rattle.mux_peers.specs.Asked.{RecordsAsks}
 use Rattle.mux_state.specs.State.{State, queue_in}
-use Rattle.mux_state.specs.Events.{Records, here}
+use Rattle.mux_state.specs.Events.{MarkRecords, here}
 use Rattle.mux_state.specs.declared.event.Event.{Event}
 use Rattle.mux_state.specs.declared.event.Event.TheVariants.{Accepted, FromClient, ClientEnd, ClientFailed, HouseSays, FromServer, ServerEnd, ServerFailed}
 use Rattle.mux_engine.specs.Asking.{AppliesEvent}
@@ -62,7 +63,7 @@ abbrev stream-of : Mark → ℕ
 stream-of (Gets k bytes) = k
 stream-of mark = 0
 
-pub asks-ends : (e : Event) (bytes : List ℕ) (o : Option Ended) → Records e (Gets HOUSE bytes) → EndsSo e o → EndsByAsk o
+pub asks-ends : (e : Event) (bytes : List ℕ) (o : Option Ended) → MarkRecords e (Gets HOUSE bytes) → EndsSo e o → EndsByAsk o
 asks-ends (FromClient k said) bytes o t h = record {
   lives = h.may.0;
   by_row = record { unspent = h.may.1; permitted = h.may.2 };
@@ -104,7 +105,7 @@ said-so r old new bytes is recorded known hands fits = record { records = record
 
 -- as a client this is an event
 pub record IsPiece (e : Event) (bytes : List ℕ) : Type 0 where
-  pub is : Records e (Gets HOUSE bytes)
+  pub is : MarkRecords e (Gets HOUSE bytes)
   pub few : length bytes ≤ 65536
   pub are : AreBytes bytes
 
@@ -115,7 +116,7 @@ module _ {May : HouseReply → Type 0} {Rest : Resting} {before : Option (List H
   unnoted-yet = record { recorded = house'.recorded; asks = house'.known.asks; unnoted = HouseSaid bytes ∷ []; let_in = house'.known.present; calls = calls ++ calls_of (HouseSaid bytes ∷ []) }
 
   outgoing : Serving May Rest before unnoted-yet policy pid start seen held failed given [] s
-  outgoing = serve-recorded v unnoted-yet (HouseSaid bytes ∷ []) said.records refl refl (ap (λ (k : Known). k.asks) said.same) (ap (λ (k : Known). k.present) said.same) refl
+  outgoing = serve-recorded v unnoted-yet (HouseSaid bytes ∷ []) said.records refl refl (subst (λ (l : List OpenAsk). All (λ (a : OpenAsk). IsTrue (is_accepted a.client v.journal)) l) (sym (ap (λ (k : Known). k.asks) said.same)) v.askers) (ap (λ (k : Known). k.asks) said.same) (ap (λ (k : Known). k.present) said.same) refl
 
   -- there was no memory to note it
   pub cut-said : (now : Option (List Mark)) → now ≡ seen.recorded → Promised May Rest before house'.recorded policy pid start now (given + 1)

@@ -1,5 +1,5 @@
 -- A run of which the journal stays as it is.
-use Rattle.std.proofs.Common.{◌≡◌, ℕ, Bool, true, false, List, ◌++◌, Option, None, inl, inr, ◌⊎◌}
+use Rattle.std.proofs.Common.{◌≡◌, ℕ, Bool, true, false, List, [], ◌++◌, Option, None, inl, inr, ◌⊎◌}
 use Rattle.std.specs.Prelude.{All, IsTrue}
 use Rattle.mux_outside.specs.House.{OpenAsk}
 use Rattle.mux_outside.specs.HouseCalls.{calls_of}
@@ -15,25 +15,25 @@ use Rattle.mux_history.specs.Journal.{is_accepted}
 use Rattle.mux_history.specs.Promises.{IsSettled}
 use Rattle.mux_peers.specs.Asked.{RecordsAsks}
 use Rattle.mux_state.specs.State.{State}
-use Rattle.mux_engine.specs.Answers.{EachDeferred}
+use Rattle.mux_engine.specs.Answers.{opens_after}
 use Rattle.mux_engine.specs.Called.{calls_in}
-use Rattle.mux_engine.specs.Serving.{IsSound, IsUnused, Serving}
-use Rattle.mux_engine.specs.Sides.{Resting, Side, asks_in, house_marks}
+use Rattle.mux_engine.specs.Serving.{IsRunSound, IsUnused, Serving}
+use Rattle.mux_engine.specs.Sides.{Resting, Side, ask_marks_in, house_marks}
 
 module _ {May : HouseReply → Type 0} {Rest : Resting} {before : Option (List HouseMark)} {now : Side} {policy : Policy} {pid : ℕ} {start : Option (List Mark)} {seen : Seen} {held failed : List ℕ} {given : ℕ} {todo : List ℕ} {s : State} where
   -- of the forwarder this is noted after the journal
   pub record IsNoted (v : Serving May Rest before now policy pid start seen held failed given todo s) (now' : Side) : Type 0 where
     pub house : RecordsAsks before now'.recorded (house_marks v.journal ++ now'.unnoted)
-    pub asked : asks_in (house_marks v.journal ++ now'.unnoted) ≡ v.stands.asks
+    pub asked : ask_marks_in (house_marks v.journal ++ now'.unnoted) ≡ v.stands.asks
     pub called : (picks : List ℕ) (later : List HouseReply) → calls_in (by_lists policy pid (v.picked ++ picks) (v.replies ++ later)) v.journal ++ calls_of now'.unnoted ≡ now'.calls
     pub askers : All (λ (a : OpenAsk). IsTrue (is_accepted a.client v.journal)) now'.asks
-    pub deferred : EachDeferred v.stands.asks now'.asks
+    pub opens : now'.asks ≡ opens_after (house_marks v.journal ++ now'.unnoted) []
     pub house_in : is_accepted HOUSE v.journal ≡ now'.let_in
     pub house_there : now'.let_in ≡ true → Rest.present ≡ true
 
   -- as before
   pub still-noted : (v : Serving May Rest before now policy pid start seen held failed given todo s) → IsNoted v now
-  still-noted v = record { house = v.house; asked = v.asked; called = v.called; askers = v.askers; deferred = v.deferred; house_in = v.house_in; house_there = v.house_there }
+  still-noted v = record { house = v.house; asked = v.asked; called = v.called; askers = v.askers; opens = v.opens; house_in = v.house_in; house_there = v.house_there }
 
   -- these streams are to be offered what waits for them: another was so before, or is settled
   abbrev pub Covers : Serving May Rest before now policy pid start seen held failed given todo s → List ℕ → Type 0
@@ -55,7 +55,7 @@ module _ {May : HouseReply → Type 0} {Rest : Resting} {before : Option (List H
     asked = noted.asked;
     called = noted.called;
     askers = noted.askers;
-    deferred = noted.deferred;
+    opens = noted.opens;
     house_in = noted.house_in;
     house_there = noted.house_there;
     rested = v.rested;
@@ -72,7 +72,8 @@ module _ {May : HouseReply → Type 0} {Rest : Resting} {before : Option (List H
     unseen = v.unseen;
     unused = λ k free. let u : IsUnused v.journal seen k = v.unused k free in record { not_open = u.not_open; never_blocked = u.never_blocked; not_blocked = u.not_blocked; never_failed = u.never_failed };
     failed_are = v.failed_are;
+    failed_did = v.failed_did;
     receives = receives;
-    sound = λ picks later. let old : IsSound (by_lists policy pid (v.picked ++ picks) (v.replies ++ later)) v.journal todo s = v.sound picks later in
+    sound = λ picks later. let old : IsRunSound (by_lists policy pid (v.picked ++ picks) (v.replies ++ later)) v.journal todo s = v.sound picks later in
         record { kept = old.kept; failed_out = old.failed_out; settled = λ t client a. elim (covers t a) [ inl b ↦ old.settled t client b | inr d ↦ d picks later ] };
   }

@@ -18,10 +18,10 @@ use Rattle.mux_history.specs.declared.limits.TheConstants.{HOUSE}
 use Rattle.mux_history.specs.Policy.{Policy}
 use Rattle.mux_state.specs.State.{State}
 use Rattle.mux_state.specs.Events.{here}
-use Rattle.mux_engine.specs.Owned.{IsOffered}
-use Rattle.mux_engine.specs.Rests.{EndsByAsk, EndsSo, HasAnswered, HasNoMore, HasNoMoreFor, IsReady, WaitsAlone}
+use Rattle.mux_engine.specs.Owned.{IsOwnOffered}
+use Rattle.mux_engine.specs.Rests.{EndsByAsk, EndsSo, HasAnswered, HasNoMore, HasNoMoreFor, HasOffered, IsHouseReady, StaysReady, WaitsAlone}
 use Rattle.mux_engine.specs.Serving.{Serving, StaysOrFails, is_open}
-use Rattle.mux_engine.specs.Sides.{Housed, IsAlone, OrderedNothing, Resting, SentNothing, SameHouse, SamePlaces, Side, StaysHouse, Together}
+use Rattle.mux_engine.specs.Sides.{Housed, IsAlone, OrderedNothing, Resting, SentNothing, SameHouse, SameSockets, Side, StaysHouse, Together}
 use Rattle.mux_engine.specs.Wires.{NoFault, Works}
 use Rattle.mux_engine.specs.declared.room.Lists.{Lists}
 use Rattle.mux_engine.proofs.Comes.{over-house, over-live, over-offered}
@@ -67,7 +67,7 @@ a-turn {May} {Rest} {before} {now} {policy} {pid} {start} {seen} {held} {failed}
 
 -- ---- the forwarder
 
-pub housed-still : (known known' : Known) (seen seen' : Seen) (own : List ℕ) → SameHouse known known' → SamePlaces seen seen' → Housed known seen own → Housed known' seen' own
+pub housed-still : (known known' : Known) (seen seen' : Seen) (own : List ℕ) → SameHouse known known' → SameSockets seen seen' → Housed known seen own → Housed known' seen' own
 housed-still known known' seen seen' own same places h = housed-as known known' seen seen' own h same.ordering same.listeners same.streams places.listeners places.own places.streams places.last_own
 
 pub present-alone : (known : Known) → known.present ≡ true → IsAlone known
@@ -86,7 +86,7 @@ pub no-more : (old new : HouseState) (lists lists' : Lists) → HasAnswered old 
 no-more old new lists lists' answered ordered = subst (λ (l : Lists). HasNoMoreFor new l) (sym ordered.still) record {
   orders = λ present. ordered.orders;
   answers = λ present. ap (λ (q : Quiet). q.answers) ordered.same.quiet ∙ answered.answers;
-  offered = λ t a. subst (λ (l : List ℕ). IsOffered l lists.held lists.failed t) (sym (ordered.same.queues t)) (answered.offered t a);
+  offered = λ t a. subst (λ (l : List ℕ). IsOwnOffered l lists.held lists.failed t) (sym (ordered.same.queues t)) (answered.offered t a);
 }
 
 -- what is offered to others leaves it so
@@ -97,13 +97,28 @@ no-more-held house lists held holds h = record {
   offered = λ t a. elim (h.offered t a) [ inl none ↦ inl none | inr (inl q) ↦ inr (inl (holds t q)) | inr (inr q) ↦ inr (inr q) ];
 }
 
+-- where it sends nothing either its streams were offered what waits for them
+pub on-unsaid : {E : Type 0} (r : Result Bool E) (old new : HouseState) (seen seen' : Seen) (s s' : State) (lists : Lists) → HasOffered old lists → IfOk r (λ more. more ≡ false → SentNothing old new seen seen' s s') → IfOk r (λ more. more ≡ false → HasOffered new lists)
+on-unsaid (Ok b) old new seen seen' s s' lists offered said = λ e t a. subst (λ (l : List ℕ). IsOwnOffered l lists.held lists.failed t) (sym ((said e).same.queues t)) (offered t a)
+on-unsaid (Err e) old new seen seen' s s' lists offered said = tt
+
+-- streams of clients are closed: those of the master's own stay as they were
+pub offered-closed : {seen seen' : Seen} {held held' : List ℕ} {s s' : State} (house : HouseState) (failed own : List ℕ) → StaysReady seen seen' held held' s s' → Housed house.known seen own → ((t : ℕ) → among t own ≡ true → IsOwnOffered (house.queue t) held failed t) → (t : ℕ) → among t own ≡ true → IsOwnOffered (house.queue t) held' failed t
+offered-closed house failed own stays housed offered =
+    let absent : Known = record house.known { present = false } in
+    let none : Housed absent _ own = record { ordering = housed.ordering; listeners = housed.listeners; streams = housed.streams; own_is = housed.own_is; places = housed.places } in
+    ((stays absent house.quiet house.queue failed own none).1 record {
+      no_more = record { orders = λ there. true-false (sym there); answers = λ there. true-false (sym there); offered = offered };
+      rests = λ there. true-false (sym there);
+    }).no_more.offered
+
 -- and it sends nothing: it is at rest
-pub no-more-said : (old new : HouseState) (seen seen' : Seen) (s s' : State) (held failed own : List ℕ) → SameHouse old.known new.known → old.known.present ≡ true → HasNoMore old.known old.quiet old.queue held failed own → SentNothing old new seen seen' s s' → IsReady new.known new.quiet new.queue held failed own s'
+pub no-more-said : (old new : HouseState) (seen seen' : Seen) (s s' : State) (held failed own : List ℕ) → SameHouse old.known new.known → old.known.present ≡ true → HasNoMore old.known old.quiet old.queue held failed own → SentNothing old new seen seen' s s' → IsHouseReady new.known new.quiet new.queue held failed own s'
 no-more-said old new seen seen' s s' held failed own known there h said = record {
   no_more = record {
     orders = λ present. ap (λ (q : Quiet). q.orders) said.same.quiet ∙ h.orders there;
     answers = λ present. ap (λ (q : Quiet). q.answers) said.same.quiet ∙ h.answers there;
-    offered = λ t a. subst (λ (l : List ℕ). IsOffered l held failed t) (sym (said.same.queues t)) (h.offered t a);
+    offered = λ t a. subst (λ (l : List ℕ). IsOwnOffered l held failed t) (sym (said.same.queues t)) (h.offered t a);
   };
   rests = λ present reads. all-quiet new.quiet said.says (ap (λ (q : Quiet). q.orders) said.same.quiet ∙ h.orders there) (ap (λ (q : Quiet). q.answers) said.same.quiet ∙ h.answers there);
 }
@@ -113,7 +128,7 @@ no-more-said old new seen seen' s s' held failed own known there h said = record
 
 -- ---- all of it together
 
-pub together-still : {old new : HouseState} {wire wire' : WireState} {lists lists' : Lists} → Together old wire lists → SameHouse old.known new.known → SamePlaces wire.seen wire'.seen → lists'.own ≡ lists.own → lists'.held ≡ wire'.seen.blocked → Together new wire' lists'
+pub together-still : {old new : HouseState} {wire wire' : WireState} {lists lists' : Lists} → Together old wire lists → SameHouse old.known new.known → SameSockets wire.seen wire'.seen → lists'.own ≡ lists.own → lists'.held ≡ wire'.seen.blocked → Together new wire' lists'
 together-still {old} {new} {wire} {wire'} {lists} t known places own held_is = record {
   housed = subst (λ (l : List ℕ). Housed new.known wire'.seen l) (sym own) (housed-still old.known new.known wire.seen wire'.seen lists.own known places t.housed);
   alone = record { listeners = λ out. known.listeners ∙ t.alone.listeners (sym known.present ∙ out); streams = λ out. known.streams ∙ t.alone.streams (sym known.present ∙ out) };
@@ -176,7 +191,7 @@ on-false (Err e) f h = tt
 
 -- it sent nothing
 pub on-said : {E : Type 0} (r : Result Bool E) (old new : HouseState) (seen seen' : Seen) (s s' : State) (held failed own : List ℕ) → OnOk r (SameHouse old.known new.known) → old.known.present ≡ true → HasNoMore old.known old.quiet old.queue held failed own → IfOk r (λ more. more ≡ false → SentNothing old new seen seen' s s')
-    → IfOk r (λ more. more ≡ false → s'.ended ≡ None → IsReady new.known new.quiet new.queue held failed own s')
+    → IfOk r (λ more. more ≡ false → s'.ended ≡ None → IsHouseReady new.known new.quiet new.queue held failed own s')
 on-said (Ok b) old new seen seen' s s' held failed own known there h said = λ e live. no-more-said old new seen seen' s s' held failed own known there h (said e)
 on-said (Err e) old new seen seen' s s' held failed own known there h said = tt
 

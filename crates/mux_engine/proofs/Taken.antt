@@ -6,14 +6,14 @@ use Rattle.mux_outside.specs.Streams.{without}
 use Rattle.mux_outside.specs.declared.house.HouseReply.{HouseReply}
 use Rattle.mux_outside.specs.declared.mark.Mark.{Mark}
 use Rattle.mux_outside.specs.declared.mark.Mark.TheVariants.{Takes}
-use Rattle.proxy_frames.specs.Queued.{without_first}
+use Rattle.proxy_frames.specs.Queued.{without_first_bytes}
 use Rattle.mux_history.specs.Settings.{by_lists}
 use Rattle.mux_history.specs.Rows.{Item, Took}
 use Rattle.mux_history.specs.Log.{more_all}
 use Rattle.mux_history.specs.Journal.{is_own_stream, log_of_journal}
 use Rattle.mux_peers.specs.State.{ClientState}
 use Rattle.mux_peers.specs.Among.{is_present}
-use Rattle.mux_peers.specs.Asked.{asked_of}
+use Rattle.mux_peers.specs.Asked.{asks_of_rows}
 use Rattle.mux_state.specs.State.{State, at_client, client_took, closed_by, in_client, numbers, queue_in, taken, without_client}
 use Rattle.mux_state.specs.Events.{here}
 use Rattle.mux_state.specs.Stands.{log}
@@ -32,28 +32,28 @@ numbers-took t n (c ∷ cs) = by_head (c.peer.number == t) (numbers-took t n cs)
     by_head false ih = ap (λ l. c.peer.number ∷ l) ih
 
 abbrev after : State → ℕ → ℕ → Bool → State
-after s t n b = cond b (record s { up = without_first n s.up }) (record s { clients = at_client t (client_took n) s.clients })
+after s t n b = cond b (record s { up = without_first_bytes n s.up }) (record s { clients = at_client t (client_took n) s.clients })
 
 taken-run : (s : State) (t n : ℕ) → SameRun s (taken s t n)
 taken-run s t n = by_server (t == 0)
   where
     by_server : (b : Bool) → SameRun s (record (after s t n b) { waiting = (taken s t n).waiting })
-    by_server true = record { policy = refl; pid = refl; streams = refl; ended = refl }
-    by_server false = record { policy = refl; pid = refl; streams = ap (λ l. l ++ s.refused) (numbers-took t n s.clients); ended = refl }
+    by_server true = record { policy = refl; pid = refl; streams = refl; ended = refl; listening = refl }
+    by_server false = record { policy = refl; pid = refl; streams = ap (λ l. l ++ s.refused) (numbers-took t n s.clients); ended = refl; listening = refl }
 
 pub took-run : (s s' : State) (t n : ℕ) → s' ≡ taken s t n → SameRun s s'
 took-run s s' t n e = subst (SameRun s) (sym e) (taken-run s t n)
 
 -- nothing is asked by it
-pub took-asks : (s s' : State) (t : ℕ) (bytes : List ℕ) (marks : List Mark) → SameRun s s' → (picks : List ℕ) (replies : List HouseReply) → asked_of (log s' picks replies (Takes t bytes ∷ marks)) ≡ asked_of (log s picks replies marks)
-took-asks s s' t bytes marks same picks replies =
-    ap (λ x. asked_of (log_of_journal (by_lists x s'.pid picks replies) (Takes t bytes ∷ marks))) same.policy
-    ∙ (ap (λ x. asked_of (log_of_journal (by_lists s.core.policy x picks replies) (Takes t bytes ∷ marks))) same.pid
+pub took-asks : (s s' : State) (t : ℕ) (bytes : List ℕ) (accepts : Bool) (marks : List Mark) → SameRun s s' → (picks : List ℕ) (replies : List HouseReply) → asks_of_rows (log s' picks replies (Takes t bytes accepts ∷ marks)) ≡ asks_of_rows (log s picks replies marks)
+took-asks s s' t bytes accepts marks same picks replies =
+    ap (λ x. asks_of_rows (log_of_journal (by_lists x s'.pid picks replies) (Takes t bytes accepts ∷ marks))) same.policy
+    ∙ (ap (λ x. asks_of_rows (log_of_journal (by_lists s.core.policy x picks replies) (Takes t bytes accepts ∷ marks))) same.pid
     ∙ by_own (is_own_stream t))
   where
-    by_own : (b : Bool) → asked_of (more_all (by_lists s.core.policy s.pid picks replies) (log s picks replies marks) (elim b as (λ _. List Item) [ true ↦ [] | false ↦ Took t (length bytes) ∷ [] ])) ≡ asked_of (log s picks replies marks)
+    by_own : (b : Bool) → asks_of_rows (more_all (by_lists s.core.policy s.pid picks replies) (log s picks replies marks) (elim b as (λ _. List Item) [ true ↦ [] | false ↦ Took t (length bytes) ∷ [] ])) ≡ asks_of_rows (log s picks replies marks)
     by_own true = refl
-    by_own false = ap asked_of (took-log s.core.policy s.pid picks replies (log s picks replies marks) t (length bytes)) ∙ append-nil (asked_of (log s picks replies marks))
+    by_own false = ap asks_of_rows (took-log s.core.policy s.pid picks replies (log s picks replies marks) t (length bytes)) ∙ append-nil (asks_of_rows (log s picks replies marks))
 
 -- ---- what waits is less
 

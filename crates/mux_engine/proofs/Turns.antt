@@ -1,6 +1,6 @@
 -- What an event makes of what holds while a wire is served: who is settled after it.
 use Rattle.std.proofs.Common.{◌≡◌, ◌≢◌, ℕ, Bool, true, false, ◌||◌, List, ◌∷◌, ◌++◌, length, Option, None, refl, sym, ap, ◌∙◌, subst, inl}
-use Rattle.std.specs.Prelude.{◌==◌}
+use Rattle.std.specs.Prelude.{◌==◌, is_some}
 use Rattle.std.proofs.lemmas.Bool.{eq-eqb}
 use Rattle.mux_outside.specs.Seen.{Seen}
 use Rattle.mux_outside.specs.Streams.{among}
@@ -20,12 +20,14 @@ use Rattle.mux_history.proofs.Bools.{or-left, or-right}
 use Rattle.mux_state.specs.State.{State, is_here}
 use Rattle.mux_state.specs.Events.{here}
 use Rattle.mux_state.specs.Stands.{GoesBy, RowsFit}
-use Rattle.mux_engine.specs.Answers.{AnswersDeferred}
-use Rattle.mux_engine.specs.Serving.{IsSound, Serving}
+use Rattle.mux_state.proofs.Over.{some-end}
+use Rattle.mux_engine.specs.AfterEnd.{NoneEnded}
+use Rattle.mux_engine.specs.Answers.{AnswersOpen}
+use Rattle.mux_engine.specs.Serving.{IsRunSound, Serving}
 use Rattle.mux_engine.specs.Sides.{Resting, Side}
 use Rattle.mux_engine.proofs.Lists.{among-open, true-false}
 use Rattle.mux_engine.proofs.Logs.{log-out, settled-as}
-use Rattle.mux_engine.proofs.Marks.{PromiseAt, SoundAt, log-is, sound-at, stood-at}
+use Rattle.mux_engine.proofs.Marks.{PromiseAt, SoundAt, after-live, log-is, sound-at, stood-at}
 use Rattle.mux_engine.proofs.Outs.{Spares, waits-closed}
 
 -- what waits for a client
@@ -62,13 +64,13 @@ recorded-failed (Fails k) journal t h = refl
 recorded-failed (House m) journal t h = refl
 recorded-failed mark journal t h = absurd h
 
-pub recorded-promise : (set : Setting) (mark : Mark) (journal : List Mark) → IsRecorded mark → SpeaksInTime set journal mark → AnswersDeferred set journal mark → PromiseAt set journal mark
-recorded-promise set (Accepts k) journal h speaks answers = record { takes = tt; waits = tt; speaks = tt; open_streams = tt; answers = tt }
-recorded-promise set (Gets k bytes) journal h speaks answers = record { takes = tt; waits = tt; speaks = tt; open_streams = tt; answers = tt }
-recorded-promise set (Ends k) journal h speaks answers = record { takes = tt; waits = tt; speaks = tt; open_streams = tt; answers = tt }
-recorded-promise set (Fails k) journal h speaks answers = record { takes = tt; waits = tt; speaks = tt; open_streams = tt; answers = tt }
-recorded-promise set (House m) journal h speaks answers = record { takes = tt; waits = tt; speaks = speaks; open_streams = tt; answers = answers }
-recorded-promise set mark journal h speaks answers = absurd h
+pub recorded-promise : (set : Setting) (mark : Mark) (journal : List Mark) → IsRecorded mark → NoneEnded set journal → SpeaksInTime set journal mark → AnswersOpen set journal mark → PromiseAt set journal mark
+recorded-promise set (Accepts k) journal h on speaks answers = record { takes = tt; waits = tt; speaks = tt; open_streams = tt; answers = tt; after_end = tt; silence = tt }
+recorded-promise set (Gets k bytes) journal h on speaks answers = record { takes = tt; waits = tt; speaks = tt; open_streams = tt; answers = tt; after_end = tt; silence = tt }
+recorded-promise set (Ends k) journal h on speaks answers = record { takes = tt; waits = tt; speaks = tt; open_streams = tt; answers = tt; after_end = tt; silence = tt }
+recorded-promise set (Fails k) journal h on speaks answers = record { takes = tt; waits = tt; speaks = tt; open_streams = tt; answers = tt; after_end = tt; silence = tt }
+recorded-promise set (House m) journal h on speaks answers = record { takes = tt; waits = tt; speaks = speaks; open_streams = tt; answers = answers; after_end = after-live set journal (House m) on; silence = tt }
+recorded-promise set mark journal h on speaks answers = absurd h
 
 module _ {May : HouseReply → Type 0} {Rest : Resting} {before : Option (List HouseMark)} {now : Side} {policy : Policy} {pid : ℕ} {start : Option (List Mark)} {seen : Seen} {held failed : List ℕ} {given : ℕ} {todo : List ℕ} {s : State}
     (v : Serving May Rest before now policy pid start seen held failed given todo s) {recorded recorded' : Option (List HouseMark)} {s' : State} (mark : Mark) (g : GoesBy May recorded recorded' v.picked v.replies s s' mark v.journal v.closed)
@@ -115,12 +117,15 @@ module _ {May : HouseReply → Type 0} {Rest : Resting} {before : Option (List H
           (recorded-blocked mark v.journal t is) (recorded-failed mark v.journal t is)
           ((sound-at v g.picks g.replies (v.picked ++ g.picks) (v.replies ++ g.replies) refl refl picks later).settled t client (covers t a))
 
+  rows-on : (picks : List ℕ) (later : List HouseReply) → s.ended ≡ None → NoneEnded (setting picks later) v.journal
+  rows-on picks later live = sym (some-end (log_of_journal (setting picks later) v.journal)) ∙ ap is_some (sym (fits-before picks later).ended_is ∙ live)
+
   -- all of it, where the run went on before
-  pub recorded-sound : s.ended ≡ None → ((k : ℕ) → among k v.closed ≡ true → Spares k mark) → ((picks : List ℕ) (later : List HouseReply) → SpeaksInTime (setting picks later) v.journal mark) → ((picks : List ℕ) (later : List HouseReply) → AnswersDeferred (setting picks later) v.journal mark) → (picks : List ℕ) (later : List HouseReply) → SoundAt (setting picks later) v.journal mark (0 ∷ here s') s'
+  pub recorded-sound : s.ended ≡ None → ((k : ℕ) → among k v.closed ≡ true → Spares k mark) → ((picks : List ℕ) (later : List HouseReply) → SpeaksInTime (setting picks later) v.journal mark) → ((picks : List ℕ) (later : List HouseReply) → AnswersOpen (setting picks later) v.journal mark) → (picks : List ℕ) (later : List HouseReply) → SoundAt (setting picks later) v.journal mark (0 ∷ here s') s'
   recorded-sound live spares speaks answers picks later =
-      let old : IsSound (setting picks later) v.journal todo s = sound-at v g.picks g.replies (v.picked ++ g.picks) (v.replies ++ g.replies) refl refl picks later in
+      let old : IsRunSound (setting picks later) v.journal todo s = sound-at v g.picks g.replies (v.picked ++ g.picks) (v.replies ++ g.replies) refl refl picks later in
       record {
-        promise = recorded-promise (setting picks later) mark v.journal is (speaks picks later) (answers picks later);
+        promise = recorded-promise (setting picks later) mark v.journal is (rows-on picks later live) (speaks picks later) (answers picks later);
         failed_out = λ t client w on. log-out (setting picks later) mark v.journal t (old.failed_out t client (sym (recorded-failed mark v.journal t is) ∙ w) live);
         settled = λ t client a. rest-settled spares picks later t client a;
       }

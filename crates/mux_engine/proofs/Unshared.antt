@@ -15,7 +15,7 @@ use Rattle.mux_history.specs.Pending.{given_by, given_to, pending}
 use Rattle.mux_history.specs.Log.{Setting, more_all, more_of, makes_next, next_row}
 use Rattle.mux_history.specs.Settings.{by_lists}
 use Rattle.mux_history.specs.Right.{AreFresh, IsRight}
-use Rattle.mux_history.specs.Journal.{IsLawful, house_items, is_own_stream, items_in, log_of_journal, taken_by, taken_in}
+use Rattle.mux_history.specs.Journal.{IsLawful, house_items, is_own_stream, items_in, log_of_journal, taken_by, bytes_taken_in}
 use Rattle.mux_history.specs.Promises.{IsCut, IsFront, TakesFront, Throughout, is_asked}
 use Rattle.mux_history.proofs.Journals.{logs-right}
 use Rattle.mux_history.proofs.Written.{adds-up}
@@ -57,7 +57,7 @@ none-front taken waits all e = (waits, e ∙ ap (λ l. l ++ waits) (sym (append-
 
 module _ (setting : Setting) (k : ℕ) (client : is_own k ≡ false) (before : List Mark) (all : given_to k (log_of_journal setting before) ≡ taken_by k before ++ pending k (log_of_journal setting before)) where
   abbrev goal : Mark → Type 0
-  goal mark = IsFront (taken_by k before ++ taken_in k mark) (given_to k (log_of_journal setting before))
+  goal mark = IsFront (taken_by k before ++ bytes_taken_in k mark) (given_to k (log_of_journal setting before))
 
   nothing : IsFront (taken_by k before ++ []) (given_to k (log_of_journal setting before))
   nothing = none-front (taken_by k before) (pending k (log_of_journal setting before)) (given_to k (log_of_journal setting before)) all
@@ -73,8 +73,8 @@ module _ (setting : Setting) (k : ℕ) (client : is_own k ≡ false) (before : L
   some stream bytes front false e = nothing
 
   pub of-mark : (mark : Mark) → TakesFront setting before mark → goal mark
-  of-mark (Takes stream bytes) front = some stream bytes front (stream == k) refl
-  of-mark (Waits waiting want streams listens) front = nothing
+  of-mark (Takes stream bytes accepts) front = some stream bytes front (stream == k) refl
+  of-mark (Waits waiting want streams shown) front = nothing
   of-mark (Accepts j) front = nothing
   of-mark (Gets j bytes) front = nothing
   of-mark (Ends j) front = nothing
@@ -99,7 +99,7 @@ module _ (policy : Policy) (pid : ℕ) (picks : List ℕ) (given : List HouseRep
     where
       one : (mark : Mark) (before : List Mark) → Throughout (TakesFront setting) (mark ∷ before) → (n : ℕ) → rows ≡ more_all setting (log_of_journal setting before) (take n (items_in before mark)) → IsFront (taken_by k (mark ∷ before)) (given_to k rows)
       one mark before takes n e =
-          front-more (taken_by k before ++ taken_in k mark) (given_to k (log_of_journal setting before)) (given_to k rows)
+          front-more (taken_by k before ++ bytes_taken_in k mark) (given_to k (log_of_journal setting before)) (given_to k rows)
           (of-mark setting k client before (sym (adds-up setting before takes.1 k client)) mark takes.0)
           (subst (λ r. IsFront (given_to k (log_of_journal setting before)) (given_to k r)) (sym e) (gives-more setting k (log_of_journal setting before) (take n (items_in before mark))))
 
@@ -111,13 +111,13 @@ module _ (policy : Policy) (pid : ℕ) (picks : List ℕ) (given : List HouseRep
       cut-begins : (journal : List Mark) → Throughout (TakesFront setting) journal → IsCut setting journal rows → IsFront (taken_by k journal) (given_to k rows)
       cut-begins [] takes cut = (given_to k rows, refl)
       cut-begins (House m ∷ before) takes cut = house-mark m before (λ c. cut-begins before takes.1 c) takes (is_asked m) cut
-      cut-begins (Waits waiting want streams listens ∷ before) takes (n, e) = one (Waits waiting want streams listens) before takes n e
+      cut-begins (Waits waiting want streams shown ∷ before) takes (n, e) = one (Waits waiting want streams shown) before takes n e
       cut-begins (Accepts j ∷ before) takes (n, e) = one (Accepts j) before takes n e
       cut-begins (Gets j bytes ∷ before) takes (n, e) = one (Gets j bytes) before takes n e
       cut-begins (Ends j ∷ before) takes (n, e) = one (Ends j) before takes n e
       cut-begins (Frees j ∷ before) takes (n, e) = one (Frees j) before takes n e
       cut-begins (Fails j ∷ before) takes (n, e) = one (Fails j) before takes n e
-      cut-begins (Takes j bytes ∷ before) takes (n, e) = one (Takes j bytes) before takes n e
+      cut-begins (Takes j bytes accepts ∷ before) takes (n, e) = one (Takes j bytes accepts) before takes n e
       cut-begins (Holds j ∷ before) takes (n, e) = one (Holds j) before takes n e
       cut-begins (WriteFails j ∷ before) takes (n, e) = one (WriteFails j) before takes n e
       cut-begins (Joins l j ∷ before) takes (n, e) = one (Joins l j) before takes n e

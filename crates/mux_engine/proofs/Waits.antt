@@ -7,7 +7,7 @@ use Rattle.std.proofs.lemmas.List.Elements.{filter-append}
 use Rattle.std.proofs.lemmas.List.Folds.{list_any-append}
 use Rattle.mux_outside.specs.HouseCalls.{HouseCall, calls_of}
 use Rattle.mux_outside.specs.OwnStreams.{is_one, is_own, numbers_of}
-use Rattle.mux_outside.specs.Seen.{Seen}
+use Rattle.mux_outside.specs.Seen.{Seen, shown_of}
 use Rattle.mux_outside.specs.Streams.{among}
 use Rattle.mux_outside.specs.declared.own_streams.OwnStream.{OwnStream}
 use Rattle.mux_outside.specs.declared.house.HouseReply.{HouseReply}
@@ -22,22 +22,21 @@ use Rattle.mux_history.specs.Pending.{pending}
 use Rattle.mux_history.specs.Settings.{by_lists}
 use Rattle.mux_history.specs.Log.{Setting}
 use Rattle.mux_history.specs.Journal.{is_blocked, is_own_stream, log_of_journal}
-use Rattle.mux_history.specs.Promises.{MayWait, WaitsRight, OpenRight, has_failed, has_output, is_empty, not_own, write_failed}
+use Rattle.mux_history.specs.Promises.{MayWaitForOwn, WaitsRight, OpenRight, has_failed, has_output, is_empty, not_own, write_failed}
 use Rattle.mux_state.proofs.Over.{some-end}
 use Rattle.mux_state.specs.State.{State, numbers, waiting_clients}
 use Rattle.mux_state.specs.Events.{here}
 use Rattle.mux_state.specs.Stands.{RowsFit}
 use Rattle.mux_state.proofs.Twins.{stands-alike}
 use Rattle.mux_engine.specs.Called.{calls_in}
-use Rattle.mux_engine.specs.Owned.{IsOffered, waits_for}
-use Rattle.mux_engine.specs.Places.{listeners_in, own_in}
-use Rattle.mux_engine.specs.Serving.{IsSound, Serving, is_open}
+use Rattle.mux_engine.specs.Owned.{IsOwnOffered, waits_for_own}
+use Rattle.mux_engine.specs.Places.{listeners_in, own_in, unfailed_in}
+use Rattle.mux_engine.specs.Serving.{IsRunSound, Serving, is_open}
 use Rattle.mux_engine.specs.Sides.{Resting, Side, house_marks}
 use Rattle.mux_engine.specs.Turns.{want_of}
 use Rattle.mux_engine.proofs.Called.{calls-none}
 use Rattle.mux_engine.proofs.Closed.{both-tests}
-use Rattle.mux_engine.proofs.Deferred.{still-deferred}
-use Rattle.mux_engine.proofs.Lists.{among-filter, among-open, and-first, and-second, not-own-stream, open-here, true-false}
+use Rattle.mux_engine.proofs.Lists.{among-filter, among-open, and-first, and-second, not-own-stream, open-here, or-true, test-same, true-false}
 use Rattle.mux_engine.proofs.Marks.{log-is, serve-alone}
 use Rattle.mux_engine.proofs.Owns.{among-one, owns-as}
 use Rattle.mux_engine.proofs.Places.{open-own, placed-still, stream-open}
@@ -58,7 +57,7 @@ failed-has t (Fails k ∷ j) f = by_test (k == t) (failed-has t j f)
     by_test : (b : Bool) → has_failed t j ≡ true → (elim b as (λ _. Bool) [ true ↦ true | false ↦ has_failed t j ]) ≡ true
     by_test true f = refl
     by_test false f = f
-failed-has t (Takes k bytes ∷ j) f = by_test (k == t) f (failed-has t j)
+failed-has t (Takes k bytes accepts ∷ j) f = by_test (k == t) f (failed-has t j)
   where
     by_test : (b : Bool) → (elim b as (λ _. Bool) [ true ↦ false | false ↦ write_failed t j ]) ≡ true → (write_failed t j ≡ true → has_failed t j ≡ true) → has_failed t j ≡ true
     by_test true f ih = true-false (sym f)
@@ -68,7 +67,7 @@ failed-has t (Holds k ∷ j) f = by_test (k == t) f (failed-has t j)
     by_test : (b : Bool) → (elim b as (λ _. Bool) [ true ↦ false | false ↦ write_failed t j ]) ≡ true → (write_failed t j ≡ true → has_failed t j ≡ true) → has_failed t j ≡ true
     by_test true f ih = true-false (sym f)
     by_test false f ih = ih f
-failed-has t (Waits waiting want streams listens ∷ j) f = failed-has t j f
+failed-has t (Waits waiting want streams shown ∷ j) f = failed-has t j f
 failed-has t (Accepts k ∷ j) f = failed-has t j f
 failed-has t (Gets k bytes ∷ j) f = failed-has t j f
 failed-has t (Ends k ∷ j) f = failed-has t j f
@@ -86,6 +85,35 @@ none-left (x ∷ xs) h = ap (λ b. cond (not b) (x ∷ not_own xs) (not_own xs))
     later : {c : Bool} (b : Bool) → c ≡ true → (b || c) ≡ true
     later true e = refl
     later false e = e
+
+-- ---- lists of which each, none, or each of another is kept
+
+head-among : (x : ℕ) (xs : List ℕ) → among x (x ∷ xs) ≡ true
+head-among x xs = ap (λ b. b || among x xs) (test-same x)
+
+tail-among : (x t : ℕ) (xs : List ℕ) → among t xs ≡ true → among t (x ∷ xs) ≡ true
+tail-among x t xs a = ap (λ b. (x == t) || b) a ∙ or-true (x == t)
+
+keeps-every : (P : ℕ → Bool) (xs : List ℕ) → ((t : ℕ) → among t xs ≡ true → P t ≡ true) → filter P xs ≡ xs
+keeps-every P [] h = refl
+keeps-every P (x ∷ xs) h = ap (λ b. cond b (x ∷ filter P xs) (filter P xs)) (h x (head-among x xs)) ∙ ap (λ l. x ∷ l) (keeps-every P xs (λ t a. h t (tail-among x t xs a)))
+
+keeps-none : (P : ℕ → Bool) (xs : List ℕ) → ((t : ℕ) → among t xs ≡ true → P t ≡ false) → filter P xs ≡ []
+keeps-none P [] h = refl
+keeps-none P (x ∷ xs) h = ap (λ b. cond b (x ∷ filter P xs) (filter P xs)) (h x (head-among x xs)) ∙ keeps-none P xs (λ t a. h t (tail-among x t xs a))
+
+keeps-alike : (P Q : ℕ → Bool) (xs : List ℕ) → ((t : ℕ) → among t xs ≡ true → P t ≡ Q t) → filter P xs ≡ filter Q xs
+keeps-alike P Q [] h = refl
+keeps-alike P Q (x ∷ xs) h = ap (λ b. cond b (x ∷ filter P xs) (filter P xs)) (h x (head-among x xs)) ∙ ap (λ l. cond (Q x) (x ∷ l) l) (keeps-alike P Q xs (λ t a. h t (tail-among x t xs a)))
+
+-- two tests at once, or one after the other
+pub filter-both : (P Q : ℕ → Bool) (xs : List ℕ) → filter (λ t. P t && Q t) xs ≡ filter Q (filter P xs)
+filter-both P Q [] = refl
+filter-both P Q (x ∷ xs) = by_first (P x) (filter-both P Q xs)
+  where
+    by_first : (b : Bool) → filter (λ t. P t && Q t) xs ≡ filter Q (filter P xs) → cond (b && Q x) (x ∷ filter (λ t. P t && Q t) xs) (filter (λ t. P t && Q t) xs) ≡ filter Q (cond b (x ∷ filter P xs) (filter P xs))
+    by_first true ih = ap (λ l. cond (Q x) (x ∷ l) l) ih
+    by_first false ih = ih
 
 -- where all streams were offered what waits for them, the forwarder was handed over all
 pub handed-all : {May : HouseReply → Type 0} {Rest : Resting} {before : Option (List HouseMark)} {now : Side} {policy : Policy} {pid : ℕ} {start : Option (List Mark)} {seen : Seen} {held failed : List ℕ} {given : ℕ} {s : State}
@@ -105,7 +133,7 @@ pub record Offered (seen : Seen) (own held failed : List ℕ) (queue : ℕ → L
   pub own_is : own ≡ numbers_of seen.own
   pub opened : (t : ℕ) → IsTrue (is_one t seen.own) → IsTrue (among t seen.streams)
   pub numbered : (t : ℕ) → IsTrue (is_one t seen.own) → IsTrue (is_own t)
-  pub offered : (t : ℕ) → among t own ≡ true → IsOffered (queue t) held failed t
+  pub offered : (t : ℕ) → among t own ≡ true → IsOwnOffered (queue t) held failed t
 
 module _ {May : HouseReply → Type 0} {Rest : Resting} {before : Option (List HouseMark)} {now : Side} {policy : Policy} {pid : ℕ} {start : Option (List Mark)} {seen : Seen} {held failed : List ℕ} {given : ℕ} {s : State}
     (v : Serving May Rest before now policy pid start seen held failed given [] s) (none : s.leaving ≡ []) (admitted : s.refused ≡ []) (live : s.ended ≡ None) {own : List ℕ} {queue : ℕ → List ℕ} (o : Offered seen own held failed queue) where
@@ -117,7 +145,7 @@ module _ {May : HouseReply → Type 0} {Rest : Resting} {before : Option (List H
 
   -- of the master's own those for which something waits
   abbrev pub own-waiting : List ℕ
-  own-waiting = filter (waits_for queue failed) own
+  own-waiting = filter (waits_for_own queue failed) own
 
   abbrev pub all-waiting : List ℕ
   all-waiting = s.waiting ++ own-waiting
@@ -159,7 +187,7 @@ module _ {May : HouseReply → Type 0} {Rest : Resting} {before : Option (List H
   held-back t a =
       let w : IsWaiting t = waits-of t a in
       let client : is_own_stream t ≡ false = not-own-stream t (open-own v t w.open_is w.no_house) in
-      let old : IsSound (setting [] []) v.journal [] s = v.sound [] [] in
+      let old : IsRunSound (setting [] []) v.journal [] s = v.sound [] [] in
       elim (old.settled t client refl) [
         | inl e ↦ absurd (not-empty (pending t (rows [] [])) w.output e)
         | inr r ↦ elim r [ inl b ↦ b | inr f ↦ true-false (sym (old.failed_out t client f live) ∙ not-out t w.open_is) ]
@@ -174,9 +202,9 @@ module _ {May : HouseReply → Type 0} {Rest : Resting} {before : Option (List H
 
   own-waits : (t : ℕ) → among t own-waiting ≡ true → OwnWaits t
   own-waits t a =
-      let both : (waits_for queue failed t && among t own) ≡ true = sym (among-filter (waits_for queue failed) t own) ∙ a in
-      let mine : among t own ≡ true = and-second (waits_for queue failed t) (among t own) both in
-      let wants : waits_for queue failed t ≡ true = and-first (waits_for queue failed t) (among t own) both in
+      let both : (waits_for_own queue failed t && among t own) ≡ true = sym (among-filter (waits_for_own queue failed) t own) ∙ a in
+      let mine : among t own ≡ true = and-second (waits_for_own queue failed t) (among t own) both in
+      let wants : waits_for_own queue failed t ≡ true = and-first (waits_for_own queue failed t) (among t own) both in
       let one : IsTrue (is_one t seen.own) = sym (among-one t seen.own) ∙ (sym (ap (among t) o.own_is) ∙ mine) in
       let sound : among t failed ≡ false = flip (among t failed) (and-first (not (among t failed)) (not (is_empty (queue t))) wants) in
       record {
@@ -237,7 +265,7 @@ module _ {May : HouseReply → Type 0} {Rest : Resting} {before : Option (List H
   own-none : not_own own-waiting ≡ []
   own-none = none-left own-waiting (λ t a. (own-waits t a).own_is)
 
-  may-wait : (t : ℕ) → among t all-waiting ≡ true → MayWait v.journal t
+  may-wait : (t : ℕ) → among t all-waiting ≡ true → MayWaitForOwn v.journal t
   may-wait t a is = elim (either-waits t a) [
     | inl c ↦ let w : IsWaiting t = waits-of t c in true-false (sym is ∙ open-own v t w.open_is w.no_house)
     | inr m ↦ let w : OwnWaits t = own-waits t m in by_failed w (has_failed t v.journal) refl
@@ -253,7 +281,7 @@ module _ {May : HouseReply → Type 0} {Rest : Resting} {before : Option (List H
     waits_for = filter-append (λ (t : ℕ). not (is_own t)) s.waiting own-waiting
         ∙ (ap (λ l. not_own s.waiting ++ l) own-none ∙ (append-nil (not_own s.waiting)
         ∙ (ap not_own (waits-are picks later) ∙ (both-tests (λ t. not (is_own t)) (has_output (rows picks later)) (0 ∷ numbers s.clients) ∙ ap (filter (has_output (rows picks later))) (sym streams-are)))));
-    own = all-of (MayWait v.journal) all-waiting may-wait;
+    own = all-of (MayWaitForOwn v.journal) all-waiting may-wait;
     blocked = all-of (λ t. IsTrue (is_blocked t v.journal)) all-waiting blocked-of;
     write_only = subst (λ q. ((cond (nat_lt (length s.up.waiting) READING_STOPS_AT) Read WriteOnly) ≡ WriteOnly) ↔ (READING_STOPS_AT ≤ length q)) (fits picks later).fit.up (want-is (length s.up.waiting) READING_STOPS_AT);
     settled = λ t client. (v.sound picks later).settled t (not-own-stream t client) refl;
@@ -266,17 +294,44 @@ module _ {May : HouseReply → Type 0} {Rest : Resting} {before : Option (List H
     listening = receives ∙ (fits picks later).listening_is;
   }
 
+  -- ---- the master's own streams then
+
+  -- the streams of the master's own that are waited for
+  pub own-are : filter is_own all-waiting ≡ own-waiting
+  own-are = filter-append is_own s.waiting own-waiting
+      ∙ (ap (λ l. l ++ filter is_own own-waiting) (keeps-none is_own s.waiting (λ t a. let w : IsWaiting t = waits-of t a in open-own v t w.open_is w.no_house))
+      ∙ keeps-every is_own own-waiting (λ t a. (own-waits t a).own_is))
+
+  -- one failed where the journal has that it did
+  same-failed : (t : ℕ) → among t own ≡ true → has_failed t v.journal ≡ among t failed
+  same-failed t mine = by_both (has_failed t v.journal) refl (among t failed) refl
+    where
+      one : IsTrue (is_one t seen.own)
+      one = sym (among-one t seen.own) ∙ (sym (ap (among t) o.own_is) ∙ mine)
+
+      by_both : (a : Bool) → has_failed t v.journal ≡ a → (b : Bool) → among t failed ≡ b → a ≡ b
+      by_both true e true f = refl
+      by_both false e false f = refl
+      by_both true e false f = sym (v.failed_are t (o.numbered t one) (o.opened t one) e) ∙ f
+      by_both false e true f = sym e ∙ v.failed_did t f
+
+  -- those that have not failed
+  pub unfailed-are : unfailed_in v.journal ≡ filter (λ t. not (among t failed)) own
+  unfailed-are = ap (λ (l : List OwnStream). filter (λ t. not (has_failed t v.journal)) (numbers_of l)) (sym v.places.own)
+      ∙ (ap (filter (λ t. not (has_failed t v.journal))) (sym o.own_is)
+      ∙ keeps-alike (λ t. not (has_failed t v.journal)) (λ t. not (among t failed)) own (λ t mine. ap not (same-failed t mine)))
+
   -- the mark of the call, and what is seen with it
   abbrev pub wait-mark : Mark
-  wait-mark = Waits all-waiting (want_of s) seen.streams seen.listens
+  wait-mark = Waits all-waiting (want_of s) seen.streams (shown_of seen)
 
   abbrev pub seen-waiting : Seen
   seen-waiting = record seen { recorded = option_map (λ m. m ++ wait-mark ∷ []) seen.recorded }
 
   -- the call was recorded
-  unfoldable pub waited : seen.listens ≡ s.listening → now.unnoted ≡ [] → Rest.rests (want_of s) now.recorded now.calls seen.listeners seen.own → Serving May Rest before now policy pid start seen-waiting held failed (given + 1) [] s
+  unfoldable pub waited : seen.listens ≡ s.listening → now.unnoted ≡ [] → Rest.rests (want_of s) now.recorded now.calls seen.listeners seen.own own-waiting (filter (λ t. not (among t failed)) own) → Serving May Rest before now policy pid start seen-waiting held failed (given + 1) [] s
   waited receives noted rests =
-      let alike = waits-alike all-waiting seen.streams (want_of s) seen.listens v.journal in
+      let alike = waits-alike all-waiting seen.streams (want_of s) (shown_of seen) v.journal in
       let recorded : now.recorded ≡ option_map (λ l. l ++ house_marks v.journal) before = v.house ∙ ap (λ (ms : List HouseMark). option_map (λ (l : List HouseMark). l ++ ms) before) (ap (λ l. house_marks v.journal ++ l) noted ∙ append-nil (house_marks v.journal)) in
       serve-alone v now seen-waiting held failed (given + 1) [] s wait-mark
       (stands-alike v.journal (wait-mark ∷ v.journal) v.picked v.replies s v.closed alike v.stands) (λ picks replies. refl) record {
@@ -286,7 +341,6 @@ module _ {May : HouseReply → Type 0} {Rest : Resting} {before : Option (List H
         notes = notes-none now wait-mark refl;
         called = λ picks later. calls-none now;
         askers = askers-more v wait-mark;
-        deferred = still-deferred now now [] refl;
         house_in = v.house_in;
         house_there = v.house_there;
         rested = λ picks later.
@@ -294,10 +348,14 @@ module _ {May : HouseReply → Type 0} {Rest : Resting} {before : Option (List H
             let called : calls_in set v.journal ≡ now.calls = sym (ap (λ l. calls_in set v.journal ++ calls_of l) noted ∙ append-nil (calls_in set v.journal)) ∙ v.called picks later in
             let ls : List ℕ = listeners_in v.journal in
             let os : List OwnStream = own_in v.journal in
-            subst (λ (l : List HouseCall). Rest.rests (want_of s) (option_map (λ recorded. recorded ++ house_marks v.journal) before) l ls os) (sym called)
-            (subst (λ (o : Option (List HouseMark)). Rest.rests (want_of s) o now.calls ls os) recorded
-            (subst (λ (l : List ℕ). Rest.rests (want_of s) now.recorded now.calls l os) v.places.listeners
-            (subst (λ (l : List OwnStream). Rest.rests (want_of s) now.recorded now.calls seen.listeners l) v.places.own rests)));
+            let ws : List ℕ = filter is_own all-waiting in
+            let us : List ℕ = unfailed_in v.journal in
+            subst (λ (l : List HouseCall). Rest.rests (want_of s) (option_map (λ recorded. recorded ++ house_marks v.journal) before) l ls os ws us) (sym called)
+            (subst (λ (o : Option (List HouseMark)). Rest.rests (want_of s) o now.calls ls os ws us) recorded
+            (subst (λ (l : List ℕ). Rest.rests (want_of s) now.recorded now.calls l os ws us) v.places.listeners
+            (subst (λ (l : List OwnStream). Rest.rests (want_of s) now.recorded now.calls seen.listeners l ws us) v.places.own
+            (subst (λ (l : List ℕ). Rest.rests (want_of s) now.recorded now.calls seen.listeners seen.own l us) (sym own-are)
+            (subst (λ (l : List ℕ). Rest.rests (want_of s) now.recorded now.calls seen.listeners seen.own own-waiting l) (sym unfailed-are) rests)))));
         absent = λ e. refl;
         turns = ap (λ n. n + 1) v.turns;
         placed = placed-still v wait-mark seen-waiting s record {
@@ -307,11 +365,11 @@ module _ {May : HouseReply → Type 0} {Rest : Resting} {before : Option (List H
           holds = v.of_wire.holds;
           below = v.of_wire.below;
         } refl refl refl refl refl refl (λ t. refl) (λ t. refl) (λ t. refl)
-            (owns-as v.journal seen seen-waiting wait-mark v.places (record { opened = v.places.streams ∙ ap numbers_of v.places.own; gives = tt; writes = tt; joins = tt; others = refl }) (λ o. refl) (λ l. refl) refl refl refl);
+            (owns-as v.journal seen seen-waiting wait-mark v.places (record { opened = record { numbers = v.places.streams ∙ ap numbers_of v.places.own; own = v.places.own; listeners = v.places.listeners }; gives = tt; writes = tt; joins = tt; others = refl }) (λ o. refl) (λ l. refl) refl refl refl);
         sound = λ picks later.
-            let old : IsSound (setting picks later) v.journal [] s = v.sound picks later in
+            let old : IsRunSound (setting picks later) v.journal [] s = v.sound picks later in
             record {
-              promise = record { takes = tt; waits = waits-right picks later; speaks = tt; open_streams = open-right receives picks later; answers = tt };
+              promise = record { takes = tt; waits = waits-right picks later; speaks = tt; open_streams = open-right receives picks later; answers = tt; after_end = tt; silence = tt };
               failed_out = old.failed_out;
               settled = old.settled;
             };

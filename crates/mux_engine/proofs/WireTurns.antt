@@ -1,6 +1,6 @@
 -- What a turn of the wire reports, right after the wait.
-use Rattle.std.proofs.Common.{◌≡◌, ◌≢◌, ◌≤◌, ◌<◌, ◌+◌, ℕ, Bool, true, false, List, [], ◌∷◌, ◌++◌, Option, Some, None, refl, sym, ap, ◌∙◌, inr, cond, arith, append_assoc}
-use Rattle.std.specs.Prelude.{reverse}
+use Rattle.std.proofs.Common.{◌≡◌, ◌≢◌, ◌≤◌, ◌<◌, ◌+◌, ℕ, Bool, true, false, not, List, [], ◌∷◌, ◌++◌, Option, Some, None, refl, sym, ap, ◌∙◌, inr, cond, arith, append_assoc}
+use Rattle.std.specs.Prelude.{filter, reverse}
 use Rattle.std.specs.Option.{option_map}
 use Rattle.std.proofs.lemmas.Bool.Decides.{nat_tests}
 use Rattle.ssh_fields.specs.Fields.{AreBytes}
@@ -9,7 +9,7 @@ use Rattle.mux_outside.specs.OwnStreams.{is_own}
 use Rattle.mux_outside.specs.Seen.{Seen, seen_after_turn}
 use Rattle.mux_outside.specs.Streams.{among}
 use Rattle.mux_outside.specs.Wire.{OwnFits, TurnFits}
-use Rattle.mux_outside.specs.Seen.{wait_marks, open_after, blocked_after, last_after}
+use Rattle.mux_outside.specs.Seen.{shown_of, wait_marks, open_after, blocked_after, last_after}
 use Rattle.mux_outside.specs.declared.house.HouseReply.{HouseReply}
 use Rattle.mux_outside.specs.declared.house_mark.HouseMark.{HouseMark}
 use Rattle.mux_outside.specs.declared.mark.Mark.{Mark}
@@ -24,12 +24,14 @@ use Rattle.mux_history.specs.Wires.{OfWire}
 use Rattle.mux_history.proofs.Wires.{wire-keeps}
 use Rattle.mux_state.specs.State.{State}
 use Rattle.mux_state.specs.declared.event.Event.{Event}
-use Rattle.mux_state.specs.Twins.{AreAlike}
+use Rattle.mux_state.specs.Twins.{AreTwins}
+use Rattle.mux_engine.specs.Owned.{waits_for_own}
 use Rattle.mux_engine.specs.Serving.{IsUnseen, Serving}
 use Rattle.mux_engine.specs.Sides.{Resting, Side}
 use Rattle.mux_engine.specs.Turns.{IsEventOf, want_of}
 use Rattle.mux_engine.proofs.Happened.{placed-accepts, placed-ends, placed-fails, placed-gets}
 use Rattle.mux_engine.proofs.Lists.{not-own-stream, test-other, true-false}
+use Rattle.mux_engine.proofs.Logs.{failed-more}
 use Rattle.mux_engine.proofs.Marks.{serve-alone, serve-on}
 use Rattle.mux_engine.proofs.Owns.{client-other, ends-client, gives-client, owns-accepts, owns-ends, owns-gets, owns-plain}
 use Rattle.mux_engine.proofs.Places.{at-stream, open-stream}
@@ -50,12 +52,12 @@ client-number k le = grind (arith, nat_tests)
 house-apart : (k : ℕ) → k ≤ LAST_CLIENT → k ≢ HOUSE
 house-apart k le e = absurd (omega (arith, le, e))
 
-pub same-marks : (marks : List Mark) → AreAlike marks marks
+pub same-marks : (marks : List Mark) → AreTwins marks marks
 same-marks marks = record { log = λ set. refl; bytes = λ t. refl; accepted = λ k. refl }
 
 module _ {May : HouseReply → Type 0} {Rest : Resting} {before : Option (List HouseMark)} {now : Side} {policy : Policy} {pid : ℕ} {start : Option (List Mark)} {seen : Seen} {held failed : List ℕ} {given : ℕ} {s : State}
     (v : Serving May Rest before now policy pid start seen held failed given [] s) (none : s.leaving ≡ []) (admitted : s.refused ≡ []) (live : s.ended ≡ None) {own : List ℕ} {queue : ℕ → List ℕ} (o : Offered seen own held failed queue)
-    (receives : seen.listens ≡ s.listening) (noted : now.unnoted ≡ []) (rests : Rest.rests (want_of s) now.recorded now.calls seen.listeners seen.own) where
+    (receives : seen.listens ≡ s.listening) (noted : now.unnoted ≡ []) (rests : Rest.rests (want_of s) now.recorded now.calls seen.listeners seen.own (filter (waits_for_own queue failed) own) (filter (λ t. not (among t failed)) own)) where
   -- what holds with the call of wait
   abbrev pub now-waiting : Serving May Rest before now policy pid start (seen-waiting v none admitted live o) held failed (given + 1) [] s
   now-waiting = waited v none admitted live o receives noted rests
@@ -70,7 +72,7 @@ module _ {May : HouseReply → Type 0} {Rest : Resting} {before : Option (List H
   seen-then t bytes = seen_after_turn t (all-waiting v none admitted live o) (want_of s) bytes seen
 
   -- the journal with the marks of a turn is one that a wire can give
-  pub of-turn : (t : Turn) (bytes : List ℕ) → AreBytes bytes → Fits t bytes → OwnTurnFits t → OfWire (open_after t seen.streams) (blocked_after t seen.blocked) (last_after t seen.last) (reverse (wait_marks t (all-waiting v none admitted live o) (want_of s) seen.streams seen.listens bytes) ++ v.journal)
+  pub of-turn : (t : Turn) (bytes : List ℕ) → AreBytes bytes → Fits t bytes → OwnTurnFits t → OfWire (open_after t seen.streams) (blocked_after t seen.blocked) (last_after t seen.last) (reverse (wait_marks t (all-waiting v none admitted live o) (want_of s) seen.streams (shown_of seen) bytes) ++ v.journal)
   of-turn t bytes are fits own_fits = (wire-keeps seen v.journal).turn t (all-waiting v none admitted live o) (want_of s) bytes are (waiting-blocked v none admitted live o) fits own_fits v.of_wire
 
   -- whoever sends something is the server or was accepted
@@ -174,7 +176,7 @@ module _ {May : HouseReply → Type 0} {Rest : Resting} {before : Option (List H
     called = λ set. ap (λ (b : Bool). cond b (Turns (Failed k) ∷ []) []) next.0;
     cut = λ set. inr (0, refl);
     house = refl;
-    placed = λ s' arrives. placed-fails now-waiting (seen-then (turn.Failed k) bytes) s' failed k fits (of-turn (turn.Failed k) bytes are fits own_fits) refl refl refl refl refl (stayed e (Fails k) s s' next.1 tt (arrives live)) (λ own. true-false (sym own ∙ next.0)) (λ t a. a)
+    placed = λ s' arrives. placed-fails now-waiting (seen-then (turn.Failed k) bytes) s' failed k fits (of-turn (turn.Failed k) bytes are fits own_fits) refl refl refl refl refl (stayed e (Fails k) s s' next.1 tt (arrives live)) (λ own. true-false (sym own ∙ next.0)) (λ t a. a) (λ t a. failed-more (Fails k) now-waiting.journal t (now-waiting.failed_did t a))
         (owns-plain now-waiting.journal (seen-waiting v none admitted live o) (seen-then (turn.Failed k) bytes) (Fails k) (client-other k next.0) now-waiting.places refl refl refl);
     right = record { opened = tt; gives = tt; writes = tt; joins = tt; others = client-other k next.0 };
   }

@@ -1,5 +1,5 @@
--- What each call leaves of the wire of a run, in the words of the contracts: of one call, and of one
--- behind another.
+-- What each call leaves of the wire of a run, in the words of the contracts: of one call, and of
+-- one after another.
 use Rattle.std.proofs.Common.{◌≡◌, ◌≤◌, ℕ, Bool, true, false, List, Option, refl, sym, ap, ◌∙◌, subst, inl, inr, cond, arith}
 use Rattle.std.specs.Prelude.{IsErr, IsTrue, Result, Ok, Err}
 use Rattle.std.proofs.lemmas.Bool.Decides.{eqb_tells}
@@ -24,8 +24,8 @@ use Rattle.mux_outside.specs.declared.turn.Wrote.TheVariants as wrote
 use Rattle.mux_outside.specs.declared.whose.Whose.{Whose}
 use Rattle.mux_outside.specs.declared.whose.Whose.TheVariants.{Server, Client, Own}
 use Rattle.mux_engine.specs.Counted.{Counts, Cut, Well}
-use Rattle.mux_engine.specs.OwnFaults.{OrderCounted, is_unmade}
-use Rattle.mux_engine.specs.Wires.{IsIdle, KeepsWire, NoFault, Untouched, Works, WorksOwn}
+use Rattle.mux_engine.specs.OwnFaults.{OrderCounted, is_order_unmade}
+use Rattle.mux_engine.specs.Wires.{IsIdleWire, KeepsWire, NoFault, Untouched, Works, WorksOwn}
 use Rattle.mux_engine.proofs.Arms.{counts-on, counts-well, cut-one, fault-later, le-of, well-none, well-one, well-wait}
 use Rattle.mux_engine.proofs.Counting.{cut-wait}
 use Rattle.mux_engine.proofs.OwnFaults.{own-kept, own-note, own-ordered, own-same, own-then, own-turn, own-write}
@@ -35,7 +35,7 @@ use Rattle.mux_engine.proofs.OwnFaults.{own-kept, own-note, own-ordered, own-sam
 abbrev done : Result (Unit {0}) (Unit {0})
 done = Ok tt
 
--- so many waits and no want of memory, whatever came of it
+-- so many waits and no running out of memory, whatever the outcome
 abbrev pub Worked : ℕ → WireState → WireState → Faults → Faults → Type 0
 Worked waits old new f f' = Works {A = Unit {0}} {E = Unit {0}} waits (Ok tt) old new f f'
 
@@ -55,7 +55,7 @@ keeps-none w f = record { openings = refl; joinings = refl; own_faults = own-sam
 pub untouched-none : (w : WireState) (f : Faults) → Untouched w w f f
 untouched-none w f = record { openings = refl; joinings = refl; calls = refl; no_fault = no-fault-none f }
 
-pub idle-none : (w : WireState) (f : Faults) → IsIdle w w f f
+pub idle-none : (w : WireState) (f : Faults) → IsIdleWire w w f f
 idle-none w f = record { untouched = untouched-none w f; own_faults = own-same w.seen.recorded f.own }
 
 pub worked-none : (w : WireState) (f : Faults) → Worked 0 w w f f
@@ -93,7 +93,7 @@ worked w = record { keeps = w.keeps; calls = w.calls }
 pub worked-own : {A E : Type 0} {x : A} {old new : WireState} {f f' : Faults} → WorksOwn {A = A} {E = E} (Ok x) old new f f' → WorkedOwn old new f f'
 worked-own w = record { works = worked w.works; no_fault = w.no_fault }
 
--- ---- one behind another
+-- ---- one after another
 
 pub no-fault-then : {f g h : Faults} → NoFault f g → NoFault g h → NoFault f h
 no-fault-then v w = record { server = w.server ∙ v.server; client = w.client ∙ v.client }
@@ -114,7 +114,7 @@ untouched-then v w = record {
   no_fault = no-fault-then v.no_fault w.no_fault;
 }
 
-pub idle-then : {a b c : WireState} {f g h : Faults} → IsIdle a b f g → IsIdle b c g h → IsIdle a c f h
+pub idle-then : {a b c : WireState} {f g h : Faults} → IsIdleWire a b f g → IsIdleWire b c g h → IsIdleWire a c f h
 idle-then {a} {b} {c} {f} {g} {h} v w = record {
   untouched = untouched-then v.untouched w.untouched;
   own_faults = own-then a.seen.recorded b.seen.recorded c.seen.recorded f.own g.own h.own v.own_faults w.own_faults;
@@ -131,7 +131,7 @@ works-own-then v w = record { works = works-then v.works w.works; no_fault = no-
 
 -- ---- a wire that was idle
 
-pub keeps-idle : {old new : WireState} {f f' : Faults} → IsIdle old new f f' → KeepsWire old new f f'
+pub keeps-idle : {old new : WireState} {f f' : Faults} → IsIdleWire old new f f' → KeepsWire old new f f'
 keeps-idle {old} {new} {f} {f'} i = record {
   openings = i.untouched.openings;
   joinings = i.untouched.joinings;
@@ -139,20 +139,20 @@ keeps-idle {old} {new} {f} {f'} i = record {
   later = le-of f.server f'.server (sym i.untouched.no_fault.server);
 }
 
-pub works-idle : {A E : Type 0} {old new : WireState} {f f' : Faults} (r : Result A E) → IsIdle old new f f' → Works 0 r old new f f'
+pub works-idle : {A E : Type 0} {old new : WireState} {f f' : Faults} (r : Result A E) → IsIdleWire old new f f' → Works 0 r old new f f'
 works-idle {old = old} {new} r i = record {
   keeps = keeps-idle i;
   calls = subst (λ (x : CallCounts). Counts 0 r old.calls x) (sym i.untouched.calls) (counts-well 0 r old.calls old.calls (well-none old.calls));
 }
 
-pub works-own-idle : {A E : Type 0} {old new : WireState} {f f' : Faults} (r : Result A E) → IsIdle old new f f' → WorksOwn r old new f f'
+pub works-own-idle : {A E : Type 0} {old new : WireState} {f f' : Faults} (r : Result A E) → IsIdleWire old new f f' → WorksOwn r old new f f'
 works-own-idle r i = record { works = works-idle r i; no_fault = i.untouched.no_fault }
 
 -- it was idle before
-pub works-behind : {A E : Type 0} {n : ℕ} {r : Result A E} {a b c : WireState} {f g h : Faults} → IsIdle a b f g → Works n r b c g h → Works n r a c f h
+pub works-behind : {A E : Type 0} {n : ℕ} {r : Result A E} {a b c : WireState} {f g h : Faults} → IsIdleWire a b f g → Works n r b c g h → Works n r a c f h
 works-behind i w = works-then (works-idle done i) w
 
-pub works-own-behind : {A E : Type 0} {r : Result A E} {a b c : WireState} {f g h : Faults} → IsIdle a b f g → WorksOwn r b c g h → WorksOwn r a c f h
+pub works-own-behind : {A E : Type 0} {r : Result A E} {a b c : WireState} {f g h : Faults} → IsIdleWire a b f g → WorksOwn r b c g h → WorksOwn r a c f h
 works-own-behind i w = works-own-then (works-own-idle done i) w
 
 -- ---- a call that changes only what is seen
@@ -174,26 +174,26 @@ seen-of change old new e = ap (λ (x : WireState). x.seen) e
 own-of : {f f' : Faults} → f' ≡ f → f'.own ≡ f.own
 own-of e = ap (λ (x : Faults). x.own) e
 
--- where it tells nothing
-pub idle-seeing : {f f' : Faults} (change : Seen → Seen) (old new : WireState) → ((s : Seen) → (change s).recorded ≡ s.recorded) → new ≡ seeing change old → f' ≡ f → IsIdle old new f f'
+-- where it records nothing
+pub idle-seeing : {f f' : Faults} (change : Seen → Seen) (old new : WireState) → ((s : Seen) → (change s).recorded ≡ s.recorded) → new ≡ seeing change old → f' ≡ f → IsIdleWire old new f f'
 idle-seeing {f} {f'} change old new still e same = record {
   untouched = untouched-seeing change old new e (no-fault-same same);
   own_faults = own-kept old.seen.recorded new.seen.recorded f.own f'.own (ap (λ (x : WireState). x.seen.recorded) e ∙ still old.seen) (own-of same);
 }
 
-pub idle-close : {old new : WireState} {f f' : Faults} (k : ℕ) → new ≡ seeing (seen_after_close k) old → f' ≡ f → IsIdle old new f f'
+pub idle-close : {old new : WireState} {f f' : Faults} (k : ℕ) → new ≡ seeing (seen_after_close k) old → f' ≡ f → IsIdleWire old new f f'
 idle-close {old} {new} k e same = idle-seeing (seen_after_close k) old new (λ s. refl) e same
 
-pub idle-silence : {old new : WireState} {f f' : Faults} → new ≡ seeing seen_after_silence old → f' ≡ f → IsIdle old new f f'
+pub idle-silence : {old new : WireState} {f f' : Faults} → new ≡ seeing seen_after_silence old → f' ≡ f → IsIdleWire old new f f'
 idle-silence {old} {new} e same = idle-seeing seen_after_silence old new (λ s. refl) e same
 
-pub idle-unlisten : {old new : WireState} {f f' : Faults} (l : ℕ) → new ≡ seeing (seen_after_unlisten l) old → f' ≡ f → IsIdle old new f f'
+pub idle-unlisten : {old new : WireState} {f f' : Faults} (l : ℕ) → new ≡ seeing (seen_after_unlisten l) old → f' ≡ f → IsIdleWire old new f f'
 idle-unlisten {old} {new} l e same = idle-seeing (seen_after_unlisten l) old new (λ s. refl) e same
 
-pub idle-pause : {old new : WireState} {f f' : Faults} (b : Bool) (k : ℕ) → new ≡ seeing (seen_after_pause b k) old → f' ≡ f → IsIdle old new f f'
+pub idle-pause : {old new : WireState} {f f' : Faults} (b : Bool) (k : ℕ) → new ≡ seeing (seen_after_pause b k) old → f' ≡ f → IsIdleWire old new f f'
 idle-pause {old} {new} b k e same = idle-seeing (seen_after_pause b k) old new (λ s. refl) e same
 
-pub idle-finish : {old new : WireState} {f f' : Faults} (k : ℕ) → new ≡ seeing (seen_after_finish k) old → f' ≡ f → IsIdle old new f f'
+pub idle-finish : {old new : WireState} {f f' : Faults} (k : ℕ) → new ≡ seeing (seen_after_finish k) old → f' ≡ f → IsIdleWire old new f f'
 idle-finish {old} {new} k e same = idle-seeing (seen_after_finish k) old new (λ s. refl) e same
 
 -- ---- a note
@@ -202,14 +202,14 @@ pub untouched-note : {E : Type 0} {old new : WireState} {f f' : Faults} (r : Res
 untouched-note {old = old} {new} r mark e same = untouched-seeing (seen_after_note r mark) old new e (no-fault-same same)
 
 -- of no order that got no number
-pub idle-note : {E : Type 0} {old new : WireState} {f f' : Faults} (r : Result (Unit {0}) E) (mark : HouseMark) → is_unmade (House mark) ≡ false → new ≡ seeing (seen_after_note r mark) old → f' ≡ f → IsIdle old new f f'
+pub idle-note : {E : Type 0} {old new : WireState} {f f' : Faults} (r : Result (Unit {0}) E) (mark : HouseMark) → is_order_unmade (House mark) ≡ false → new ≡ seeing (seen_after_note r mark) old → f' ≡ f → IsIdleWire old new f f'
 idle-note {old = old} {new} {f} {f'} r mark made e same = record {
   untouched = untouched-note r mark e same;
   own_faults = own-note r mark old.seen new.seen f.own f'.own made (seen-of (seen_after_note r mark) old new e) (own-of same);
 }
 
 -- of an order that was carried out
-pub idle-ordered : {E : Type 0} {old mid new : WireState} {f g h : Faults} (r : Result (Unit {0}) E) (order : Order) (number : Option ℕ) → Untouched old mid f g → mid.seen.recorded ≡ old.seen.recorded → OrderCounted order number f.own g.own → new ≡ seeing (seen_after_note r (HouseOrder order number)) mid → h ≡ g → IsIdle old new f h
+pub idle-ordered : {E : Type 0} {old mid new : WireState} {f g h : Faults} (r : Result (Unit {0}) E) (order : Order) (number : Option ℕ) → Untouched old mid f g → mid.seen.recorded ≡ old.seen.recorded → OrderCounted order number f.own g.own → new ≡ seeing (seen_after_note r (HouseOrder order number)) mid → h ≡ g → IsIdleWire old new f h
 idle-ordered {old = old} {mid} {new} {f} {g} {h} r order number u still count e same = record {
   untouched = untouched-then u (untouched-note r (HouseOrder order number) e same);
   own_faults = own-ordered r order number old.seen mid.seen new.seen f.own g.own h.own still count (seen-of (seen_after_note r (HouseOrder order number)) mid new e) (own-of same);
@@ -323,9 +323,9 @@ works-wait-err {old = old} {new} x t waiting want bytes e cause = record {
   calls = subst (λ (x : CallCounts). Cut 1 old.calls x) (sym (ap (λ (x : WireState). x.calls) e)) (cut-wait t old.calls);
 }
 
--- a wire that was only told something behind its wait, and of which all orders that got no number were
+-- a wire that only gave something after its wait, and of which all orders that got no number were
 -- counted
-pub works-recorded : {A E : Type 0} {n : ℕ} {old new : WireState} {f f' : Faults} (r : Result A E) {mid : WireState} {g : Faults} → Works n r old mid f g → IsIdle mid new g f' → Works n r old new f f'
+pub works-recorded : {A E : Type 0} {n : ℕ} {old new : WireState} {f f' : Faults} (r : Result A E) {mid : WireState} {g : Faults} → Works n r old mid f g → IsIdleWire mid new g f' → Works n r old new f f'
 works-recorded {n = n} {old} {new} {f} {f'} r {mid} {g} w i = record {
   keeps = keeps-then w.keeps (keeps-idle i);
   calls = subst (λ (x : CallCounts). Counts n r old.calls x) (sym i.untouched.calls) w.calls;

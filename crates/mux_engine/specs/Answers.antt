@@ -1,28 +1,37 @@
 -- Which requests the forwarder answers later.
-use Rattle.std.specs.Prelude.{ℕ, ◌==◌, ◌&&◌, Bool, false, List, All, IsTrue}
-use Rattle.std.specs.List.{list_any}
-use Rattle.mux_outside.specs.House.{OpenAsk}
-use Rattle.mux_outside.specs.declared.house.HouseReply.TheVariants.{Later}
+use Rattle.std.specs.Prelude.{◌≡◌, ℕ, List, [], ◌∷◌}
+use Rattle.mux_outside.specs.House.{OpenAsk, ReplyFits, asks_after, without_ask}
+use Rattle.mux_outside.specs.declared.house.HouseReply.{HouseReply}
 use Rattle.mux_outside.specs.declared.house_mark.HouseMark.{HouseMark}
 use Rattle.mux_outside.specs.declared.house_mark.HouseMark.TheVariants.{HouseAsked, HouseAnswer}
 use Rattle.mux_outside.specs.declared.mark.Mark.{Mark}
 use Rattle.mux_outside.specs.declared.mark.Mark.TheVariants.{House}
 use Rattle.mux_history.specs.Journal.{log_of_journal}
 use Rattle.mux_history.specs.Log.{Setting}
-use Rattle.mux_peers.specs.Asked.{asked_of}
+use Rattle.mux_peers.specs.Asked.{asks_of_rows}
+use Rattle.mux_engine.specs.Sides.{ask_marks_in, house_marks}
 
--- the forwarder put this client's request with this id off
-abbrev pub is_deferred : ℕ → ℕ → HouseMark → Bool
-is_deferred client id (HouseAsked k i opening ask Later) = (k == client) && (i == id)
-is_deferred client id mark = false
+-- the open requests after a mark of the forwarder: one that it defers is open until it answers it
+abbrev pub opens_by : HouseMark → List OpenAsk → List OpenAsk
+opens_by (HouseAsked client id opening ask reply) opens = asks_after reply client id opening opens
+opens_by (HouseAnswer client id reply) opens = without_ask client id opens
+opens_by mark opens = opens
 
--- it did so with each of these open asks
-abbrev pub EachDeferred : List HouseMark → List OpenAsk → Type 0
-EachDeferred asks opens =
-    All (λ (a : OpenAsk). IsTrue (list_any (is_deferred a.client a.id) asks)) opens
+-- those after such marks, the oldest first
+abbrev pub opens_after : List HouseMark → List OpenAsk → List OpenAsk
+opens_after [] opens = opens
+opens_after (mark ∷ marks) opens = opens_after marks (opens_by mark opens)
 
--- it answers only what the rows so far ask, and what it put off
-abbrev pub AnswersDeferred : Setting → List Mark → Mark → Type 0
-AnswersDeferred setting before (House (HouseAnswer client id reply)) =
-    IsTrue (list_any (is_deferred client id) (asked_of (log_of_journal setting before)))
-AnswersDeferred setting before mark = Unit {0}
+-- it gives a client's request with this id a later reply
+pub record AnswersOne (setting : Setting) (before : List Mark) (client id : ℕ) (reply : HouseReply) :
+    Type 0 where
+  -- the requests that it recorded by then are those of the rows so far
+  pub asked : ask_marks_in (house_marks before) ≡ asks_of_rows (log_of_journal setting before)
+  -- the reply fits one that is open then: a port only one that opens a forwarding
+  pub fits : ReplyFits reply client id (opens_after (house_marks before) [])
+
+-- of an answer
+abbrev pub AnswersOpen : Setting → List Mark → Mark → Type 0
+AnswersOpen setting before (House (HouseAnswer client id reply)) =
+    AnswersOne setting before client id reply
+AnswersOpen setting before mark = Unit {0}

@@ -9,7 +9,7 @@ use Rattle.mux_outside.specs.declared.mark.Mark.{Mark}
 use Rattle.mux_outside.specs.declared.mark.Mark.TheVariants.{House}
 use Rattle.mux_peers.specs.Asked.{known_after, RecordsAsks}
 use Rattle.mux_state.specs.declared.event.Event.{Event}
-use Rattle.mux_state.specs.Events.{EndsBy, Keeps, Records}
+use Rattle.mux_state.specs.Events.{EndsBy, EngineKeeps, MarkRecords}
 use Rattle.mux_state.specs.Stands.{CutsShort, GoesOn}
 use Rattle.mux_state.specs.State.{State}
 
@@ -18,9 +18,9 @@ use Rattle.mux_state.specs.State.{State}
 pub record AppliesSo (May : HouseReply → Type 0) (e : Event) (s s' : State) (asks : List HouseMark)
     (recorded recorded' : Option (List HouseMark)) (known known' : Known) (seen seen' : Seen) (n : ℕ) :
     Type 0 where
-  pub goes : (mark : Mark) → Records e mark → GoesOn May (Some []) (Some asks) s s' mark
-  pub keeps : Keeps e s s'
-  pub ends : (mark : Mark) → Records e mark → EndsBy e s s' mark
+  pub goes : (mark : Mark) → MarkRecords e mark → GoesOn May (Some []) (Some asks) s s' mark
+  pub keeps : EngineKeeps e s s'
+  pub ends : (mark : Mark) → MarkRecords e mark → EndsBy e s s' mark
   pub recorded_is : RecordsAsks recorded recorded' asks
   pub known_is : known' ≡ known_after asks known
   pub seen_is : seen' ≡ record seen {
@@ -30,7 +30,7 @@ pub record AppliesSo (May : HouseReply → Type 0) (e : Event) (s s' : State) (a
 -- there was no memory for the event, and the forwarder recorded perhaps the first of its requests
 pub record Unheeded (May : HouseReply → Type 0) (e : Event) (s : State)
     (recorded recorded' : Option (List HouseMark)) (seen seen' : Seen) : Type 0 where
-  pub cut : (mark : Mark) → Records e mark → CutsShort May recorded recorded' s mark
+  pub cut : (mark : Mark) → MarkRecords e mark → CutsShort May recorded recorded' s mark
   pub seen_is : seen' ≡ seen
 
 -- all asks were noted; or there was no memory for the event, or to note all of them

@@ -1,4 +1,4 @@
--- What the calls that a journal has say of the streams of the house.
+-- What the calls that a journal has say of the streams of the forwarder.
 use Rattle.std.specs.Prelude.{◌≡◌, ◌==◌, ℕ, true, List, [], ◌∷◌, ◌++◌, if◌then◌else◌, reverse, Some, codes}
 use Rattle.mux_outside.specs.HouseCalls.{End, Failed, Got, HouseCall, Joined, Marks, Turns, Writable}
 use Rattle.mux_outside.specs.HouseCalls as call
@@ -10,7 +10,7 @@ use Rattle.mux_history.specs.Journal.{bytes_of, is_own_stream, taken_by}
 use Rattle.mux_history.specs.WorkedHouse.{own_streams}
 use Rattle.mux_engine.specs.Called.{calls_in}
 
--- the bytes that a house was given of a stream by a call, and by all of them
+-- the bytes that a forwarder was given of a stream by a call, and by all of them
 abbrev pub got_by : ℕ → HouseCall → List ℕ
 got_by t (Turns (Got stream bytes)) = if stream == t then bytes else []
 got_by t _ = []
@@ -19,7 +19,7 @@ abbrev pub bytes_got : ℕ → List HouseCall → List ℕ
 bytes_got t [] = []
 bytes_got t (one ∷ calls) = got_by t one ++ bytes_got t calls
 
--- the bytes of a stream that it was told were taken, by a call and by all of them
+-- the bytes of a stream that were reported to it as accepted, by a call and by all of them
 abbrev pub took_by : ℕ → HouseCall → List ℕ
 took_by t (call.Takes stream bytes) = if stream == t then bytes else []
 took_by t _ = []
@@ -33,12 +33,12 @@ abbrev pub IsGivenAll : Type 0
 IsGivenAll = (setting : Setting) (journal : List Mark) (t : ℕ) → is_own_stream t ≡ true
     → bytes_got t (calls_in setting journal) ≡ bytes_of t journal
 
--- it is told of the bytes that a stream of its own took: all of them, once and in that order
+-- the bytes that a stream of its own accepted are reported to it: all, once and in order
 abbrev pub IsRecordedAll : Type 0
 IsRecordedAll = (setting : Setting) (journal : List Mark) (t : ℕ) → is_own_stream t ≡ true
     → bytes_took t (calls_in setting journal) ≡ taken_by t journal
 
--- a worked journal: a stream that was joined and gives "hello", and one that the house ordered,
+-- a worked journal: a stream that was joined and gives "hello", and one that the forwarder ordered,
 -- which is connected and fails
 abbrev pub OwnStreamsAreCalled : Type 0
 OwnStreamsAreCalled = (setting : Setting) → calls_in setting (reverse own_streams)

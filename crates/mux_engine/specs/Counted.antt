@@ -51,7 +51,7 @@ pub record Spent (present all : Bool) (turns : ℕ) (old new : CallCounts) : Typ
 -- of a run: it made no more calls of `wait` than it has turns; if there is no forwarder, it made as
 -- many with its turns spent, and no other end but out of memory comes without one; if a call ran
 -- out of memory it was the last, and the run ended out of memory
-pub record Stops (present : Bool) (turns : ℕ) (answer : Ended) (old new : CallCounts) : Type 0 where
+pub record RunStops (present : Bool) (turns : ℕ) (answer : Ended) (old new : CallCounts) : Type 0 where
   pub few : new.waits ≤ old.waits + turns
   pub spent : present ≡ false → answer ≡ TurnsSpent → old.waits < 2 ^ 64
       → new.waits ≡ min (old.waits + turns) (2 ^ 64 - 1)

@@ -1,3 +1,4 @@
+pub mod AfterEnd
 pub mod Answers
 pub mod Asking
 pub mod CallLaws
@@ -12,5 +13,6 @@ pub mod Rests
 pub mod Run
 pub mod Serving
 pub mod Sides
+pub mod SilentAnswers
 pub mod Turns
 pub mod Wires

@@ -41,7 +41,7 @@ makes (Listen host port) = true
 makes (Connect host port) = true
 makes order = false
 
--- the mark of such an order is told as it is carried out
+-- the mark of such an order is recorded as it is carried out
 abbrev pub told_carried : Order → Option ℕ → Seen → Seen
 told_carried (Listen host port) number seen =
     seen_after_note {E = Unit {0}} (Ok tt) (HouseOrder (Listen host port) number) seen
@@ -49,7 +49,7 @@ told_carried (Connect host port) number seen =
     seen_after_note {E = Unit {0}} (Ok tt) (HouseOrder (Connect host port) number) seen
 told_carried order number seen = seen
 
--- the numbers of the house's streams then
+-- the numbers of the forwarder's streams then
 abbrev pub own_carried : Order → Option ℕ → List ℕ → List ℕ
 own_carried (Connect host port) (Some n) own = own ++ n ∷ []
 own_carried (Close t) number own = without t own
@@ -66,27 +66,27 @@ abbrev pub failed_carried : Order → List ℕ → List ℕ
 failed_carried (Close t) failed = without t failed
 failed_carried order failed = failed
 
--- what is known of the house then
+-- what is known of the forwarder then
 abbrev pub known_carried : Order → Option ℕ → Known → Known
 known_carried (Listen host port) number known = known_after_ordered number known
 known_carried (Connect host port) number known = known_after_ordered number known
 known_carried order number known = known
 
--- what it told then, which it did as it gave the order where it makes nothing
+-- what it recorded then, which it did as it gave the order where it makes nothing
 abbrev pub more_recorded : Order → Option ℕ → List HouseMark
 more_recorded (Listen host port) number = HouseOrder (Listen host port) number ∷ []
 more_recorded (Connect host port) number = HouseOrder (Connect host port) number ∷ []
 more_recorded order number = []
 
 -- an order makes nothing but a listener or a stream, with a number that is new
-abbrev pub MadeBy : Order → Option ℕ → Seen → Type 0
-MadeBy (Listen host port) (Some n) seen = IsNewOwn seen.last_own n
-MadeBy (Connect host port) (Some n) seen = IsNewOwn seen.last_own n
-MadeBy (Listen host port) None seen = Unit {0}
-MadeBy (Connect host port) None seen = Unit {0}
-MadeBy order number seen = number ≡ None
+abbrev pub OrderMadeBy : Order → Option ℕ → Seen → Type 0
+OrderMadeBy (Listen host port) (Some n) seen = IsNewOwn seen.last_own n
+OrderMadeBy (Connect host port) (Some n) seen = IsNewOwn seen.last_own n
+OrderMadeBy (Listen host port) None seen = Unit {0}
+OrderMadeBy (Connect host port) None seen = Unit {0}
+OrderMadeBy order number seen = number ≡ None
 
--- the house gave this order last
+-- the forwarder gave this order last
 pub record HasOrdered (order : Order) (known : Known) (seen : Seen) (own : List ℕ) : Type 0 where
   pub before : Known
   pub housed : Housed before seen own
@@ -95,7 +95,7 @@ pub record HasOrdered (order : Order) (known : Known) (seen : Seen) (own : List 
 
 -- ---- what was made
 
--- the number of what was made, and none where that failed; want of memory is no refusal
+-- the number of what was made, and none where that failed; running out of memory is no refusal
 abbrev pub IsMade : {E : Type 0} → Result ℕ FileError → Result (Option ℕ) E → Type 0
 IsMade (Ok n) result = result ≡ Ok (Some n)
 IsMade (Err Failed) result = result ≡ Ok None
@@ -106,7 +106,7 @@ IsMade (Err OutOfMemory) result = IsErr result
 -- an order was carried out: what it made has this number
 pub record CarriedOut (order : Order) (number : Option ℕ) (seen seen' : Seen) (lists lists' : Lists)
     (house house' : HouseState) : Type 0 where
-  pub made : MadeBy order number seen
+  pub made : OrderMadeBy order number seen
   pub seen_is : seen' ≡ told_carried order number (seen_carried order number seen)
   pub own : lists'.own ≡ own_carried order number lists.own
   pub held : lists'.held ≡ held_carried order number lists.held
@@ -115,16 +115,16 @@ pub record CarriedOut (order : Order) (number : Option ℕ) (seen seen' : Seen) 
   pub recorded : house'.recorded ≡ recorded_more (more_recorded order number) house.recorded
   pub stands : HandsOn house.stands house'.stands (calls_of (more_recorded order number))
 
--- nothing more was told
+-- nothing more was recorded
 pub record ToldNothing (seen seen' : Seen) (house house' : HouseState) : Type 0 where
   pub marks : seen'.recorded ≡ seen.recorded
   pub recorded : house'.recorded ≡ house.recorded
 
--- a stream was made, and both told so
+-- a stream was made, and both recorded so
 pub record ToldMade (order : Order) (number : ℕ) (seen seen' : Seen) (house house' : HouseState) :
     Type 0 where
   pub makes : makes order ≡ true
-  pub made : MadeBy order (Some number) seen
+  pub made : OrderMadeBy order (Some number) seen
   pub marks : seen'.recorded
       ≡ option_map (λ m. m ++ House (HouseOrder order (Some number)) ∷ []) seen.recorded
   pub recorded : house'.recorded ≡ recorded_more (more_recorded order (Some number)) house.recorded
@@ -142,8 +142,8 @@ Carries (Ok number) order seen seen' lists lists' house house' =
 Carries (Err e) order seen seen' lists lists' house house' =
     NotCarried order seen seen' house house'
 
--- one that got no number was counted as an own fault; for want of memory none need be, and the count
--- does not fall
+-- one that got no number was counted as an own fault; if memory runs out none need be, and the
+-- count does not fall
 abbrev pub CarryCounted : {E : Type 0} → Result (Option ℕ) E → Order → ℕ → ℕ → Type 0
 CarryCounted (Ok number) order faults faults' = OrderCounted order number faults faults'
 CarryCounted (Err e) order faults faults' = faults ≤ faults'

@@ -14,13 +14,13 @@ is_unmade_order (Connect host port) None = true
 is_unmade_order order number = false
 
 -- the mark of one
-abbrev pub is_unmade : Mark → Bool
-is_unmade (House (HouseOrder order number)) = is_unmade_order order number
-is_unmade mark = false
+abbrev pub is_order_unmade : Mark → Bool
+is_order_unmade (House (HouseOrder order number)) = is_unmade_order order number
+is_order_unmade mark = false
 
 -- how many of the marks that are recorded are such; none where nothing is recorded
 abbrev pub unmade_in : Option (List Mark) → ℕ
-unmade_in (Some marks) = length (filter is_unmade marks)
+unmade_in (Some marks) = length (filter is_order_unmade marks)
 unmade_in None = 0
 
 -- each order that got no number since is an own fault that was counted, unless that count stands at

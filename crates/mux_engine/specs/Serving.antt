@@ -22,19 +22,20 @@ use Rattle.mux_history.specs.Log.{Setting}
 use Rattle.mux_history.specs.Settings.{by_lists}
 use Rattle.mux_history.specs.Right.{AreFresh}
 use Rattle.mux_history.specs.Journal.{Records, is_accepted, is_blocked, is_own_stream, log_of_journal}
-use Rattle.mux_history.specs.Promises.{IsSettled, MayGive, OpenStreams, Throughout, Written, has_failed, not_own, turns_in, write_failed}
+use Rattle.mux_history.specs.Promises.{IsSettled, MayGive, has_failed, not_own, turns_in, write_failed}
 use Rattle.mux_history.specs.Wires.{OfWire}
 use Rattle.mux_bounds.specs.Bounds.{IsLog}
-use Rattle.mux_peers.specs.Asked.{asked_of, RecordsAsks}
+use Rattle.mux_peers.specs.Asked.{asks_of_rows, RecordsAsks}
 use Rattle.mux_state.specs.State.{State, is_here, queue_in}
 use Rattle.mux_state.specs.Events.{here}
 use Rattle.mux_state.specs.Stands.{Stands}
-use Rattle.mux_engine.specs.Answers.{AnswersDeferred, EachDeferred}
+use Rattle.mux_engine.specs.Answers.{opens_after}
 use Rattle.mux_engine.specs.Called.{Handed, calls_in}
 use Rattle.mux_engine.specs.Places.{HasPlaces, KeepsOwn}
 use Rattle.mux_engine.specs.Rests.{refusal_after}
-use Rattle.mux_engine.specs.Run.{AsksOn, IsOfWire, IsRun, Rested, is_by_house}
-use Rattle.mux_engine.specs.Sides.{Resting, RestsOf, Side, Together, asks_in, house_marks, noted, outside}
+use Rattle.mux_engine.specs.Run.{AsksOn, IsOfWire, IsRun, KeepsMarks, Rested, is_by_house}
+use Rattle.mux_engine.specs.Sides.{Resting, RestsOf, Side, Together, ask_marks_in, house_marks, noted, outside}
+use Rattle.mux_engine.specs.SilentAnswers.{AcceptsAs}
 use Rattle.mux_engine.specs.declared.room.Lists.{Lists}
 
 -- a stream that is open: the server's, and that of a client that is here
@@ -46,18 +47,12 @@ pub record CanBeOffered (stream : ℕ) (s : State) : Type 0 where
   pub opened : is_open s stream ≡ true
   pub no_house : stream ≢ HOUSE
 
--- what was promised of each mark
-pub record Kept (setting : Setting) (journal : List Mark) : Type 0 where
-  pub written : Written setting journal
-  pub open_streams : OpenStreams setting journal
-  pub answers : Throughout (AnswersDeferred setting) journal
-
 -- all that was promised so far: while the run goes on, a client to whose stream a write failed is
 -- out; and the streams that are not in `todo` were offered what waits for them. No row records
 -- anything of the master's own streams
-pub record IsSound (setting : Setting) (journal : List Mark) (todo : List ℕ) (s : State) :
+pub record IsRunSound (setting : Setting) (journal : List Mark) (todo : List ℕ) (s : State) :
     Type 0 where
-  pub kept : Kept setting journal
+  pub kept : KeepsMarks setting journal
   pub failed_out : (t : ℕ) → is_own_stream t ≡ false → write_failed t journal ≡ true
       → s.ended ≡ None → is_out (rows_of t (log_of_journal setting journal)) ≡ true
   pub settled : (t : ℕ) → is_own_stream t ≡ false → among t todo ≡ false
@@ -78,8 +73,8 @@ pub record IsUnused (journal : List Mark) (seen : Seen) (k : ℕ) : Type 0 where
 
 -- such a number is one that is still to be given to a stream of the master's own, and that of the
 -- forwarder
-abbrev pub IsFree : ℕ → ℕ → Type 0
-IsFree last k = (IsTrue (is_own k) × (last < k)) ⊎ (k ≡ HOUSE)
+abbrev pub IsFreeForOwn : ℕ → ℕ → Type 0
+IsFreeForOwn last k = (IsTrue (is_own k) × (last < k)) ⊎ (k ≡ HOUSE)
 
 -- The engine represents what the wire recorded since the start, in which `given` turns were given.
 -- It does so with the numbers that were picked, and the replies that the forwarder gave at once,
@@ -103,12 +98,12 @@ pub record Serving (May : HouseReply → Type 0) (Rest : Resting)
   pub may : MayGive May replies
   pub stands : Stands picked replies s journal closed
   pub house : RecordsAsks before now.recorded (house_marks journal ++ now.unnoted)
-  pub asked : asks_in (house_marks journal ++ now.unnoted) ≡ stands.asks
+  pub asked : ask_marks_in (house_marks journal ++ now.unnoted) ≡ stands.asks
   pub called : (picks : List ℕ) (given_later : List HouseReply)
       → calls_in (by_lists policy pid (picked ++ picks) (replies ++ given_later)) journal
       ++ calls_of now.unnoted ≡ now.calls
   pub askers : All (λ (a : OpenAsk). IsTrue (is_accepted a.client journal)) now.asks
-  pub deferred : EachDeferred stands.asks now.asks
+  pub opens : now.asks ≡ opens_after (house_marks journal ++ now.unnoted) []
   pub house_in : is_accepted HOUSE journal ≡ now.let_in
   pub house_there : now.let_in ≡ true → Rest.present ≡ true
   pub rested : (picks : List ℕ) (given_later : List HouseReply)
@@ -126,12 +121,13 @@ pub record Serving (May : HouseReply → Type 0) (Rest : Resting)
   pub blocked_is : (t : ℕ) → among t seen.streams ≡ true
       → among t seen.blocked ≡ is_blocked t journal
   pub unseen : (k : ℕ) → seen.last < k → k ≤ LAST_CLIENT → IsUnseen journal seen.blocked k
-  pub unused : (k : ℕ) → IsFree seen.last_own k → IsUnused journal seen k
+  pub unused : (k : ℕ) → IsFreeForOwn seen.last_own k → IsUnused journal seen k
   pub failed_are : (t : ℕ) → IsTrue (is_own t) → among t seen.streams ≡ true
       → has_failed t journal ≡ true → among t failed ≡ true
+  pub failed_did : (t : ℕ) → among t failed ≡ true → has_failed t journal ≡ true
   pub receives : s.ended ≡ None → s.listening ≡ true → seen.listens ≡ true
   pub sound : (picks : List ℕ) (given_later : List HouseReply)
-      → IsSound (by_lists policy pid (picked ++ picks) (replies ++ given_later)) journal todo s
+      → IsRunSound (by_lists policy pid (picked ++ picks) (replies ++ given_later)) journal todo s
 
 -- ---- what is so between two calls
 
@@ -152,7 +148,7 @@ scene wire lists engine = scene_of wire lists.held lists.failed engine
 
 -- a run was served so far, whatever came before, and whichever streams are to be offered what waits
 -- for them
-pub record IsServed {T : Type 0} (May : HouseReply → Type 0) (state : T → HouseState) (seen : Seen)
+pub record IsRunServed {T : Type 0} (May : HouseReply → Type 0) (state : T → HouseState) (seen : Seen)
     (held : List ℕ) (s : State) : Type 0 where
   pub present : Bool
   pub first : T
@@ -208,13 +204,13 @@ ServedOutside May state house now todo =
 -- rows that were left of the journal: so many used a number, and they request this
 pub record IsLeft (setting : Setting) (journal : List Mark) (taken : ℕ) (asks : List HouseMark) :
     Type 0 where
-  pub kept : Kept setting journal
+  pub kept : KeepsMarks setting journal
   pub rows : List Row
   pub is_log : IsLog setting journal rows
   pub fresh : AreFresh rows
   pub taken_is : numbers_taken rows ≡ taken
   pub given_is : replies_given rows ≡ length asks
-  pub asked_is : asked_of rows ≡ asks
+  pub asked_is : asks_of_rows rows ≡ asks
 
 -- what is left of it if memory runs out: the forwarder may have recorded the first of the requests
 -- that follow
@@ -230,7 +226,7 @@ pub record Promised (May : HouseReply → Type 0) (Rest : Resting)
   pub may : MayGive May replies
   pub each : length asks ≡ length replies
   pub house : RecordsAsks before now (house_marks journal ++ more)
-  pub asked : asks_in (house_marks journal ++ more) ≡ asks ++ more_asks
+  pub asked : ask_marks_in (house_marks journal ++ more) ≡ asks ++ more_asks
   pub asks_on : AsksOn May policy pid picked replies journal asks more_asks
   pub rested : (picks : List ℕ) (given_later : List HouseReply)
       → Rested Rest.rests (by_lists policy pid (picked ++ picks) (replies ++ given_later)) before
@@ -292,7 +288,7 @@ abbrev pub OwnOn :
 OwnOn {T = T} result May state house house' seen seen' held held' failed failed' =
     (present : Bool) (first : T) (before : Option (List HouseMark)) (now : Side)
     (policy : Policy) (pid : ℕ) (start : Option (List Mark)) (given : ℕ) (todo : List ℕ)
-    (s : State) → now.unnoted ≡ []
+    (s : State) → AcceptsAs seen s → now.unnoted ≡ []
     → HandsOn (state first).stands (state house).stands now.calls
     → Serving May (RestsOf state present first) before now policy pid start seen held failed given
     todo s
@@ -330,9 +326,9 @@ RunsOn result May state house house' old new most more todo rest =
     RunsFrom result (noted (state house).recorded (state house).known) May state house house' old new
     most more todo rest
 
--- the streams that are to be offered what waits for them: where all were, the forwarder may be left
+-- the streams that are to be offered what waits for them, unless all were
 abbrev pub to_offer : Bool → State → List ℕ
-to_offer true s = HOUSE ∷ []
+to_offer true s = []
 to_offer false s = 0 ∷ here s
 
 -- after a turn of the run, which was given; where the run doesn't go on perhaps none was
@@ -393,9 +389,9 @@ SpendsTurns {T = T} result turns May state house house' old new settled =
 -- ---- the beginning
 
 -- before all else a forwarder that is present is admitted
-abbrev pub LetsIn : {A E T : Type 0} → Result A E → (HouseReply → Type 0) → (T → HouseState) → Seen
+abbrev pub LetsHouseIn : {A E T : Type 0} → Result A E → (HouseReply → Type 0) → (T → HouseState) → Seen
     → Seen → State → State → Type 0
-LetsIn {T = T} result May state seen seen' s s' =
+LetsHouseIn {T = T} result May state seen seen' s s' =
     (present : Bool) (first : T) (before : Option (List HouseMark)) (now : Side) (policy : Policy)
     (pid : ℕ) (start : Option (List Mark)) (held failed : List ℕ) (given : ℕ)
     → (v : Serving May (RestsOf state present first) before now policy pid start seen held failed
@@ -431,7 +427,7 @@ RunsWhole answer turns May state house house' seen seen' s =
     (outside (state house).recorded (state house).known []) policy pid start seen [] [] 0
     (0 ∷ here s) s) → v.journal ≡ []
     → IsRun May (RestsOf state (state house).known.present house).rests (state house).stands
-    (state house').stands (state house).known.present policy pid turns before (state house').recorded
+    (state house') (state house).known.present policy pid turns before (state house').recorded
     start seen' (refusal_after (state house) (state house')) answer
 
 -- ---- the end
@@ -448,7 +444,8 @@ pub record IsOfferedTo (stream : ℕ) (old new : State) (faults faults' : Faults
   pub ended : StaysOrFails old.ended new.ended faults faults'
   pub client : stream ≢ 0 → new.ended ≡ old.ended
 
--- less waits for it, and it is not blocked
+-- less waits for it, and it is not blocked; and clients are accepted only as the engine does
 pub record CanTakeMore (stream : ℕ) (old new : State) (seen : Seen) : Type 0 where
   pub less : length (queue_in new stream) < length (queue_in old stream)
   pub free : among stream seen.blocked ≡ false
+  pub silence : AcceptsAs seen new

@@ -1,5 +1,5 @@
 -- What is kept of a house, and what its marks and the wire's streams are to each other.
-use Rattle.std.specs.Prelude.{◌≡◌, ◌<◌, ◌≤◌, ℕ, Bool, true, false, List, [], ◌∷◌, ◌++◌, filter, length, Option, Some, None, IsTrue, OnOk, Result}
+use Rattle.std.specs.Prelude.{◌≡◌, ◌<◌, ◌≤◌, ℕ, Bool, true, false, not, List, [], ◌∷◌, ◌++◌, filter, length, Option, Some, None, IsTrue, OnOk, Result}
 use Rattle.mux_outside.specs.House.{HouseState, IsAtRest, Known, OffersSame, OpenAsk, Quiet}
 use Rattle.mux_outside.specs.HouseCalls.{HandsOn, HouseCall}
 use Rattle.mux_outside.specs.OwnStreams.{is_one, is_own, numbers_of}
@@ -16,32 +16,32 @@ use Rattle.mux_outside.specs.declared.mark.Mark.{Mark}
 use Rattle.mux_outside.specs.declared.mark.Mark.TheVariants.{House}
 use Rattle.mux_history.specs.declared.ended.Ended.{Ended}
 use Rattle.mux_history.specs.declared.limits.TheConstants.{HOUSE}
-use Rattle.mux_history.specs.Promises.{is_asked}
+use Rattle.mux_history.specs.Promises.{is_asked, is_empty}
 use Rattle.mux_state.specs.State.{State}
 use Rattle.mux_engine.specs.Turns.{failed_received, held_received, own_received}
 use Rattle.mux_engine.specs.declared.room.Lists.{Lists}
 
--- ---- the house's marks of a journal
+-- ---- the forwarder's marks of a journal
 
--- the mark of a house, which it tells too unless it is that it is let in
+-- the mark of a forwarder, which it records too unless it is that it is let in
 abbrev pub house_mark : Mark → List HouseMark
 house_mark (House HouseIn) = []
 house_mark (House mark) = mark ∷ []
 house_mark mark = []
 
--- all that it tells, the oldest first
+-- all that it records, the oldest first
 abbrev pub house_marks : List Mark → List HouseMark
 house_marks [] = []
 house_marks (mark ∷ before) = house_marks before ++ house_mark mark
 
 -- its asks
-abbrev pub asks_in : List HouseMark → List HouseMark
-asks_in marks = filter is_asked marks
+abbrev pub ask_marks_in : List HouseMark → List HouseMark
+ask_marks_in marks = filter is_asked marks
 
--- ---- a house and what is noted of it
+-- ---- a forwarder and what is noted of it
 
--- what it told; its open asks; the last of what it told, which is not noted yet; whether it was
--- let in as a client; and its calls since the run began
+-- what it recorded; its open asks; the last of what it recorded, which is not noted yet; whether it
+-- was let in as a client; and its calls since the run began
 pub record Side : Type 0 where
   pub recorded : Option (List HouseMark)
   pub asks : List OpenAsk
@@ -49,7 +49,7 @@ pub record Side : Type 0 where
   pub let_in : Bool
   pub calls : List HouseCall
 
--- a house that is let in where it is present, with this that is not noted yet
+-- a forwarder that is let in where it is present, with this that is not noted yet
 abbrev pub noting : List HouseMark → Option (List HouseMark) → Known → List HouseCall → Side
 noting unnoted recorded known calls = record {
   recorded = recorded;
@@ -67,8 +67,8 @@ noted recorded known calls = noting [] recorded known calls
 abbrev pub outside : Option (List HouseMark) → Known → List HouseCall → Side
 outside recorded known calls = record (noted recorded known calls) { let_in = false }
 
--- how a house is right before a wait: it has nothing to order and nothing to answer, and it is at
--- rest where more is read; and no forwarding of the start was refused where none may be
+-- how a forwarder is right before a wait: it has nothing to order and nothing to answer, and it is
+-- at rest where more is read; and no forwarding of the start was refused where none may be
 pub record HouseWaits (want : Want) (quiet : Quiet) (must : Bool) (refused : Option ℕ) :
     Type 0 where
   pub orders : quiet.orders ≡ true
@@ -76,47 +76,56 @@ pub record HouseWaits (want : Want) (quiet : Quiet) (must : Bool) (refused : Opt
   pub rests : want ≡ Read → IsAtRest quiet
   pub permitted : IsTrue must → refused ≡ None
 
--- a house knows these as its listeners and its streams, and waits for the number of none
+-- a forwarder knows these as its listeners and its streams, and waits for the number of none
 pub record Knows (known : Known) (listeners : List ℕ) (own : List OwnStream) : Type 0 where
   pub listeners_are : known.listeners ≡ listeners
   pub streams_are : known.streams ≡ own
   pub none_awaited : known.ordering ≡ None
 
--- what may be so of a house right before a wait for this, by what it told, by its calls since the
--- run began, and by the listeners and streams of its own that are open
+-- what may be so of a forwarder right before a wait for this, by what it recorded, by its calls since
+-- the run began, by the listeners and streams of its own that are open, and by those of its streams
+-- that are waited for and those that have not failed
 abbrev pub AtWaits : Type 1
-AtWaits = Want → Option (List HouseMark) → List HouseCall → List ℕ → List OwnStream → Type 0
+AtWaits = Want → Option (List HouseMark) → List HouseCall → List ℕ → List OwnStream → List ℕ
+    → List ℕ → Type 0
 
--- whether a house is present, and what is so of it right before a wait
+-- whether a forwarder is present, and what is so of it right before a wait
 pub record Resting : Type 1 where
   pub present : Bool
   pub rests : AtWaits
 
--- there is a house that has told this, knows these listeners and streams and is as it is right
--- before a wait, and to which the first one came by these calls, unless none is present
+-- of the streams that have not failed exactly those are waited for for which something waits
+abbrev pub OwnWaitedFor : (ℕ → List ℕ) → List ℕ → List ℕ → Type 0
+OwnWaitedFor queue waiting unfailed = waiting ≡ filter (λ t. not (is_empty (queue t))) unfailed
+
+-- there is a forwarder that has recorded this, knows these listeners and streams and is as it is
+-- right before a wait, for all of whose streams it waits for which it must, and to which the first
+-- one came by these calls, unless none is present
 abbrev pub RestsOf : {T : Type 0} → (T → HouseState) → Bool → T → Resting
 RestsOf {T} state present first = record {
   present = present;
-  rests = λ want now calls listeners own. IsTrue present
+  rests = λ want now calls listeners own waiting unfailed. IsTrue present
       → (house : T)
       × (HouseWaits want (state house).quiet (state house).must (state house).refused
       × ((state house).recorded ≡ now)
       × HandsOn (state first).stands (state house).stands calls
-      × Knows (state house).known listeners own);
+      × Knows (state house).known listeners own
+      × OwnWaitedFor (state house).queue waiting unfailed);
 }
 
 -- ---- its streams and listeners
 
--- the same streams are open, and the same listeners
-pub record SamePlaces (old new : Seen) : Type 0 where
+-- the same streams are open, and the same listeners; and clients aren't accepted where they weren't
+pub record SameSockets (old new : Seen) : Type 0 where
   pub streams : new.streams ≡ old.streams
   pub listeners : new.listeners ≡ old.listeners
   pub own : new.own ≡ old.own
   pub last_own : new.last_own ≡ old.last_own
+  pub silence : new.listens ≡ true → old.listens ≡ true
 
 -- and the same are blocked
 pub record SameStreams (old new : Seen) : Type 0 where
-  pub places : SamePlaces old new
+  pub places : SameSockets old new
   pub blocked : new.blocked ≡ old.blocked
 
 -- the wire's own streams are the open ones with numbers of their own, and its listeners have such
@@ -128,7 +137,8 @@ pub record OwnPlaces (seen : Seen) : Type 0 where
   pub given : (t : ℕ) → IsTrue (is_one t seen.own) → t ≤ seen.last_own
   pub listening : (l : ℕ) → IsTrue (among l seen.listeners) → l ≤ seen.last_own
 
--- what is known of the house is what the wire has seen of it; these are the numbers of its streams
+-- what is known of the forwarder is what the wire has seen of it; these are the numbers of its
+-- streams
 pub record Housed (known : Known) (seen : Seen) (own : List ℕ) : Type 0 where
   pub ordering : known.ordering ≡ None
   pub listeners : known.listeners ≡ seen.listeners
@@ -136,7 +146,7 @@ pub record Housed (known : Known) (seen : Seen) (own : List ℕ) : Type 0 where
   pub own_is : own ≡ numbers_of seen.own
   pub places : OwnPlaces seen
 
--- where there is no house, it has no listener and no stream
+-- where there is no forwarder, it has no listener and no stream
 pub record IsAlone (known : Known) : Type 0 where
   pub listeners : known.present ≡ false → known.listeners ≡ []
   pub streams : known.present ≡ false → known.streams ≡ []
@@ -147,11 +157,6 @@ pub record Together (house : HouseState) (wire : WireState) (lists : Lists) : Ty
   pub alone : IsAlone house.known
   pub held_is : lists.held ≡ wire.seen.blocked
 
--- nothing is left to be offered while the run goes on; at its end the house may be left
-abbrev pub unsettled : Option Ended → List ℕ
-unsettled None = []
-unsettled (Some cause) = HOUSE ∷ []
-
 -- only its asks changed
 pub record SameHouse (old new : Known) : Type 0 where
   pub present : new.present ≡ old.present
@@ -159,7 +164,8 @@ pub record SameHouse (old new : Known) : Type 0 where
   pub listeners : new.listeners ≡ old.listeners
   pub streams : new.streams ≡ old.streams
 
--- whether there is a house stays, and whether the run ends where a forwarding of the start is refused
+-- whether there is a forwarder stays, and whether the run ends where a forwarding of the start is
+-- refused
 pub record StaysHouse {A E : Type 0} (result : Result A E) (old new : HouseState) : Type 0 where
   pub present : OnOk result (new.known.present ≡ old.known.present)
   pub must : new.must ≡ old.must
@@ -174,7 +180,7 @@ pub record SameKnown {A E : Type 0} (result : Result A E) (old new : HouseState)
   pub known : OnOk result (new.known ≡ old.known)
   pub must : new.must ≡ old.must
 
--- nor did it tell anything
+-- nor did it record anything
 pub record OnlyTook {A E : Type 0} (result : Result A E) (old new : HouseState) : Type 0 where
   pub known : OnOk result (new.known ≡ old.known)
   pub must : new.must ≡ old.must
@@ -203,10 +209,10 @@ pub record SentNothing (old new : HouseState) (seen seen' : Seen) (s s' : State)
   pub engine : s' ≡ s
   pub seen_is : seen' ≡ seen
 
--- ---- what is heard of its streams
+-- ---- what is received of its streams
 
--- the lists behind what one of them told
-pub record ReceivedBy (recorded : OwnTurn) (old new : Lists) : Type 0 where
+-- the lists after what one of them recorded
+pub record OwnReceivedBy (recorded : OwnTurn) (old new : Lists) : Type 0 where
   pub own : new.own ≡ own_received recorded old.own
   pub held : new.held ≡ held_received recorded old.held
   pub failed : new.failed ≡ failed_received recorded old.failed

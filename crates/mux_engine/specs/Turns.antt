@@ -11,7 +11,7 @@ use Rattle.mux_outside.specs.declared.turn.Want.{Want}
 use Rattle.mux_outside.specs.declared.turn.Want.TheVariants.{Read, WriteOnly}
 use Rattle.mux_history.specs.declared.limits.TheConstants.{READING_STOPS_AT}
 use Rattle.mux_state.specs.declared.event.Event.{Event}
-use Rattle.mux_state.specs.Events.{Records}
+use Rattle.mux_state.specs.Events.{MarkRecords}
 use Rattle.mux_state.specs.State.{State, queue_in}
 use Rattle.mux_engine.specs.declared.events.NextEvent.{NextEvent}
 use Rattle.mux_engine.specs.declared.events.NextEvent.TheVariants as next
@@ -22,10 +22,10 @@ want_of s = if nat_lt (length (queue_in s 0)) READING_STOPS_AT then Read else Wr
 
 -- the event that a turn reports
 abbrev pub IsEventOf : Event → Turn → List ℕ → Type 0
-IsEventOf e (turn.Accepted k) bytes = Records e (Accepts k)
-IsEventOf e (turn.Got t) bytes = (is_own t ≡ false) × Records e (Gets t bytes)
-IsEventOf e (turn.End t) bytes = (is_own t ≡ false) × Records e (Ends t)
-IsEventOf e (turn.Failed t) bytes = (is_own t ≡ false) × Records e (Fails t)
+IsEventOf e (turn.Accepted k) bytes = MarkRecords e (Accepts k)
+IsEventOf e (turn.Got t) bytes = (is_own t ≡ false) × MarkRecords e (Gets t bytes)
+IsEventOf e (turn.End t) bytes = (is_own t ≡ false) × MarkRecords e (Ends t)
+IsEventOf e (turn.Failed t) bytes = (is_own t ≡ false) × MarkRecords e (Fails t)
 IsEventOf e (turn.Writable t) bytes = ⊥
 IsEventOf e (turn.Joined l t) bytes = ⊥
 IsEventOf e turn.NoMemory bytes = ⊥
@@ -41,11 +41,11 @@ IsOwnOf (own.Failed t) given bytes = IsTrue (is_own t) × (given ≡ turn.Failed
 
 -- what a turn reports: an event of the engine, something of the master's own, that another stream
 -- accepts bytes again, or that there was no memory
-abbrev pub IsNext : NextEvent → Turn → List ℕ → Type 0
-IsNext (next.Event e) given bytes = IsEventOf e given bytes
-IsNext (next.Own o) given bytes = IsOwnOf o given bytes
-IsNext (next.Freed t) given bytes = (is_own t ≡ false) × (given ≡ turn.Writable t)
-IsNext next.NoMemory given bytes = given ≡ turn.NoMemory
+abbrev pub IsNextEvent : NextEvent → Turn → List ℕ → Type 0
+IsNextEvent (next.Event e) given bytes = IsEventOf e given bytes
+IsNextEvent (next.Own o) given bytes = IsOwnOf o given bytes
+IsNextEvent (next.Freed t) given bytes = (is_own t ≡ false) × (given ≡ turn.Writable t)
+IsNextEvent next.NoMemory given bytes = given ≡ turn.NoMemory
 
 -- the forwarder's streams then, those that are blocked, and those that failed
 abbrev pub own_received : OwnTurn → List ℕ → List ℕ

@@ -7,7 +7,7 @@ use Rattle.mux_engine.specs.Counted.{Counts}
 use Rattle.mux_engine.specs.OwnFaults.{OwnCounted}
 
 -- it is open as `open` leaves it: the server's stream alone, and clients are accepted
-pub record IsOpened (seen : Seen) : Type 0 where
+pub record IsWireOpened (seen : Seen) : Type 0 where
   pub server_alone : seen.streams ≡ 0 ∷ []
   pub none_blocked : seen.blocked ≡ []
   pub listens : seen.listens ≡ true
@@ -36,7 +36,7 @@ pub record Untouched (old new : WireState) (faults faults' : Faults) : Type 0 wh
   pub no_fault : NoFault faults faults'
 
 -- and each order that got no number is an own fault that was counted
-pub record IsIdle (old new : WireState) (faults faults' : Faults) : Type 0 where
+pub record IsIdleWire (old new : WireState) (faults faults' : Faults) : Type 0 where
   pub untouched : Untouched old new faults faults'
   pub own_faults : OwnCounted old.seen.recorded new.seen.recorded faults.own faults'.own
 

@@ -2,8 +2,8 @@ ghost use Rattle.std.specs.Prelude.{List, ℕ};
 ghost use Rattle.ssh_fields.specs.Fields.{AreBytes};
 ghost use Rattle.mux_outside.specs.declared.turn.Turn.TheVariants.{Got, End, Writable, Failed};
 ghost use Rattle.mux_outside.specs.declared.mark.Mark.TheVariants.{Gets, Fails, WriteFails};
-ghost use Rattle.mux_state.specs.Events.{Records};
-ghost use Rattle.mux_engine.specs.Turns.{IsNext};
+ghost use Rattle.mux_state.specs.Events.{MarkRecords};
+ghost use Rattle.mux_engine.specs.Turns.{IsNextEvent};
 
 use mux_outside::{OwnTurn, Turn, Whose, is_own};
 use mux_state::Event;
@@ -23,7 +23,7 @@ pub enum NextEvent<'a> {
 
 // The event of bytes that a stream gave.
 pub fn event_of_bytes<'a>(stream: u64, bytes: &'a [u8]) -> Event<'a>
-    ensures records { Records result (Gets stream bytes.now) }
+    ensures records { MarkRecords result (Gets stream bytes.now) }
     ensures bytes { AreBytes bytes.now }
 {
     match Whose::of(stream) {
@@ -34,8 +34,8 @@ pub fn event_of_bytes<'a>(stream: u64, bytes: &'a [u8]) -> Event<'a>
 
 // The event of a stream that failed, at a wait or at a write.
 pub fn event_of_fault<'a>(stream: u64) -> Event<'a>
-    ensures wait { Records result (Fails stream) }
-    ensures write { Records result (WriteFails stream) }
+    ensures wait { MarkRecords result (Fails stream) }
+    ensures write { MarkRecords result (WriteFails stream) }
 {
     match Whose::of(stream) {
         Whose::Server => Event::ServerFailed,
@@ -45,7 +45,7 @@ pub fn event_of_fault<'a>(stream: u64) -> Event<'a>
 
 // What a stream that gave bytes reports.
 fn next_of_bytes<'a>(stream: u64, bytes: &'a [u8]) -> NextEvent<'a>
-    ensures { IsNext result (Got stream) bytes.now }
+    ensures { IsNextEvent result (Got stream) bytes.now }
 {
     if is_own(stream) {
         NextEvent::Own(OwnTurn::Got(stream, bytes))
@@ -56,7 +56,7 @@ fn next_of_bytes<'a>(stream: u64, bytes: &'a [u8]) -> NextEvent<'a>
 
 // What a stream that gives no more reports.
 fn next_of_end<'a>(stream: u64) -> NextEvent<'a>
-    ensures { (bytes : List ℕ) → IsNext result (End stream) bytes }
+    ensures { (bytes : List ℕ) → IsNextEvent result (End stream) bytes }
 {
     match Whose::of(stream) {
         Whose::Server => NextEvent::Event(Event::ServerEnd),
@@ -67,7 +67,7 @@ fn next_of_end<'a>(stream: u64) -> NextEvent<'a>
 
 // What a stream that failed reports.
 fn next_of_fault<'a>(stream: u64) -> NextEvent<'a>
-    ensures { (bytes : List ℕ) → IsNext result (Failed stream) bytes }
+    ensures { (bytes : List ℕ) → IsNextEvent result (Failed stream) bytes }
 {
     if is_own(stream) {
         NextEvent::Own(OwnTurn::Failed(stream))
@@ -78,7 +78,7 @@ fn next_of_fault<'a>(stream: u64) -> NextEvent<'a>
 
 // What a stream that accepts bytes again reports.
 fn next_of_room<'a>(stream: u64) -> NextEvent<'a>
-    ensures { (bytes : List ℕ) → IsNext result (Writable stream) bytes }
+    ensures { (bytes : List ℕ) → IsNextEvent result (Writable stream) bytes }
 {
     if is_own(stream) {
         NextEvent::Own(OwnTurn::Writable(stream))
@@ -89,7 +89,7 @@ fn next_of_room<'a>(stream: u64) -> NextEvent<'a>
 
 // What a turn reports.
 pub fn next_of<'a>(turn: Turn, bytes: &'a [u8]) -> NextEvent<'a>
-    ensures next { IsNext result turn bytes.now }
+    ensures next { IsNextEvent result turn bytes.now }
     ensures bytes { AreBytes bytes.now }
 {
     match turn {

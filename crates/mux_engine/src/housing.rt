@@ -8,24 +8,24 @@ ghost use Rattle.mux_history.specs.Journal.{is_accepted};
 ghost use Rattle.mux_state.specs.Events.{here};
 ghost use Rattle.mux_state.specs.Stands.{Stands};
 ghost use Rattle.mux_engine.specs.OwnFaults.{OwnCounted};
-ghost use Rattle.mux_engine.specs.Rests.{EndsByAsk, EndsSo, HasAnswered, HasNoMoreFor, IsReadyFor, WaitsAlone};
-ghost use Rattle.mux_engine.specs.Serving.{IsOngoing, LetsIn, RunsOn, ServedWith, scene, scene_of};
-ghost use Rattle.mux_engine.specs.Sides.{AnsweredOr, OnlyAsked, SentNothing, SameKnown, SamePlaces, SameStreams, StaysHouse, Together};
+ghost use Rattle.mux_engine.specs.Rests.{EndsByAsk, EndsSo, HasAnswered, HasNoMoreFor, HasOffered, IsReadyFor, WaitsAlone};
+ghost use Rattle.mux_engine.specs.Serving.{IsOngoing, LetsHouseIn, RunsOn, ServedWith, scene, scene_of};
+ghost use Rattle.mux_engine.specs.Sides.{AnsweredOr, OnlyAsked, SentNothing, SameKnown, SameSockets, SameStreams, StaysHouse, Together};
+ghost use Rattle.mux_engine.specs.SilentAnswers.{AcceptsAs};
 ghost use Rattle.mux_engine.specs.Turns.{want_of};
-ghost use Rattle.mux_engine.specs.Wires.{IsIdle, Untouched, Works, WorksOwn};
+ghost use Rattle.mux_engine.specs.Wires.{IsIdleWire, Untouched, Works, WorksOwn};
 
 use crate::asking::apply;
 use crate::events::event_of_bytes;
 use crate::orders::next_order;
 use crate::owned::own_rounds;
 use crate::room::Lists;
-use crate::settling::flush;
+use crate::settling::{flush, stop_accepting};
 use mux_history::limits::{HOUSE, READING_STOPS_AT};
 use mux_outside::{House, HouseMark, NoHouse, Piece, Want, Wire};
 use mux_peers::AskLog;
 use mux_state::{Engine, Event};
-use ssh_fields::{OutOfMemory, Text};
-use std::alloc::Global;
+use ssh_fields::OutOfMemory;
 
 // Admits the forwarder as a client, before all else.
 pub fn let_in<W: Wire, H: House>(
@@ -35,10 +35,10 @@ pub fn let_in<W: Wire, H: House>(
 ) -> Result<(), OutOfMemory>
     requires on { engine.old.ended ≡ None }
     requires refused { engine.old.refused ≡ [] }
-    ensures serving { LetsIn result H.may H.state (W.state wire.old).seen (W.state wire.new).seen
+    ensures serving { LetsHouseIn result H.may H.state (W.state wire.old).seen (W.state wire.new).seen
         engine.old engine.new }
-    ensures places { SamePlaces (W.state wire.old).seen (W.state wire.new).seen }
-    ensures wire { IsIdle (W.state wire.old) (W.state wire.new) (W.faults wire.old)
+    ensures places { SameSockets (W.state wire.old).seen (W.state wire.new).seen }
+    ensures wire { IsIdleWire (W.state wire.old) (W.state wire.new) (W.faults wire.old)
         (W.faults wire.new) }
 {
     wire.note(&HouseMark::HouseIn)?;
@@ -46,13 +46,16 @@ pub fn let_in<W: Wire, H: House>(
     Ok(())
 }
 
-// Hands the forwarder all that waits for it as a client.
-fn hand_over<W: Wire, H: House>(
+/// Hands the forwarder all that waits for it as a client. Before that, no more clients are accepted
+/// where the engine wants none, or its run is over.
+pub fn hand_over<W: Wire, H: House>(
     engine: &mut Engine,
     wire: &mut W,
     house: &mut H,
 ) -> Result<(), OutOfMemory>
     requires ordering { (H.state house.old).known.ordering ≡ None }
+    requires receives { engine.old.ended ≡ None → engine.old.listening ≡ true
+        → (W.state wire.old).seen.listens ≡ true }
     ensures serving { (held failed : List ℕ) → RunsOn result H.may H.state house.old house.new
         (scene_of (W.state wire.old) held failed engine.old)
         (scene_of (W.state wire.new) held failed engine.new)
@@ -60,10 +63,12 @@ fn hand_over<W: Wire, H: House>(
         (λ done. 0 ∷ without TheHouse (here engine.new)) }
     ensures house { SameKnown result (H.state house.old) (H.state house.new) }
     ensures ended { engine.new.ended ≡ engine.old.ended }
+    ensures silence { OnOk result (AcceptsAs (W.state wire.new).seen engine.new) }
     ensures streams { SameStreams (W.state wire.old).seen (W.state wire.new).seen }
-    ensures wire { IsIdle (W.state wire.old) (W.state wire.new) (W.faults wire.old)
+    ensures wire { IsIdleWire (W.state wire.old) (W.state wire.new) (W.faults wire.old)
         (W.faults wire.new) }
 {
+    stop_accepting::<W, H>(engine, wire);
     let bytes = engine.queue_of(HOUSE);
     if bytes.is_empty() {
         return Ok(());
@@ -98,7 +103,7 @@ fn reply<W: Wire, H: House>(
         (scene_of (W.state wire.old) held failed engine.old) todo
         → OnOk result (engine.new.ended ≡ None) }
     ensures streams { SameStreams (W.state wire.old).seen (W.state wire.new).seen }
-    ensures wire { IsIdle (W.state wire.old) (W.state wire.new) (W.faults wire.old)
+    ensures wire { IsIdleWire (W.state wire.old) (W.state wire.new) (W.faults wire.old)
         (W.faults wire.new) }
 {
     let Some((client, id, given)) = house.answer() else {
@@ -128,7 +133,7 @@ pub fn reply_all<W: Wire, H: House>(
         (scene (W.state wire.new) lists.new engine.new) 0 (λ done. 0) (0 ∷ here engine.old)
         (λ done. 0 ∷ without TheHouse (here engine.new)) }
     ensures house { OnlyAsked result (H.state house.old) (H.state house.new) }
-    ensures places { SamePlaces (W.state wire.old).seen (W.state wire.new).seen }
+    ensures places { SameSockets (W.state wire.old).seen (W.state wire.new).seen }
     ensures held_is { OnOk result (lists.new.held ≡ (W.state wire.new).seen.blocked) }
     ensures own { lists.new.own ≡ lists.old.own }
     ensures rests { OnOk result (HasAnswered (H.state house.new) lists.new) }
@@ -166,7 +171,6 @@ pub fn wanted(engine: &Engine) -> Want
 // What the forwarder sends next as a client, while fewer than 4,194,304 bytes wait for the server:
 // whether it sent something.
 fn speak<W: Wire, H: House>(
-    alloc: Global,
     engine: &mut Engine,
     wire: &mut W,
     house: &mut H,
@@ -201,8 +205,7 @@ fn speak<W: Wire, H: House>(
     if !house.says(piece)? {
         return Ok(false);
     }
-    let bytes = Text::copy(alloc, piece.as_bytes())?;
-    wire.note(&HouseMark::HouseSaid(bytes))?;
+    wire.note_said(piece.as_bytes())?;
     let said = event_of_bytes(HOUSE, piece.as_bytes());
     apply(engine, wire, house, asks, said)?;
     Ok(true)
@@ -243,7 +246,6 @@ fn ask_house<W: Wire, H: House>(
 /// sent. Else each stream was offered what waits for it, and the forwarder is ready for a wait,
 /// unless the run ended.
 pub fn step_house<W: Wire, H: House>(
-    alloc: Global,
     engine: &mut Engine,
     wire: &mut W,
     house: &mut H,
@@ -260,6 +262,8 @@ pub fn step_house<W: Wire, H: House>(
     ensures house { StaysHouse result (H.state house.old) (H.state house.new) }
     ensures alone { (H.state house.old).known.present ≡ false
         → WaitsAlone result engine.old engine.new }
+    ensures offered { IfOk result (λ more. more ≡ false
+        → HasOffered (H.state house.new) lists.new) }
     ensures ready { IfOk result (λ more. more ≡ false → engine.new.ended ≡ None
         → IsReadyFor (H.state house.new) lists.new engine.new) }
     ensures ended { EndsSo result (H.state house.old).known.present engine.new.ended
@@ -280,5 +284,5 @@ pub fn step_house<W: Wire, H: House>(
     if !house.present() || engine.ended().is_some() || wanted(engine) == Want::WriteOnly {
         return Ok(false);
     }
-    speak(alloc, engine, wire, house, &mut lists.asks, piece)
+    speak(engine, wire, house, &mut lists.asks, piece)
 }

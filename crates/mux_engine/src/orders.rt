@@ -1,11 +1,11 @@
-ghost use Rattle.std.specs.Prelude.{◌≡◌, ℕ, true, false, List, IfOk, OnOk, Some, if◌then◌else◌};
+ghost use Rattle.std.specs.Prelude.{◌≡◌, ℕ, true, false, List, IfOk, OnOk, None, Some, if◌then◌else◌};
 ghost use Rattle.mux_outside.specs.House.{order_marks};
 ghost use Rattle.mux_outside.specs.declared.order.Order.TheVariants.{Connect as TheConnect};
 ghost use Rattle.mux_state.specs.State.{State as TheState};
 ghost use Rattle.mux_engine.specs.Orders.{Carries, CarryCounted, HasOrdered, IsMade, makes as does_make};
 ghost use Rattle.mux_engine.specs.Serving.{RunsFrom, RunsOn, scene};
 ghost use Rattle.mux_engine.specs.Sides.{Housed, OrderedNothing, StaysHouse, noting};
-ghost use Rattle.mux_engine.specs.Wires.{IsIdle, Untouched};
+ghost use Rattle.mux_engine.specs.Wires.{IsIdleWire, Untouched};
 
 use crate::room::Lists;
 use mux_outside::{FileError, House, HouseMark, Order, Wire};
@@ -22,8 +22,8 @@ fn made_by(made: Result<u64, FileError>) -> Result<Option<u64>, OutOfMemory>
     }
 }
 
-// Makes a stream that connects there, which is blocked until it is connected, and tells the house
-// its number.
+// Makes a stream that connects there, which is blocked until it is connected, and records the
+// forwarder its number.
 fn add_stream<W: Wire, H: House>(
     wire: &mut W,
     house: &mut H,
@@ -50,7 +50,7 @@ fn add_stream<W: Wire, H: House>(
     Ok(made)
 }
 
-// Carries out an order of the house: the number of what it made, where it made something.
+// Carries out an order of the forwarder: the number of what it made, where it made something.
 fn carry_out<W: Wire, H: House>(
     wire: &mut W,
     house: &mut H,
@@ -88,14 +88,14 @@ fn carry_out<W: Wire, H: House>(
     Ok(None)
 }
 
-// Whether an order is to make something. The wire tells such a one itself.
+// Whether an order is to make something. The wire records such a one itself.
 fn makes(order: &Order) -> bool
     ensures { result ≡ does_make order.now }
 {
     matches!(order, Order::Listen { .. } | Order::Connect { .. })
 }
 
-// Carries out an order that the house just gave, and notes it where the wire didn't tell it.
+// Carries out an order that the forwarder just gave, and notes it where the wire didn't record it.
 fn obey<W: Wire, H: House>(
     wire: &mut W,
     house: &mut H,
@@ -105,14 +105,14 @@ fn obey<W: Wire, H: House>(
     requires ordered { HasOrdered order (H.state house.old).known (W.state wire.old).seen
         lists.old.own }
     requires present { (H.state house.old).known.present ≡ true }
-    ensures serving { (todo : List ℕ) (s : TheState) → RunsFrom result
+    ensures serving { (todo : List ℕ) (s : TheState) → s.ended ≡ None → RunsFrom result
         (noting (order_marks (Some order)) (H.state house.old).recorded (H.state house.old).known)
         H.may H.state house.old house.new (scene (W.state wire.old) lists.old s)
         (scene (W.state wire.new) lists.new s) 1 (λ done. 1) todo (λ done. todo) }
     ensures housed { OnOk result
         (Housed (H.state house.new).known (W.state wire.new).seen lists.new.own) }
     ensures house { StaysHouse result (H.state house.old) (H.state house.new) }
-    ensures wire { IsIdle (W.state wire.old) (W.state wire.new) (W.faults wire.old)
+    ensures wire { IsIdleWire (W.state wire.old) (W.state wire.new) (W.faults wire.old)
         (W.faults wire.new) }
 {
     let number = carry_out(wire, house, lists, &order)?;
@@ -122,7 +122,7 @@ fn obey<W: Wire, H: House>(
     wire.note(&HouseMark::HouseOrder { order, number })
 }
 
-/// The next order of the house is carried out: whether there was one.
+/// The next order of the forwarder is carried out: whether there was one.
 pub fn next_order<W: Wire, H: House>(
     wire: &mut W,
     house: &mut H,
@@ -130,7 +130,7 @@ pub fn next_order<W: Wire, H: House>(
 ) -> Result<bool, OutOfMemory>
     requires housed { Housed (H.state house.old).known (W.state wire.old).seen lists.old.own }
     requires present { (H.state house.old).known.present ≡ true }
-    ensures serving { (todo : List ℕ) (s : TheState) → RunsOn result H.may H.state house.old
+    ensures serving { (todo : List ℕ) (s : TheState) → s.ended ≡ None → RunsOn result H.may H.state house.old
         house.new (scene (W.state wire.old) lists.old s) (scene (W.state wire.new) lists.new s) 1
         (λ more. if more then 1 else 0) todo (λ more. todo) }
     ensures housed { OnOk result
@@ -138,7 +138,7 @@ pub fn next_order<W: Wire, H: House>(
     ensures house { StaysHouse result (H.state house.old) (H.state house.new) }
     ensures none { IfOk result (λ more. more ≡ false
         → OrderedNothing (H.state house.old) (H.state house.new) lists.old lists.new) }
-    ensures wire { IsIdle (W.state wire.old) (W.state wire.new) (W.faults wire.old)
+    ensures wire { IsIdleWire (W.state wire.old) (W.state wire.new) (W.faults wire.old)
         (W.faults wire.new) }
 {
     let Some(order) = house.order() else {

@@ -1,11 +1,12 @@
 ghost use Rattle.std.specs.Prelude.{◌≡◌, ◌<◌, ◌++◌, ℕ, true, false, filter, length, OnOk, IfOk, IsTrue};
 ghost use Rattle.ssh_fields.specs.Fields.{AreBytes};
+ghost use Rattle.mux_outside.specs.OwnStreams.{numbers_of};
 ghost use Rattle.mux_outside.specs.Streams.{among};
 ghost use Rattle.mux_outside.specs.Wire.{MayWrite, WroteFaults, WroteFits};
 ghost use Rattle.mux_outside.specs.WireState.{state_after_write};
-ghost use Rattle.mux_engine.specs.Owned.{CanOfferOwn, FailsFurther, IsOffered, IsOpenOwn, KeepsOffers, OwnsStreams, TookOrOffered, waits_for};
+ghost use Rattle.mux_engine.specs.Owned.{CanOfferOwn, FailsFurther, IsOwnOffered, IsOpenOwn, KeepsOffers, OwnsStreams, StayOffered, TookOrOffered, waits_for_own};
 ghost use Rattle.mux_engine.specs.Serving.{OwnOn};
-ghost use Rattle.mux_engine.specs.Sides.{Housed, OnlyTook, SamePlaces};
+ghost use Rattle.mux_engine.specs.Sides.{Housed, OnlyTook, SameSockets};
 ghost use Rattle.mux_engine.specs.Wires.{WorksOwn};
 
 use mux_outside::{House, OwnTurn, Streams, Wire, Wrote};
@@ -38,7 +39,7 @@ fn own_once<W: Wire, H: House>(
         (H.state house.new).queue held.new failed.new stream) }
     ensures serving { OwnOn result H.may H.state house.old house.new (W.state wire.old).seen
         (W.state wire.new).seen held.old held.new failed.old failed.new }
-    ensures places { SamePlaces (W.state wire.old).seen (W.state wire.new).seen }
+    ensures places { SameSockets (W.state wire.old).seen (W.state wire.new).seen }
     ensures lists { OnOk result (KeepsOffers stream (H.state house.old) (H.state house.new)
         (W.state wire.new).seen held.old held.new failed.old failed.new) }
     ensures wire { WorksOwn result (W.state wire.old) (W.state wire.new) (W.faults wire.old)
@@ -80,11 +81,11 @@ fn offer_own<W: Wire, H: House>(
 ) -> Result<(), OutOfMemory>
     requires { CanOfferOwn (H.state house.old) (W.state wire.old).seen held.old stream }
     ensures house { OnlyTook result (H.state house.old) (H.state house.new) }
-    ensures offered { OnOk result (IsOffered ((H.state house.new).queue stream) held.new failed.new
+    ensures offered { OnOk result (IsOwnOffered ((H.state house.new).queue stream) held.new failed.new
         stream) }
     ensures serving { OwnOn result H.may H.state house.old house.new (W.state wire.old).seen
         (W.state wire.new).seen held.old held.new failed.old failed.new }
-    ensures places { SamePlaces (W.state wire.old).seen (W.state wire.new).seen }
+    ensures places { SameSockets (W.state wire.old).seen (W.state wire.new).seen }
     ensures lists { OnOk result (KeepsOffers stream (H.state house.old) (H.state house.new)
         (W.state wire.new).seen held.old held.new failed.old failed.new) }
     ensures wire { WorksOwn result (W.state wire.old) (W.state wire.new) (W.faults wire.old)
@@ -101,32 +102,33 @@ fn own_round<W: Wire, H: House>(
     house: &mut H,
     held: &mut Streams,
     failed: &mut Streams,
-    todo: &mut Streams,
+    streams: &Streams,
 ) -> Result<(), OutOfMemory>
     requires knows { OwnsStreams (H.state house.old) (W.state wire.old).seen held.old }
-    requires each { (t : ℕ) → among t todo.old ≡ true
+    requires each { (t : ℕ) → among t streams.now ≡ true
         → IsOpenOwn (H.state house.old) (W.state wire.old).seen t }
     ensures serving { OwnOn result H.may H.state house.old house.new (W.state wire.old).seen
         (W.state wire.new).seen held.old held.new failed.old failed.new }
     ensures offered { OnOk result (length failed.new ≡ length failed.old → (t : ℕ)
-        → among t todo.old ≡ true
-        → IsOffered ((H.state house.new).queue t) held.new failed.new t) }
+        → among t streams.now ≡ true
+        → IsOwnOffered ((H.state house.new).queue t) held.new failed.new t) }
+    ensures keeps { OnOk result (StayOffered (H.state house.old).queue (H.state house.new).queue
+        held.old held.new failed.old failed.new) }
     ensures house { OnlyTook result (H.state house.old) (H.state house.new) }
-    ensures places { SamePlaces (W.state wire.old).seen (W.state wire.new).seen }
+    ensures places { SameSockets (W.state wire.old).seen (W.state wire.new).seen }
     ensures held_is { OnOk result (held.new ≡ (W.state wire.new).seen.blocked) }
-    ensures fails { OnOk result (FailsFurther todo.old failed.old failed.new) }
+    ensures fails { OnOk result (FailsFurther streams.now failed.old failed.new) }
     ensures wire { WorksOwn result (W.state wire.old) (W.state wire.new) (W.faults wire.old)
         (W.faults wire.new) }
 {
-    while let Some(stream) = todo.get(0) {
-        offer_own(wire, house, held, failed, stream)?;
-        todo.remove(stream);
+    for stream in streams.as_slice() {
+        offer_own(wire, house, held, failed, *stream)?;
     }
     Ok(())
 }
 
 /// Offers each of the master's own streams what waits for it, again as long as one fails; `todo` is
-/// room for their numbers.
+/// room for the numbers of those for which something waits.
 pub fn own_rounds<W: Wire, H: House>(
     wire: &mut W,
     house: &mut H,
@@ -140,16 +142,17 @@ pub fn own_rounds<W: Wire, H: House>(
     ensures serving { OwnOn result H.may H.state house.old house.new (W.state wire.old).seen
         (W.state wire.new).seen held.old held.new failed.old failed.new }
     ensures offered { OnOk result ((t : ℕ) → among t own.now ≡ true
-        → IsOffered ((H.state house.new).queue t) held.new failed.new t) }
+        → IsOwnOffered ((H.state house.new).queue t) held.new failed.new t) }
     ensures house { OnlyTook result (H.state house.old) (H.state house.new) }
-    ensures places { SamePlaces (W.state wire.old).seen (W.state wire.new).seen }
+    ensures places { SameSockets (W.state wire.old).seen (W.state wire.new).seen }
     ensures held_is { OnOk result (held.new ≡ (W.state wire.new).seen.blocked) }
     ensures wire { WorksOwn result (W.state wire.old) (W.state wire.new) (W.faults wire.old)
         (W.faults wire.new) }
 {
     loop {
         let before = failed.len();
-        todo.refill(own.as_slice())?;
+        todo.clear();
+        house.list_waiting(failed, todo)?;
         own_round(wire, house, held, failed, todo)?;
         if failed.len() <= before {
             return Ok(());
@@ -162,18 +165,13 @@ pub fn own_rounds<W: Wire, H: House>(
 pub fn list_waiting<H: House>(
     house: &H,
     waiting: &Streams,
-    own: &Streams,
     failed: &Streams,
     todo: &mut Streams,
 ) -> Result<(), OutOfMemory>
     ensures { OnOk result (todo.new
-        ≡ waiting.now ++ filter (waits_for (H.state house.now).queue failed.now) own.now) }
+        ≡ waiting.now ++ filter (waits_for_own (H.state house.now).queue failed.now)
+        (numbers_of (H.state house.now).known.streams)) }
 {
     todo.refill(waiting.as_slice())?;
-    for stream in own.as_slice() {
-        if !failed.contains(*stream) && !house.queue_of(*stream).is_empty() {
-            todo.push(*stream)?;
-        }
-    }
-    Ok(())
+    house.list_waiting(failed, todo)
 }

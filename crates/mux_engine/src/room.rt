@@ -17,7 +17,7 @@ pub struct Lists {
     pub todo: Streams,
     /// Room for what the forwarder is asked at an event, until it is noted.
     pub asks: AskLog,
-    /// Whether the run is over and each stream was offered what waits for it.
+    /// Whether the run is over and each stream, the master's own too, was offered what waits for it.
     pub settled: bool,
 }
 

@@ -2,24 +2,25 @@ ghost use Rattle.std.specs.Prelude.{[], ◌∷◌, ◌≡◌, ◌≢◌, true, f
 ghost use Rattle.std.specs.Result.{result_unwrap_or};
 ghost use Rattle.mux_outside.specs.House.{OwnTurnFits, known_after_own_turn, nothing_known};
 ghost use Rattle.mux_outside.specs.HouseCalls.{HandsOn, Turns, happening_of};
+ghost use Rattle.mux_outside.specs.Streams.{without};
 ghost use Rattle.mux_history.specs.declared.ended.Ended.TheVariants.{OutOfMemory as WantOfMemory};
 ghost use Rattle.mux_history.specs.declared.limits.TheConstants.{HOUSE as TheHouse};
 ghost use Rattle.mux_state.specs.Events.{went_of, here};
 ghost use Rattle.mux_engine.specs.Called.{HasSentNothing, StandsGreeting};
 ghost use Rattle.mux_engine.specs.Came.{EndedBy};
 ghost use Rattle.mux_engine.specs.Counted.{Cut, Spent, Turned, Well};
-ghost use Rattle.mux_engine.specs.Rests.{EndsSo, GoesOnSo, HasCalled, HasEnded, HasNoneToClose};
-ghost use Rattle.mux_engine.specs.Rests.{IsReadyFor, LeavesPlaces, ended_as, refusal_after, refusal_of};
+ghost use Rattle.mux_engine.specs.Rests.{EndsSo, GoesOnSo, HasCalled, HasEnded, HasNoneToClose, HasOffered};
+ghost use Rattle.mux_engine.specs.Rests.{IsReadyFor, LeavesPlaces, ended_as, refusal_after, start_refusal_of};
 ghost use Rattle.mux_engine.specs.Run.{RunKept};
 ghost use Rattle.mux_engine.specs.Serving.{Enters, IsOngoing, RunsOn, RunsWhole, ServedOutside, ServedWith};
 ghost use Rattle.mux_engine.specs.Serving.{SpendsTurns, StaysOrFails, TurnsOn, scene, scene_of, to_offer};
-ghost use Rattle.mux_engine.specs.Sides.{ReceivedBy, Housed, IsAlone, OnlyAsked, SamePlaces, StaysHouse, Together};
-ghost use Rattle.mux_engine.specs.Wires.{IsIdle, IsOpened, KeepsWire, NoFault, Works, WorksOwn};
+ghost use Rattle.mux_engine.specs.Sides.{OwnReceivedBy, Housed, IsAlone, OnlyAsked, SameSockets, StaysHouse, Together};
+ghost use Rattle.mux_engine.specs.Wires.{IsIdleWire, IsWireOpened, KeepsWire, NoFault, Works, WorksOwn};
 
 use crate::asking::apply;
 use crate::events::{NextEvent, next_of};
-use crate::housing::{let_in, reply_all, step_house, wanted};
-use crate::owned::list_waiting;
+use crate::housing::{hand_over, let_in, reply_all, step_house, wanted};
+use crate::owned::{list_waiting, own_rounds};
 use crate::room::Lists;
 use crate::settling::{close_lost, flush, stop_accepting};
 use forward_rules::Policy;
@@ -38,7 +39,7 @@ fn hand_on<H: House>(
 ) -> Result<(), OutOfMemory>
     requires ordering { (H.state house.old).known.ordering ≡ None }
     requires fits { OwnTurnFits recorded (H.state house.old).known (H.state house.old).quiet }
-    ensures lists { OnOk result (ReceivedBy recorded.entry lists.old lists.new) }
+    ensures lists { OnOk result (OwnReceivedBy recorded.entry lists.old lists.new) }
     ensures known { OnOk result ((H.state house.new).known
         ≡ known_after_own_turn recorded.entry (H.state house.old).known) }
     ensures must { (H.state house.new).must ≡ (H.state house.old).must }
@@ -67,7 +68,7 @@ fn turn<W: Wire, H: House>(
         (scene (W.state wire.old) lists.old engine.old) [] }
     requires together { Together (H.state house.old) (W.state wire.old) lists.old }
     requires ready { IsReadyFor (H.state house.old) lists.old engine.old }
-    requires permitted { refusal_of (H.state house.old) ≡ None }
+    requires permitted { start_refusal_of (H.state house.old) ≡ None }
     requires closed { HasNoneToClose engine.old }
     requires on { engine.old.ended ≡ None }
     requires receives { (W.state wire.old).seen.listens ≡ engine.old.listening }
@@ -83,13 +84,7 @@ fn turn<W: Wire, H: House>(
     ensures wire { Works 1 result (W.state wire.old) (W.state wire.new) (W.faults wire.old)
         (W.faults wire.new) }
 {
-    list_waiting(
-        house,
-        engine.waiting(),
-        &lists.own,
-        &lists.failed,
-        &mut lists.todo,
-    )?;
+    list_waiting(house, engine.waiting(), &lists.failed, &mut lists.todo)?;
     let recorded = wire.wait(&lists.todo, wanted(engine), piece);
     match next_of(recorded, piece.as_bytes()) {
         NextEvent::Event(e) => apply(engine, wire, house, &mut lists.asks, e),
@@ -108,7 +103,7 @@ fn turn<W: Wire, H: House>(
 // The forwarding of the start that ends the run, since it was refused. By this, a forwarder that is
 // present promises that it greets first.
 fn refusal<H: House>(house: &H) -> Option<usize>
-    ensures refused { result ≡ refusal_of (H.state house.now) }
+    ensures refused { result ≡ start_refusal_of (H.state house.now) }
     ensures greets { StandsGreeting (H.state house.now).known.present (H.state house.now).stands }
 {
     if !house.present() || !house.must() {
@@ -121,8 +116,8 @@ fn refusal<H: House>(house: &H) -> Option<usize>
 fn is_over<H: House>(engine: &Engine, house: &H) -> bool
     ensures on { result ≡ false → engine.now.ended ≡ None }
     ensures over { result ≡ true → engine.now.ended ≡ None
-        → refusal_of (H.state house.now) ≢ None }
-    ensures permitted { result ≡ false → refusal_of (H.state house.now) ≡ None }
+        → start_refusal_of (H.state house.now) ≢ None }
+    ensures permitted { result ≡ false → start_refusal_of (H.state house.now) ≡ None }
 {
     if engine.ended().is_some() {
         return true;
@@ -133,7 +128,6 @@ fn is_over<H: House>(engine: &Engine, house: &H) -> bool
 // A turn of the run, which is an order of the forwarder, a piece that it sent, or a wait: whether
 // the run goes on.
 fn one_turn<W: Wire, H: House>(
-    alloc: Global,
     engine: &mut Engine,
     wire: &mut W,
     house: &mut H,
@@ -147,7 +141,9 @@ fn one_turn<W: Wire, H: House>(
     ensures together { OnOk result (Together (H.state house.new) (W.state wire.new) lists.new) }
     ensures house { StaysHouse result (H.state house.old) (H.state house.new) }
     ensures goes { IfOk result (λ on. GoesOnSo on engine.new.ended lists.new.settled
-        (refusal_of (H.state house.new))) }
+        (start_refusal_of (H.state house.new))) }
+    ensures offered { OnOk result (lists.new.settled ≡ true
+        → HasOffered (H.state house.new) lists.new) }
     ensures ended { EndsSo result (H.state house.old).known.present engine.new.ended
         (W.state wire.old) (W.state wire.new) (W.faults wire.old) (W.faults wire.new) }
     ensures idle { engine.old.waiting ≡ [] → (H.state house.old).known.present ≡ false
@@ -159,7 +155,7 @@ fn one_turn<W: Wire, H: House>(
     ensures wire { KeepsWire (W.state wire.old) (W.state wire.new) (W.faults wire.old)
         (W.faults wire.new) }
 {
-    if step_house(alloc, engine, wire, house, lists, piece)? {
+    if step_house(engine, wire, house, lists, piece)? {
         lists.settled = false;
         return Ok(engine.ended().is_none());
     }
@@ -192,7 +188,9 @@ fn turns_of<W: Wire, H: House>(
     ensures together { OnOk result (Together (H.state house.new) (W.state wire.new) lists.new) }
     ensures house { StaysHouse result (H.state house.old) (H.state house.new) }
     ensures goes { IfOk result (λ all. GoesOnSo all engine.new.ended lists.new.settled
-        (refusal_of (H.state house.new))) }
+        (start_refusal_of (H.state house.new))) }
+    ensures offered { OnOk result (lists.new.settled ≡ true
+        → HasOffered (H.state house.new) lists.new) }
     ensures ended { EndsSo result (H.state house.old).known.present engine.new.ended
         (W.state wire.old) (W.state wire.new) (W.faults wire.old) (W.faults wire.new) }
     ensures calls { MatchResult result
@@ -206,7 +204,7 @@ fn turns_of<W: Wire, H: House>(
 {
     let mut piece = Piece::new(alloc)?;
     for _ in 0..turns {
-        if !one_turn(alloc, engine, wire, house, lists, &mut piece)? {
+        if !one_turn(engine, wire, house, lists, &mut piece)? {
             return Ok(false);
         }
     }
@@ -216,7 +214,7 @@ fn turns_of<W: Wire, H: House>(
 // Why a run ended, with its turns spent unless something else ended it. By this, a forwarder that
 // is present promises that it greets first.
 fn answer_of<H: House>(engine: &Engine, house: &H) -> Ended
-    ensures answer { result ≡ ended_as engine.now.ended (refusal_of (H.state house.now)) }
+    ensures answer { result ≡ ended_as engine.now.ended (start_refusal_of (H.state house.now)) }
     ensures greets { StandsGreeting (H.state house.now).known.present (H.state house.now).stands }
 {
     let refused = refusal(house);
@@ -240,10 +238,10 @@ fn enter<W: Wire, H: House>(
     requires refused { engine.old.refused ≡ [] }
     ensures serving { Enters result H.may H.state house.now (W.state wire.old).seen
         (W.state wire.new).seen engine.old engine.new }
-    ensures places { SamePlaces (W.state wire.old).seen (W.state wire.new).seen }
+    ensures places { SameSockets (W.state wire.old).seen (W.state wire.new).seen }
     ensures alone { (H.state house.now).known.present ≡ false → (engine.new ≡ engine.old)
         × (wire.new ≡ wire.old) }
-    ensures wire { IsIdle (W.state wire.old) (W.state wire.new) (W.faults wire.old)
+    ensures wire { IsIdleWire (W.state wire.old) (W.state wire.new) (W.faults wire.old)
         (W.faults wire.new) }
 {
     if !house.present() {
@@ -252,8 +250,9 @@ fn enter<W: Wire, H: House>(
     let_in::<W, H>(engine, wire, asks)
 }
 
-// After the turns of a run: if all were given, the forwarder is asked for its replies once more.
-fn last_replies<W: Wire, H: House>(
+// After the turns of a run: what waits for the forwarder is handed over, and its streams are offered
+// what waits for them. If all turns were given, it is asked for its replies once more.
+fn last_words<W: Wire, H: House>(
     engine: &mut Engine,
     wire: &mut W,
     house: &mut H,
@@ -267,27 +266,36 @@ fn last_replies<W: Wire, H: House>(
     ensures serving { RunsOn result H.may H.state house.old house.new
         (scene (W.state wire.old) lists.old engine.old)
         (scene (W.state wire.new) lists.new engine.new) 0 (λ done. 0) (0 ∷ here engine.old)
-        (λ done. 0 ∷ here engine.new) }
+        (λ done. 0 ∷ without TheHouse (here engine.new)) }
+    ensures offered { OnOk result (HasOffered (H.state house.new) lists.new) }
+    ensures own { lists.new.own ≡ lists.old.own }
     ensures house { OnlyAsked result (H.state house.old) (H.state house.new) }
-    ensures places { SamePlaces (W.state wire.old).seen (W.state wire.new).seen }
-    ensures unasked { all ≡ false → house.new ≡ house.old }
+    ensures places { SameSockets (W.state wire.old).seen (W.state wire.new).seen }
     ensures ended { OnOk result (engine.new.ended ≡ engine.old.ended) }
     ensures alone { (H.state house.old).known.present ≡ false → (engine.new ≡ engine.old)
         × (wire.new ≡ wire.old) }
     ensures wire { WorksOwn result (W.state wire.old) (W.state wire.new) (W.faults wire.old)
         (W.faults wire.new) }
 {
-    if !all {
-        return Ok(());
-    }
     if !house.present() {
         return Ok(());
     }
-    reply_all(engine, wire, house, lists)
+    if all {
+        return reply_all(engine, wire, house, lists);
+    }
+    hand_over(engine, wire, house)?;
+    own_rounds(
+        wire,
+        house,
+        &mut lists.held,
+        &mut lists.failed,
+        &lists.own,
+        &mut lists.todo,
+    )
 }
 
-// After the turns of a run: the forwarder's last replies, and then each stream is offered what
-// waits for it, unless it was.
+// After the turns of a run: the last that is handed over to the forwarder and offered to its streams,
+// and then each other stream is offered what waits for it, unless all were.
 fn finish<W: Wire, H: House>(
     engine: &mut Engine,
     wire: &mut W,
@@ -300,13 +308,16 @@ fn finish<W: Wire, H: House>(
         (to_offer lists.old.settled engine.old) }
     requires together { Together (H.state house.old) (W.state wire.old) lists.old }
     requires on { all ≡ true → engine.old.ended ≡ None }
+    requires offered { lists.old.settled ≡ true → HasOffered (H.state house.old) lists.old }
     ensures serving { RunsOn result H.may H.state house.old house.new
         (scene (W.state wire.old) lists.old engine.old)
         (scene (W.state wire.new) lists.new engine.new) 0 (λ done. 0)
-        (to_offer lists.old.settled engine.old) (λ done. TheHouse ∷ []) }
+        (to_offer lists.old.settled engine.old) (λ done. []) }
+    ensures offered { OnOk result (HasOffered (H.state house.new) lists.new) }
+    ensures own { lists.new.own ≡ lists.old.own }
     ensures house { OnlyAsked result (H.state house.old) (H.state house.new) }
-    ensures places { SamePlaces (W.state wire.old).seen (W.state wire.new).seen }
-    ensures unasked { all ≡ false → house.new ≡ house.old }
+    ensures places { SameSockets (W.state wire.old).seen (W.state wire.new).seen }
+    ensures settled { lists.old.settled ≡ true → house.new ≡ house.old }
     ensures ended { OnOk result (StaysOrFails engine.old.ended engine.new.ended
         (W.faults wire.old) (W.faults wire.new)) }
     ensures idle { engine.old.waiting ≡ [] → (H.state house.old).known.present ≡ false
@@ -317,7 +328,7 @@ fn finish<W: Wire, H: House>(
     if lists.settled {
         return Ok(());
     }
-    last_replies(engine, wire, house, lists, all)?;
+    last_words(engine, wire, house, lists, all)?;
     flush::<W, H>(
         engine,
         wire,
@@ -368,32 +379,21 @@ fn run<W: Wire, H: House>(
 }
 
 /// Serves an open wire until the run ends, for at most `turns` turns, and returns why it ended. A
-/// turn is a call of `wait`, an order of the forwarder that is carried out, or a piece that the
-/// forwarder sent.
+/// turn is a call of `wait`, an order of the forwarder, or a piece that it sent.
 ///
-/// - It permits what the policy permits, and sends the process id to clients that check. What the
-///   wire records of the run is written, kept open and ended as it must be.
-/// - Without a forwarder it waits once for each turn, writes nothing before, and opens no listener
-///   or stream of its own.
-/// - The forwarder is handed each request of the clients. If it is present, it is admitted as a
-///   client. At each wait it then has nothing to order or to answer, is at rest if more is read,
-///   and has no refusal that ends the run. Whatever holds of every such forwarder, by what it
-///   recorded, its calls, its listeners and its streams, holds there.
-/// - The wire's own listeners and streams are those that the forwarder ordered and knows: at each
-///   wait and, unless memory runs out, at the end. These streams are among the open ones. A paused
-///   one gives nothing; a finished one is not written to.
-/// - Unless memory runs out, the forwarder is handed, once and in order, all that happens at its
-///   streams and listeners, each write there that fails, the bytes that each stream accepts, and
-///   what waits for it as a client. No call follows one that ran out of memory.
-/// - It listens and connects only where the forwarder orders it.
-/// - A forwarding of the start that the answer names was refused, where none may be.
-/// - Each order to listen or to connect that got no number is counted as an own fault, unless that
-///   count is at its last value.
-/// - Whatever the wire records, its counts show why the run ended. The server disconnects or breaks
-///   the protocol only by a piece of it, or by its end inside a frame. It ends only by its end, and
-///   a client ends the run only by a piece of a client. A forwarder that has sent nothing before
-///   greets first, and ends no run after that; one that has sent something may end it, by what it
-///   sends.
+/// - What the wire records is permitted by the policy, written, kept open and ended as it must be.
+/// - Without a forwarder it waits once a turn, and opens no listener or stream of its own.
+/// - At each wait the forwarder has nothing to order or to answer, and is at rest if more is read.
+///   Exactly those of its streams are waited for that have not failed and have something waiting.
+/// - The wire's own listeners and streams are those that the forwarder ordered. A paused one gives
+///   nothing; one that is finished or that failed is not written to.
+/// - Unless memory runs out, the forwarder is handed all that happens there, once and in order. At
+///   the end nothing waits for it, and each open stream was offered what waits for it.
+/// - After the row that ended the connection it orders, sends and answers nothing.
+/// - Once a row ended the run or stopped it from accepting clients, a stream accepts bytes only where
+///   the wire accepts no clients.
+/// - Each order to listen or to connect that got no number is counted as an own fault.
+/// - The wire's counts show why the run ended: by the server, a client, or the forwarder.
 pub fn serve<W: Wire, H: House>(
     alloc: Global,
     policy: Policy,
@@ -402,7 +402,7 @@ pub fn serve<W: Wire, H: House>(
     house: &mut H,
     turns: u64,
 ) -> Ended
-    requires opened { IsOpened (W.state wire.old).seen }
+    requires opened { IsWireOpened (W.state wire.old).seen }
     requires blank { (H.state house.old).known ≡ nothing_known (H.state house.old).known.present }
     ensures kept { RunKept result policy pid turns H.may H.state house.old house.new
         (W.state wire.old).seen (W.state wire.new).seen }

@@ -1,11 +1,12 @@
-ghost use Rattle.std.specs.Prelude.{[], ◌∷◌, ◌≡◌, List, ℕ, true, false, None, OnOk, IfOk, if◌then◌else◌};
+ghost use Rattle.std.specs.Prelude.{[], ◌∷◌, ◌≡◌, ◌≢◌, List, ℕ, true, false, None, OnOk, IfOk, if◌then◌else◌};
 ghost use Rattle.mux_outside.specs.Streams.{among, without};
 ghost use Rattle.mux_state.specs.Events.{here};
 ghost use Rattle.mux_state.specs.State.{queue_in};
 ghost use Rattle.mux_engine.specs.Rests.{HasNoneToClose, StaysReady};
-ghost use Rattle.mux_engine.specs.Serving.{CanBeOffered, CanTakeMore, IsOfferedTo, IsServed, OffersOn, ServesOn, StaysOrFails, StaysServed};
-ghost use Rattle.mux_engine.specs.Sides.{SamePlaces};
-ghost use Rattle.mux_engine.specs.Wires.{IsIdle, NoFault, Works};
+ghost use Rattle.mux_engine.specs.Serving.{CanBeOffered, CanTakeMore, IsOfferedTo, IsRunServed, OffersOn, ServesOn, StaysOrFails, StaysServed};
+ghost use Rattle.mux_engine.specs.Sides.{SameSockets, SameStreams};
+ghost use Rattle.mux_engine.specs.SilentAnswers.{AcceptsAs};
+ghost use Rattle.mux_engine.specs.Wires.{IsIdleWire, NoFault, Works};
 
 use crate::events::event_of_fault;
 use mux_history::limits::HOUSE;
@@ -24,9 +25,10 @@ fn offer_once<W: Wire, H: House>(
     asks: &mut AskLog,
     stream: u64,
 ) -> Result<bool, OutOfMemory>
-    requires served { IsServed H.may H.state (W.state wire.old).seen held.old engine.old }
+    requires served { IsRunServed H.may H.state (W.state wire.old).seen held.old engine.old }
     requires stream { CanBeOffered stream engine.old }
     requires free { among stream (W.state wire.old).seen.blocked ≡ false }
+    requires silence { AcceptsAs (W.state wire.old).seen engine.old }
     ensures serving { (todo : List ℕ) → among 0 (stream ∷ todo) ≡ true →
         ServesOn result H.may H.state (W.state wire.old).seen (W.state wire.new).seen held.old
         held.new todo (λ more. if more then stream ∷ todo else without stream todo) engine.old
@@ -34,9 +36,10 @@ fn offer_once<W: Wire, H: House>(
     ensures engine { OnOk result (IsOfferedTo stream engine.old engine.new (W.faults wire.old)
         (W.faults wire.new)) }
     ensures holds { OnOk result ((t : ℕ) → among t held.old ≡ true → among t held.new ≡ true) }
-    ensures places { SamePlaces (W.state wire.old).seen (W.state wire.new).seen }
+    ensures places { SameSockets (W.state wire.old).seen (W.state wire.new).seen }
     ensures more { IfOk result (λ more. more ≡ true
         → CanTakeMore stream engine.old engine.new (W.state wire.new).seen) }
+    ensures silence { OnOk result (stream ≢ 0 → AcceptsAs (W.state wire.new).seen engine.new) }
     ensures wire { Works 0 result (W.state wire.old) (W.state wire.new) (W.faults wire.old)
         (W.faults wire.new) }
     ensures idle { queue_in engine.old stream ≡ []
@@ -72,17 +75,19 @@ fn offer<W: Wire, H: House>(
     asks: &mut AskLog,
     stream: u64,
 ) -> Result<(), OutOfMemory>
-    requires served { IsServed H.may H.state (W.state wire.old).seen held.old engine.old }
+    requires served { IsRunServed H.may H.state (W.state wire.old).seen held.old engine.old }
     requires stream { CanBeOffered stream engine.old }
+    requires silence { AcceptsAs (W.state wire.old).seen engine.old }
     ensures serving { (todo : List ℕ) → among 0 (stream ∷ todo) ≡ true →
         ServesOn result H.may H.state (W.state wire.old).seen (W.state wire.new).seen held.old
         held.new (stream ∷ todo) (λ done. todo) engine.old engine.new }
     ensures engine { OnOk result (IsOfferedTo stream engine.old engine.new (W.faults wire.old)
         (W.faults wire.new)) }
     ensures holds { OnOk result ((t : ℕ) → among t held.old ≡ true → among t held.new ≡ true) }
-    ensures places { SamePlaces (W.state wire.old).seen (W.state wire.new).seen }
+    ensures places { SameSockets (W.state wire.old).seen (W.state wire.new).seen }
     ensures wire { Works 0 result (W.state wire.old) (W.state wire.new) (W.faults wire.old)
         (W.faults wire.new) }
+    ensures silence { OnOk result (stream ≢ 0 → AcceptsAs (W.state wire.new).seen engine.new) }
     ensures idle { queue_in engine.old stream ≡ []
         → (engine.new ≡ engine.old) × (wire.new ≡ wire.old) }
 {
@@ -101,15 +106,17 @@ fn offer_clients<W: Wire, H: House>(
     todo: &mut Streams,
     asks: &mut AskLog,
 ) -> Result<(), OutOfMemory>
-    requires served { IsServed H.may H.state (W.state wire.old).seen held.old engine.old }
+    requires served { IsRunServed H.may H.state (W.state wire.old).seen held.old engine.old }
+    requires silence { AcceptsAs (W.state wire.old).seen engine.old }
     ensures serving { OffersOn result H.may H.state (W.state wire.old).seen (W.state wire.new).seen
         held.old held.new engine.old engine.new (λ left. 0 ∷ left) }
     ensures streams { OnOk result (here engine.new ≡ here engine.old) }
     ensures ended { OnOk result (engine.new.ended ≡ engine.old.ended) }
     ensures holds { OnOk result ((t : ℕ) → among t held.old ≡ true → among t held.new ≡ true) }
-    ensures places { SamePlaces (W.state wire.old).seen (W.state wire.new).seen }
+    ensures places { SameSockets (W.state wire.old).seen (W.state wire.new).seen }
     ensures wire { Works 0 result (W.state wire.old) (W.state wire.new) (W.faults wire.old)
         (W.faults wire.new) }
+    ensures silence { OnOk result (AcceptsAs (W.state wire.new).seen engine.new) }
     ensures idle { engine.old.waiting ≡ [] → (engine.new ≡ engine.old) × (wire.new ≡ wire.old) }
 {
     todo.refill(engine.waiting().as_slice())?;
@@ -129,8 +136,9 @@ pub fn stop_accepting<W: Wire, H: House>(engine: &Engine, wire: &mut W)
         (W.state wire.new).seen held held engine.now engine.now }
     ensures receives { engine.now.ended ≡ None
         → (W.state wire.new).seen.listens ≡ engine.now.listening }
-    ensures places { SamePlaces (W.state wire.old).seen (W.state wire.new).seen }
-    ensures wire { IsIdle (W.state wire.old) (W.state wire.new) (W.faults wire.old)
+    ensures silence { AcceptsAs (W.state wire.new).seen engine.now }
+    ensures streams { SameStreams (W.state wire.old).seen (W.state wire.new).seen }
+    ensures wire { IsIdleWire (W.state wire.old) (W.state wire.new) (W.faults wire.old)
         (W.faults wire.new) }
 {
     if engine.listening() && engine.ended().is_none() {
@@ -149,14 +157,14 @@ pub fn flush<W: Wire, H: House>(
     todo: &mut Streams,
     asks: &mut AskLog,
 ) -> Result<(), OutOfMemory>
-    requires served { IsServed H.may H.state (W.state wire.old).seen held.old engine.old }
+    requires served { IsRunServed H.may H.state (W.state wire.old).seen held.old engine.old }
     ensures serving { OffersOn result H.may H.state (W.state wire.old).seen (W.state wire.new).seen
         held.old held.new engine.old engine.new (λ left. left) }
     ensures streams { OnOk result (here engine.new ≡ here engine.old) }
     ensures ended { OnOk result (StaysOrFails engine.old.ended engine.new.ended
         (W.faults wire.old) (W.faults wire.new)) }
     ensures holds { OnOk result ((t : ℕ) → among t held.old ≡ true → among t held.new ≡ true) }
-    ensures places { SamePlaces (W.state wire.old).seen (W.state wire.new).seen }
+    ensures places { SameSockets (W.state wire.old).seen (W.state wire.new).seen }
     ensures wire { Works 0 result (W.state wire.old) (W.state wire.new) (W.faults wire.old)
         (W.faults wire.new) }
     ensures idle { engine.old.waiting ≡ []
@@ -169,7 +177,7 @@ pub fn flush<W: Wire, H: House>(
 
 // Closes the streams of the clients that are lost or refused.
 pub fn close_lost<W: Wire, H: House>(engine: &mut Engine, wire: &mut W, held: &mut Streams)
-    requires served { IsServed H.may H.state (W.state wire.old).seen held.old engine.old }
+    requires served { IsRunServed H.may H.state (W.state wire.old).seen held.old engine.old }
     ensures serving { StaysServed H.may H.state (W.state wire.old).seen (W.state wire.new).seen
         held.old held.new engine.old engine.new }
     ensures ready { StaysReady (W.state wire.old).seen (W.state wire.new).seen held.old held.new
@@ -177,7 +185,7 @@ pub fn close_lost<W: Wire, H: House>(engine: &mut Engine, wire: &mut W, held: &m
     ensures closed { HasNoneToClose engine.new }
     ensures ended { engine.new.ended ≡ engine.old.ended }
     ensures unopened { (W.state wire.new).seen.last_own ≡ (W.state wire.old).seen.last_own }
-    ensures wire { IsIdle (W.state wire.old) (W.state wire.new) (W.faults wire.old)
+    ensures wire { IsIdleWire (W.state wire.old) (W.state wire.new) (W.faults wire.old)
         (W.faults wire.new) }
 {
     while let Some((client, _)) = engine.closing() {

@@ -1,3 +1,2 @@
 pub mod Exchange
 pub mod Outbox
-pub mod Permissions

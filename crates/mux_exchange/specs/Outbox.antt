@@ -11,12 +11,12 @@ pub record IsOutbox (bytes : Vec ℕ) : Type 0 where
   pub at_most : vec_len bytes ≤ LONGEST_OUTBOX
   pub room : LONGEST_OUTBOX ≤ vec_capacity bytes
 
--- bytes are kept behind those that wait: they are few, and there is room
+-- bytes are kept after those that wait: they are few, and there is room
 abbrev pub IsKept : List ℕ → List ℕ → Type 0
 IsKept before bytes =
     (length bytes < SENT_AT_ONCE) × (length before + length bytes ≤ LONGEST_OUTBOX)
 
--- over a writer that tells what it holds, all bytes were added, or the first of them
+-- over a channel that records its bytes, all bytes were added, or the first of them
 abbrev pub GivesAtEnd : Given → Option (List ℕ) → Option (List ℕ) → List ℕ → Type 0
 GivesAtEnd All before now bytes = Appends before now bytes
 GivesAtEnd Waits before now bytes = (n : ℕ) × Appends before now (take n bytes)

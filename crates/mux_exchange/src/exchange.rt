@@ -1,19 +1,20 @@
-//! What one read of a stream and one write to it come to.
+//! The outcome of one read of a stream and of one write to it.
 ghost use Rattle.std.specs.Prelude.{◌≡◌, ◌≢◌, ◌<◌, length, IfErr, IfOk};
 ghost use Rattle.std.specs.IoError.{error_kind};
-ghost use Rattle.mux_exchange.specs.Exchange.{IsLastWord, Receives, Sends, received_again, received_last, received_len, received_turn, most_read, sent_wrote};
+ghost use Rattle.mux_exchange.specs.Exchange.{IsLastWord, ReceivesBytes, Sends, received_again, received_last, received_len, received_turn, most_read, sent_wrote};
 
+use crate::channel::Channel;
 use mux_outside::{LONGEST_PIECE, Piece, Turn, Wrote, is_own};
-use std::io::{ErrorKind, Read, Write};
+use std::io::ErrorKind;
 use std::{io, mem};
 
-/// The most bytes that a read of one of the master's own streams takes: as many as one message of
-/// the connection carries.
+/// The most bytes that a read of one of the master's own streams returns: as many as one message
+/// of the connection carries.
 pub const LONGEST_OWN_READ: usize = 32_768;
 
 /// What a read gave.
 #[derive(Clone, Copy, PartialEq, Eq)]
-pub enum Heard {
+pub enum ReadResult {
     /// So many bytes.
     Bytes(usize),
     /// The end: nothing more comes.
@@ -28,60 +29,61 @@ pub enum Heard {
 /// What a write gave.
 #[derive(Clone, Copy, PartialEq, Eq)]
 pub enum Sent {
-    /// So many bytes were taken.
+    /// So many bytes were written.
     Took(usize),
-    /// None can be taken for now.
+    /// None can be written for now.
     Waits,
-    /// None was taken, since a signal came first.
+    /// None was written, since a signal came first.
     Interrupted,
     Failed,
 }
 
-impl Heard {
-    /// The turn of a stream at which this was heard.
+impl ReadResult {
+    /// The turn of a stream of which this was read.
     pub fn turn(self, number: u64) -> Option<Turn>
         ensures { result ≡ received_turn self number }
     {
         match self {
-            Heard::Bytes(_) => Some(Turn::Got(number)),
-            Heard::End => Some(Turn::End(number)),
-            Heard::Failed => Some(Turn::Failed(number)),
-            Heard::Nothing | Heard::Interrupted => None,
+            ReadResult::Bytes(_) => Some(Turn::Got(number)),
+            ReadResult::End => Some(Turn::End(number)),
+            ReadResult::Failed => Some(Turn::Failed(number)),
+            ReadResult::Nothing | ReadResult::Interrupted => None,
         }
     }
 
-    /// How many bytes were heard.
+    /// How many bytes were read.
     pub fn len(self) -> usize
         ensures { result ≡ received_len self }
     {
         match self {
-            Heard::Bytes(count) => count,
-            Heard::End | Heard::Nothing | Heard::Interrupted | Heard::Failed => 0,
+            ReadResult::Bytes(count) => count,
+            ReadResult::End | ReadResult::Nothing | ReadResult::Interrupted | ReadResult::Failed =>
+                0,
         }
     }
 
-    /// Whether nothing more can be heard.
+    /// Whether nothing more can be read.
     pub fn is_last(self) -> bool
         ensures { result ≡ received_last self }
     {
-        matches!(self, Heard::End | Heard::Failed)
+        matches!(self, ReadResult::End | ReadResult::Failed)
     }
 
-    /// Whether more may wait, of which the system doesn't tell again: behind the most that a read
-    /// takes, after a signal, and where reads stop short of what is there.
+    /// Whether more may wait, which the system doesn't report again: after a read of the most bytes
+    /// that it may return, after a signal, and where reads stop short of what is there.
     pub fn leaves_more(self, stops_short: bool, most: usize) -> bool
         ensures { result ≡ received_again self stops_short most }
     {
         match self {
-            Heard::Bytes(count) => stops_short || count >= most,
-            Heard::Interrupted => true,
-            Heard::End | Heard::Nothing | Heard::Failed => false,
+            ReadResult::Bytes(count) => stops_short || count >= most,
+            ReadResult::Interrupted => true,
+            ReadResult::End | ReadResult::Nothing | ReadResult::Failed => false,
         }
     }
 }
 
 impl Sent {
-    /// What a write that gave this answers.
+    /// What a write that gave this returns to the caller.
     pub fn wrote(self) -> Wrote
         ensures { result ≡ sent_wrote self }
     {
@@ -93,7 +95,7 @@ impl Sent {
     }
 }
 
-/// How many bytes a read of this stream takes at most.
+/// How many bytes a read of this stream returns at most.
 pub fn most_read(number: u64) -> usize
     ensures most { result ≡ most_read number }
     ensures some { 0 < result }
@@ -107,13 +109,19 @@ pub fn most_read(number: u64) -> usize
 
 /// Reads once, so many bytes at most. Bytes that come are put in place of those of the piece, and
 /// else it stays. The spare piece is what is read into.
-pub fn receive<S: Read>(from: &mut S, most: usize, spare: &mut Piece, into: &mut Piece) -> Heard
+pub fn receive<S: Channel>(
+    from: &mut S,
+    most: usize,
+    spare: &mut Piece,
+    into: &mut Piece,
+) -> ReadResult
     requires { 0 < most }
-    ensures { Receives result most (S.remaining from.old) (S.remaining from.new) into.old into.new }
+    ensures bytes { ReceivesBytes result most (S.remaining from.old) (S.remaining from.new) into.old into.new }
+    ensures apart { S.contents from.new ≡ S.contents from.old }
 {
-    let got = spare.read_from(from, most);
+    let got = from.read_once(spare, most);
     let heard = received_of(&got);
-    if let Heard::Bytes(_) = heard {
+    if let ReadResult::Bytes(_) = heard {
         mem::swap(spare, into);
     }
     heard
@@ -121,55 +129,57 @@ pub fn receive<S: Read>(from: &mut S, most: usize, spare: &mut Piece, into: &mut
 
 /// Reads a stream once of which a write failed: what it still gives, and where nothing is left its
 /// failure.
-pub fn receive_last_words<S: Read>(
+pub fn receive_last_words<S: Channel>(
     from: &mut S,
     most: usize,
     spare: &mut Piece,
     into: &mut Piece,
-) -> Heard
+) -> ReadResult
     requires { 0 < most }
-    ensures bytes { Receives result most (S.remaining from.old) (S.remaining from.new) into.old into.new }
+    ensures bytes { ReceivesBytes result most (S.remaining from.old) (S.remaining from.new) into.old into.new }
+    ensures apart { S.contents from.new ≡ S.contents from.old }
     ensures last { IsLastWord result }
 {
     match receive(from, most, spare, into) {
-        Heard::Bytes(count) => Heard::Bytes(count),
-        Heard::Interrupted => Heard::Interrupted,
-        Heard::End | Heard::Nothing | Heard::Failed => Heard::Failed,
+        ReadResult::Bytes(count) => ReadResult::Bytes(count),
+        ReadResult::Interrupted => ReadResult::Interrupted,
+        ReadResult::End | ReadResult::Nothing | ReadResult::Failed => ReadResult::Failed,
     }
 }
 
-// What a read's result says.
-fn received_of(got: &io::Result<usize>) -> Heard
-    ensures bytes { IfOk got.now (λ n. 0 < n → result ≡ Heard.Bytes n) }
-    ensures end { IfOk got.now (λ n. n ≡ 0 → result ≡ Heard.End) }
+// What a read's result means.
+fn received_of(got: &io::Result<usize>) -> ReadResult
+    ensures bytes { IfOk got.now (λ n. 0 < n → result ≡ ReadResult.Bytes n) }
+    ensures end { IfOk got.now (λ n. n ≡ 0 → result ≡ ReadResult.End) }
     ensures nothing { IfErr got.now
-        (λ e. error_kind e ≡ ErrorKind.WouldBlock → result ≡ Heard.Nothing) }
+        (λ e. error_kind e ≡ ErrorKind.WouldBlock → result ≡ ReadResult.Nothing) }
     ensures interrupted { IfErr got.now
-        (λ e. error_kind e ≡ ErrorKind.Interrupted → result ≡ Heard.Interrupted) }
+        (λ e. error_kind e ≡ ErrorKind.Interrupted → result ≡ ReadResult.Interrupted) }
     ensures failed { IfErr got.now (λ e. error_kind e ≢ ErrorKind.WouldBlock →
-        error_kind e ≢ ErrorKind.Interrupted → result ≡ Heard.Failed) }
+        error_kind e ≢ ErrorKind.Interrupted → result ≡ ReadResult.Failed) }
 {
     match got {
-        Ok(0) => Heard::End,
-        Ok(count) => Heard::Bytes(*count),
+        Ok(0) => ReadResult::End,
+        Ok(count) => ReadResult::Bytes(*count),
         Err(e) => match e.kind() {
-            ErrorKind::WouldBlock => Heard::Nothing,
-            ErrorKind::Interrupted => Heard::Interrupted,
-            _ => Heard::Failed,
+            ErrorKind::WouldBlock => ReadResult::Nothing,
+            ErrorKind::Interrupted => ReadResult::Interrupted,
+            _ => ReadResult::Failed,
         },
     }
 }
 
 /// Writes once.
-pub fn send<W: Write>(to: &mut W, bytes: &[u8]) -> Sent
+pub fn send<W: Channel>(to: &mut W, bytes: &[u8]) -> Sent
     requires { 0 < length bytes.now }
-    ensures { Sends result (W.contents to.old) (W.contents to.new) bytes.now }
+    ensures bytes { Sends result (W.contents to.old) (W.contents to.new) bytes.now }
+    ensures apart { W.remaining to.new ≡ W.remaining to.old }
 {
-    let taken = to.write(bytes);
+    let taken = to.write_once(bytes);
     sent_of(&taken)
 }
 
-// What a write's result says.
+// What a write's result means.
 fn sent_of(taken: &io::Result<usize>) -> Sent
     ensures took { IfOk taken.now (λ n. 0 < n → result ≡ Sent.Took n) }
     ensures nothing { IfOk taken.now (λ n. n ≡ 0 → result ≡ Sent.Failed) }

@@ -1,11 +1,12 @@
-//! What one read of a stream and one write to it come to, whatever the stream is, and who may use
-//! the control socket.
+//! The outcome of one read of a stream and of one write to it, whatever the stream is.
 #![tactic(auto)]
 
+mod channel;
 mod exchange;
 mod outbox;
-mod permissions;
 
-pub use exchange::{Heard, LONGEST_OWN_READ, Sent, most_read, receive, receive_last_words, send};
+pub use channel::Channel;
+pub use exchange::{
+    LONGEST_OWN_READ, ReadResult, Sent, most_read, receive, receive_last_words, send,
+};
 pub use outbox::{Given, LONGEST_OUTBOX, Outbox, SENT_AT_ONCE};
-pub use permissions::owner_only;

@@ -1,32 +1,32 @@
-//! Bytes that were taken for a stream, and that it is given later, many writes at once.
+//! Bytes that were accepted for a stream, and are written to it later, many writes at once.
 ghost use Rattle.std.specs.Prelude.{◌≡◌, ◌<◌, ◌≤◌, ◌++◌, ◌==◌, [], false, true, length, take, IfOk};
 ghost use Rattle.std.specs.Io.KnownBytes.{Appends, Keeps, append_known};
 ghost use Rattle.mux_exchange.specs.Exchange.{Sends};
 ghost use Rattle.mux_exchange.specs.Outbox.{GivesAtEnd, IsKept};
 
+use crate::channel::Channel;
 use crate::exchange::{Sent, send};
 use std::alloc::{AllocError, Global};
-use std::io::Write;
 use std::marker::Model;
 
-/// From so many bytes on a write goes to the stream itself, behind what is in the outbox.
+/// From so many bytes on a write goes to the stream itself, after what is in the outbox.
 pub const SENT_AT_ONCE: usize = 16_384;
 
 /// The most bytes that an outbox holds.
 pub const LONGEST_OUTBOX: usize = 65_536;
 
-/// Bytes that were taken for a stream, in their order, and that it wasn't given yet.
+/// Bytes that were accepted for a stream, in order, and aren't written to it yet.
 #[derive(Drop)]
 pub struct Outbox {
     bytes: Vec<u8>,
 }
 
-/// How far the bytes of an outbox were given.
+/// How far the bytes of an outbox were written.
 #[derive(Clone, Copy, PartialEq, Eq)]
 pub enum Given {
     /// All of them.
     All,
-    /// The stream takes none of the rest for now.
+    /// The stream accepts none of the rest for now.
     Waits,
     /// The stream failed.
     Failed,
@@ -52,19 +52,20 @@ impl Outbox {
         Ok(Outbox { bytes })
     }
 
-    /// Whether the stream was given all.
+    /// Whether all was written to the stream.
     pub fn is_empty(&self) -> bool
         ensures { result ≡ (length self.now == 0) }
     {
         self.bytes.is_empty()
     }
 
-    /// Takes bytes for a stream, behind those before: few ones are kept where there is room, and
-    /// else the stream is given all before, and then these.
-    pub fn send<W: Write>(&mut self, to: &mut W, bytes: &[u8]) -> Sent
+    /// Accepts bytes for a stream, after those before: few ones are kept where there is room, and
+    /// otherwise all before are written to the stream, and then these.
+    pub fn send<W: Channel>(&mut self, to: &mut W, bytes: &[u8]) -> Sent
         requires { 0 < length bytes.now }
         ensures sends { Sends result (append_known (W.contents to.old) self.old)
             (append_known (W.contents to.new) self.new) bytes.now }
+        ensures apart { W.remaining to.new ≡ W.remaining to.old }
         ensures few { IsKept self.old bytes.now → result ≡ Sent.Took (length bytes.now) }
         ensures kept { IsKept self.old bytes.now → self.new ≡ self.old ++ bytes.now }
         ensures bound { length self.new ≤ LONGEST_OUTBOX }
@@ -79,7 +80,7 @@ impl Outbox {
         }
     }
 
-    // Keeps these bytes behind those before, where they are few and there is room: whether it did.
+    // Keeps these bytes after those before, where they are few and there is room: whether it did.
     fn keep(&mut self, bytes: &[u8]) -> bool
         ensures few { IsKept self.old bytes.now → result ≡ true }
         ensures kept { result ≡ true → self.new ≡ self.old ++ bytes.now }
@@ -92,10 +93,11 @@ impl Outbox {
         self.bytes.extend_from_slice(bytes).is_ok()
     }
 
-    /// Gives the stream what it takes.
-    pub fn give<W: Write>(&mut self, to: &mut W) -> Given
+    /// Writes to the stream what it accepts.
+    pub fn give<W: Channel>(&mut self, to: &mut W) -> Given
         ensures bytes { Keeps (append_known (W.contents to.old) self.old)
             (append_known (W.contents to.new) self.new) }
+        ensures apart { W.remaining to.new ≡ W.remaining to.old }
         ensures all { result ≡ Given.All → self.new ≡ [] }
         ensures bound { length self.new ≤ LONGEST_OUTBOX }
     {
@@ -104,9 +106,10 @@ impl Outbox {
         given
     }
 
-    /// Gives a stream that goes what it takes, and lets go of the rest.
-    pub fn end<W: Write>(&mut self, to: &mut W) -> Given
+    /// Writes to a stream that is dropped next what it accepts, and drops the rest.
+    pub fn end<W: Channel>(&mut self, to: &mut W) -> Given
         ensures gives { GivesAtEnd result (W.contents to.old) (W.contents to.new) self.old }
+        ensures apart { W.remaining to.new ≡ W.remaining to.old }
         ensures none { self.new ≡ [] }
     {
         let (_, given) = give_front(&self.bytes, to);
@@ -115,11 +118,12 @@ impl Outbox {
     }
 }
 
-// Gives a stream these bytes until it takes none: how many it took.
-fn give_front<W: Write>(bytes: &[u8], to: &mut W) -> (usize, Given)
+// Writes these bytes to a stream until it accepts none: how many it accepted.
+fn give_front<W: Channel>(bytes: &[u8], to: &mut W) -> (usize, Given)
     ensures bound { result.0 ≤ length bytes.now }
     ensures all { result.1 ≡ Given.All → result.0 ≡ length bytes.now }
     ensures bytes { Appends (W.contents to.old) (W.contents to.new) (take result.0 bytes.now) }
+    ensures apart { W.remaining to.new ≡ W.remaining to.old }
 {
     let mut count = 0;
     for _ in 0..u64::MAX {

@@ -3,7 +3,7 @@
 use Rattle.std.proofs.Common.{◌≡◌, ℕ, ◌<◌, List, [], ◌∷◌, ◌++◌, true, false, Bool, refl, ◌∙◌, ap, arith, map, sym, Option, Some, None, subst, inl, inr}
 use Rattle.std.specs.Prelude.{◌==◌, filter, find, ◌⊎◌}
 use Rattle.std.proofs.lemmas.Bool.Decides.{nat_tests}
-use Rattle.mux_history.specs.Channels.{Channel, is_held, is_number}
+use Rattle.mux_history.specs.Channels.{Channel, is_channel_held, is_number}
 use Rattle.mux_history.specs.Summary.{Confirms}
 use Rattle.ssh_grammar.specs.declared.side.Side.TheVariants.{Down, Up}
 use Rattle.mux_history.proofs.Finds.{Each, filter-no, filter-yes, find-no, find-yes}
@@ -18,9 +18,9 @@ pub record Sound (x : Channel) : Type 0 where
 
 -- and of two
 pub record ApartFrom (x y : Channel) : Type 0 where
-  pub numbers : is_held x ≡ true → is_held y ≡ true → (n : ℕ) → is_number x.number n ≡ true → is_number y.number n ≡ false
-  pub remotes : is_held x ≡ true → is_held y ≡ true → (n : ℕ) → is_number x.remote n ≡ true → is_number y.remote n ≡ false
-  pub owns : is_held x ≡ true → is_held y ≡ true → (x.client == y.client) ≡ true → (c : ℕ) → is_number x.own c ≡ true → is_number y.own c ≡ false
+  pub numbers : is_channel_held x ≡ true → is_channel_held y ≡ true → (n : ℕ) → is_number x.number n ≡ true → is_number y.number n ≡ false
+  pub remotes : is_channel_held x ≡ true → is_channel_held y ≡ true → (n : ℕ) → is_number x.remote n ≡ true → is_number y.remote n ≡ false
+  pub owns : is_channel_held x ≡ true → is_channel_held y ≡ true → (x.client == y.client) ≡ true → (c : ℕ) → is_number x.own c ≡ true → is_number y.own c ≡ false
 
 abbrev pub AllApart : List Channel → Type 0
 AllApart [] = Unit {0}
@@ -37,7 +37,7 @@ pub record Ids (x y : Channel) : Type 0 where
   pub number : y.number ≡ x.number
   pub own : y.own ≡ x.own
   pub remote : y.remote ≡ x.remote
-  pub held : is_held y ≡ true → is_held x ≡ true
+  pub held : is_channel_held y ≡ true → is_channel_held x ≡ true
 
 pub ids-self : (x : Channel) → Ids x x
 ids-self x = record { client = refl; number = refl; own = refl; remote = refl; held = λ h. h }
@@ -86,11 +86,11 @@ good-ids g ids xs good = record {
 -- ---- numbers that no channel has
 
 pub record Unused (n k c : ℕ) (x : Channel) : Type 0 where
-  pub number : is_held x ≡ true → is_number x.number n ≡ false
-  pub own : is_held x ≡ true → (x.client == k) ≡ true → is_number x.own c ≡ false
+  pub number : is_channel_held x ≡ true → is_number x.number n ≡ false
+  pub own : is_channel_held x ≡ true → (x.client == k) ≡ true → is_number x.own c ≡ false
 
 abbrev pub NotLive : ℕ → Channel → Type 0
-NotLive s x = is_held x ≡ true → is_number x.remote s ≡ false
+NotLive s x = is_channel_held x ≡ true → is_number x.remote s ≡ false
 
 pub differs : (o : Option ℕ) (n j : ℕ) → is_number o n ≡ false → is_number o j ≡ true → (n == j) ≡ false
 differs None n j other same = cc
@@ -112,7 +112,7 @@ brought_up c n w m x = record x { own = Some c; number = Some n; acts = (Up, Con
 
 pub record BroughtUp (k c n s w m : ℕ) (x y : Channel) : Type 0 where
   pub client : x.client ≡ k
-  pub held : is_held x ≡ true
+  pub held : is_channel_held x ≡ true
   pub remote : is_number x.remote s ≡ true
   pub ids : Ids (brought_up c n w m x) y
 
@@ -149,7 +149,7 @@ abbrev pub brought_down : ℕ → ℕ → ℕ → Channel → Channel
 brought_down s w m x = record x { remote = Some s; acts = (Down, Confirms w m) ∷ x.acts }
 
 pub record BroughtDown (n s w m : ℕ) (x y : Channel) : Type 0 where
-  pub held : is_held x ≡ true
+  pub held : is_channel_held x ≡ true
   pub number : is_number x.number n ≡ true
   pub ids : Ids (brought_down s w m x) y
 
@@ -204,14 +204,14 @@ good-offers k s w m xs real unused good = record {
 
 -- ---- look-ups that found nothing
 
-pub find-none : (test : Channel → Bool) (xs : List Channel) → find test (filter is_held xs) ≡ None → Each (λ x. is_held x ≡ true → test x ≡ false) xs
+pub find-none : (test : Channel → Bool) (xs : List Channel) → find test (filter is_channel_held xs) ≡ None → Each (λ x. is_channel_held x ≡ true → test x ≡ false) xs
 find-none test [] none = tt
-find-none test (x ∷ xs) none = by_case (λ h. find-none test xs h) (is_held x) refl (test x) refl
+find-none test (x ∷ xs) none = by_case (λ h. find-none test xs h) (is_channel_held x) refl (test x) refl
   where
-    by_case : (find test (filter is_held xs) ≡ None → Each (λ x. is_held x ≡ true → test x ≡ false) xs) → (b : Bool) → is_held x ≡ b → (t : Bool) → test x ≡ t → Each (λ x. is_held x ≡ true → test x ≡ false) (x ∷ xs)
-    by_case ih false e t e' = (λ h. absurd (clash (sym h ∙ e)), ih (sym (ap (find test) (filter-no is_held x xs e)) ∙ none))
-    by_case ih true e false e' = (λ h. e', ih (sym (ap (find test) (filter-yes is_held x xs e) ∙ find-no test x (filter is_held xs) e') ∙ none))
-    by_case ih true e true e' = let found : find test (filter is_held (x ∷ xs)) ≡ Some x = ap (find test) (filter-yes is_held x xs e) ∙ find-yes test x (filter is_held xs) e' in let bad : Some x ≡ None = sym found ∙ none in cc
+    by_case : (find test (filter is_channel_held xs) ≡ None → Each (λ x. is_channel_held x ≡ true → test x ≡ false) xs) → (b : Bool) → is_channel_held x ≡ b → (t : Bool) → test x ≡ t → Each (λ x. is_channel_held x ≡ true → test x ≡ false) (x ∷ xs)
+    by_case ih false e t e' = (λ h. absurd (clash (sym h ∙ e)), ih (sym (ap (find test) (filter-no is_channel_held x xs e)) ∙ none))
+    by_case ih true e false e' = (λ h. e', ih (sym (ap (find test) (filter-yes is_channel_held x xs e) ∙ find-no test x (filter is_channel_held xs) e') ∙ none))
+    by_case ih true e true e' = let found : find test (filter is_channel_held (x ∷ xs)) ≡ Some x = ap (find test) (filter-yes is_channel_held x xs e) ∙ find-yes test x (filter is_channel_held xs) e' in let bad : Some x ≡ None = sym found ∙ none in cc
 
 -- the same in a part of the list
 pub filter-each : (k : ℕ) (P : Channel → Type 0) (xs : List Channel) → Each P (filter (is_of k) xs) → Each (λ x. (x.client == k) ≡ true → P x) xs
@@ -231,18 +231,18 @@ each-filter k P (x ∷ xs) all = by_case (each-filter k P xs all.1) (x.client ==
     by_case ih false e = subst (Each P) (sym (filter-no (is_of k) x xs e)) ih
 
 -- the first of all that passes, where it is the client's, is the first of the client's
-pub find-of : (k : ℕ) (test : Channel → Bool) (x : Channel) (xs : List Channel) → find test (filter is_held xs) ≡ Some x → (x.client == k) ≡ true → find test (filter is_held (filter (is_of k) xs)) ≡ Some x
+pub find-of : (k : ℕ) (test : Channel → Bool) (x : Channel) (xs : List Channel) → find test (filter is_channel_held xs) ≡ Some x → (x.client == k) ≡ true → find test (filter is_channel_held (filter (is_of k) xs)) ≡ Some x
 find-of k test x [] found mine = found
-find-of k test x (y ∷ ys) found mine = by_case (λ h. find-of k test x ys h mine) (y.client == k) refl (is_held y) refl (test y) refl
+find-of k test x (y ∷ ys) found mine = by_case (λ h. find-of k test x ys h mine) (y.client == k) refl (is_channel_held y) refl (test y) refl
   where
-    by_case : (find test (filter is_held ys) ≡ Some x → find test (filter is_held (filter (is_of k) ys)) ≡ Some x) → (a : Bool) → (y.client == k) ≡ a → (b : Bool) → is_held y ≡ b → (t : Bool) → test y ≡ t → find test (filter is_held (filter (is_of k) (y ∷ ys))) ≡ Some x
-    by_case ih false e false f t g = ap (λ zs. find test (filter is_held zs)) (filter-no (is_of k) y ys e) ∙ ih (sym (ap (find test) (filter-no is_held y ys f)) ∙ found)
-    by_case ih true e false f t g = ap (λ zs. find test (filter is_held zs)) (filter-yes (is_of k) y ys e) ∙ (ap (find test) (filter-no is_held y (filter (is_of k) ys) f) ∙ ih (sym (ap (find test) (filter-no is_held y ys f)) ∙ found))
-    by_case ih false e true f false g = ap (λ zs. find test (filter is_held zs)) (filter-no (is_of k) y ys e) ∙ ih (sym (ap (find test) (filter-yes is_held y ys f) ∙ find-no test y (filter is_held ys) g) ∙ found)
-    by_case ih true e true f false g = ap (λ zs. find test (filter is_held zs)) (filter-yes (is_of k) y ys e) ∙ (ap (find test) (filter-yes is_held y (filter (is_of k) ys) f) ∙ (find-no test y (filter is_held (filter (is_of k) ys)) g ∙ ih (sym (ap (find test) (filter-yes is_held y ys f) ∙ find-no test y (filter is_held ys) g) ∙ found)))
-    by_case ih true e true f true g = ap (λ zs. find test (filter is_held zs)) (filter-yes (is_of k) y ys e) ∙ (ap (find test) (filter-yes is_held y (filter (is_of k) ys) f) ∙ (find-yes test y (filter is_held (filter (is_of k) ys)) g ∙ (sym (ap (find test) (filter-yes is_held y ys f) ∙ find-yes test y (filter is_held ys) g) ∙ found)))
+    by_case : (find test (filter is_channel_held ys) ≡ Some x → find test (filter is_channel_held (filter (is_of k) ys)) ≡ Some x) → (a : Bool) → (y.client == k) ≡ a → (b : Bool) → is_channel_held y ≡ b → (t : Bool) → test y ≡ t → find test (filter is_channel_held (filter (is_of k) (y ∷ ys))) ≡ Some x
+    by_case ih false e false f t g = ap (λ zs. find test (filter is_channel_held zs)) (filter-no (is_of k) y ys e) ∙ ih (sym (ap (find test) (filter-no is_channel_held y ys f)) ∙ found)
+    by_case ih true e false f t g = ap (λ zs. find test (filter is_channel_held zs)) (filter-yes (is_of k) y ys e) ∙ (ap (find test) (filter-no is_channel_held y (filter (is_of k) ys) f) ∙ ih (sym (ap (find test) (filter-no is_channel_held y ys f)) ∙ found))
+    by_case ih false e true f false g = ap (λ zs. find test (filter is_channel_held zs)) (filter-no (is_of k) y ys e) ∙ ih (sym (ap (find test) (filter-yes is_channel_held y ys f) ∙ find-no test y (filter is_channel_held ys) g) ∙ found)
+    by_case ih true e true f false g = ap (λ zs. find test (filter is_channel_held zs)) (filter-yes (is_of k) y ys e) ∙ (ap (find test) (filter-yes is_channel_held y (filter (is_of k) ys) f) ∙ (find-no test y (filter is_channel_held (filter (is_of k) ys)) g ∙ ih (sym (ap (find test) (filter-yes is_channel_held y ys f) ∙ find-no test y (filter is_channel_held ys) g) ∙ found)))
+    by_case ih true e true f true g = ap (λ zs. find test (filter is_channel_held zs)) (filter-yes (is_of k) y ys e) ∙ (ap (find test) (filter-yes is_channel_held y (filter (is_of k) ys) f) ∙ (find-yes test y (filter is_channel_held (filter (is_of k) ys)) g ∙ (sym (ap (find test) (filter-yes is_channel_held y ys f) ∙ find-yes test y (filter is_channel_held ys) g) ∙ found)))
     by_case ih false e true f true g =
-        let here : find test (filter is_held (y ∷ ys)) ≡ Some y = ap (find test) (filter-yes is_held y ys f) ∙ find-yes test y (filter is_held ys) g in
+        let here : find test (filter is_channel_held (y ∷ ys)) ≡ Some y = ap (find test) (filter-yes is_channel_held y ys f) ∙ find-yes test y (filter is_channel_held ys) g in
         let same : Some y ≡ Some x = sym here ∙ found in
         let eq : y ≡ x = cc in
         absurd (clash (sym mine ∙ (ap (λ (z : Channel). z.client == k) (sym eq) ∙ e)))

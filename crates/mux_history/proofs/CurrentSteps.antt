@@ -3,7 +3,7 @@ use Rattle.std.proofs.Common.{◌≡◌, ℕ, List, [], ◌∷◌, ◌++◌, len
 use Rattle.std.specs.Prelude.{◌==◌, ◌&&◌, filter, not, is_none, Result}
 use Rattle.std.proofs.lemmas.List.Elements.{filter-append}
 use Rattle.mux_history.specs.Channels.{is_number}
-use Rattle.mux_history.specs.Forwardings.{Forwarding, change_first, current, dropped, forwarded, forwardings_of, is_free_at, is_request, of_client, replied, requested, stopped}
+use Rattle.mux_history.specs.Forwardings.{Forwarding, change_first, current, dropped, forwarded, forwardings_of, is_forwarding_free_at, is_request, of_client, replied, requested, stopped}
 use Rattle.mux_history.specs.Summary.{Summary, Refuses, Requests, Succeeds, read_summary, reading}
 use Rattle.mux_history.specs.Keys.{bound, has_key}
 use Rattle.mux_history.specs.Requests.{asks, is_sent, replies}
@@ -92,7 +92,7 @@ replied-stays n m f over = over
 of-client-stays : (k : ℕ) (g : Forwarding → Forwarding) → StaysOver g → StaysOver (of_client k g)
 of-client-stays k g stays f over = elim (f.client == k) as (λ b. (elim b as (λ _. Forwarding) [ true ↦ g f | false ↦ f ]).over ≡ true) [ true ↦ stays f over | false ↦ over ]
 
-free-on : (k : ℕ) (key : Key) (f : Forwarding) → is_on f ≡ false → is_free_at k key f ≡ false
+free-on : (k : ℕ) (key : Key) (f : Forwarding) → is_on f ≡ false → is_forwarding_free_at k key f ≡ false
 free-on k key f off = ap (λ b. (f.client == k) && (b && (is_none f.cancel && (has_key f.live key)))) off ∙ by_client (f.client == k)
   where
     by_client : (b : Bool) → (b && false) ≡ false
@@ -104,7 +104,7 @@ on-append fs new = filter-append is_on fs new ∙ (ap (λ ys. ys ++ filter is_on
 
 on-requested : (k n : ℕ) (m : Summary) (fs : List Forwarding) → filter is_on (requested k n m fs) ≡ filter is_on (requested k n m (filter is_on fs))
 on-requested k n (Requests (Forward key) wants) fs = on-append fs _
-on-requested k n (Requests (Cancel key) wants) fs = on-first (is_free_at k key) (stopped wants n) (free-on k key) fs
+on-requested k n (Requests (Cancel key) wants) fs = on-first (is_forwarding_free_at k key) (stopped wants n) (free-on k key) fs
 on-requested k n (Requests KeepAlive wants) fs = sym (on-twice fs)
 on-requested k n (Requests OtherName wants) fs = sym (on-twice fs)
 on-requested k n m fs = sym (on-twice fs)

@@ -3,7 +3,7 @@ use Rattle.std.proofs.Common.{◌≡◌, ℕ, List, length, true, false, Bool, r
 use Rattle.std.specs.Prelude.{◌==◌, ◌&&◌, not}
 use Rattle.mux_history.specs.Channels.{Channel, holder, live_in}
 use Rattle.mux_history.specs.Forwardings.{Forwarding, live_at}
-use Rattle.mux_history.specs.Summary.{Act, Confirmation, Fails, Summary, Open, Refuses, Requests, Succeeds, Transport, Within, read_summary, recipient_of}
+use Rattle.mux_history.specs.Summary.{Act, Confirmation, Fails, Summary, Open, Refuses, Requests, Succeeds, Transport, Within, read_summary, summary_recipient_of}
 use Rattle.mux_history.specs.Heard.{Breaks, Dest, ToClient, ToMaster, dest, dest_asker, dest_confirmation, dest_summary, dest_open, dest_success, dest_within, is_pending, pending_open}
 use Rattle.mux_history.specs.Keys.{learns_port}
 use Rattle.mux_history.specs.Ledger.{breach}
@@ -128,7 +128,7 @@ reach-legal : (rows : List Row) (n : ℕ) (act : Act) (k : ℕ) → Legal rows n
 reach-legal rows n act k a = record { channel = a.channel; is = a.is; client = a.client }
 
 -- each message with a recipient reaches a channel of its client
-pub reached : (rows : List Row) (m : Summary) (n k : ℕ) → recipient_of m ≡ Some n → dest_summary rows m ≡ ToClient k → Reached rows n k
+pub reached : (rows : List Row) (m : Summary) (n k : ℕ) → summary_recipient_of m ≡ Some n → dest_summary rows m ≡ ToClient k → Reached rows n k
 reached rows (Confirmation n' s w max) n k some e = let same : n' ≡ n = cc in subst (λ (i : ℕ). Reached rows i k) same (reach rows n' k ((confirmed rows n' s k e).awaited))
 reached rows (Within n' Fails) n k some e = let same : n' ≡ n = cc in subst (λ (i : ℕ). Reached rows i k) same (reach rows n' k (fails-awaited rows n' k e))
 reached rows (Within n' act) n k some e = let same : n' ≡ n = cc in subst (λ (i : ℕ). Reached rows i k) same (reach-legal rows n' act k (legal-by rows n' act k e))

@@ -5,7 +5,7 @@ use Rattle.std.proofs.lemmas.List.{append-nil}
 use Rattle.std.proofs.lemmas.List.Elements.{filter-append}
 use Rattle.std.proofs.lemmas.Bool.Decides.{nat_tests}
 use Rattle.mux_history.specs.Channels.{is_number}
-use Rattle.mux_history.specs.Forwardings.{Forwarding, change_first, dropped, forwarded, forwardings_of, is_free_at, is_request, live_at, of_client, replied, requested, stopped}
+use Rattle.mux_history.specs.Forwardings.{Forwarding, change_first, dropped, forwarded, forwardings_of, is_forwarding_free_at, is_request, live_at, of_client, replied, requested, stopped}
 use Rattle.mux_history.specs.Summary.{Summary, Refuses, Requests, Succeeds, read_summary, reading}
 use Rattle.mux_history.specs.Keys.{bound, has_key}
 use Rattle.mux_history.specs.Requests.{asks, is_sent, replies}
@@ -118,27 +118,27 @@ first-other k test g keeps never (f ∷ fs) = by_case (first-other k test g keep
     by_case ih false e true t = ap (filter (for_of k)) (pick_yes f fs t) ∙ (filter-no (for_of k) (g f) fs (ap (λ c. c == k) (keeps f) ∙ e) ∙ sym (filter-no (for_of k) f fs e))
     by_case ih false e false t = ap (filter (for_of k)) (pick_no f fs t) ∙ (filter-no (for_of k) f (change_first test g fs) e ∙ (ih ∙ sym (filter-no (for_of k) f fs e)))
 
-free-mine : (k c : ℕ) → (c == k) ≡ true → (key : Key) (f : Forwarding) → (f.client == k) ≡ false → is_free_at c key f ≡ false
-free-mine k c e key f other = rw (differ f.client c k e other, is_free_at) refl
+free-mine : (k c : ℕ) → (c == k) ≡ true → (key : Key) (f : Forwarding) → (f.client == k) ≡ false → is_forwarding_free_at c key f ≡ false
+free-mine k c e key f other = rw (differ f.client c k e other, is_forwarding_free_at) refl
   where
     differ : (a c k : ℕ) → (c == k) ≡ true → (a == k) ≡ false → (a == c) ≡ false
     differ a c k e f = grind (arith, nat_tests)
 
-free-other : (k c : ℕ) → (c == k) ≡ false → (key : Key) (f : Forwarding) → (f.client == k) ≡ true → is_free_at c key f ≡ false
-free-other k c e key f mine = rw (apart f.client c k mine e, is_free_at) refl
+free-other : (k c : ℕ) → (c == k) ≡ false → (key : Key) (f : Forwarding) → (f.client == k) ≡ true → is_forwarding_free_at c key f ≡ false
+free-other k c e key f mine = rw (apart f.client c k mine e, is_forwarding_free_at) refl
 
 -- ---- what a row does
 
 requested-mine : (k c n : ℕ) (m : Summary) (fs : List Forwarding) → (c == k) ≡ true → filter (for_of k) (requested c n m fs) ≡ requested c n m (filter (for_of k) fs)
 requested-mine k c n (Requests (Forward key) wants) fs e = filter-append (for_of k) fs _ ∙ ap (λ ys. filter (for_of k) fs ++ ys) (filter-yes (for_of k) (record { client = c; key = key; request = n; live = None; cancel = None; over = false }) [] e)
-requested-mine k c n (Requests (Cancel key) wants) fs e = first-mine k (is_free_at c key) (stopped wants n) (stopped-keeps wants n) (free-mine k c e key) fs
+requested-mine k c n (Requests (Cancel key) wants) fs e = first-mine k (is_forwarding_free_at c key) (stopped wants n) (stopped-keeps wants n) (free-mine k c e key) fs
 requested-mine k c n (Requests KeepAlive wants) fs e = refl
 requested-mine k c n (Requests OtherName wants) fs e = refl
 requested-mine k c n m fs e = refl
 
 requested-other : (k c n : ℕ) (m : Summary) (fs : List Forwarding) → (c == k) ≡ false → filter (for_of k) (requested c n m fs) ≡ filter (for_of k) fs
 requested-other k c n (Requests (Forward key) wants) fs e = filter-append (for_of k) fs _ ∙ (ap (λ ys. filter (for_of k) fs ++ ys) (filter-no (for_of k) (record { client = c; key = key; request = n; live = None; cancel = None; over = false }) [] e) ∙ append-nil (filter (for_of k) fs))
-requested-other k c n (Requests (Cancel key) wants) fs e = first-other k (is_free_at c key) (stopped wants n) (stopped-keeps wants n) (free-other k c e key) fs
+requested-other k c n (Requests (Cancel key) wants) fs e = first-other k (is_forwarding_free_at c key) (stopped wants n) (stopped-keeps wants n) (free-other k c e key) fs
 requested-other k c n (Requests KeepAlive wants) fs e = refl
 requested-other k c n (Requests OtherName wants) fs e = refl
 requested-other k c n m fs e = refl

@@ -4,7 +4,7 @@ use Rattle.std.specs.Prelude.{◌==◌, ◌&&◌, filter}
 use Rattle.std.proofs.lemmas.List.Elements.{filter-append}
 use Rattle.std.proofs.lemmas.List.{append-nil}
 use Rattle.std.proofs.lemmas.Bool.Decides.{nat_tests}
-use Rattle.mux_history.specs.Channels.{Channel, after_farewell, after_item, begun_by, channels_of, received_by, is_held, is_number, opened_down, opened_up, own_of, with_down, with_up, with_ups}
+use Rattle.mux_history.specs.Channels.{Channel, after_farewell, after_item, begun_by, channels_of, received_by, is_channel_held, is_number, opened_down, opened_up, own_number_of, with_down, with_up, with_ups}
 use Rattle.mux_history.specs.Summary.{Confirmation, Confirms, Summary, Open, Within, read_summary, reading}
 use Rattle.mux_history.specs.Rows.{Heard, Item, Row, Says, rows_of}
 use Rattle.ssh_grammar.specs.Said.{Payload}
@@ -14,13 +14,13 @@ use Rattle.mux_history.proofs.Bools.{self}
 -- ---- each step keeps a channel's client
 
 up-client : (own : Option ℕ) (m : Summary) (x : Channel) → (with_up own m x).client ≡ x.client
-up-client own (Confirmation s n w max) x = elim (is_number x.remote s && is_held x) as (λ b. (elim b as (λ _. Channel) [ true ↦ record x { own = own; number = Some n; acts = (Up, Confirms w max) ∷ x.acts } | false ↦ x ]).client ≡ x.client) [ true ↦ refl | false ↦ refl ]
-up-client own (Within s act) x = elim (is_number x.remote s && is_held x) as (λ b. (elim b as (λ _. Channel) [ true ↦ record x { acts = (Up, act) ∷ x.acts } | false ↦ x ]).client ≡ x.client) [ true ↦ refl | false ↦ refl ]
+up-client own (Confirmation s n w max) x = elim (is_number x.remote s && is_channel_held x) as (λ b. (elim b as (λ _. Channel) [ true ↦ record x { own = own; number = Some n; acts = (Up, Confirms w max) ∷ x.acts } | false ↦ x ]).client ≡ x.client) [ true ↦ refl | false ↦ refl ]
+up-client own (Within s act) x = elim (is_number x.remote s && is_channel_held x) as (λ b. (elim b as (λ _. Channel) [ true ↦ record x { acts = (Up, act) ∷ x.acts } | false ↦ x ]).client ≡ x.client) [ true ↦ refl | false ↦ refl ]
 up-client own m x = refl
 
 down-client : (m : Summary) (x : Channel) → (with_down m x).client ≡ x.client
-down-client (Confirmation n s w max) x = elim (is_number x.number n && is_held x) as (λ b. (elim b as (λ _. Channel) [ true ↦ record x { remote = Some s; acts = (Down, Confirms w max) ∷ x.acts } | false ↦ x ]).client ≡ x.client) [ true ↦ refl | false ↦ refl ]
-down-client (Within n act) x = elim (is_number x.number n && is_held x) as (λ b. (elim b as (λ _. Channel) [ true ↦ record x { acts = (Down, act) ∷ x.acts } | false ↦ x ]).client ≡ x.client) [ true ↦ refl | false ↦ refl ]
+down-client (Confirmation n s w max) x = elim (is_number x.number n && is_channel_held x) as (λ b. (elim b as (λ _. Channel) [ true ↦ record x { remote = Some s; acts = (Down, Confirms w max) ∷ x.acts } | false ↦ x ]).client ≡ x.client) [ true ↦ refl | false ↦ refl ]
+down-client (Within n act) x = elim (is_number x.number n && is_channel_held x) as (λ b. (elim b as (λ _. Channel) [ true ↦ record x { acts = (Down, act) ∷ x.acts } | false ↦ x ]).client ≡ x.client) [ true ↦ refl | false ↦ refl ]
 down-client m x = refl
 
 read-client : (p : List ℕ) (f : Summary → Channel) (x : Channel) → ((m : Summary) → (f m).client ≡ x.client) → (reading p f x).client ≡ x.client
@@ -35,8 +35,8 @@ heard-client (Heard p) x = read-client p (λ m. with_down m x) x (λ m. down-cli
 heard-client item x = refl
 
 pub item-client : (row : Row) (x : Channel) → (after_item row x).client ≡ x.client
-item-client row x = elim (x.client == row.client) as (λ b. (elim b as (λ _. Channel) [ true ↦ with_ups (own_of row.item) row.up (received_by row.item x) | false ↦ x ]).client ≡ x.client)
-    [ true ↦ ups-client (own_of row.item) row.up (received_by row.item x) ∙ heard-client row.item x | false ↦ refl ]
+item-client row x = elim (x.client == row.client) as (λ b. (elim b as (λ _. Channel) [ true ↦ with_ups (own_number_of row.item) row.up (received_by row.item x) | false ↦ x ]).client ≡ x.client)
+    [ true ↦ ups-client (own_number_of row.item) row.up (received_by row.item x) ∙ heard-client row.item x | false ↦ refl ]
 
 pub farewell-client : (row : Row) (x : Channel) → (after_farewell row x).client ≡ x.client
 farewell-client row x = elim (x.client == row.client) as (λ b. (elim b as (λ _. Channel) [ true ↦ with_ups None row.farewell x | false ↦ x ]).client ≡ x.client)

@@ -177,7 +177,7 @@ plain-mark before (wire.Gets stream bytes) all lawful never = by_stream (stream 
 plain-mark before (wire.Ends stream) all lawful never = gone-or stream (server_end (parse InProxy (bytes_of 0 before)).rest) (end-plain (parse InProxy (bytes_of 0 before)).rest)
 plain-mark before (wire.Fails stream) all lawful never = gone-or stream ServerFailed tt
 plain-mark before (wire.WriteFails stream) all lawful never = gone-or stream ServerFailed tt
-plain-mark before (wire.Takes stream bytes) all lawful never = unless-plain stream _ (tt, tt)
+plain-mark before (wire.Takes stream bytes accepts) all lawful never = unless-plain stream _ (tt, tt)
 plain-mark before (wire.Joins listener stream) all lawful never = tt
 plain-mark before (wire.House HouseIn) all lawful never = absurd (never tt)
 plain-mark before (wire.House (HouseSaid bytes)) all lawful never = says-plain HOUSE (not-zero HOUSE refl) (drop (length (said (bytes_of HOUSE before))) (said (bytes_of HOUSE before ++ bytes))) (sayings-drop (length (said (bytes_of HOUSE before))) (said (bytes_of HOUSE before ++ bytes)) (parse-bytes (length (bytes_of HOUSE before ++ bytes)) InControl (bytes_of HOUSE before ++ bytes) (AreBytes-append (bytes_of HOUSE before) bytes (stream-bytes HOUSE before all) lawful.3)))
@@ -187,7 +187,7 @@ plain-mark before (wire.House (HouseAsked k id opening ask given)) all lawful ne
 plain-mark before (wire.House (HouseOrder order number)) all lawful never = tt
 plain-mark before (wire.Holds stream) all lawful never = tt
 plain-mark before (wire.Frees stream) all lawful never = tt
-plain-mark before (wire.Waits waiting want streams listening) all lawful never = tt
+plain-mark before (wire.Waits waiting want streams shown) all lawful never = tt
 
 -- ---- each client is accepted once
 

@@ -1,10 +1,10 @@
 -- The numbers that were used are the picks, in order.
 use Rattle.std.proofs.Common.{◌≡◌, ℕ, List, [], ◌∷◌, true, false, Bool, refl, ◌∙◌, ap, sym, Option, None, subst, inl, inr, Ok, Err, drop}
 use Rattle.std.specs.Prelude.{◌&&◌, Result, is_some}
-use Rattle.mux_history.specs.Channels.{own_of}
+use Rattle.mux_history.specs.Channels.{own_number_of}
 use Rattle.mux_history.specs.Choices.{FromLists, pick_of, sent_number, takes_number, with_reply}
 use Rattle.mux_history.specs.Controls.{greeted, house_sends, sent_body}
-use Rattle.mux_history.specs.Summary.{Summary, read_summary, sender_of}
+use Rattle.mux_history.specs.Summary.{Summary, read_summary, summary_sender_of}
 use Rattle.mux_history.specs.Heard.{Breaks, Dest, Disconnects, ToClient, ToMaster, dest, received_for}
 use Rattle.mux_history.specs.Journal.{IsLawful, items}
 use Rattle.mux_history.specs.Kept.{ForEach}
@@ -32,7 +32,7 @@ abbrev CarriesPick : ℕ → Row → Type 0
 CarriesPick pick row = takes_number row ≡ true → carried_number row.up ≡ word pick
 
 none-taken : (pick : ℕ) (row : Row) → row.up ≡ [] → CarriesPick pick row
-none-taken pick row none takes = absurd (by_sent (is_sent row) (is_some (own_of row.item)) sent takes)
+none-taken pick row none takes = absurd (by_sent (is_sent row) (is_some (own_number_of row.item)) sent takes)
   where
     sent : is_sent row ≡ false
     sent = ap (λ up. is_sent (record row { up = up })) none
@@ -41,8 +41,8 @@ none-taken pick row none takes = absurd (by_sent (is_sent row) (is_some (own_of 
     by_sent false b e f = cc
     by_sent true b e f = cc
 
-unowned-taken : (pick : ℕ) (row : Row) → own_of row.item ≡ None → CarriesPick pick row
-unowned-taken pick row none takes = absurd (by_sent (is_sent row) (is_some (own_of row.item)) (ap is_some none) takes)
+unowned-taken : (pick : ℕ) (row : Row) → own_number_of row.item ≡ None → CarriesPick pick row
+unowned-taken pick row none takes = absurd (by_sent (is_sent row) (is_some (own_number_of row.item)) (ap is_some none) takes)
   where
     by_sent : (a b : Bool) → b ≡ false → (a && b) ≡ true → ⊥
     by_sent true b e f = cc
@@ -50,7 +50,7 @@ unowned-taken pick row none takes = absurd (by_sent (is_sent row) (is_some (own_
 
 said-taken : (own : List Row) (k pick : ℕ) (p : List ℕ) (reply : Option HouseReply) (m : Summary) (up fw down : List (List ℕ)) (fate : Fate) → AreBytes p → read_summary p ≡ Ok m → Sent own pick p m up → CarriesPick pick (as_row (Says k (Payload p) reply) k up fw down fate)
 said-taken own k pick p reply m up fw down fate bytes reads (inl none) = none-taken pick (as_row (Says k (Payload p) reply) k up fw down fate) none
-said-taken own k pick p reply m up fw down fate bytes reads (inr (inl plain)) = unowned-taken pick (as_row (Says k (Payload p) reply) k up fw down fate) (reading-ok p m sender_of None reads ∙ plain.unowned)
+said-taken own k pick p reply m up fw down fate bytes reads (inr (inl plain)) = unowned-taken pick (as_row (Says k (Payload p) reply) k up fw down fate) (reading-ok p m summary_sender_of None reads ∙ plain.unowned)
 said-taken own k pick p reply m up fw down fate bytes reads (inr (inr new)) = λ takes. ap carried_number new.up ∙ ap sent_number (number-sent p m (sender-in p m new.c bytes reads new.owned) pick)
 
 payload-taken : (policy : Policy) (before : List Row) (k pick : ℕ) (p : List ℕ) (reply : Option HouseReply) → AreBytes p → CarriesPick pick (row_of (Says k (Payload p) reply) k (sent_payload policy k (rows_of k before) pick p) (rows_of k before))
@@ -61,7 +61,7 @@ payload-taken policy before k pick p reply bytes = row-parts (CarriesPick pick) 
     by_case fw down fate (Ok m) reads = said-taken (rows_of k before) k pick p reply m (sent_summary policy k (rows_of k before) pick p m).sent fw down fate bytes reads (sent-by policy k (rows_of k before) pick p m)
 
 -- a row whose item names no own number
-other-taken : (pick : ℕ) (item : Item) (k : ℕ) (o : Outcome) (own : List Row) → own_of item ≡ None → CarriesPick pick (row_of item k o own)
+other-taken : (pick : ℕ) (item : Item) (k : ℕ) (o : Outcome) (own : List Row) → own_number_of item ≡ None → CarriesPick pick (row_of item k o own)
 other-taken pick item k o own none = row-parts (CarriesPick pick) item k o own (λ fw parting down fate. unowned-taken pick (as_row item k o.sent fw down fate) none)
 
 heard-taken : (pick : ℕ) (before : List Row) (p : List ℕ) (d : Dest) → CarriesPick pick (received_row before p d)

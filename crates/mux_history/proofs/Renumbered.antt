@@ -5,13 +5,13 @@ use Rattle.ssh_grammar.specs.declared.fault.Bad.{Bad}
 use Rattle.ssh_grammar.specs.Messages as full
 use Rattle.ssh_grammar.specs.ReadMessage.{Reading, Form, OfPlain, OfChannel, OfNone, forms, read_as, with_reading, read_message}
 use Rattle.ssh_grammar.specs.Tables.{by_number}
-use Rattle.ssh_grammar.specs.SpellMessage.{spell_with, wants, sender_at, recipient_place, sender_place, in_payload, with_number, with_recipient, with_sender}
+use Rattle.ssh_grammar.specs.SpellMessage.{spell_with, wants, sender_at, recipient_place, sender_place, in_payload, payload_with_number, with_recipient, with_sender}
 use Rattle.ssh_grammar.specs.IsMessage.{IsMessage, Spells}
 use Rattle.ssh_grammar.specs.Renumber.{to_recipient, to_sender}
 use Rattle.ssh_grammar.proofs.MessageReads.{reads_is_spelled}
 use Rattle.ssh_grammar.proofs.MessageSpelled.{spelled_reads}
 use Rattle.ssh_grammar.proofs.Renumbered.{with_u32-between}
-use Rattle.mux_history.specs.Summary.{Summary, Open, Confirmation, Within, summary, read_summary, reading, sender_of}
+use Rattle.mux_history.specs.Summary.{Summary, Open, Confirmation, Within, summary, read_summary, reading, summary_sender_of}
 use Rattle.mux_history.proofs.Readings.{summary-from, summary-ok, reading-ok}
 
 -- ---- summaries with another number
@@ -99,10 +99,10 @@ place-of : (f : full.Message → Option ℕ) (p : List ℕ) (m : full.Message) �
 place-of f p m e = ap (λ (r : Result full.Message Bad). elim r as (λ _. Option ℕ) [ Err x ↦ None | Ok m ↦ f m ]) e
 
 message-renamed : (p : List ℕ) (m : full.Message) (c : ℕ) → c < 4294967296 → read_message p ≡ Ok m → read_message (with_recipient p c) ≡ Ok (to_recipient c m)
-message-renamed p (full.Plain m) c lt e = ap (λ at. read_message (with_number p at c)) (place-of recipient_place p (full.Plain m) e) ∙ e
+message-renamed p (full.Plain m) c lt e = ap (λ at. read_message (payload_with_number p at c)) (place-of recipient_place p (full.Plain m) e) ∙ e
 message-renamed [] (full.To r m) c lt e = cc
 message-renamed (n ∷ rest) (full.To r m) c lt e =
-    ap (λ at. read_message (with_number (n ∷ rest) at c)) (place-of recipient_place (n ∷ rest) (full.To r m) e)
+    ap (λ at. read_message (payload_with_number (n ∷ rest) at c)) (place-of recipient_place (n ∷ rest) (full.To r m) e)
     ∙ (in-form n (by_number (forms n) n OfNone) rest r c m e ∙ ap (λ c. Ok (full.To c m)) (spelled c lt))
 
 -- a payload to another recipient reads as the same summary with that recipient
@@ -112,14 +112,14 @@ read-renamed p g c lt reads =
     summary-ok (with_recipient p c) (to_recipient c r.message) (message-renamed p r.message c lt r.reads) ∙ (ap Ok (summary-readdressed c r.message) ∙ ap (λ g. Ok (readdressed c g)) r.is)
 
 message-twice : (p : List ℕ) (m : full.Message) (c : ℕ) → c < 4294967296 → read_message p ≡ Ok m → with_recipient (with_recipient p c) c ≡ with_recipient p c
-message-twice p (full.Plain m) c lt e = ap (λ q. with_recipient q c) (ap (λ at. with_number p at c) (place-of recipient_place p (full.Plain m) e))
+message-twice p (full.Plain m) c lt e = ap (λ q. with_recipient q c) (ap (λ at. payload_with_number p at c) (place-of recipient_place p (full.Plain m) e))
 message-twice [] (full.To r m) c lt e = cc
 message-twice (n ∷ rest) (full.To r m) c lt e =
-    ap (λ at. with_number (with_recipient (n ∷ rest) c) at c) (place-of recipient_place (with_recipient (n ∷ rest) c) (full.To c m) (message-renamed (n ∷ rest) (full.To r m) c lt e))
-    ∙ (ap (λ q. with_number q (Some 1) c) once ∙ sym once)
+    ap (λ at. payload_with_number (with_recipient (n ∷ rest) c) at c) (place-of recipient_place (with_recipient (n ∷ rest) c) (full.To c m) (message-renamed (n ∷ rest) (full.To r m) c lt e))
+    ∙ (ap (λ q. payload_with_number q (Some 1) c) once ∙ sym once)
   where
     once : with_recipient (n ∷ rest) c ≡ n ∷ (u32 c ++ drop 4 rest)
-    once = ap (λ at. with_number (n ∷ rest) at c) (place-of recipient_place (n ∷ rest) (full.To r m) e)
+    once = ap (λ at. payload_with_number (n ∷ rest) at c) (place-of recipient_place (n ∷ rest) (full.To r m) e)
 
 -- the same recipient twice
 pub renamed-twice : (p : List ℕ) (g : Summary) (c : ℕ) → c < 4294967296 → read_summary p ≡ Ok g → with_recipient (with_recipient p c) c ≡ with_recipient p c
@@ -132,13 +132,13 @@ pub record SenderIn (p : List ℕ) (m : Summary) : Type 0 where
   pub tail : List ℕ
   pub old : ℕ
   pub small : old < 4294967296
-  pub said : sender_of m ≡ Some old
+  pub said : summary_sender_of m ≡ Some old
   pub whole : p ≡ front ++ (u32 old ++ tail)
   pub place : (n : ℕ) → sender_at (front ++ (u32 n ++ tail)) ≡ Some (length front)
   pub reads : (n : ℕ) → read_summary (front ++ (u32 n ++ tail)) ≡ Ok (resent (word n) m)
 
 -- what a message with a sender spells
-sender-spelled : (flag : ℕ) (m : full.Message) (front tail : List ℕ) (old : ℕ) → IsMessage m → is_true flag ≡ wants m → old < 4294967296 → sender_of (summary m) ≡ Some old
+sender-spelled : (flag : ℕ) (m : full.Message) (front tail : List ℕ) (old : ℕ) → IsMessage m → is_true flag ≡ wants m → old < 4294967296 → summary_sender_of (summary m) ≡ Some old
     → ((n : ℕ) → spell_with flag (to_sender n m) ≡ front ++ (u32 n ++ tail)) → ((n : ℕ) → n < 4294967296 → IsMessage (to_sender n m)) → ((n : ℕ) → is_true flag ≡ wants (to_sender n m)) → ((n : ℕ) → sender_place (to_sender n m) ≡ Some (length front)) → ((n : ℕ) → summary (to_sender n m) ≡ resent n (summary m))
     → (p : List ℕ) → p ≡ front ++ (u32 old ++ tail) → SenderIn p (summary m)
 sender-spelled flag m front tail old is same small said spells fits flags places summaries p whole = record {
@@ -157,10 +157,10 @@ sender-spelled flag m front tail old is same small said spells fits flags places
         ap (λ four. read_message (front ++ (four ++ tail))) (sym (u32-word n))
         ∙ spelled_reads (to_sender (word n) m) (front ++ (u32 (word n) ++ tail)) (record { is_message = fits (word n) (word-small n); flag = flag; boolean = flags (word n); spelled = sym (spells (word n)) })
 
-pub sender-in : (p : List ℕ) (g : Summary) (c : ℕ) → AreBytes p → read_summary p ≡ Ok g → sender_of g ≡ Some c → SenderIn p g
+pub sender-in : (p : List ℕ) (g : Summary) (c : ℕ) → AreBytes p → read_summary p ≡ Ok g → summary_sender_of g ≡ Some c → SenderIn p g
 sender-in p g c bytes reads own =
     let r = summary-from p g reads in
-    subst (SenderIn p) r.is (by_message r.message (always r.message r.reads (reads_is_spelled p bytes)) (ap sender_of r.is ∙ own))
+    subst (SenderIn p) r.is (by_message r.message (always r.message r.reads (reads_is_spelled p bytes)) (ap summary_sender_of r.is ∙ own))
   where
     always : (m : full.Message) → read_message p ≡ Ok m → IfOk (read_message p) (λ m. Spells m p) → Spells m p
     always m e holds = by_case (read_message p) e holds
@@ -169,7 +169,7 @@ sender-in p g c bytes reads own =
         by_case (Ok x) e holds = let same : x ≡ m = cc in subst (λ (m : full.Message). Spells m p) same holds
         by_case (Err x) e holds = cc
 
-    by_message : (m : full.Message) → Spells m p → sender_of (summary m) ≡ Some c → SenderIn p (summary m)
+    by_message : (m : full.Message) → Spells m p → summary_sender_of (summary m) ≡ Some c → SenderIn p (summary m)
     by_message (full.Plain (full.Open kind s w x rest what)) spells own =
         sender-spelled spells.flag (full.Plain (full.Open kind s w x rest what)) (90 ∷ str kind) (u32 w ++ (u32 x ++ rest)) s spells.is_message spells.boolean spells.is_message.1 refl
         (λ n. refl) (λ n lt. (spells.is_message.0, lt, spells.is_message.2, spells.is_message.3, spells.is_message.4)) (λ n. spells.boolean) (λ n. ap Some (omega arith)) (λ n. refl) p spells.spelled
@@ -195,24 +195,24 @@ sender-in p g c bytes reads own =
 module _ (p : List ℕ) (m : Summary) (s : SenderIn p m) where
   pub sent-as : (n : ℕ) → with_sender p n ≡ s.front ++ (u32 n ++ s.tail)
   sent-as n =
-      ap (λ at. with_number p at n) (ap sender_at s.whole ∙ s.place s.old)
-      ∙ (ap (λ q. with_number q (Some (length s.front)) n) s.whole ∙ with_u32-between s.front s.tail s.old (length s.front) n refl)
+      ap (λ at. payload_with_number p at n) (ap sender_at s.whole ∙ s.place s.old)
+      ∙ (ap (λ q. payload_with_number q (Some (length s.front)) n) s.whole ∙ with_u32-between s.front s.tail s.old (length s.front) n refl)
 
   -- with the number that was picked, and then the client's own
   pub sent-again : (n c : ℕ) → with_sender (with_sender p n) c ≡ with_sender p c
   sent-again n c =
-      ap (λ at. with_number (with_sender p n) at c) (ap sender_at (sent-as n) ∙ s.place n)
-      ∙ (ap (λ q. with_number q (Some (length s.front)) c) (sent-as n)
+      ap (λ at. payload_with_number (with_sender p n) at c) (ap sender_at (sent-as n) ∙ s.place n)
+      ∙ (ap (λ q. payload_with_number q (Some (length s.front)) c) (sent-as n)
       ∙ (with_u32-between s.front s.tail n (length s.front) c refl ∙ sym (sent-as c)))
 
   pub reads-sent : (n : ℕ) → read_summary (with_sender p n) ≡ Ok (resent (word n) m)
   reads-sent n = ap read_summary (sent-as n) ∙ s.reads n
 
   -- the number that stands there then
-  pub number-sent : (n : ℕ) → reading (with_sender p n) sender_of None ≡ Some (word n)
-  number-sent n = reading-ok (with_sender p n) (resent (word n) m) sender_of None (reads-sent n) ∙ sender-resent m (word n) s.said
+  pub number-sent : (n : ℕ) → reading (with_sender p n) summary_sender_of None ≡ Some (word n)
+  number-sent n = reading-ok (with_sender p n) (resent (word n) m) summary_sender_of None (reads-sent n) ∙ sender-resent m (word n) s.said
     where
-      sender-resent : (m : Summary) (c : ℕ) → sender_of m ≡ Some s.old → sender_of (resent c m) ≡ Some c
+      sender-resent : (m : Summary) (c : ℕ) → summary_sender_of m ≡ Some s.old → summary_sender_of (resent c m) ≡ Some c
       sender-resent (Open what a w x) c e = refl
       sender-resent (Confirmation n a w x) c e = refl
       sender-resent m c e = cc

@@ -1,7 +1,7 @@
 -- Each row of a right log is what its item does, and no number is held twice.
 use Rattle.std.proofs.Common.{◌≡◌, ℕ, ◌≤◌, List, [], ◌∷◌, length, true, false, Bool, refl, ◌∙◌, ap, arith, sym, subst}
 use Rattle.std.specs.Prelude.{filter, drop}
-use Rattle.mux_history.specs.Channels.{Channel, channels_of, is_held, is_number}
+use Rattle.mux_history.specs.Channels.{Channel, channels_of, is_channel_held, is_number}
 use Rattle.mux_history.specs.Choices.{FromLists, pick_of, with_reply}
 use Rattle.mux_history.specs.Journal.{IsLawful, items}
 use Rattle.mux_history.specs.Kept.{AtEach, ForEach, NumbersApart}
@@ -70,25 +70,25 @@ by-treat P policy pid law taken (row ∷ before) each = (subst (P before) each.0
 
 -- ---- no number is held twice
 
-none-with : (P : Channel → Bool) (xs : List Channel) → Each (λ x. is_held x ≡ true → P x ≡ false) xs → length (filter P (filter is_held xs)) ≡ 0
+none-with : (P : Channel → Bool) (xs : List Channel) → Each (λ x. is_channel_held x ≡ true → P x ≡ false) xs → length (filter P (filter is_channel_held xs)) ≡ 0
 none-with P [] all = refl
-none-with P (x ∷ xs) all = by_case (none-with P xs all.1) (is_held x) refl
+none-with P (x ∷ xs) all = by_case (none-with P xs all.1) (is_channel_held x) refl
   where
-    by_case : length (filter P (filter is_held xs)) ≡ 0 → (b : Bool) → is_held x ≡ b → length (filter P (filter is_held (x ∷ xs))) ≡ 0
-    by_case ih true e = ap (λ ys. length (filter P ys)) (filter-yes is_held x xs e) ∙ (ap length (filter-no P x (filter is_held xs) (all.0 e)) ∙ ih)
-    by_case ih false e = ap (λ ys. length (filter P ys)) (filter-no is_held x xs e) ∙ ih
+    by_case : length (filter P (filter is_channel_held xs)) ≡ 0 → (b : Bool) → is_channel_held x ≡ b → length (filter P (filter is_channel_held (x ∷ xs))) ≡ 0
+    by_case ih true e = ap (λ ys. length (filter P ys)) (filter-yes is_channel_held x xs e) ∙ (ap length (filter-no P x (filter is_channel_held xs) (all.0 e)) ∙ ih)
+    by_case ih false e = ap (λ ys. length (filter P ys)) (filter-no is_channel_held x xs e) ∙ ih
 
-once-in : (P : Channel → Bool) → ((x y : Channel) → ApartFrom x y → is_held x ≡ true → is_held y ≡ true → P x ≡ true → P y ≡ false) → (xs : List Channel) → AllApart xs → length (filter P (filter is_held xs)) ≤ 1
+once-in : (P : Channel → Bool) → ((x y : Channel) → ApartFrom x y → is_channel_held x ≡ true → is_channel_held y ≡ true → P x ≡ true → P y ≡ false) → (xs : List Channel) → AllApart xs → length (filter P (filter is_channel_held xs)) ≤ 1
 once-in P pair [] apart = omega arith
-once-in P pair (x ∷ xs) apart = by_case (once-in P pair xs apart.1) (is_held x) refl (P x) refl
+once-in P pair (x ∷ xs) apart = by_case (once-in P pair xs apart.1) (is_channel_held x) refl (P x) refl
   where
-    by_case : length (filter P (filter is_held xs)) ≤ 1 → (b : Bool) → is_held x ≡ b → (t : Bool) → P x ≡ t → length (filter P (filter is_held (x ∷ xs))) ≤ 1
-    by_case ih false e t f = let g = ap (λ ys. length (filter P ys)) (filter-no is_held x xs e) in omega arith
-    by_case ih true e false f = let g = ap (λ ys. length (filter P ys)) (filter-yes is_held x xs e) in let h = ap length (filter-no P x (filter is_held xs) f) in omega arith
+    by_case : length (filter P (filter is_channel_held xs)) ≤ 1 → (b : Bool) → is_channel_held x ≡ b → (t : Bool) → P x ≡ t → length (filter P (filter is_channel_held (x ∷ xs))) ≤ 1
+    by_case ih false e t f = let g = ap (λ ys. length (filter P ys)) (filter-no is_channel_held x xs e) in omega arith
+    by_case ih true e false f = let g = ap (λ ys. length (filter P ys)) (filter-yes is_channel_held x xs e) in let h = ap length (filter-no P x (filter is_channel_held xs) f) in omega arith
     by_case ih true e true f =
-        let g = ap (λ ys. length (filter P ys)) (filter-yes is_held x xs e) in
-        let h = ap length (filter-yes P x (filter is_held xs) f) in
-        let none = none-with P xs (each-of (ApartFrom x) (λ y. is_held y ≡ true → P y ≡ false) (λ y a k. pair x y a e k f) xs apart.0) in
+        let g = ap (λ ys. length (filter P ys)) (filter-yes is_channel_held x xs e) in
+        let h = ap length (filter-yes P x (filter is_channel_held xs) f) in
+        let none = none-with P xs (each-of (ApartFrom x) (λ y. is_channel_held y ≡ true → P y ≡ false) (λ y a k. pair x y a e k f) xs apart.0) in
         omega arith
 
 held-once : (rows : List Row) → AreApart (channels_of rows) → NumbersApart rows

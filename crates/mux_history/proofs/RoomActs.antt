@@ -3,7 +3,7 @@
 use Rattle.std.proofs.Common.{◌≡◌, ℕ, ◌≤◌, List, [], ◌∷◌, true, false, Bool, refl, ◌∙◌, ap, arith, sym, Option, Some, None, inl, inr, Ok, Err}
 use Rattle.std.specs.Prelude.{◌==◌, ◌&&◌, ◌⊎◌, filter, find, Result}
 use Rattle.std.proofs.lemmas.Bool.Decides.{nat_tests}
-use Rattle.mux_history.specs.Channels.{Channel, any_by, channels_of, holder, is_closes, is_confirmed, is_held, is_number, live_in, with_down, with_up, with_ups}
+use Rattle.mux_history.specs.Channels.{Channel, any_by, channels_of, holder, is_closes, is_confirmed, is_channel_held, is_number, live_in, with_down, with_up, with_ups}
 use Rattle.mux_history.specs.Summary.{Act, Answers, Asks, Carries, Closes, Confirmation, Confirms, Ends, Fails, Summary, Grants, Open, Refuses, Requests, Succeeds, Transport, Within, read_summary, reading}
 use Rattle.mux_history.specs.Kept.{Every}
 use Rattle.mux_history.specs.Laws.{IsAccounted, IsWithin, with_act}
@@ -107,19 +107,19 @@ may-of way (Asks wants) x fine = tt
 -- ---- one message
 
 abbrev pub SafeUp : Summary → Channel → Type 0
-SafeUp (Within s act) x = is_number x.remote s ≡ true → is_held x ≡ true → MayAct Up act x
+SafeUp (Within s act) x = is_number x.remote s ≡ true → is_channel_held x ≡ true → MayAct Up act x
 SafeUp m x = Unit {0}
 
 abbrev pub SafeDown : Summary → Channel → Type 0
-SafeDown (Within n act) x = is_number x.number n ≡ true → is_held x ≡ true → MayAct Down act x
+SafeDown (Within n act) x = is_number x.number n ≡ true → is_channel_held x ≡ true → MayAct Down act x
 SafeDown m x = Unit {0}
 
 pub accounted-up : (own : Option ℕ) (m : Summary) (x : Channel) → SafeUp m x → Accounted x → Accounted (with_up own m x)
-accounted-up own (Confirmation s n w max) x safe known = elim (is_number x.remote s && is_held x) as (λ b. Accounted (elim b as (λ _. Channel) [ true ↦ record x { own = own; number = Some n; acts = (Up, Confirms w max) ∷ x.acts } | false ↦ x ])) [ true ↦ accounted-named own (Some n) x.remote (with_act Up (Confirms w max) x) (accounted-act Up (Confirms w max) x tt known) | false ↦ known ]
-accounted-up own (Within s act) x safe known = by_case (is_number x.remote s && is_held x) refl
+accounted-up own (Confirmation s n w max) x safe known = elim (is_number x.remote s && is_channel_held x) as (λ b. Accounted (elim b as (λ _. Channel) [ true ↦ record x { own = own; number = Some n; acts = (Up, Confirms w max) ∷ x.acts } | false ↦ x ])) [ true ↦ accounted-named own (Some n) x.remote (with_act Up (Confirms w max) x) (accounted-act Up (Confirms w max) x tt known) | false ↦ known ]
+accounted-up own (Within s act) x safe known = by_case (is_number x.remote s && is_channel_held x) refl
   where
-    by_case : (b : Bool) → (is_number x.remote s && is_held x) ≡ b → Accounted (elim b as (λ _. Channel) [ true ↦ record x { acts = (Up, act) ∷ x.acts } | false ↦ x ])
-    by_case true e = accounted-act Up act x (safe (and-left (is_number x.remote s) (is_held x) e) (and-right (is_number x.remote s) (is_held x) e)) known
+    by_case : (b : Bool) → (is_number x.remote s && is_channel_held x) ≡ b → Accounted (elim b as (λ _. Channel) [ true ↦ record x { acts = (Up, act) ∷ x.acts } | false ↦ x ])
+    by_case true e = accounted-act Up act x (safe (and-left (is_number x.remote s) (is_channel_held x) e) (and-right (is_number x.remote s) (is_channel_held x) e)) known
     by_case false e = known
 accounted-up own (Transport number) x safe known = known
 accounted-up own (Requests what want) x safe known = known
@@ -128,11 +128,11 @@ accounted-up own Refuses x safe known = known
 accounted-up own (Open what s w max) x safe known = known
 
 pub accounted-down : (m : Summary) (x : Channel) → SafeDown m x → Accounted x → Accounted (with_down m x)
-accounted-down (Confirmation n s w max) x safe known = elim (is_number x.number n && is_held x) as (λ b. Accounted (elim b as (λ _. Channel) [ true ↦ record x { remote = Some s; acts = (Down, Confirms w max) ∷ x.acts } | false ↦ x ])) [ true ↦ accounted-named x.own x.number (Some s) (with_act Down (Confirms w max) x) (accounted-act Down (Confirms w max) x tt known) | false ↦ known ]
-accounted-down (Within n act) x safe known = by_case (is_number x.number n && is_held x) refl
+accounted-down (Confirmation n s w max) x safe known = elim (is_number x.number n && is_channel_held x) as (λ b. Accounted (elim b as (λ _. Channel) [ true ↦ record x { remote = Some s; acts = (Down, Confirms w max) ∷ x.acts } | false ↦ x ])) [ true ↦ accounted-named x.own x.number (Some s) (with_act Down (Confirms w max) x) (accounted-act Down (Confirms w max) x tt known) | false ↦ known ]
+accounted-down (Within n act) x safe known = by_case (is_number x.number n && is_channel_held x) refl
   where
-    by_case : (b : Bool) → (is_number x.number n && is_held x) ≡ b → Accounted (elim b as (λ _. Channel) [ true ↦ record x { acts = (Down, act) ∷ x.acts } | false ↦ x ])
-    by_case true e = accounted-act Down act x (safe (and-left (is_number x.number n) (is_held x) e) (and-right (is_number x.number n) (is_held x) e)) known
+    by_case : (b : Bool) → (is_number x.number n && is_channel_held x) ≡ b → Accounted (elim b as (λ _. Channel) [ true ↦ record x { acts = (Down, act) ∷ x.acts } | false ↦ x ])
+    by_case true e = accounted-act Down act x (safe (and-left (is_number x.number n) (is_channel_held x) e) (and-right (is_number x.number n) (is_channel_held x) e)) known
     by_case false e = known
 accounted-down (Transport number) x safe known = known
 accounted-down (Requests what want) x safe known = known
@@ -161,31 +161,31 @@ accounted-harmless own (p ∷ ups) harmless x known =
 
 -- ---- the channel that is meant
 
-found-in : (test : Channel → Bool) → ((x y : Channel) → ApartFrom x y → is_held x ≡ true → is_held y ≡ true → test x ≡ true → test y ≡ false) → (xs : List Channel) → AllApart xs → Each (λ z. is_held z ≡ true → test z ≡ true → find test (filter is_held xs) ≡ Some z) xs
+found-in : (test : Channel → Bool) → ((x y : Channel) → ApartFrom x y → is_channel_held x ≡ true → is_channel_held y ≡ true → test x ≡ true → test y ≡ false) → (xs : List Channel) → AllApart xs → Each (λ z. is_channel_held z ≡ true → test z ≡ true → find test (filter is_channel_held xs) ≡ Some z) xs
 found-in test pair [] apart = tt
 found-in test pair (x ∷ xs) apart = (
-  (λ held has. ap (find test) (filter-yes is_held x xs held) ∙ find-yes test x (filter is_held xs) has),
-  each-both (ApartFrom x) (λ z. is_held z ≡ true → test z ≡ true → find test (filter is_held xs) ≡ Some z) (λ z. is_held z ≡ true → test z ≡ true → find test (filter is_held (x ∷ xs)) ≡ Some z) behind xs apart.0 (found-in test pair xs apart.1),
+  (λ held has. ap (find test) (filter-yes is_channel_held x xs held) ∙ find-yes test x (filter is_channel_held xs) has),
+  each-both (ApartFrom x) (λ z. is_channel_held z ≡ true → test z ≡ true → find test (filter is_channel_held xs) ≡ Some z) (λ z. is_channel_held z ≡ true → test z ≡ true → find test (filter is_channel_held (x ∷ xs)) ≡ Some z) behind xs apart.0 (found-in test pair xs apart.1),
 )
   where
-    behind : (z : Channel) → ApartFrom x z → (is_held z ≡ true → test z ≡ true → find test (filter is_held xs) ≡ Some z) → is_held z ≡ true → test z ≡ true → find test (filter is_held (x ∷ xs)) ≡ Some z
-    behind z a found held has = by_held (is_held x) refl (test x) refl
+    behind : (z : Channel) → ApartFrom x z → (is_channel_held z ≡ true → test z ≡ true → find test (filter is_channel_held xs) ≡ Some z) → is_channel_held z ≡ true → test z ≡ true → find test (filter is_channel_held (x ∷ xs)) ≡ Some z
+    behind z a found held has = by_held (is_channel_held x) refl (test x) refl
       where
-        by_held : (b : Bool) → is_held x ≡ b → (t : Bool) → test x ≡ t → find test (filter is_held (x ∷ xs)) ≡ Some z
-        by_held false e t f = ap (find test) (filter-no is_held x xs e) ∙ found held has
-        by_held true e false f = ap (find test) (filter-yes is_held x xs e) ∙ (find-no test x (filter is_held xs) f ∙ found held has)
+        by_held : (b : Bool) → is_channel_held x ≡ b → (t : Bool) → test x ≡ t → find test (filter is_channel_held (x ∷ xs)) ≡ Some z
+        by_held false e t f = ap (find test) (filter-no is_channel_held x xs e) ∙ found held has
+        by_held true e false f = ap (find test) (filter-yes is_channel_held x xs e) ∙ (find-no test x (filter is_channel_held xs) f ∙ found held has)
         by_held true e true f = absurd (let no : test z ≡ false = pair x z a e held f in let bad : true ≡ false = sym has ∙ no in cc)
 
 -- what is known of a channel of the log
 pub record KnownIn (before : List Row) (x : Channel) : Type 0 where
   pub accounted : Accounted x
-  pub live : (s : ℕ) → is_held x ≡ true → is_number x.remote s ≡ true → live_in before s ≡ Some x
-  pub holds : (n : ℕ) → is_held x ≡ true → is_number x.number n ≡ true → holder before n ≡ Some x
+  pub live : (s : ℕ) → is_channel_held x ≡ true → is_number x.remote s ≡ true → live_in before s ≡ Some x
+  pub holds : (n : ℕ) → is_channel_held x ≡ true → is_number x.number n ≡ true → holder before n ≡ Some x
 
 pub known-in : (before : List Row) → AreApart (channels_of before) → Each Accounted (channels_of before) → Each (KnownIn before) (channels_of before)
 known-in before good known = by_all (channels_of before) known (λ s. found-in (λ y. is_number y.remote s) (λ x y a h k e. a.remotes h k s e) (channels_of before) good.apart) (λ n. found-in (λ y. is_number y.number n) (λ x y a h k e. a.numbers h k n e) (channels_of before) good.apart)
   where
-    by_all : (xs : List Channel) → Each Accounted xs → ((s : ℕ) → Each (λ z. is_held z ≡ true → is_number z.remote s ≡ true → live_in before s ≡ Some z) xs) → ((n : ℕ) → Each (λ z. is_held z ≡ true → is_number z.number n ≡ true → holder before n ≡ Some z) xs) → Each (KnownIn before) xs
+    by_all : (xs : List Channel) → Each Accounted xs → ((s : ℕ) → Each (λ z. is_channel_held z ≡ true → is_number z.remote s ≡ true → live_in before s ≡ Some z) xs) → ((n : ℕ) → Each (λ z. is_channel_held z ≡ true → is_number z.number n ≡ true → holder before n ≡ Some z) xs) → Each (KnownIn before) xs
     by_all [] known lives holds = tt
     by_all (x ∷ xs) known lives holds = (record { accounted = known.0; live = λ s. (lives s).0; holds = λ n. (holds n).0 }, by_all xs known.1 (λ s. (lives s).1) (λ n. (holds n).1))
 

@@ -3,7 +3,7 @@ use Rattle.std.proofs.Common.{◌≡◌, ℕ, ◌≤◌, List, [], ◌∷◌, �
 use Rattle.std.specs.Prelude.{◌==◌, ◌&&◌, ◌⊎◌, Result}
 use Rattle.std.specs.List.{AllByRecursion}
 use Rattle.std.proofs.lemmas.Bool.Decides.{nat_tests}
-use Rattle.mux_history.specs.Channels.{Channel, after_farewell, after_item, begun_by, channels_of, received_by, is_confirmed, is_held, is_number, opened_down, opened_up, own_of, with_down, with_up, with_ups}
+use Rattle.mux_history.specs.Channels.{Channel, after_farewell, after_item, begun_by, channels_of, received_by, is_confirmed, is_channel_held, is_number, opened_down, opened_up, own_number_of, with_down, with_up, with_ups}
 use Rattle.mux_history.specs.Controls.{greeted, house_sends, sent_body}
 use Rattle.mux_history.specs.Summary.{Act, Answers, Asks, Carries, Closes, Confirmation, Confirms, Ends, Fails, Summary, Grants, Open, Refuses, Requests, Succeeds, Transport, Within, read_summary, reading}
 use Rattle.mux_history.specs.Heard.{Breaks, Dest, Disconnects, ToClient, ToMaster, dest, dest_within, received_for, received_master}
@@ -95,7 +95,7 @@ by-items before row good harmless step known =
 
 -- a row that sends nothing in a channel
 still-item : (before : List Row) (row : Row) → Every Harmless row.up → ((x : Channel) → received_by row.item x ≡ x) → (x : Channel) → KnownIn before x → Accounted (after_item row x)
-still-item before row harmless stays x known = elim (x.client == row.client) as (λ b. Accounted (elim b as (λ _. Channel) [ true ↦ with_ups (own_of row.item) row.up (received_by row.item x) | false ↦ x ])) [ true ↦ accounted-harmless (own_of row.item) row.up harmless (received_by row.item x) (subst Accounted (sym (stays x)) known.accounted) | false ↦ known.accounted ]
+still-item before row harmless stays x known = elim (x.client == row.client) as (λ b. Accounted (elim b as (λ _. Channel) [ true ↦ with_ups (own_number_of row.item) row.up (received_by row.item x) | false ↦ x ])) [ true ↦ accounted-harmless (own_number_of row.item) row.up harmless (received_by row.item x) (subst Accounted (sym (stays x)) known.accounted) | false ↦ known.accounted ]
 
 -- ---- what a client sends
 
@@ -119,8 +119,8 @@ module _ (before : List Row) (good : AreApart (channels_of before)) (k : ℕ) wh
   said-item : (p : List ℕ) (reply : Option HouseReply) (up fw down : List (List ℕ)) (fate : Fate) → ((x : Channel) → KnownIn before x → (x.client == k) ≡ true → (own : Option ℕ) → Accounted (with_ups own up x)) → (x : Channel) → KnownIn before x → Accounted (after_item (as_row (Says k (Payload p) reply) k up fw down fate) x)
   said-item p reply up fw down fate each x known = by_client (x.client == k) refl
     where
-      by_client : (b : Bool) → (x.client == k) ≡ b → Accounted (elim b as (λ _. Channel) [ true ↦ with_ups (own_of (Says k (Payload p) reply)) up x | false ↦ x ])
-      by_client true e = each x known e (own_of (Says k (Payload p) reply))
+      by_client : (b : Bool) → (x.client == k) ≡ b → Accounted (elim b as (λ _. Channel) [ true ↦ with_ups (own_number_of (Says k (Payload p) reply)) up x | false ↦ x ])
+      by_client true e = each x known e (own_number_of (Says k (Payload p) reply))
       by_client false e = known.accounted
 
   one-up : (q : List ℕ) (m : Summary) → read_summary q ≡ Ok m → (x : Channel) → KnownIn before x → SafeUp m x → (own : Option ℕ) → Accounted (with_ups own (q ∷ []) x)
@@ -159,13 +159,13 @@ module _ (before : List Row) (good : AreApart (channels_of before)) (k : ℕ) wh
   meant-down : (p : List ℕ) → dest before p ≡ ToClient k → (m : Summary) → read_summary p ≡ Ok m → (x : Channel) → KnownIn before x → SafeDown m x
   meant-down p to (Within n act) reads x known = by_act act (sym (dest-ok before p (Within n act) reads) ∙ to)
     where
-      legal : (act : Act) → is_plain act ≡ true → dest_within before n act ≡ ToClient k → is_number x.number n ≡ true → is_held x ≡ true → MayAct Down act x
+      legal : (act : Act) → is_plain act ≡ true → dest_within before n act ≡ ToClient k → is_number x.number n ≡ true → is_channel_held x ≡ true → MayAct Down act x
       legal act plain to has held =
           let l : Legal before n act k = within-legal before n act k plain to in
           let same : x ≡ l.channel = some-same x l.channel (sym (known.holds n held has) ∙ l.is) in
           may-of Down act x (ap (breach Down act) same ∙ l.fine)
 
-      by_act : (act : Act) → dest_within before n act ≡ ToClient k → is_number x.number n ≡ true → is_held x ≡ true → MayAct Down act x
+      by_act : (act : Act) → dest_within before n act ≡ ToClient k → is_number x.number n ≡ true → is_channel_held x ≡ true → MayAct Down act x
       by_act Fails to = λ has held. tt
       by_act (Confirms w max) to = legal (Confirms w max) refl to
       by_act (Grants g) to = legal (Grants g) refl to
@@ -193,7 +193,7 @@ master-item : (before : List Row) (row : Row) → AreApart (channels_of before) 
 master-item before row good none harmless = λ known. by-each (channels_of before) good.each known
   where
     stays : (x : Channel) → Sound x → after_item row x ≡ x
-    stays x sound = ap (λ b. elim b as (λ _. Channel) [ true ↦ with_ups (own_of row.item) row.up (received_by row.item x) | false ↦ x ]) (ap (λ c. x.client == c) none ∙ not_zero x.client sound.client)
+    stays x sound = ap (λ b. elim b as (λ _. Channel) [ true ↦ with_ups (own_number_of row.item) row.up (received_by row.item x) | false ↦ x ]) (ap (λ c. x.client == c) none ∙ not_zero x.client sound.client)
       where
         not_zero : (c : ℕ) → (c ≡ 0 → ⊥) → (c == 0) ≡ false
         not_zero c real = by_test (c == 0) refl

@@ -1,11 +1,11 @@
 -- What each row sends up, and how its messages move channels.
 use Rattle.std.proofs.Common.{◌≡◌, ℕ, List, [], ◌∷◌, length, true, false, Bool, refl, Option, Some, None, inl, inr, Ok, Err}
 use Rattle.std.specs.Prelude.{◌==◌, ◌&&◌, ◌⊎◌, Result, nat_lt, codes}
-use Rattle.mux_history.specs.Channels.{Channel, held_of, is_held, is_number, with_down, with_own, with_up, with_ups}
+use Rattle.mux_history.specs.Channels.{Channel, held_of, is_channel_held, is_number, with_down, with_own, with_up, with_ups}
 use Rattle.mux_history.specs.Controls.{answers_ask, answers_maybe, house_answer, house_sends, in_proxy, sent_body, sent_first, sent_later}
 use Rattle.mux_history.specs.Farewell.{farewell}
-use Rattle.mux_history.specs.Forwardings.{current, is_free_at}
-use Rattle.mux_history.specs.Summary.{Confirmation, Summary, Open, Refuses, Requests, Succeeds, Transport, Within, read_summary, reading, sender_of}
+use Rattle.mux_history.specs.Forwardings.{current, is_forwarding_free_at}
+use Rattle.mux_history.specs.Summary.{Confirmation, Summary, Open, Refuses, Requests, Succeeds, Transport, Within, read_summary, reading, summary_sender_of}
 use Rattle.mux_history.specs.Heard.{received_for, received_master}
 use Rattle.mux_history.specs.Kept.{Every, IsMasters}
 use Rattle.mux_history.specs.Keys.{is_askable}
@@ -42,15 +42,15 @@ quiet-heard own p = quiet-each (received_for own p).sent (harmless-heard own p)
 pub quiet-master : (p : List ℕ) → Every Quiet (received_master p).sent
 quiet-master p = quiet-each (received_master p).sent (harmless-master p)
 
--- ---- what goes up for what a client says
+-- ---- what goes up for what a client sends
 
 pub record SentPlain (p : List ℕ) (m : Summary) (ups : List (List ℕ)) : Type 0 where
   pub up : ups ≡ p ∷ []
-  pub unowned : sender_of m ≡ None
+  pub unowned : summary_sender_of m ≡ None
 
 pub record SentFresh (own : List Row) (pick : ℕ) (p : List ℕ) (m : Summary) (ups : List (List ℕ)) : Type 0 where
   pub c : ℕ
-  pub owned : sender_of m ≡ Some c
+  pub owned : summary_sender_of m ≡ Some c
   pub up : ups ≡ with_sender p pick ∷ []
   pub unused : with_own own c ≡ None
 
@@ -69,7 +69,7 @@ sent-by policy k own pick p (Requests what wants) = by_full (is_full_of_asks wan
 
     by_what : (g : Global) → Sent own pick p (Requests what wants) (sent_request policy k own p g wants).sent
     by_what (Forward key) = by_if (wants && (is_askable key && (permits policy.listens key && nat_lt (length (current own)) 64)))
-    by_what (Cancel key) = by_if (any_of (is_free_at k key) (current own))
+    by_what (Cancel key) = by_if (any_of (is_forwarding_free_at k key) (current own))
     by_what KeepAlive = by_if true
     by_what OtherName = inl refl
 
@@ -153,7 +153,7 @@ admits-sent rows = elim (nat_lt (open_matters rows) 64) as (λ b. (elim b as (λ
 abbrev pub as_row : Item → ℕ → List (List ℕ) → List (List ℕ) → List (List ℕ) → Fate → Row
 as_row item k up fw down fate = record { item = item; client = k; up = up; farewell = fw; down = down; fate = fate }
 
--- with all that the row tells
+-- with all that the row gives
 pub row-split : (P : Row → Type 0) (item : Item) (k : ℕ) (o : Outcome) (own : List Row) → ((fw : List (List ℕ)) → Every IsMasters fw → (fate : Fate) → P (as_row item k o.sent fw (queued (all_recorded (bare item k o) own) (bare item k o) own).down fate)) → P (row_of item k o own)
 row-split P item k o own each = by_case (loses (queued (all_recorded (bare item k o) own) (bare item k o) own))
   where
@@ -183,10 +183,10 @@ and-left false b e = cc
 
 up-ids : (own : Option ℕ) (m : Summary) → IsQuiet m → (x : Channel) → Ids x (with_up own m x)
 up-ids own (Confirmation s n w m) quiet x = absurd quiet
-up-ids own (Within s act) quiet x = by_case (is_number x.remote s && is_held x) refl
+up-ids own (Within s act) quiet x = by_case (is_number x.remote s && is_channel_held x) refl
   where
-    by_case : (b : Bool) → (is_number x.remote s && is_held x) ≡ b → Ids x (elim b as (λ _. Channel) [ true ↦ record x { acts = (Up, act) ∷ x.acts } | false ↦ x ])
-    by_case true e = record { client = refl; number = refl; own = refl; remote = refl; held = λ h. and-right (is_number x.remote s) (is_held x) e }
+    by_case : (b : Bool) → (is_number x.remote s && is_channel_held x) ≡ b → Ids x (elim b as (λ _. Channel) [ true ↦ record x { acts = (Up, act) ∷ x.acts } | false ↦ x ])
+    by_case true e = record { client = refl; number = refl; own = refl; remote = refl; held = λ h. and-right (is_number x.remote s) (is_channel_held x) e }
     by_case false e = ids-self x
 up-ids own m quiet x = ids-self x
 
@@ -199,26 +199,26 @@ ups-ids own (q ∷ ups) quiet x = ids-then x (reading q (λ m. with_up own m x) 
     one (Ok m) quiet = up-ids own m (quiet m refl) x
 
 pub up-step : (k c s n w max : ℕ) (x : Channel) → x.client ≡ k → UpStep k c n s w max x (with_up (Some c) (Confirmation s n w max) x)
-up-step k c s n w max x mine = by_case (is_number x.remote s && is_held x) refl
+up-step k c s n w max x mine = by_case (is_number x.remote s && is_channel_held x) refl
   where
-    by_case : (b : Bool) → (is_number x.remote s && is_held x) ≡ b → UpStep k c n s w max x (elim b as (λ _. Channel) [ true ↦ brought_up c n w max x | false ↦ x ])
-    by_case true e = inr (record { client = mine; held = and-right (is_number x.remote s) (is_held x) e; remote = and-left (is_number x.remote s) (is_held x) e; ids = ids-self (brought_up c n w max x) })
+    by_case : (b : Bool) → (is_number x.remote s && is_channel_held x) ≡ b → UpStep k c n s w max x (elim b as (λ _. Channel) [ true ↦ brought_up c n w max x | false ↦ x ])
+    by_case true e = inr (record { client = mine; held = and-right (is_number x.remote s) (is_channel_held x) e; remote = and-left (is_number x.remote s) (is_channel_held x) e; ids = ids-self (brought_up c n w max x) })
     by_case false e = inl (ids-self x)
 
 pub down-ids : (m : Summary) → IsQuiet m → (x : Channel) → Ids x (with_down m x)
 down-ids (Confirmation s n w m) quiet x = absurd quiet
-down-ids (Within n act) quiet x = by_case (is_number x.number n && is_held x) refl
+down-ids (Within n act) quiet x = by_case (is_number x.number n && is_channel_held x) refl
   where
-    by_case : (b : Bool) → (is_number x.number n && is_held x) ≡ b → Ids x (elim b as (λ _. Channel) [ true ↦ record x { acts = (Down, act) ∷ x.acts } | false ↦ x ])
-    by_case true e = record { client = refl; number = refl; own = refl; remote = refl; held = λ h. and-right (is_number x.number n) (is_held x) e }
+    by_case : (b : Bool) → (is_number x.number n && is_channel_held x) ≡ b → Ids x (elim b as (λ _. Channel) [ true ↦ record x { acts = (Down, act) ∷ x.acts } | false ↦ x ])
+    by_case true e = record { client = refl; number = refl; own = refl; remote = refl; held = λ h. and-right (is_number x.number n) (is_channel_held x) e }
     by_case false e = ids-self x
 down-ids m quiet x = ids-self x
 
 pub down-step : (n s w max : ℕ) (x : Channel) → DownStep n s w max x (with_down (Confirmation n s w max) x)
-down-step n s w max x = by_case (is_number x.number n && is_held x) refl
+down-step n s w max x = by_case (is_number x.number n && is_channel_held x) refl
   where
-    by_case : (b : Bool) → (is_number x.number n && is_held x) ≡ b → DownStep n s w max x (elim b as (λ _. Channel) [ true ↦ brought_down s w max x | false ↦ x ])
-    by_case true e = inr (record { held = and-right (is_number x.number n) (is_held x) e; number = and-left (is_number x.number n) (is_held x) e; ids = ids-self (brought_down s w max x) })
+    by_case : (b : Bool) → (is_number x.number n && is_channel_held x) ≡ b → DownStep n s w max x (elim b as (λ _. Channel) [ true ↦ brought_down s w max x | false ↦ x ])
+    by_case true e = inr (record { held = and-right (is_number x.number n) (is_channel_held x) e; number = and-left (is_number x.number n) (is_channel_held x) e; ids = ids-self (brought_down s w max x) })
     by_case false e = inl (ids-self x)
 
 pub down-then : (n s w max : ℕ) (x y z : Channel) → DownStep n s w max x y → Ids y z → DownStep n s w max x z

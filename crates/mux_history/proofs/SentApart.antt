@@ -3,9 +3,9 @@ use Rattle.std.proofs.Common.{◌≡◌, ℕ, ◌<◌, List, [], ◌∷◌, ◌+
 use Rattle.std.specs.Prelude.{◌==◌, filter, find, Result, MatchBool, is_some}
 use Rattle.std.proofs.lemmas.List.{append-nil}
 use Rattle.std.proofs.lemmas.Bool.Decides.{nat_tests}
-use Rattle.mux_history.specs.Channels.{Channel, after_farewell, after_item, begun_by, channels_of, received_by, holder, is_held, is_number, opened_up, own_of, with_own, with_up, with_ups}
+use Rattle.mux_history.specs.Channels.{Channel, after_farewell, after_item, begun_by, channels_of, received_by, holder, is_channel_held, is_number, opened_up, own_number_of, with_own, with_up, with_ups}
 use Rattle.mux_history.specs.Choices.{sent_number, takes_number}
-use Rattle.mux_history.specs.Summary.{Confirmation, Summary, Open, read_summary, reading, sender_of}
+use Rattle.mux_history.specs.Summary.{Confirmation, Summary, Open, read_summary, reading, summary_sender_of}
 use Rattle.mux_history.specs.Kept.{Every}
 use Rattle.mux_history.specs.Policy.{Policy}
 use Rattle.mux_history.specs.Right.{carried_number}
@@ -48,7 +48,7 @@ IsFresh before row = MatchBool (takes_number row) ((carried_number row.up < 1638
 
 -- ---- a client's own numbers are small
 
-pub own-small : (p : List ℕ) (m : Summary) (c : ℕ) → AreBytes p → read_summary p ≡ Ok m → sender_of m ≡ Some c → c < 4294967296
+pub own-small : (p : List ℕ) (m : Summary) (c : ℕ) → AreBytes p → read_summary p ≡ Ok m → summary_sender_of m ≡ Some c → c < 4294967296
 own-small p m c bytes reads owned =
     let s : SenderIn p m = sender-in p m c bytes reads owned in
     let said : Some s.old ≡ Some c = sym s.said ∙ owned in
@@ -72,7 +72,7 @@ good-still row cs parting ids begun good =
     (subst (λ (bs : List Channel). AreApart (map (after_item row) cs ++ bs)) (sym begun) (subst AreApart (sym (append-nil (map (after_item row) cs))) (good-ids (after_item row) ids cs good)))
 
 pub item-ids : (row : Row) (x : Channel) → Every Quiet row.up → Ids x (received_by row.item x) → Ids x (after_item row x)
-item-ids row x quiet heard = elim (x.client == row.client) as (λ b. Ids x (elim b as (λ _. Channel) [ true ↦ with_ups (own_of row.item) row.up (received_by row.item x) | false ↦ x ])) [ true ↦ ids-then x (received_by row.item x) (with_ups (own_of row.item) row.up (received_by row.item x)) heard (ups-ids (own_of row.item) row.up quiet (received_by row.item x)) | false ↦ ids-self x ]
+item-ids row x quiet heard = elim (x.client == row.client) as (λ b. Ids x (elim b as (λ _. Channel) [ true ↦ with_ups (own_number_of row.item) row.up (received_by row.item x) | false ↦ x ])) [ true ↦ ids-then x (received_by row.item x) (with_ups (own_number_of row.item) row.up (received_by row.item x)) heard (ups-ids (own_number_of row.item) row.up quiet (received_by row.item x)) | false ↦ ids-self x ]
 
 unequal : (a b : ℕ) → (a == b) ≡ true → b ≡ 0 → (a ≡ 0 → ⊥) → ⊥
 unequal a b e z real = real (same a b e ∙ z)
@@ -84,27 +84,27 @@ unequal a b e z real = real (same a b e ∙ z)
 pub item-master : (row : Row) → row.client ≡ 0 → (x : Channel) → Sound x → Ids x (after_item row x)
 item-master row zero_client x sound = by_case (x.client == row.client) refl
   where
-    by_case : (b : Bool) → (x.client == row.client) ≡ b → Ids x (elim b as (λ _. Channel) [ true ↦ with_ups (own_of row.item) row.up (received_by row.item x) | false ↦ x ])
+    by_case : (b : Bool) → (x.client == row.client) ≡ b → Ids x (elim b as (λ _. Channel) [ true ↦ with_ups (own_number_of row.item) row.up (received_by row.item x) | false ↦ x ])
     by_case true e = absurd (unequal x.client row.client e zero_client sound.client)
     by_case false e = ids-self x
 
 -- ---- what a client sends
 
-unowned-quiet : (m : Summary) → sender_of m ≡ None → IsQuiet m
+unowned-quiet : (m : Summary) → summary_sender_of m ≡ None → IsQuiet m
 unowned-quiet (Confirmation s c w max) e = cc
 unowned-quiet m e = tt
 
 pub ok-same : (p : List ℕ) (m m' : Summary) → read_summary p ≡ Ok m → read_summary p ≡ Ok m' → m ≡ m'
 ok-same p m m' a b = cc
 
-pub quiet-plain : (p : List ℕ) (m : Summary) → read_summary p ≡ Ok m → sender_of m ≡ None → Quiet p
+pub quiet-plain : (p : List ℕ) (m : Summary) → read_summary p ≡ Ok m → summary_sender_of m ≡ None → Quiet p
 quiet-plain p m reads unowned m' reads' = subst IsQuiet (ok-same p m m' reads reads') (unowned-quiet m unowned)
 
 pub opened-none : (k : ℕ) (m : Summary) → opened_up k [] m ≡ []
 opened-none k (Open what c w max) = refl
 opened-none k m = refl
 
-pub opened-plain : (k : ℕ) (ups : List (List ℕ)) (m : Summary) → sender_of m ≡ None → opened_up k ups m ≡ []
+pub opened-plain : (k : ℕ) (ups : List (List ℕ)) (m : Summary) → summary_sender_of m ≡ None → opened_up k ups m ≡ []
 opened-plain k [] m e = opened-none k m
 opened-plain k (q ∷ qs) (Open what c w max) e = cc
 opened-plain k (q ∷ qs) m e = refl
@@ -116,10 +116,10 @@ begun-none k client p reply = by_case (read_summary p)
     by_case (Err e) = refl
     by_case (Ok m) = opened-none k m
 
-pub unused-own : (k c : ℕ) (before : List Row) → with_own (rows_of k before) c ≡ None → Each (λ x. (x.client == k) ≡ true → is_held x ≡ true → is_number x.own c ≡ false) (channels_of before)
+pub unused-own : (k c : ℕ) (before : List Row) → with_own (rows_of k before) c ≡ None → Each (λ x. (x.client == k) ≡ true → is_channel_held x ≡ true → is_number x.own c ≡ false) (channels_of before)
 unused-own k c before none =
-    filter-each k (λ x. is_held x ≡ true → is_number x.own c ≡ false) (channels_of before)
-    (find-none (λ x. is_number x.own c) (filter (is_of k) (channels_of before)) (ap (λ cs. find (λ (x : Channel). is_number x.own c) (filter is_held cs)) (channels-local k before) ∙ none))
+    filter-each k (λ x. is_channel_held x ≡ true → is_number x.own c ≡ false) (channels_of before)
+    (find-none (λ x. is_number x.own c) (filter (is_of k) (channels_of before)) (ap (λ cs. find (λ (x : Channel). is_number x.own c) (filter is_channel_held cs)) (channels-local k before) ∙ none))
 
 unused-both : (n k c : ℕ) (before : List Row) → holder before n ≡ None → with_own (rows_of k before) c ≡ None → Each (Unused n k c) (channels_of before)
 unused-both n k c before fresh none = each-both _ _ (Unused n k c) (λ x a b. record { number = a; own = λ h e. b e h }) (channels_of before) (find-none (λ x. is_number x.number n) (channels_of before) fresh) (unused-own k c before none)
@@ -131,10 +131,10 @@ module _ (before : List Row) (good : AreApart (channels_of before)) (k : ℕ) (r
   good-nothing : AreApart (Next (the_row []) (channels_of before))
   good-nothing = good-still (the_row []) (channels_of before) parting (λ x s. item-ids (the_row []) x tt (ids-self x)) (begun-none k k p reply) good
 
-  good-plain : (m : Summary) → read_summary p ≡ Ok m → sender_of m ≡ None → AreApart (Next (the_row (p ∷ [])) (channels_of before))
+  good-plain : (m : Summary) → read_summary p ≡ Ok m → summary_sender_of m ≡ None → AreApart (Next (the_row (p ∷ [])) (channels_of before))
   good-plain m reads unowned = good-still (the_row (p ∷ [])) (channels_of before) parting (λ x s. item-ids (the_row (p ∷ [])) x (quiet-plain p m reads unowned, tt) (ids-self x)) (reading-ok p m (opened_up k (p ∷ [])) [] reads ∙ opened-plain k (p ∷ []) m unowned) good
 
-  good-fresh : (pick c : ℕ) (m : Summary) → AreBytes p → read_summary p ≡ Ok m → sender_of m ≡ Some c → with_own (rows_of k before) c ≡ None → IsFresh before (the_row (with_sender p pick ∷ [])) → AreApart (Next (the_row (with_sender p pick ∷ [])) (channels_of before))
+  good-fresh : (pick c : ℕ) (m : Summary) → AreBytes p → read_summary p ≡ Ok m → summary_sender_of m ≡ Some c → with_own (rows_of k before) c ≡ None → IsFresh before (the_row (with_sender p pick ∷ [])) → AreApart (Next (the_row (with_sender p pick ∷ [])) (channels_of before))
   good-fresh pick c m bytes reads owned unused fresh = by_message m reads owned (reads-sent p m sender pick)
     where
       sender : SenderIn p m
@@ -146,8 +146,8 @@ module _ (before : List Row) (good : AreApart (channels_of before)) (k : ℕ) (r
       small : c < 4294967296
       small = own-small p m c bytes reads owned
 
-      has_own : own_of (Says k (Payload p) reply) ≡ Some c
-      has_own = reading-ok p m sender_of None reads ∙ owned
+      has_own : own_number_of (Says k (Payload p) reply) ≡ Some c
+      has_own = reading-ok p m summary_sender_of None reads ∙ owned
 
       numbered : (carried_number (with_sender p pick ∷ []) < 16384) × (holder before (carried_number (with_sender p pick ∷ [])) ≡ None)
       numbered = subst (λ (b : Bool). MatchBool b ((carried_number (with_sender p pick ∷ []) < 16384) × (holder before (carried_number (with_sender p pick ∷ [])) ≡ None)) (Unit {0})) (ap is_some has_own) fresh
@@ -155,7 +155,7 @@ module _ (before : List Row) (good : AreApart (channels_of before)) (k : ℕ) (r
       all_unused : Each (Unused (word pick) k c) (channels_of before)
       all_unused = unused-both (word pick) k c before (ap (holder before) (sym (ap sent_number (number-sent p m sender pick))) ∙ numbered.1) unused
 
-      by_message : (m' : Summary) → read_summary p ≡ Ok m' → sender_of m' ≡ Some c → read_summary (with_sender p pick) ≡ Ok (resent (word pick) m') → AreApart (Next (the_row (with_sender p pick ∷ [])) (channels_of before))
+      by_message : (m' : Summary) → read_summary p ≡ Ok m' → summary_sender_of m' ≡ Some c → read_summary (with_sender p pick) ≡ Ok (resent (word pick) m') → AreApart (Next (the_row (with_sender p pick ∷ [])) (channels_of before))
       by_message (Open what c' w max) reads' owned' again =
           good-parted (the_row (with_sender p pick ∷ [])) parting (map (after_item (the_row (with_sender p pick ∷ []))) (channels_of before) ++ begun_by k (with_sender p pick ∷ []) (Says k (Payload p) reply))
           (subst (λ (bs : List Channel). AreApart (map (after_item (the_row (with_sender p pick ∷ []))) (channels_of before) ++ bs)) (sym begun)
@@ -164,8 +164,8 @@ module _ (before : List Row) (good : AreApart (channels_of before)) (k : ℕ) (r
           stays : (x : Channel) → after_item (the_row (with_sender p pick ∷ [])) x ≡ x
           stays x = by_client (x.client == k)
             where
-              by_client : (b : Bool) → (elim b as (λ _. Channel) [ true ↦ reading (with_sender p pick) (λ m. with_up (own_of (Says k (Payload p) reply)) m x) x | false ↦ x ]) ≡ x
-              by_client true = reading-ok (with_sender p pick) (Open what (word pick) w max) (λ m. with_up (own_of (Says k (Payload p) reply)) m x) x again
+              by_client : (b : Bool) → (elim b as (λ _. Channel) [ true ↦ reading (with_sender p pick) (λ m. with_up (own_number_of (Says k (Payload p) reply)) m x) x | false ↦ x ]) ≡ x
+              by_client true = reading-ok (with_sender p pick) (Open what (word pick) w max) (λ m. with_up (own_number_of (Says k (Payload p) reply)) m x) x again
               by_client false = refl
 
           moved : (x : Channel) → Ids x (after_item (the_row (with_sender p pick ∷ [])) x)
@@ -194,8 +194,8 @@ module _ (before : List Row) (good : AreApart (channels_of before)) (k : ℕ) (r
               same : (a b : ℕ) → (a == b) ≡ true → a ≡ b
               same a b e = grind (arith, nat_tests)
 
-              by_client : (b : Bool) → (x.client == k) ≡ b → UpStep k c (word pick) s w max x (elim b as (λ _. Channel) [ true ↦ reading (with_sender p pick) (λ m. with_up (own_of (Says k (Payload p) reply)) m x) x | false ↦ x ])
-              by_client true e = subst (UpStep k c (word pick) s w max x) (sym (reading-ok (with_sender p pick) (Confirmation s (word pick) w max) (λ m. with_up (own_of (Says k (Payload p) reply)) m x) x again ∙ ap (λ o. with_up o (Confirmation s (word pick) w max) x) has_own)) (up-step k c s (word pick) w max x (same x.client k e))
+              by_client : (b : Bool) → (x.client == k) ≡ b → UpStep k c (word pick) s w max x (elim b as (λ _. Channel) [ true ↦ reading (with_sender p pick) (λ m. with_up (own_number_of (Says k (Payload p) reply)) m x) x | false ↦ x ])
+              by_client true e = subst (UpStep k c (word pick) s w max x) (sym (reading-ok (with_sender p pick) (Confirmation s (word pick) w max) (λ m. with_up (own_number_of (Says k (Payload p) reply)) m x) x again ∙ ap (λ o. with_up o (Confirmation s (word pick) w max) x) has_own)) (up-step k c s (word pick) w max x (same x.client k e))
               by_client false e = inl (ids-self x)
       by_message m' reads' owned' again = cc
 

@@ -4,7 +4,7 @@ use Rattle.std.specs.Prelude.{◌==◌, ◌||◌, ◌&&◌, not, reverse, All, I
 use Rattle.std.proofs.lemmas.Bool.Decides.{nat_tests}
 use Rattle.mux_outside.specs.Streams.{among, without}
 use Rattle.mux_outside.specs.Wire.{IsNewOwn, OwnFits, TurnFits, WroteFits}
-use Rattle.mux_outside.specs.Seen.{Seen, blocked_after, blocked_after_write, last_after, open_after, wait_marks, write_marks}
+use Rattle.mux_outside.specs.Seen.{Seen, blocked_after, blocked_after_write, last_after, open_after, shown_of, wait_marks, write_marks}
 use Rattle.mux_outside.specs.OwnStreams.{is_own}
 use Rattle.mux_outside.specs.declared.house_mark.HouseMark.{HouseMark}
 use Rattle.mux_outside.specs.declared.house_mark.HouseMark.TheVariants.{HouseOrder}
@@ -13,6 +13,7 @@ use Rattle.mux_outside.specs.declared.own_streams.TheConstants.{LAST_OWN}
 use Rattle.mux_outside.specs.declared.mark.Mark.{Mark}
 use Rattle.mux_history.specs.declared.limits.TheConstants.{HOUSE}
 use Rattle.mux_outside.specs.declared.mark.Mark.TheVariants as wire
+use Rattle.mux_outside.specs.declared.shown.Shown.{Shown}
 use Rattle.mux_outside.specs.declared.turn.Turn.{Turn}
 use Rattle.mux_outside.specs.declared.turn.Turn.TheVariants as turns
 use Rattle.mux_outside.specs.declared.turn.Want.{Want}
@@ -141,56 +142,56 @@ held-house s m marks held = by_case (connects s m)
 still : (before : List Mark) (mark : Mark) → reads mark ≡ false → ReadsWhenAsked before mark
 still before mark quiet reading = absurd (let bad : true ≡ false = sym reading ∙ quiet in let h = bad in cc)
 
-read-after : (waiting streams : List ℕ) (wanted : Want) (listens : Bool) (before : List Mark) → wanted ≡ want.Read → FollowsRead (wire.Waits waiting wanted streams listens ∷ before)
-read-after waiting streams wanted listens before e = subst (λ (x : Want). FollowsRead (wire.Waits waiting x streams listens ∷ before)) (sym e) tt
+read-after : (waiting streams : List ℕ) (wanted : Want) (shown : Shown) (before : List Mark) → wanted ≡ want.Read → FollowsRead (wire.Waits waiting wanted streams shown ∷ before)
+read-after waiting streams wanted shown before e = subst (λ (x : Want). FollowsRead (wire.Waits waiting x streams shown ∷ before)) (sym e) tt
 
 module _ (seen : Seen) (marks : List Mark) where
   all-held : OfWire seen.streams seen.blocked seen.last marks → (waiting : List ℕ) → All (λ t. IsTrue (among t seen.blocked)) waiting → All (λ t. IsTrue (is_blocked t marks)) waiting
   all-held of waiting all k d lt = of.holds _ (all k d lt)
 
-  turn-kept : (given : Turn) (waiting : List ℕ) (wanted : Want) (bytes : List ℕ) → AreBytes bytes → All (λ t. IsTrue (among t seen.blocked)) waiting → TurnFits given wanted seen bytes → OwnFits given seen → OfWire seen.streams seen.blocked seen.last marks → OfWire (open_after given seen.streams) (blocked_after given seen.blocked) (last_after given seen.last) (reverse (wait_marks given waiting wanted seen.streams seen.listens bytes) ++ marks)
+  turn-kept : (given : Turn) (waiting : List ℕ) (wanted : Want) (bytes : List ℕ) → AreBytes bytes → All (λ t. IsTrue (among t seen.blocked)) waiting → TurnFits given wanted seen bytes → OwnFits given seen → OfWire seen.streams seen.blocked seen.last marks → OfWire (open_after given seen.streams) (blocked_after given seen.blocked) (last_after given seen.last) (reverse (wait_marks given waiting wanted seen.streams (shown_of seen) bytes) ++ marks)
   turn-kept (turns.Accepted k) waiting wanted bytes are all fits own_fits of =
       let low = of.below in
       let next = fits.2 in
       let most = fits.3 in
       record {
         lawful = ((omega (arith, low, next), omega (arith, next, most)), (all-held of waiting all, of.lawful));
-        asked = (λ reading. read-after waiting seen.streams wanted seen.listens marks fits.0, (still marks (wire.Waits waiting wanted seen.streams seen.listens) refl, of.asked));
+        asked = (λ reading. read-after waiting seen.streams wanted (shown_of seen) marks fits.0, (still marks (wire.Waits waiting wanted seen.streams (shown_of seen)) refl, of.asked));
         known = λ t there. among-last (is_known t (wire.Accepts k ∷ marks) ≡ true) t k seen.streams (λ old. known-before t k marks (of.known t old)) (λ same. known-new t k marks same) there;
         holds = of.holds;
         below = omega arith;
       }
   turn-kept (turns.Got t) waiting wanted bytes are all fits own_fits of = record {
     lawful = ((of.known t fits.1, fits.2, fits.3, are), (all-held of waiting all, of.lawful));
-    asked = (λ reading. read-after waiting seen.streams wanted seen.listens marks fits.0, (still marks (wire.Waits waiting wanted seen.streams seen.listens) refl, of.asked));
+    asked = (λ reading. read-after waiting seen.streams wanted (shown_of seen) marks fits.0, (still marks (wire.Waits waiting wanted seen.streams (shown_of seen)) refl, of.asked));
     known = of.known;
     holds = of.holds;
     below = of.below;
   }
   turn-kept (turns.End t) waiting wanted bytes are all fits own_fits of = record {
     lawful = (of.known t fits.1, (all-held of waiting all, of.lawful));
-    asked = (still (wire.Waits waiting wanted seen.streams seen.listens ∷ marks) (wire.Ends t) refl, (still marks (wire.Waits waiting wanted seen.streams seen.listens) refl, of.asked));
+    asked = (still (wire.Waits waiting wanted seen.streams (shown_of seen) ∷ marks) (wire.Ends t) refl, (still marks (wire.Waits waiting wanted seen.streams (shown_of seen)) refl, of.asked));
     known = of.known;
     holds = of.holds;
     below = of.below;
   }
   turn-kept (turns.Writable t) waiting wanted bytes are all fits own_fits of = record {
     lawful = (of.holds t fits.1, (all-held of waiting all, of.lawful));
-    asked = (still (wire.Waits waiting wanted seen.streams seen.listens ∷ marks) (wire.Frees t) refl, (still marks (wire.Waits waiting wanted seen.streams seen.listens) refl, of.asked));
+    asked = (still (wire.Waits waiting wanted seen.streams (shown_of seen) ∷ marks) (wire.Frees t) refl, (still marks (wire.Waits waiting wanted seen.streams (shown_of seen)) refl, of.asked));
     known = of.known;
     holds = λ s there. ap (λ b. elim b as (λ _. Bool) [ true ↦ false | false ↦ is_blocked s marks ]) (other-than t s seen.blocked there) ∙ of.holds s (was-among t s seen.blocked there);
     below = of.below;
   }
   turn-kept (turns.Failed t) waiting wanted bytes are all fits own_fits of = record {
     lawful = (of.known t fits, (all-held of waiting all, of.lawful));
-    asked = (still (wire.Waits waiting wanted seen.streams seen.listens ∷ marks) (wire.Fails t) refl, (still marks (wire.Waits waiting wanted seen.streams seen.listens) refl, of.asked));
+    asked = (still (wire.Waits waiting wanted seen.streams (shown_of seen) ∷ marks) (wire.Fails t) refl, (still marks (wire.Waits waiting wanted seen.streams (shown_of seen)) refl, of.asked));
     known = of.known;
     holds = of.holds;
     below = of.below;
   }
   turn-kept (turns.Joined l t) waiting wanted bytes are all fits own_fits of = record {
     lawful = (tt, (all-held of waiting all, of.lawful));
-    asked = (λ reading. read-after waiting seen.streams wanted seen.listens marks fits, (still marks (wire.Waits waiting wanted seen.streams seen.listens) refl, of.asked));
+    asked = (λ reading. read-after waiting seen.streams wanted (shown_of seen) marks fits, (still marks (wire.Waits waiting wanted seen.streams (shown_of seen)) refl, of.asked));
     known = λ s there. among-last (is_known s marks ≡ true) s t seen.streams (λ old. of.known s old) (λ same. own-known s marks (same-own t s same (new-own seen.last_own t own_fits.1))) there;
     holds = of.holds;
     below = of.below;
@@ -200,10 +201,10 @@ module _ (seen : Seen) (marks : List Mark) where
   some-taken : (n : ℕ) (bytes : List ℕ) → 1 ≤ n → n ≤ length bytes → 0 < length (take n bytes)
   some-taken n bytes some most = omega (arith, length-take n bytes)
 
-  write-kept : (answer : Wrote) (t : ℕ) (bytes : List ℕ) → AreBytes bytes → 0 < length bytes → IsTrue (among t seen.streams) → WroteFits answer (length bytes) → OfWire seen.streams seen.blocked seen.last marks → OfWire seen.streams (blocked_after_write answer t seen.blocked) seen.last (reverse (write_marks answer t bytes) ++ marks)
+  write-kept : (answer : Wrote) (t : ℕ) (bytes : List ℕ) → AreBytes bytes → 0 < length bytes → IsTrue (among t seen.streams) → WroteFits answer (length bytes) → OfWire seen.streams seen.blocked seen.last marks → OfWire seen.streams (blocked_after_write answer t seen.blocked) seen.last (reverse (write_marks answer t bytes seen.listens) ++ marks)
   write-kept (wrote.Took n) t bytes are some there fits of = record {
     lawful = ((of.known t there, some-taken n bytes fits.0 fits.1, AreBytes-take n bytes are), of.lawful);
-    asked = (still marks (wire.Takes t (take n bytes)) refl, of.asked);
+    asked = (still marks (wire.Takes t (take n bytes) seen.listens) refl, of.asked);
     known = of.known;
     holds = of.holds;
     below = of.below;

@@ -6,7 +6,7 @@ use Rattle.std.proofs.Math.Seq.{drop-append_seam}
 use Rattle.std.proofs.lemmas.Bool.Decides.{nat_tests}
 use Rattle.mux_history.specs.Choices.{Choices, FromLists, TheirOwn, pick_of, replies_given, reply_at, with_reply}
 use Rattle.mux_history.specs.Controls.{body_asks, greeted}
-use Rattle.mux_history.specs.Journal.{bytes_of, received_item, house_items, is_own_stream, unless_own, items, items_in, log_of_journal, new_received, new_sayings, sent_item, server_end, taken_by, taken_in}
+use Rattle.mux_history.specs.Journal.{bytes_of, received_item, house_items, is_own_stream, unless_own, items, items_in, log_of_journal, new_received, new_sayings, sent_item, server_end, taken_by, bytes_taken_in}
 use Rattle.mux_history.specs.Laws.{AddsUp}
 use Rattle.mux_history.specs.Log.{Setting, bare, is_took, makes_next, more_all, more_of, next_row, treat}
 use Rattle.mux_history.specs.Pending.{given_by, given_to, joined, pending, pending_down, pending_up, took_by, took_up}
@@ -193,7 +193,7 @@ module _ (setting : Setting) (before : List Mark) (t : ℕ) (client : is_own t �
   abbrev log : List Row
   log = log_of_journal setting before
 
-  nothing : (m : Mark) → taken_in t m ≡ [] → AreStill (items_in before m) → taken_by t (m ∷ before) ++ pending t (log_of_journal setting (m ∷ before)) ≡ given_to t (log_of_journal setting (m ∷ before))
+  nothing : (m : Mark) → bytes_taken_in t m ≡ [] → AreStill (items_in before m) → taken_by t (m ∷ before) ++ pending t (log_of_journal setting (m ∷ before)) ≡ given_to t (log_of_journal setting (m ∷ before))
   nothing m none still =
       ap (λ xs. (taken_by t before ++ xs) ++ pending t (log_of_journal setting (m ∷ before))) none
       ∙ (ap (λ xs. xs ++ pending t (log_of_journal setting (m ∷ before))) (append-nil (taken_by t before))
@@ -207,7 +207,7 @@ module _ (setting : Setting) (before : List Mark) (t : ℕ) (client : is_own t �
   one-mark (wire.WriteFails stream) front = nothing (wire.WriteFails stream) refl (gone-still stream ServerFailed refl)
   one-mark (wire.Holds stream) front = nothing (wire.Holds stream) refl tt
   one-mark (wire.Frees stream) front = nothing (wire.Frees stream) refl tt
-  one-mark (wire.Waits waiting want streams listening) front = nothing (wire.Waits waiting want streams listening) refl tt
+  one-mark (wire.Waits waiting want streams shown) front = nothing (wire.Waits waiting want streams shown) refl tt
   one-mark (wire.Joins listener stream) front = nothing (wire.Joins listener stream) refl tt
   one-mark (wire.House mark) front = by_mark mark
     where
@@ -223,20 +223,20 @@ module _ (setting : Setting) (before : List Mark) (t : ℕ) (client : is_own t �
       by_mark (HouseAnswer k id given) = nothing (wire.House (HouseAnswer k id given)) refl (refl, tt)
       by_mark (HouseAsked k id opening ask given) = nothing (wire.House (HouseAsked k id opening ask given)) refl tt
       by_mark (HouseOrder order number) = nothing (wire.House (HouseOrder order number)) refl tt
-  one-mark (wire.Takes stream bytes) front = by_own (is_own_stream stream) refl front
+  one-mark (wire.Takes stream bytes accepts) front = by_own (is_own_stream stream) refl front
     where
-      none : (stream == t) ≡ false → taken_in t (wire.Takes stream bytes) ≡ []
+      none : (stream == t) ≡ false → bytes_taken_in t (wire.Takes stream bytes accepts) ≡ []
       none e = ap (λ b. elim b as (λ _. List ℕ) [ true ↦ bytes | false ↦ [] ]) e
 
-      items_are : (b : Bool) → is_own_stream stream ≡ b → items_in before (wire.Takes stream bytes) ≡ (elim b as (λ _. List Item) [ true ↦ [] | false ↦ Took stream (length bytes) ∷ [] ])
+      items_are : (b : Bool) → is_own_stream stream ≡ b → items_in before (wire.Takes stream bytes accepts) ≡ (elim b as (λ _. List Item) [ true ↦ [] | false ↦ Took stream (length bytes) ∷ [] ])
       items_are b e = ap (λ c. elim c as (λ _. List Item) [ true ↦ [] | false ↦ Took stream (length bytes) ∷ [] ]) e
 
-      rows_are : is_own_stream stream ≡ false → log_of_journal setting (wire.Takes stream bytes ∷ before) ≡ bare (Took stream (length bytes)) stream silent ∷ log
+      rows_are : is_own_stream stream ≡ false → log_of_journal setting (wire.Takes stream bytes accepts ∷ before) ≡ bare (Took stream (length bytes)) stream silent ∷ log
       rows_are e = ap (more_all setting log) (items_are false e) ∙ more-took setting log stream (length bytes)
 
-      by_own : (b : Bool) → is_own_stream stream ≡ b → MatchBool b (Unit {0}) (IsFront bytes (pending stream log)) → taken_by t (wire.Takes stream bytes ∷ before) ++ pending t (log_of_journal setting (wire.Takes stream bytes ∷ before)) ≡ given_to t (log_of_journal setting (wire.Takes stream bytes ∷ before))
-      by_own true e front = nothing (wire.Takes stream bytes) (none (other-own t stream client (own-of stream e))) (subst AreStill (sym (items_are true e)) tt)
-      by_own false e front = subst (λ (rows : List Row). taken_by t (wire.Takes stream bytes ∷ before) ++ pending t rows ≡ given_to t rows) (sym (rows_are e)) (holds-took t stream (taken_by t before) bytes log front known)
+      by_own : (b : Bool) → is_own_stream stream ≡ b → MatchBool b (Unit {0}) (IsFront bytes (pending stream log)) → taken_by t (wire.Takes stream bytes accepts ∷ before) ++ pending t (log_of_journal setting (wire.Takes stream bytes accepts ∷ before)) ≡ given_to t (log_of_journal setting (wire.Takes stream bytes accepts ∷ before))
+      by_own true e front = nothing (wire.Takes stream bytes accepts) (none (other-own t stream client (own-of stream e))) (subst AreStill (sym (items_are true e)) tt)
+      by_own false e front = subst (λ (rows : List Row). taken_by t (wire.Takes stream bytes accepts ∷ before) ++ pending t rows ≡ given_to t rows) (sym (rows_are e)) (holds-took t stream (taken_by t before) bytes log front known)
 
 pub adds-up : (setting : Setting) (marks : List Mark) → Throughout (TakesFront setting) marks → AddsUp setting marks
 adds-up setting [] fronts t client = by_stream (t == 0)

@@ -3,7 +3,7 @@ use Rattle.std.specs.Prelude.{ℕ, ◌==◌, List, [], ◌∷◌, ◌++◌, Opti
 use Rattle.ssh_grammar.specs.declared.side.Side.{Side}
 use Rattle.ssh_grammar.specs.declared.side.Side.TheVariants.{Up, Down}
 use Rattle.ssh_grammar.specs.Said.{Outgoing, Body, Payload, BadFraming}
-use Rattle.mux_history.specs.Summary.{Act, Confirms, Fails, Ends, Closes, Summary, Open, Confirmation, Within, reading, sender_of}
+use Rattle.mux_history.specs.Summary.{Act, Confirms, Fails, Ends, Closes, Summary, Open, Confirmation, Within, reading, summary_sender_of}
 use Rattle.mux_history.specs.Rows.{Row, any_of, Item, Says, Heard}
 
 -- a channel: its client, who opened it, the client's own number, the number that represents it
@@ -71,19 +71,19 @@ abbrev pub is_over : Channel → Bool
 is_over x = any_act is_fails x.acts || (any_by Up is_closes x.acts && any_by Down is_closes x.acts)
 
 -- the channel is not over
-abbrev pub is_held : Channel → Bool
-is_held x = not (is_over x)
+abbrev pub is_channel_held : Channel → Bool
+is_channel_held x = not (is_over x)
 
 -- ---- what one message does to a channel
 
 -- what is sent down under the number that represents the channel; a confirmation brings the
 -- server's number
 abbrev pub with_down : Summary → Channel → Channel
-with_down (Confirmation n s w m) x = elim (is_number x.number n && is_held x) [
+with_down (Confirmation n s w m) x = elim (is_number x.number n && is_channel_held x) [
   | true ↦ record x { remote = Some s; acts = (Down, Confirms w m) ∷ x.acts }
   | false ↦ x
 ]
-with_down (Within n act) x = elim (is_number x.number n && is_held x) [
+with_down (Within n act) x = elim (is_number x.number n && is_channel_held x) [
   | true ↦ record x { acts = (Down, act) ∷ x.acts }
   | false ↦ x
 ]
@@ -91,11 +91,11 @@ with_down _ x = x
 
 -- what is sent up under the server's number; a confirmation brings the other two numbers
 abbrev pub with_up : Option ℕ → Summary → Channel → Channel
-with_up own (Confirmation s n w m) x = elim (is_number x.remote s && is_held x) [
+with_up own (Confirmation s n w m) x = elim (is_number x.remote s && is_channel_held x) [
   | true ↦ record x { own = own; number = Some n; acts = (Up, Confirms w m) ∷ x.acts }
   | false ↦ x
 ]
-with_up own (Within s act) x = elim (is_number x.remote s && is_held x) [
+with_up own (Within s act) x = elim (is_number x.remote s && is_channel_held x) [
   | true ↦ record x { acts = (Up, act) ∷ x.acts }
   | false ↦ x
 ]
@@ -110,14 +110,14 @@ with_ups own (p ∷ ps) x = with_ups own ps (reading p (λ m. with_up own m x) x
 
 -- the number by which a client names a channel that it opens or confirms
 abbrev pub own_of_sending : Outgoing → Option ℕ
-own_of_sending (Payload p) = reading p sender_of None
+own_of_sending (Payload p) = reading p summary_sender_of None
 own_of_sending (Body body) = None
 own_of_sending (BadFraming fault) = None
 
 -- the same of an item
-abbrev pub own_of : Item → Option ℕ
-own_of (Says k outgoing reply) = own_of_sending outgoing
-own_of _ = None
+abbrev pub own_number_of : Item → Option ℕ
+own_number_of (Says k outgoing reply) = own_of_sending outgoing
+own_number_of _ = None
 
 -- what the server sends to a channel
 abbrev pub received_by : Item → Channel → Channel
@@ -127,7 +127,7 @@ received_by _ x = x
 -- a channel after what the item receives in it and the row sends up
 abbrev pub after_item : Row → Channel → Channel
 after_item row x = elim (x.client == row.client) [
-  | true ↦ with_ups (own_of row.item) row.up (received_by row.item x)
+  | true ↦ with_ups (own_number_of row.item) row.up (received_by row.item x)
   | false ↦ x
 ]
 
@@ -147,7 +147,7 @@ opened_up k (p ∷ ps) (Open what c w m) =
       client = k;
       by = Up;
       own = Some c;
-      number = reading p sender_of None;
+      number = reading p summary_sender_of None;
       remote = None;
       window = w;
       maximum = m;
@@ -185,7 +185,7 @@ channels_of (row ∷ before) =
 
 -- those that are not over
 abbrev pub held_of : List Row → List Channel
-held_of rows = filter is_held (channels_of rows)
+held_of rows = filter is_channel_held (channels_of rows)
 
 -- the channel that holds a number towards the server
 abbrev pub holder : List Row → ℕ → Option Channel

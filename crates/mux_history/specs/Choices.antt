@@ -5,7 +5,7 @@ use Rattle.mux_outside.specs.declared.house.HouseReply.{HouseReply}
 use Rattle.mux_outside.specs.declared.house.HouseReply.TheVariants as reply
 use Rattle.ssh_grammar.specs.Said.{Body}
 use Rattle.mux_history.specs.Rows.{Row, rows_of, Item, Says}
-use Rattle.mux_history.specs.Channels.{own_of}
+use Rattle.mux_history.specs.Channels.{own_number_of}
 use Rattle.mux_history.specs.Requests.{is_sent}
 use Rattle.mux_history.specs.Controls.{greeted, body_asks}
 
@@ -17,7 +17,7 @@ pub data Choices : Type 0 where
 
 -- a row takes a number where a client's OPEN or CONFIRMATION is sent
 abbrev pub takes_number : Row → Bool
-takes_number row = is_sent row && is_some (own_of row.item)
+takes_number row = is_sent row && is_some (own_number_of row.item)
 
 -- how many numbers the rows used
 abbrev pub numbers_taken : List Row → ℕ
@@ -35,7 +35,7 @@ sent_number (Some c) = c
 -- the next number
 abbrev pub pick_of : Choices → List Row → Item → ℕ
 pick_of (FromLists picks replies) rows item = slice_index picks (numbers_taken rows)
-pick_of TheirOwn rows item = sent_number (own_of item)
+pick_of TheirOwn rows item = sent_number (own_number_of item)
 
 -- an item that carries a reply of the forwarder
 abbrev pub has_reply : Item → Bool

@@ -39,8 +39,8 @@ replied place Refuses f = elim (is_request f place) [
 replied place _ f = f
 
 -- live with this key, and no unanswered cancel means it
-abbrev pub is_free_at : ℕ → Key → Forwarding → Bool
-is_free_at k key f = (f.client == k) && (not f.over && (is_none f.cancel && has_key f.live key))
+abbrev pub is_forwarding_free_at : ℕ → Key → Forwarding → Bool
+is_forwarding_free_at k key f = (f.client == k) && (not f.over && (is_none f.cancel && has_key f.live key))
 
 -- what a cancel leaves of the forwarding that it means: one that wants no reply ends it at once
 abbrev pub stopped : Bool → ℕ → Forwarding → Forwarding
@@ -69,7 +69,7 @@ requested k place (Requests (Forward key) wants) fs =
           false;
     } ∷ []
 requested k place (Requests (Cancel key) wants) fs =
-    change_first (is_free_at k key) (stopped wants place) fs
+    change_first (is_forwarding_free_at k key) (stopped wants place) fs
 requested k place _ fs = fs
 
 -- a change of one client's forwardings

@@ -37,14 +37,14 @@ bytes_of t [] = []
 bytes_of t (mark ∷ before) = bytes_of t before ++ bytes_in t mark
 
 -- the bytes that a stream accepted at a mark
-abbrev pub taken_in : ℕ → Mark → List ℕ
-taken_in t (Takes stream bytes) = elim (stream == t) [ true ↦ bytes | false ↦ [] ]
-taken_in t _ = []
+abbrev pub bytes_taken_in : ℕ → Mark → List ℕ
+bytes_taken_in t (Takes stream bytes accepts) = elim (stream == t) [ true ↦ bytes | false ↦ [] ]
+bytes_taken_in t _ = []
 
 -- all bytes that a stream accepted, in order
 abbrev pub taken_by : ℕ → List Mark → List ℕ
 taken_by t [] = []
-taken_by t (mark ∷ before) = taken_by t before ++ taken_in t mark
+taken_by t (mark ∷ before) = taken_by t before ++ bytes_taken_in t mark
 
 -- the forwarder ordered this stream, which is made and not connected yet
 abbrev pub connects : ℕ → HouseMark → Bool
@@ -123,7 +123,7 @@ items_in before (WriteFails stream) = elim (is_server stream) [
   | true ↦ ServerFailed ∷ []
   | false ↦ unless_own stream (Gone stream ∷ [])
 ]
-items_in before (Takes stream bytes) = unless_own stream (Took stream (length bytes) ∷ [])
+items_in before (Takes stream bytes accepts) = unless_own stream (Took stream (length bytes) ∷ [])
 items_in before (House mark) = house_items before mark
 items_in before _ = []
 
@@ -188,11 +188,11 @@ LawfulMark before (Gets stream bytes) =
 LawfulMark before (Ends stream) = IsTrue (is_known stream before)
 LawfulMark before (Fails stream) = IsTrue (is_known stream before)
 LawfulMark before (Frees stream) = IsTrue (is_blocked stream before)
-LawfulMark before (Takes stream bytes) =
+LawfulMark before (Takes stream bytes accepts) =
     IsTrue (is_known stream before) × (0 < length bytes) × AreBytes bytes
 LawfulMark before (Holds stream) = IsTrue (is_known stream before)
 LawfulMark before (WriteFails stream) = IsTrue (is_known stream before)
-LawfulMark before (Waits waiting want streams listens) =
+LawfulMark before (Waits waiting want streams shown) =
     All (λ t. IsTrue (is_blocked t before)) waiting
 LawfulMark before (House mark) = LawfulHouse before mark
 LawfulMark before _ = Unit {0}

@@ -14,7 +14,7 @@ use Rattle.mux_history.specs.declared.why.Why.{Why}
 use Rattle.mux_history.specs.declared.why.Why.TheVariants.{QueueFull}
 use Rattle.mux_history.specs.Summary.{Carries, Confirmation, Fails, Summary, Open, Requests, Within, read_summary, reading}
 use Rattle.mux_history.specs.Rows.{Row, rows_of, any_of, sent_by, is_lost, is_end, Heard, Says, Fate, Goes, Refused, Drop, End}
-use Rattle.mux_history.specs.Channels.{Channel, held_of, holder, is_number, own_of, with_own}
+use Rattle.mux_history.specs.Channels.{Channel, held_of, holder, is_number, own_number_of, with_own}
 use Rattle.mux_history.specs.Ledger.{breach, room, maximum_of}
 use Rattle.mux_history.specs.Pending.{joined, waiting_down}
 use Rattle.mux_history.specs.Requests.{answers, asker, is_reply}
@@ -22,7 +22,7 @@ use Rattle.mux_history.specs.Controls.{is_sends}
 use Rattle.mux_history.specs.Keys.{is_askable}
 use Rattle.mux_history.specs.Policy.{Policy, may_open, permits}
 use Rattle.mux_history.specs.Farewell.{late}
-use Rattle.mux_history.specs.Forwardings.{Forwarding, current, is_free_at, live_at}
+use Rattle.mux_history.specs.Forwardings.{Forwarding, current, is_forwarding_free_at, live_at}
 use Rattle.mux_history.specs.Said.{confirmed_at, is_full_of_asks, waiting_at}
 use Rattle.mux_history.specs.Log.{Setting}
 use Rattle.mux_history.specs.Solo.{IsUnshared}
@@ -47,7 +47,7 @@ Every P (p ∷ ps) = P p × Every P ps
 abbrev pub EachSends : (Summary → Type 0) → List (List ℕ) → Type 0
 EachSends P payloads = Every (λ p. (m : Summary) → read_summary p ≡ Ok m → P m) payloads
 
--- the same of what each frame holds: the payload stands behind the five bytes of its header
+-- the same of what each frame holds: the payload follows the five bytes of its header
 abbrev pub EachRecords : (Summary → Type 0) → List (List ℕ) → Type 0
 EachRecords P frames = Every (λ frame. (m : Summary) → read_summary (drop 5 frame) ≡ Ok m → P m) frames
 
@@ -95,14 +95,14 @@ MeetsLive before k (Open (Forwarded key) s window maximum) =
     option_map (λ f. f.client) (live_at before key) ≡ Some k
 MeetsLive before k m = Unit {0}
 
--- what a row sends and tells is permitted
+-- what a row sends and gives is permitted
 pub record Permission (policy : Policy) (before : List Row) (row : Row) : Type 0 where
   pub up : EachSends (IsPermitted policy) (sent_by row)
   pub down : EachRecords (MeetsLive before row.client) row.down
 
--- ---- a full queue: the one cause for which what the server says drops a client
+-- ---- a full queue: the one cause for which what the server sends drops a client
 
--- the next frame does not fit behind what waited and what was told: the bytes that wait then, and
+-- the next frame does not fit after what waited and what was given: the bytes that wait then, and
 -- its length
 abbrev pub IsFull : ℕ → List (List ℕ) → Why → Type 0
 IsFull waited recorded (QueueFull have want) =
@@ -116,7 +116,7 @@ GoesUnlessFull waited recorded Refused = ⊥
 GoesUnlessFull waited recorded (Drop cause) = IsFull waited recorded cause
 GoesUnlessFull waited recorded (End cause) = Unit {0}
 
--- of a row of what the server says
+-- of a row of what the server sends
 abbrev pub DropsIfFull : List Row → Row → Type 0
 DropsIfFull before row =
     (p : List ℕ) → row.item ≡ Heard p
@@ -130,7 +130,7 @@ ReachesAsker before row =
     (p : List ℕ) → row.item ≡ Heard p → reading p is_reply false ≡ true → is_end row.fate ≡ false
     → option_map (λ a. a.client) (asker before) ≡ Some row.client
 
--- it stands first in what the row tells, before the refusals that waited behind it, and these are
+-- it is the first that the row gives, before the refusals that waited after it, and these are
 -- the client's next answers, in the order of its requests
 pub record RecordsNext (own : List Row) (row : Row) (p : List ℕ) : Type 0 where
   pub refusals : ℕ
@@ -149,9 +149,9 @@ pub record Asker (before : List Row) (row : Row) : Type 0 where
   pub records : RecordsReply before row
   pub full : DropsIfFull before row
 
--- ---- Delivers: what the server says to a channel or a forwarding reaches its client
+-- ---- Delivers: what the server sends to a channel or a forwarding reaches its client
 
--- a message to the number of a channel is its client's: it is told as it came, but with the
+-- a message to the number of a channel is its client's: it is given as it came, but with the
 -- client's own number at the recipient's place
 pub record ReachesChannel (before : List Row) (row : Row) (p : List ℕ) (n : ℕ) : Type 0 where
   pub channel : Channel
@@ -162,12 +162,12 @@ pub record ReachesChannel (before : List Row) (row : Row) (p : List ℕ) (n : �
   pub recorded : is_lost (rows_of row.client before) ≡ false → row.fate ≡ Goes
       → row.down ≡ frame_payload (with_recipient p number) ∷ []
 
--- where the client has 256 channels, a server's open fails in place of being told
+-- where the client has 256 channels, a server's open fails in place of being given
 pub record FailsOpen (row : Row) (s : ℕ) : Type 0 where
   pub recorded : row.down ≡ []
   pub sent : row.up ≡ open_failure s RESOURCE_SHORTAGE too_many_channels ∷ []
 
--- an open for a forwarding that is live is its client's: it is told as it came, or fails there
+-- an open for a forwarding that is live is its client's: it is given as it came, or fails there
 pub record ReachesForwarding (before : List Row) (row : Row) (p : List ℕ) (s : ℕ)
     (forwarding : Forwarding) : Type 0 where
   pub client : row.client ≡ forwarding.client
@@ -183,13 +183,13 @@ Reaches before row p (Confirmation n s window maximum) = ReachesChannel before r
 Reaches before row p (Within n act) = ReachesChannel before row p n
 Reaches before row p m = Unit {0}
 
--- a client that was lost before is told nothing; what goes up then undoes what the server confirms
+-- a client that was lost before is given nothing; what goes up then undoes what the server confirms
 -- or replies
 pub record LeavesLate (own : List Row) (row : Row) (m : Summary) : Type 0 where
   pub recorded : row.down ≡ []
   pub sent : row.up ≡ late m own
 
--- unless the run ends; and nothing that the server says drops a client but a full queue
+-- unless the run ends; and nothing that the server sends drops a client but a full queue
 pub record Delivers (before : List Row) (row : Row) : Type 0 where
   pub reaches : (p : List ℕ) (m : Summary) → row.item ≡ Heard p → read_summary p ≡ Ok m
       → is_end row.fate ≡ false → Reaches before row p m
@@ -197,13 +197,13 @@ pub record Delivers (before : List Row) (row : Row) : Type 0 where
       → is_lost (rows_of row.client before) ≡ true → LeavesLate (rows_of row.client before) row m
   pub full : DropsIfFull before row
 
--- ---- Passes: what a client says goes up where it may
+-- ---- Passes: what a client sends goes up where it may
 
 -- with another number at the sender's place
 abbrev pub GoesUpNumbered : List (List ℕ) → List ℕ → Type 0
 GoesUpNumbered ups p = (number : ℕ) × (ups ≡ with_sender p number ∷ [])
 
--- what is said goes up as it was said, or not at all; where it brings a number of the client's own,
+-- what is sent goes up as it was sent, or not at all; where it brings a number of the client's own,
 -- another one stands at the sender's place
 abbrev pub GoesUp : List (List ℕ) → List ℕ → Option ℕ → Type 0
 GoesUp ups p None = (ups ≡ []) ⊎ (ups ≡ p ∷ [])
@@ -229,7 +229,7 @@ MustGoUp policy k own ups p (Requests (Forward key) true) =
     is_askable key ≡ true → permits policy.listens key ≡ true
     → nat_lt (length (current own)) MAX_FORWARDINGS ≡ true → MustAsk own ups p true
 MustGoUp policy k own ups p (Requests (Cancel key) wants) =
-    any_of (is_free_at k key) (current own) ≡ true → MustAsk own ups p wants
+    any_of (is_forwarding_free_at k key) (current own) ≡ true → MustAsk own ups p wants
 MustGoUp policy k own ups p (Requests KeepAlive wants) = MustAsk own ups p wants
 MustGoUp policy k own ups p (Confirmation s c window maximum) =
     (x : Channel) → waiting_at own s ≡ Some x → with_own own c ≡ None → GoesUpNumbered ups p
@@ -244,12 +244,12 @@ pub record Passes (policy : Policy) (before : List Row) (row : Row) : Type 0 whe
   pub client : (k : ℕ) (p : List ℕ) (given : Option HouseReply)
       → row.item ≡ Says k (Payload p) given → row.client ≡ k
   pub unchanged : (k : ℕ) (p : List ℕ) (given : Option HouseReply)
-      → row.item ≡ Says k (Payload p) given → GoesUp row.up p (own_of row.item)
+      → row.item ≡ Says k (Payload p) given → GoesUp row.up p (own_number_of row.item)
   pub must : (k : ℕ) (p : List ℕ) (given : Option HouseReply) (m : Summary)
       → row.item ≡ Says k (Payload p) given → read_summary p ≡ Ok m
       → MustGoUp policy k (rows_of k before) row.up p m
 
--- ---- The master's own words: all that it sends that no client said
+-- ---- The master's own words: all that it sends that no client sent
 
 -- a refused request; a CLOSE; a failed open, of what is not permitted, of a channel too many, or of
 -- a client that is gone; and a cancel
@@ -274,8 +274,8 @@ spelled_word (Cancelling key) = cancel_forward key
 abbrev pub IsMasters : List ℕ → Type 0
 IsMasters p = (word : OwnWord) × (p ≡ spelled_word word)
 
--- the farewell of a row, what a row of nobody sends, and what a row sends in which its client says
--- nothing
+-- the farewell of a row, what a row of no client sends, and what a row sends of which the client
+-- sent something nothing
 pub record OwnWords (before : List Row) (row : Row) : Type 0 where
   pub farewell : Every IsMasters row.farewell
   pub up : row.client ≡ 0 → Every IsMasters row.up

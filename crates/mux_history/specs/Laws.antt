@@ -10,7 +10,7 @@ use Rattle.mux_history.specs.Policy.{Policy}
 use Rattle.mux_history.specs.Rows.{Row, rows_of, Item, Says, HouseSays, Gone, Heard, Took}
 use Rattle.mux_history.specs.Heard.{ToClient, dest}
 use Rattle.mux_history.specs.Pending.{pending, given_to}
-use Rattle.mux_history.specs.Channels.{Channel, after_farewell, after_item, begun_by, channels_of, held_of, is_confirmed, is_held, is_up, live_in}
+use Rattle.mux_history.specs.Channels.{Channel, after_farewell, after_item, begun_by, channels_of, held_of, is_confirmed, is_channel_held, is_up, live_in}
 use Rattle.mux_history.specs.Ledger.{answered, asked, carried, granted, initial, other_side, room, sum_of}
 use Rattle.mux_history.specs.Requests.{asks, answers}
 use Rattle.mux_history.specs.Forwardings.{forwardings_of}
@@ -68,8 +68,8 @@ Locality = (policy : Policy) (pid pick k : ℕ) (rows : List Row)
 -- the channels that are held after a row, from those that were held before it
 abbrev pub next_held : Row → List Channel → List Channel
 next_held row held =
-    filter is_held (map (after_farewell row)
-    (filter is_held (map (after_item row) held ++ begun_by row.client row.up row.item)))
+    filter is_channel_held (map (after_farewell row)
+    (filter is_channel_held (map (after_item row) held ++ begun_by row.client row.up row.item)))
 
 -- so the channels that are held are known from those before the row
 abbrev pub HeldGoesOn : Type 0

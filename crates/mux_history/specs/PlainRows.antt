@@ -10,7 +10,7 @@ IsPlainItem (Heard p) = ⊥
 IsPlainItem _ = Unit {0}
 
 -- and sends nothing
-pub record IsPlain (row : Row) : Type 0 where
+pub record IsPlainRow (row : Row) : Type 0 where
   pub item : IsPlainItem row.item
   pub up : row.up ≡ []
   pub farewell : row.farewell ≡ []

@@ -4,7 +4,7 @@ use Rattle.std.specs.Prelude.{ℕ, ◌+◌, ◌-◌, ◌*◌, List, [], ◌∷�
 use Rattle.ssh_grammar.specs.Messages.{Key, Tcp, Path, Opens, Session, Direct}
 use Rattle.mux_history.specs.Rows.{any_of}
 
--- hosts and ports, where `None` stands for each of them; or a path
+-- hosts and ports, where `None` represents each of them; or a path
 pub data Entry : Type 0 where
   Ports : (host : Option (List ℕ)) (port : Option ℕ) → Entry
   Paths : (path : List ℕ) → Entry

@@ -16,7 +16,7 @@ use Rattle.mux_history.specs.Rows.{Row, rows_of, is_ended, Says}
 use Rattle.mux_history.specs.Pending.{pending}
 use Rattle.mux_history.specs.Controls.{greeted, body_stops}
 use Rattle.mux_history.specs.Log.{Setting, goes, served, more_all}
-use Rattle.mux_history.specs.Solo.{end_of}
+use Rattle.mux_history.specs.Solo.{run_end_of}
 use Rattle.mux_history.specs.Journal.{house_items, is_blocked, is_own_stream, items_in, log_of_journal}
 
 -- a fact of each mark and the marks before it
@@ -37,7 +37,7 @@ IsFront front bytes = (rest : List ℕ) × (bytes ≡ front ++ rest)
 
 -- of an accepted write; no row records what the master's own streams accept
 abbrev pub TakesFront : Setting → List Mark → Mark → Type 0
-TakesFront setting before (Takes stream bytes) =
+TakesFront setting before (Takes stream bytes accepts) =
     MatchBool (is_own_stream stream) (Unit {0})
     (IsFront bytes (pending stream (log_of_journal setting before)))
 TakesFront setting before _ = Unit {0}
@@ -49,7 +49,7 @@ write_failed t (WriteFails stream ∷ before) = elim (stream == t) [
   | true ↦ true
   | false ↦ write_failed t before
 ]
-write_failed t (Takes stream bytes ∷ before) = elim (stream == t) [
+write_failed t (Takes stream bytes accepts ∷ before) = elim (stream == t) [
   | true ↦ false
   | false ↦ write_failed t before
 ]
@@ -81,8 +81,8 @@ abbrev pub not_own : List ℕ → List ℕ
 not_own streams = filter (λ t. not (is_own t)) streams
 
 -- a stream of the master's own may be waited for as long as it did not fail
-abbrev pub MayWait : List Mark → ℕ → Type 0
-MayWait before t = IsTrue (is_own t) → has_failed t before ≡ false
+abbrev pub MayWaitForOwn : List Mark → ℕ → Type 0
+MayWaitForOwn before t = IsTrue (is_own t) → has_failed t before ≡ false
 
 -- A call of `wait`, while the run goes on.
 --
@@ -98,7 +98,7 @@ pub record WaitsRight (setting : Setting) (before : List Mark) (waiting : List �
   pub goes_on : is_ended (log_of_journal setting before) ≡ false
   pub waits_for : not_own waiting
       ≡ filter (has_output (log_of_journal setting before)) (not_own streams)
-  pub own : All (MayWait before) waiting
+  pub own : All (MayWaitForOwn before) waiting
   pub blocked : All (λ t. IsTrue (is_blocked t before)) waiting
   pub write_only : (want ≡ WriteOnly) ↔
       (READING_STOPS_AT ≤ length (pending 0 (log_of_journal setting before)))
@@ -107,7 +107,7 @@ pub record WaitsRight (setting : Setting) (before : List Mark) (waiting : List �
 
 -- of a wait
 abbrev pub WaitsAt : Setting → List Mark → Mark → Type 0
-WaitsAt setting before (Waits waiting want streams listens) =
+WaitsAt setting before (Waits waiting want streams shown) =
     WaitsRight setting before waiting want streams
 WaitsAt setting before _ = Unit {0}
 
@@ -158,8 +158,8 @@ pub record OpenRight (rows : List Row) (streams : List ℕ) (accepts : Bool) : T
 
 -- of a wait
 abbrev pub OpenAt : Setting → List Mark → Mark → Type 0
-OpenAt setting before (Waits waiting want streams accepts) =
-    OpenRight (log_of_journal setting before) streams accepts
+OpenAt setting before (Waits waiting want streams shown) =
+    OpenRight (log_of_journal setting before) streams shown.listens
 OpenAt setting before _ = Unit {0}
 
 -- of every wait
@@ -171,7 +171,7 @@ OpenStreams setting marks = Throughout (OpenAt setting) marks
 -- how often the wire waited
 abbrev pub waits_in : List Mark → ℕ
 waits_in [] = 0
-waits_in (Waits waiting want streams accepts ∷ before) = waits_in before + 1
+waits_in (Waits waiting want streams shown ∷ before) = waits_in before + 1
 waits_in (mark ∷ before) = waits_in before
 
 -- a piece that the forwarder sent, or an order of it
@@ -183,7 +183,7 @@ counts_as_turn mark = false
 -- how many turns were given: of the wire, of pieces sent, and of orders
 abbrev pub turns_in : List Mark → ℕ
 turns_in [] = 0
-turns_in (Waits waiting want streams accepts ∷ before) = turns_in before + 1
+turns_in (Waits waiting want streams shown ∷ before) = turns_in before + 1
 turns_in (House mark ∷ before) = elim (counts_as_turn mark) [
   | true ↦ turns_in before + 1
   | false ↦ turns_in before
@@ -201,7 +201,7 @@ EndsAs turns marks None None answer = (answer ≡ Spent) × (turns_in marks ≡ 
 -- was
 abbrev pub ConnectionEnds : Setting → ℕ → List Mark → Option ℕ → Ended → Type 0
 ConnectionEnds setting turns marks refused answer =
-    EndsAs turns marks refused (end_of (log_of_journal setting marks)) answer
+    EndsAs turns marks refused (run_end_of (log_of_journal setting marks)) answer
 
 -- ---- Out of memory
 

@@ -3,7 +3,7 @@ use Rattle.std.specs.Prelude.{ℕ, ◌≡◌, ◌<◌, List, [], ◌∷◌, true
 use Rattle.mux_outside.specs.declared.mark.Mark.{Mark}
 use Rattle.mux_history.specs.declared.limits.TheConstants.{NUMBERS_END}
 use Rattle.ssh_fields.specs.Fields.{u32, u32_at}
-use Rattle.mux_history.specs.Summary.{reading, sender_of}
+use Rattle.mux_history.specs.Summary.{reading, summary_sender_of}
 use Rattle.mux_history.specs.Rows.{Row, rows_of, any_of, is_admit}
 use Rattle.mux_history.specs.Channels.{holder}
 use Rattle.mux_history.specs.Choices.{Choices, takes_number, sent_number, pick_of}
@@ -13,7 +13,7 @@ use Rattle.mux_history.specs.Log.{Setting, log_of}
 -- the number that a row's OPEN or CONFIRMATION carried up
 abbrev pub carried_number : List (List ℕ) → ℕ
 carried_number [] = 0
-carried_number (p ∷ ps) = sent_number (reading p sender_of None)
+carried_number (p ∷ ps) = sent_number (reading p summary_sender_of None)
 
 -- each number taken was below the bound, and no channel held it
 abbrev pub AreFresh : List Row → Type 0
@@ -32,7 +32,7 @@ pub record IsRight (setting : Setting) (marks : List Mark) (left : ℕ) (rows : 
 abbrev pub IsAdmitted : ℕ → List Row → Type 0
 IsAdmitted k rows = IsTrue (any_of is_admit (rows_of k rows))
 
--- a row that takes a number carries the next pick up, as four bytes spell it
+-- a row that uses a number carries the next pick up, as four bytes spell it
 abbrev pub TakesPick : Choices → List Row → Row → Type 0
 TakesPick choices before row = takes_number row ≡ true
     → carried_number row.up ≡ u32_at 0 (u32 (pick_of choices before row.item))

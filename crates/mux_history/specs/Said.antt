@@ -1,4 +1,4 @@
--- What becomes of what a client says in proxy mode. `own` are the client's rows so far: nothing
+-- What becomes of what a client sends in proxy mode. `own` are the client's rows so far: nothing
 -- else is looked at.
 use Rattle.std.specs.Prelude.{ℕ, ◌==◌, List, [], ◌∷◌, Option, Some, None, Ok, Err, Bool, true, false, not, ◌&&◌, length, find, nat_lt, nat_le}
 use Rattle.ssh_grammar.specs.declared.side.Side.TheVariants.{Up}
@@ -17,7 +17,7 @@ use Rattle.mux_history.specs.Ledger.{breach}
 use Rattle.mux_history.specs.Requests.{unanswered_asks}
 use Rattle.mux_history.specs.Policy.{Policy, may_open, permits}
 use Rattle.mux_history.specs.Keys.{is_askable}
-use Rattle.mux_history.specs.Forwardings.{current, is_free_at}
+use Rattle.mux_history.specs.Forwardings.{current, is_forwarding_free_at}
 
 -- what an item does before answers, the queue's bound and the farewell: payloads up, frames down,
 -- and a fate
@@ -53,7 +53,7 @@ waiting_at own s =
 abbrev pub confirmed_at : List Row → ℕ → Option Channel
 confirmed_at own s = find (λ x. is_number x.remote s && is_confirmed x) (held_of own)
 
--- the open fails, which the master tells the client
+-- the open fails, which the master reports to the client
 abbrev pub fails_open : ℕ → ℕ → List ℕ → Outcome
 fails_open sender reason text = records (frame_payload (open_failure sender reason text))
 
@@ -107,7 +107,7 @@ abbrev pub is_failing : Act → Bool
 is_failing Fails = true
 is_failing _ = false
 
--- a failed open answers one that waits; all else is said in a confirmed channel
+-- a failed open answers one that waits; all else is sent in a confirmed channel
 abbrev pub sent_within : List Row → List ℕ → ℕ → Act → Outcome
 sent_within own p s act = elim (is_failing act) [
   | true ↦ on_waiting s (sends p) (waiting_at own s)
@@ -121,7 +121,7 @@ on_unused c o (Some x) = drops (why.OwnInUse c)
 
 -- ---- global requests
 
--- what isn't sent is refused, which the row's answers tell
+-- what isn't sent is refused, as the row's answers say
 abbrev pub sends_if : Bool → List ℕ → Outcome
 sends_if true p = sends p
 sends_if false p = silent
@@ -134,7 +134,7 @@ sent_request policy k own p (Forward key) wants =
     sends_if (wants && (is_askable key
     && (permits policy.listens key && nat_lt (length (current own)) MAX_FORWARDINGS))) p
 sent_request policy k own p (Cancel key) wants =
-    sends_if (any_of (is_free_at k key) (current own)) p
+    sends_if (any_of (is_forwarding_free_at k key) (current own)) p
 
 -- one wanted request too many
 abbrev pub is_full_of_asks : Bool → List Row → Bool

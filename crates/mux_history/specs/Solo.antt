@@ -3,16 +3,16 @@
 use Rattle.std.specs.Prelude.{ℕ, ◌≡◌, List, [], ◌∷◌, ◌++◌, Option, Some, None, Bool, true, false, map, bytes_eq}
 use Rattle.ssh_grammar.specs.SpellMessage.{with_sender}
 use Rattle.mux_history.specs.declared.ended.Ended.{Ended}
-use Rattle.mux_history.specs.Summary.{reading, recipient_of}
+use Rattle.mux_history.specs.Summary.{reading, summary_recipient_of}
 use Rattle.mux_history.specs.Rows.{Row, rows_of, Item, Heard, RunEnd, Fate, End}
-use Rattle.mux_history.specs.Channels.{own_of}
+use Rattle.mux_history.specs.Channels.{own_number_of}
 use Rattle.mux_history.specs.Heard.{renamed}
 use Rattle.mux_history.specs.Choices.{TheirOwn}
 use Rattle.mux_history.specs.Log.{Setting, log_of}
 
 -- an item as the client sees it: with its own number at the recipient's place
 abbrev pub item_for : List Row → Item → Item
-item_for own (Heard p) = Heard (reading p (λ m. renamed own p (recipient_of m)) p)
+item_for own (Heard p) = Heard (reading p (λ m. renamed own p (summary_recipient_of m)) p)
 item_for own item = item
 
 -- the items of a client's rows
@@ -21,13 +21,13 @@ items_for [] = []
 items_for (row ∷ before) = item_for before row.item ∷ items_for before
 
 -- what ended the run
-abbrev pub end_of : List Row → Option Ended
-end_of [] = None
-end_of (row ∷ before) = elim row.fate [ End cause ↦ Some cause | _ ↦ end_of before ]
+abbrev pub run_end_of : List Row → Option Ended
+run_end_of [] = None
+run_end_of (row ∷ before) = elim row.fate [ End cause ↦ Some cause | _ ↦ run_end_of before ]
 
 -- the last item, where the run ended
 abbrev pub run_end : List Row → List Item
-run_end rows = elim (end_of rows) [ None ↦ [] | Some cause ↦ RunEnd cause ∷ [] ]
+run_end rows = elim (run_end_of rows) [ None ↦ [] | Some cause ↦ RunEnd cause ∷ [] ]
 
 -- the items of a log that concern a client, the newest first
 abbrev pub items_concerning : ℕ → List Row → List Item
@@ -58,7 +58,7 @@ own_ups (Some c) ups = map (λ p. with_sender p c) ups
 abbrev pub seen : Row → Seen
 seen row =
     record {
-      sent = own_ups (own_of row.item) row.up ++ row.farewell;
+      sent = own_ups (own_number_of row.item) row.up ++ row.farewell;
       recorded = row.down;
       ends = row.fate;
     }

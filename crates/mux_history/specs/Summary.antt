@@ -64,13 +64,13 @@ abbrev pub reading : {A : Type 0} → List ℕ → (Summary → A) → A → A
 reading p f other = elim (read_summary p) [ Err e ↦ other | Ok m ↦ f m ]
 
 -- the channel that the message is for
-abbrev pub recipient_of : Summary → Option ℕ
-recipient_of (Confirmation recipient sender window maximum) = Some recipient
-recipient_of (Within recipient act) = Some recipient
-recipient_of _ = None
+abbrev pub summary_recipient_of : Summary → Option ℕ
+summary_recipient_of (Confirmation recipient sender window maximum) = Some recipient
+summary_recipient_of (Within recipient act) = Some recipient
+summary_recipient_of _ = None
 
 -- the number by which the sender names a channel that it opens or confirms
-abbrev pub sender_of : Summary → Option ℕ
-sender_of (Open what sender window maximum) = Some sender
-sender_of (Confirmation recipient sender window maximum) = Some sender
-sender_of _ = None
+abbrev pub summary_sender_of : Summary → Option ℕ
+summary_sender_of (Open what sender window maximum) = Some sender
+summary_sender_of (Confirmation recipient sender window maximum) = Some sender
+summary_sender_of _ = None

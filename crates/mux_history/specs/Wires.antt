@@ -14,7 +14,7 @@ use Rattle.mux_outside.specs.declared.turn.Want.TheVariants.{Read}
 use Rattle.mux_outside.specs.declared.turn.Wrote.{Wrote}
 use Rattle.mux_outside.specs.Streams.{among, without}
 use Rattle.mux_outside.specs.Wire.{OwnFits, TurnFits, WroteFits}
-use Rattle.mux_outside.specs.Seen.{Seen, blocked_after, blocked_after_write, last_after, open_after, wait_marks, write_marks}
+use Rattle.mux_outside.specs.Seen.{Seen, blocked_after, blocked_after_write, last_after, open_after, shown_of, wait_marks, write_marks}
 use Rattle.ssh_fields.specs.Fields.{AreBytes}
 use Rattle.mux_history.specs.Journal.{IsLawful, LawfulHouse, is_own_stream, is_blocked, is_known, last_client}
 use Rattle.mux_history.specs.Promises.{Throughout}
@@ -28,7 +28,7 @@ reads mark = false
 
 -- the wire was just waited for, to read as well as to write
 abbrev pub FollowsRead : List Mark → Type 0
-FollowsRead (Waits waiting Read streams accepts ∷ before) = Unit {0}
+FollowsRead (Waits waiting Read streams shown ∷ before) = Unit {0}
 FollowsRead marks = ⊥
 
 -- what is read or accepted comes right after such a wait
@@ -65,12 +65,12 @@ pub record WireKeeps (seen : Seen) (marks : List Mark) : Type 0 where
       → OfWire seen.streams seen.blocked seen.last marks
       → OfWire (open_after given seen.streams) (blocked_after given seen.blocked)
       (last_after given seen.last)
-      (reverse (wait_marks given waiting want seen.streams seen.listens bytes) ++ marks)
+      (reverse (wait_marks given waiting want seen.streams (shown_of seen) bytes) ++ marks)
   pub write : (answer : Wrote) (t : ℕ) (bytes : List ℕ) → AreBytes bytes → 0 < length bytes
       → IsTrue (among t seen.streams) → WroteFits answer (length bytes)
       → OfWire seen.streams seen.blocked seen.last marks
       → OfWire seen.streams (blocked_after_write answer t seen.blocked) seen.last
-      (reverse (write_marks answer t bytes) ++ marks)
+      (reverse (write_marks answer t bytes seen.listens) ++ marks)
   pub close : (t : ℕ) → OfWire seen.streams seen.blocked seen.last marks
       → OfWire (without t seen.streams) (without t seen.blocked) seen.last marks
   pub note : (mark : HouseMark) → LawfulHouse marks mark → is_connect mark ≡ false

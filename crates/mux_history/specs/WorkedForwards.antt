@@ -44,13 +44,13 @@ connects_to port sender =
     ++ (u32 sender ++ (hex (codes "00200000 00008000 00000000")
     ++ (u32 port ++ hex (codes "00000000 00000007")))))
 
--- two clients ask for a port, and are told theirs in the order in which they asked
+-- two clients ask for a port, and are given theirs in the order in which they asked
 abbrev pub two_ports : List Mark
 two_ports =
     enters 1 ++ (enters 2 ++ (Gets 1 (asks_port 0) ∷ Gets 2 (asks_port 0) ∷ Gets 0 (bound_to 40001)
     ∷ Gets 0 (bound_to 40002) ∷ []))
 
--- a connection comes to the second, and its client takes it
+-- a connection arrives for the second, and its client accepts it
 abbrev pub connected : List Mark
 connected =
     two_ports ++ (Gets 0 (connects_to 40002 9)
@@ -76,7 +76,8 @@ no_more_sessions =
     enters 1 ++ Gets 1 (hex (codes "00000023 00 50 0000001c")
     ++ (codes "no-more-sessions@openssh.com" ++ hex (codes "01"))) ∷ []
 
--- a forwarding is cancelled twice, the server answers once, and then a connection comes to the port
+-- a forwarding is cancelled twice, the server answers once, and then a connection arrives at the
+-- port
 abbrev pub cancelled_twice : List Mark
 cancelled_twice =
     two_ports ++ (Gets 1 (cancels 40001) ∷ Gets 1 (cancels 40001) ∷ Gets 0 success
@@ -88,7 +89,7 @@ cancel_refused_late =
     enters 1 ++ (Gets 1 (asks_port 8080) ∷ Gets 0 success ∷ Gets 1 (cancels 8080) ∷ Ends 1
     ∷ Gets 0 failure ∷ [])
 
--- the first client fails while it is told its port
+-- the first client fails while it is given its port
 abbrev pub recorded_too_late : List Mark
 recorded_too_late =
     enters 1 ++ (enters 2 ++ (Gets 1 (asks_port 0) ∷ Gets 2 (asks_port 0) ∷ Gets 0 (bound_to 40001)

@@ -11,16 +11,16 @@ use Rattle.mux_history.specs.Said.{records, sends, drops, sent_payload}
 use Rattle.mux_history.specs.Worked.{hex}
 use Rattle.mux_history.specs.WorkedProxy.{session}
 
--- a payload without the five bytes in front of it
-abbrev pub payload_in : List ℕ → List ℕ
-payload_in frame = drop 5 frame
+-- a payload without the five bytes before it
+abbrev pub payload_of_frame : List ℕ → List ℕ
+payload_of_frame frame = drop 5 frame
 
 -- a client with 256 channels that opens one more, under its number 300, where it may
 abbrev pub FullOfChannels : Type 0
 FullOfChannels =
     (policy : Policy) (k pick : ℕ) (own : List Row) → policy.sessions ≡ true
     → length (held_of own) ≡ 256
-    → with_own own 300 ≡ None → sent_payload policy k own pick (payload_in (session 300))
+    → with_own own 300 ≡ None → sent_payload policy k own pick (payload_of_frame (session 300))
     ≡ records (hex (codes "00000023 00 5c 0000012c 00000004 00000011")
     ++ (codes "too many channels" ++ hex (codes "00000000")))
 

@@ -1,5 +1,5 @@
 -- Worked runs in which clients are lost, and limits are reached.
-use Rattle.std.specs.Prelude.{ℕ, ◌+◌, List, [], ◌∷◌, ◌++◌, zero, suc, codes}
+use Rattle.std.specs.Prelude.{ℕ, ◌+◌, List, [], ◌∷◌, ◌++◌, zero, suc, true, codes}
 use Rattle.mux_outside.specs.declared.mark.Mark.{Mark}
 use Rattle.mux_outside.specs.declared.mark.Mark.TheVariants.{Accepts, Gets, Ends, Holds, Frees, Takes}
 use Rattle.mux_history.specs.Worked.{hex, enters, hello}
@@ -52,9 +52,9 @@ dialogs_full = leaves ++ come 2 64
 -- a client accepts nothing for now; another is served
 abbrev pub held_back : List Mark
 held_back =
-    Accepts 1 ∷ Holds 1 ∷ Accepts 2 ∷ Takes 2 hello
+    Accepts 1 ∷ Holds 1 ∷ Accepts 2 ∷ Takes 2 hello true
     ∷ Gets 2 (hello ++ hex (codes "00000008 10000004 00000007")) ∷ []
 
 -- the first takes its output
 abbrev pub freed_again : List Mark
-freed_again = held_back ++ (Frees 1 ∷ Takes 1 hello ∷ [])
+freed_again = held_back ++ (Frees 1 ∷ Takes 1 hello true ∷ [])

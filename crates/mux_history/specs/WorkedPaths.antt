@@ -61,7 +61,7 @@ opens_namesake =
 abbrev pub forwards_path : List Mark
 forwards_path = enters 1 ++ (Gets 1 asks_path ∷ Gets 0 success ∷ [])
 
--- a connection comes to it
+-- a connection arrives for it
 abbrev pub path_connected : List Mark
 path_connected = forwards_path ++ Gets 0 connects_to_path ∷ []
 

@@ -57,7 +57,7 @@ closed =
 abbrev pub data_to_one : Mark
 data_to_one = Gets 0 (hex (codes "0000000b 00 5e 00000001 00000001") ++ codes "x")
 
--- which nobody holds
+-- which no client holds
 abbrev pub data_to_nobody : List Mark
 data_to_nobody = closed ++ data_to_one ∷ []
 
@@ -120,11 +120,11 @@ opens_display =
 
 -- ---- frames
 
--- a client says bytes
+-- a client sends bytes
 abbrev pub sends_at_once : List ℕ → List Mark
 sends_at_once bytes = enters 1 ++ Gets 1 bytes ∷ []
 
--- the server says bytes
+-- the server sends bytes
 abbrev pub server_sends : List ℕ → List Mark
 server_sends bytes = Gets 0 bytes ∷ []
 

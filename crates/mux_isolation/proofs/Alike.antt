@@ -1,11 +1,11 @@
--- What a client says has the same effect under its own numbers.
+-- What a client sends has the same effect under its own numbers.
 use Rattle.std.proofs.Common.{◌≡◌, ℕ, ◌-◌, List, [], ◌∷◌, length, true, false, Bool, refl, ◌∙◌, ap, map, sym, Option, Some, None}
 use Rattle.std.specs.Prelude.{◌&&◌, not, filter, find, option_map, nat_lt, nat_le, codes}
 use Rattle.std.proofs.lemmas.List.{length-map}
-use Rattle.mux_history.specs.Channels.{Channel, channels_of, held_of, is_confirmed, is_held, is_number, is_up, with_own}
+use Rattle.mux_history.specs.Channels.{Channel, channels_of, held_of, is_confirmed, is_channel_held, is_number, is_up, with_own}
 use Rattle.mux_history.specs.Choices.{sent_number}
-use Rattle.mux_history.specs.Forwardings.{current, forwardings_of, is_free_at}
-use Rattle.mux_history.specs.Summary.{Act, Asks, Confirmation, Summary, Open, Refuses, Requests, Succeeds, Transport, Within, sender_of}
+use Rattle.mux_history.specs.Forwardings.{current, forwardings_of, is_forwarding_free_at}
+use Rattle.mux_history.specs.Summary.{Act, Asks, Confirmation, Summary, Open, Refuses, Requests, Succeeds, Transport, Within, summary_sender_of}
 use Rattle.mux_history.specs.Keys.{is_askable}
 use Rattle.mux_history.specs.Ledger.{breach}
 use Rattle.mux_history.specs.Pending.{waiting_down}
@@ -35,13 +35,13 @@ pub record Alike (own own' : List Row) : Type 0 where
 abbrev pub numbered : Option ℕ → Outcome → Outcome
 numbered c o = record o { sent = own_ups c o.sent }
 
-pub held-own : (xs : List Channel) → filter is_held (map own_numbered xs) ≡ map own_numbered (filter is_held xs)
+pub held-own : (xs : List Channel) → filter is_channel_held (map own_numbered xs) ≡ map own_numbered (filter is_channel_held xs)
 held-own [] = refl
-held-own (x ∷ xs) = choose (held-own xs) (is_held x) refl
+held-own (x ∷ xs) = choose (held-own xs) (is_channel_held x) refl
   where
-    choose : filter is_held (map own_numbered xs) ≡ map own_numbered (filter is_held xs) → (b : Bool) → is_held x ≡ b → filter is_held (map own_numbered (x ∷ xs)) ≡ map own_numbered (filter is_held (x ∷ xs))
-    choose ih true e = filter-yes is_held (own_numbered x) (map own_numbered xs) e ∙ (ap (λ ys. own_numbered x ∷ ys) ih ∙ sym (ap (map own_numbered) (filter-yes is_held x xs e)))
-    choose ih false e = filter-no is_held (own_numbered x) (map own_numbered xs) e ∙ (ih ∙ sym (ap (map own_numbered) (filter-no is_held x xs e)))
+    choose : filter is_channel_held (map own_numbered xs) ≡ map own_numbered (filter is_channel_held xs) → (b : Bool) → is_channel_held x ≡ b → filter is_channel_held (map own_numbered (x ∷ xs)) ≡ map own_numbered (filter is_channel_held (x ∷ xs))
+    choose ih true e = filter-yes is_channel_held (own_numbered x) (map own_numbered xs) e ∙ (ap (λ ys. own_numbered x ∷ ys) ih ∙ sym (ap (map own_numbered) (filter-yes is_channel_held x xs e)))
+    choose ih false e = filter-no is_channel_held (own_numbered x) (map own_numbered xs) e ∙ (ih ∙ sym (ap (map own_numbered) (filter-no is_channel_held x xs e)))
 
 find-own : (test : Channel → Bool) → ((x : Channel) → test (own_numbered x) ≡ test x) → (xs : List Channel) → find test (map own_numbered xs) ≡ option_map own_numbered (find test xs)
 find-own test blind [] = refl
@@ -62,7 +62,7 @@ breach-blind way act x = refl
 
 module _ (own own' : List Row) (alike : Alike own own') where
   pub held-alike : held_of own' ≡ map own_numbered (held_of own)
-  held-alike = ap (filter is_held) alike.channels ∙ held-own (channels_of own)
+  held-alike = ap (filter is_channel_held) alike.channels ∙ held-own (channels_of own)
 
   pub find-alike : (test : Channel → Bool) → ((x : Channel) → test (own_numbered x) ≡ test x) → find test (held_of own') ≡ option_map own_numbered (find test (held_of own))
   find-alike test blind = ap (find test) held-alike ∙ find-own test blind (held_of own)
@@ -93,7 +93,7 @@ module _ (own own' : List Row) (alike : Alike own own') where
   pub count-alike : length (held_of own') ≡ length (held_of own)
   count-alike = ap length held-alike ∙ length-map (held_of own) own_numbered
 
-  -- an open or a confirmation, whatever becomes of it where it is taken
+  -- an open or a confirmation, whatever its outcome where it is accepted
   unused-said : (c : ℕ) (o o' : Outcome) → on_unused c o (with_own own' c) ≡ on_unused c o (with_own own c)
   unused-said c o o' = by-found (on_unused c o) (unused-blind c o) (λ x. is_number x.own c) (λ x. refl)
 
@@ -107,7 +107,7 @@ module _ (own own' : List Row) (alike : Alike own own') where
   requests-said policy k p KeepAlive wants = refl
   requests-said policy k p OtherName wants = refl
   requests-said policy k p (Forward key) wants = ap (λ fs. sends_if (wants && (is_askable key && (permits policy.listens key && nat_lt (length fs) 64))) p) current-alike
-  requests-said policy k p (Cancel key) wants = ap (λ fs. sends_if (any_of (is_free_at k key) fs) p) current-alike
+  requests-said policy k p (Cancel key) wants = ap (λ fs. sends_if (any_of (is_forwarding_free_at k key) fs) p) current-alike
 
   sends-said : (pick c : ℕ) (p : List ℕ) → Resent pick c p → sends_as c p ≡ numbered (Some c) (sends_as pick p)
   sends-said pick c p again = ap sends (sym again)
@@ -134,8 +134,8 @@ module _ (own own' : List Row) (alike : Alike own own') where
   waiting-numbered s c o o' None same = refl
   waiting-numbered s c o o' (Some x) same = same
 
-  -- what a client says has the same effect alone, with its own number as the pick
-  pub message-said : (policy : Policy) (k pick : ℕ) (p : List ℕ) (m : Summary) → ((c : ℕ) → sender_of m ≡ Some c → Resent pick c p) → sent_summary policy k own' (sent_number (sender_of m)) p m ≡ numbered (sender_of m) (sent_summary policy k own pick p m)
+  -- what a client sends has the same effect alone, with its own number as the pick
+  pub message-said : (policy : Policy) (k pick : ℕ) (p : List ℕ) (m : Summary) → ((c : ℕ) → summary_sender_of m ≡ Some c → Resent pick c p) → sent_summary policy k own' (sent_number (summary_sender_of m)) p m ≡ numbered (summary_sender_of m) (sent_summary policy k own pick p m)
   message-said policy k pick p (Transport number) again = refl
   message-said policy k pick p (Requests what wants) again = ap (λ n. elim (wants && nat_le 1024 n) as (λ _. Outcome) [ true ↦ drops (why.TooManyAsks 1024) | false ↦ sent_request policy k own' p what wants ]) unanswered-alike ∙ ap (λ o. elim (wants && nat_le 1024 (unanswered_asks own)) as (λ _. Outcome) [ true ↦ drops (why.TooManyAsks 1024) | false ↦ o ]) (requests-said policy k p what wants)
   message-said policy k pick p (Succeeds rest) again = refl

@@ -3,7 +3,7 @@ use Rattle.std.proofs.Common.{◌≡◌, ℕ, List, [], length, true, false, Boo
 use Rattle.std.specs.Prelude.{◌==◌, ◌&&◌, Result, nat_lt, codes}
 use Rattle.mux_history.specs.Channels.{Channel, held_of, with_own}
 use Rattle.mux_history.specs.Controls.{greeted, house_sends, sent_body}
-use Rattle.mux_history.specs.Forwardings.{current, is_free_at}
+use Rattle.mux_history.specs.Forwardings.{current, is_forwarding_free_at}
 use Rattle.mux_history.specs.Summary.{Act, Carries, Closes, Confirmation, Fails, Summary, Open, Refuses, Requests, Succeeds, Transport, Within, read_summary}
 use Rattle.mux_history.specs.Heard.{Breaks, Dest, Disconnects, ToClient, ToMaster, dest, received_for, received_master}
 use Rattle.mux_history.specs.Kept.{Every, Fits, ForEach}
@@ -68,7 +68,7 @@ up-said policy k own pick p (Requests what wants) bytes reads = by_full (is_full
 
     by_what : (g : Global) → what ≡ g → Every (SendOk policy own) (sent_request policy k own p g wants).sent
     by_what (Forward key) is = by_if (wants && (is_askable key && (permits policy.listens key && nat_lt (length (current own)) 64))) (λ e. subst (λ (g : Global). MaySend policy own (Requests g wants)) (sym is) (third wants (is_askable key) (permits policy.listens key) (nat_lt (length (current own)) 64) e))
-    by_what (Cancel key) is = by_if (any_of (is_free_at k key) (current own)) (λ e. subst (λ (g : Global). MaySend policy own (Requests g wants)) (sym is) tt)
+    by_what (Cancel key) is = by_if (any_of (is_forwarding_free_at k key) (current own)) (λ e. subst (λ (g : Global). MaySend policy own (Requests g wants)) (sym is) tt)
     by_what KeepAlive is = by_if true (λ e. subst (λ (g : Global). MaySend policy own (Requests g wants)) (sym is) tt)
     by_what OtherName is = tt
 

@@ -1,7 +1,7 @@
 -- What look-ups in a client's rows give where the rows are those of the unshared connection.
 use Rattle.std.proofs.Common.{◌≡◌, ℕ, List, [], ◌∷◌, ◌++◌, drop, length, refl, ◌∙◌, ap, Option, Some, None}
 use Rattle.std.specs.Prelude.{◌||◌}
-use Rattle.mux_history.specs.Channels.{own_of}
+use Rattle.mux_history.specs.Channels.{own_number_of}
 use Rattle.mux_history.specs.Pending.{joined, pending_down, took_by, waiting_down}
 use Rattle.mux_history.specs.Requests.{asks, is_sent, wanted, wanted_by}
 use Rattle.mux_history.specs.Rows.{Fate, Heard, Item, Row, is_lost, loses}
@@ -23,7 +23,7 @@ waiting-alone own = ap length (pending-alone own)
 pub loses-alone : (own : List Row) (row : Row) → loses (alone_row own row) ≡ loses row
 loses-alone own row = by_item row.item row.fate
   where
-    by_item : (item : Item) (fate : Fate) → loses (record { item = item_for own item; client = row.client; up = own_ups (own_of item) row.up; farewell = row.farewell; down = row.down; fate = fate }) ≡ loses (record row { item = item; fate = fate })
+    by_item : (item : Item) (fate : Fate) → loses (record { item = item_for own item; client = row.client; up = own_ups (own_number_of item) row.up; farewell = row.farewell; down = row.down; fate = fate }) ≡ loses (record row { item = item; fate = fate })
     by_item (Heard p) fate = refl
     by_item item fate = refl
 
@@ -42,8 +42,8 @@ wanted-item own item row = refl
 
 pub wanted-alone : (own : List Row) → wanted (alone own) ≡ wanted own
 wanted-alone [] = refl
-wanted-alone (row ∷ own) = rw (wanted-alone own, wanted-item own row.item row, sent-ups (own_of row.item) row.up row) refl
+wanted-alone (row ∷ own) = rw (wanted-alone own, wanted-item own row.item row, sent-ups (own_number_of row.item) row.up row) refl
 
 pub asks-alone : (own : List Row) → asks (alone own) ≡ asks own
 asks-alone [] = refl
-asks-alone (row ∷ own) = rw (asks-alone own, wanted-item own row.item row, sent-ups (own_of row.item) row.up row) refl
+asks-alone (row ∷ own) = rw (asks-alone own, wanted-item own row.item row, sent-ups (own_number_of row.item) row.up row) refl

@@ -5,7 +5,7 @@ use Rattle.std.proofs.Math.Seq.{drop-append_seam}
 use Rattle.std.proofs.lemmas.List.{append-nil}
 use Rattle.mux_history.specs.Channels.{Channel, channels_of, held_of, holder, live_in}
 use Rattle.mux_history.specs.Forwardings.{Forwarding, live_at}
-use Rattle.mux_history.specs.Summary.{Act, Confirmation, Fails, Summary, Open, Within, read_summary, reading, recipient_of}
+use Rattle.mux_history.specs.Summary.{Act, Confirmation, Fails, Summary, Open, Within, read_summary, reading, summary_recipient_of}
 use Rattle.mux_history.specs.Heard.{Breaks, Dest, Disconnects, ToClient, ToMaster, dest, dest_confirmation, dest_summary, dest_open, dest_within, for_client, for_lost, received_for, received_summary, pending_open, renamed}
 use Rattle.mux_history.specs.Kept.{Delivers, FailsOpen, ForEach, LeavesLate, Reaches, ReachesChannel, ReachesForwarding}
 use Rattle.mux_history.specs.Ledger.{breach}
@@ -80,7 +80,7 @@ module _ (before : List Row) (good : AreApart (channels_of before)) (p : List �
   other-reads : (m : Summary) → read_summary p ≡ Ok m → is_reply m ≡ false → reading p is_reply false ≡ false
   other-reads m reads other = reading-ok p m is_reply false reads ∙ other
 
-  channel-reached : (m : Summary) (n : ℕ) → read_summary p ≡ Ok m → recipient_of m ≡ Some n → is_reply m ≡ false → for_client (rows_of k before) p m ≡ records (frame_payload (renamed (rows_of k before) p (Some n))) → dest before p ≡ ToClient k → ReachesChannel before (received_row before p (ToClient k)) p n
+  channel-reached : (m : Summary) (n : ℕ) → read_summary p ≡ Ok m → summary_recipient_of m ≡ Some n → is_reply m ≡ false → for_client (rows_of k before) p m ≡ records (frame_payload (renamed (rows_of k before) p (Some n))) → dest before p ≡ ToClient k → ReachesChannel before (received_row before p (ToClient k)) p n
   channel-reached m n reads some other does to = record {
     channel = at.channel;
     held = at.is;

@@ -2,7 +2,7 @@
 use Rattle.std.proofs.Common.{◌≡◌, ℕ, ◌<◌, List, refl, ◌∙◌, ap, sym, Option, Some, None, subst, Ok, Err}
 use Rattle.std.specs.Prelude.{Result}
 use Rattle.mux_history.specs.Channels.{Channel, received_by, holder, with_down}
-use Rattle.mux_history.specs.Summary.{Confirmation, Summary, Open, Refuses, Requests, Succeeds, Transport, Within, read_summary, reading, recipient_of}
+use Rattle.mux_history.specs.Summary.{Confirmation, Summary, Open, Refuses, Requests, Succeeds, Transport, Within, read_summary, reading, summary_recipient_of}
 use Rattle.mux_history.specs.Heard.{own_number, renamed}
 use Rattle.mux_history.specs.Rows.{Heard, Row}
 use Rattle.mux_history.specs.Solo.{item_for}
@@ -14,15 +14,15 @@ use Rattle.mux_isolation.proofs.Meets.{Meets, confirmation-alone, own_numbered, 
 
 -- a recipient names the same channel by the client's own number
 pub record Named (before : List Row) (p : List ℕ) (x : Channel) : Type 0 where
-  pub small : (m : Summary) (n : ℕ) → read_summary p ≡ Ok m → recipient_of m ≡ Some n → own_number (holder before n) < 4294967296
-  pub meets : (m : Summary) (n : ℕ) → read_summary p ≡ Ok m → recipient_of m ≡ Some n → Meets n (own_number (holder before n)) x
+  pub small : (m : Summary) (n : ℕ) → read_summary p ≡ Ok m → summary_recipient_of m ≡ Some n → own_number (holder before n) < 4294967296
+  pub meets : (m : Summary) (n : ℕ) → read_summary p ≡ Ok m → summary_recipient_of m ≡ Some n → Meets n (own_number (holder before n)) x
 
-down-none : (m : Summary) (x : Channel) → recipient_of m ≡ None → with_down m x ≡ x
+down-none : (m : Summary) (x : Channel) → summary_recipient_of m ≡ None → with_down m x ≡ x
 down-none (Confirmation n s w max) x none = cc
 down-none (Within n act) x none = cc
 down-none m x none = refl
 
-down-some : (m : Summary) (n c : ℕ) (x : Channel) → recipient_of m ≡ Some n → Meets n c x → with_down (readdressed c m) (own_numbered x) ≡ own_numbered (with_down m x)
+down-some : (m : Summary) (n c : ℕ) (x : Channel) → summary_recipient_of m ≡ Some n → Meets n c x → with_down (readdressed c m) (own_numbered x) ≡ own_numbered (with_down m x)
 down-some (Confirmation n' s w max) n c x some meets = let same : n ≡ n' = cc in confirmation-alone n' c s w max x (subst (λ (j : ℕ). Meets j c x) same meets)
 down-some (Within n' act) n c x some meets = let same : n ≡ n' = cc in within-alone n' c act x (subst (λ (j : ℕ). Meets j c x) same meets)
 down-some (Transport number) n c x some meets = cc
@@ -34,7 +34,7 @@ down-some (Open what s w max) n c x some meets = cc
 pub heard-alone : (before : List Row) (p : List ℕ) (x : Channel) → Named before p x → received_by (item_for before (Heard p)) (own_numbered x) ≡ own_numbered (received_by (Heard p) x)
 heard-alone before p x named = by_case (read_summary p) refl
   where
-    by_some : (m : Summary) → read_summary p ≡ Ok m → (o : Option ℕ) → recipient_of m ≡ o → reading (renamed before p o) (λ m. with_down m (own_numbered x)) (own_numbered x) ≡ own_numbered (with_down m x)
+    by_some : (m : Summary) → read_summary p ≡ Ok m → (o : Option ℕ) → summary_recipient_of m ≡ o → reading (renamed before p o) (λ m. with_down m (own_numbered x)) (own_numbered x) ≡ own_numbered (with_down m x)
     by_some m reads None none = reading-ok p m (λ m. with_down m (own_numbered x)) (own_numbered x) reads ∙ (down-none m (own_numbered x) none ∙ sym (ap own_numbered (down-none m x none)))
     by_some m reads (Some n) some =
         reading-ok (with_recipient p (own_number (holder before n))) (readdressed (own_number (holder before n)) m) (λ m. with_down m (own_numbered x)) (own_numbered x)
@@ -43,10 +43,10 @@ heard-alone before p x named = by_case (read_summary p) refl
 
     by_case : (r : Result Summary Bad) → read_summary p ≡ r → received_by (item_for before (Heard p)) (own_numbered x) ≡ own_numbered (received_by (Heard p) x)
     by_case (Err e) reads =
-        ap (λ q. reading q (λ m. with_down m (own_numbered x)) (own_numbered x)) (reading-err p e (λ m. renamed before p (recipient_of m)) p reads)
+        ap (λ q. reading q (λ m. with_down m (own_numbered x)) (own_numbered x)) (reading-err p e (λ m. renamed before p (summary_recipient_of m)) p reads)
         ∙ (reading-err p e (λ m. with_down m (own_numbered x)) (own_numbered x) reads
         ∙ sym (ap own_numbered (reading-err p e (λ m. with_down m x) x reads)))
     by_case (Ok m) reads =
-        ap (λ q. reading q (λ m. with_down m (own_numbered x)) (own_numbered x)) (reading-ok p m (λ m. renamed before p (recipient_of m)) p reads)
-        ∙ (by_some m reads (recipient_of m) refl
+        ap (λ q. reading q (λ m. with_down m (own_numbered x)) (own_numbered x)) (reading-ok p m (λ m. renamed before p (summary_recipient_of m)) p reads)
+        ∙ (by_some m reads (summary_recipient_of m) refl
         ∙ sym (ap own_numbered (reading-ok p m (λ m. with_down m x) x reads)))

@@ -1,7 +1,7 @@
 -- The facts of a right log, by induction over its items, and the isolation of each client.
 use Rattle.std.proofs.Common.{◌≡◌, ℕ, List, [], ◌∷◌, ◌++◌, true, false, Bool, refl, ◌∙◌, ap, map, sym, Option, Some, None, subst}
 use Rattle.std.specs.Prelude.{◌==◌, ◌||◌}
-use Rattle.mux_history.specs.Channels.{channels_of, own_of}
+use Rattle.mux_history.specs.Channels.{channels_of, own_number_of}
 use Rattle.mux_history.specs.Choices.{Choices, FromLists, pick_of, sent_number, with_reply}
 use Rattle.mux_history.specs.Journal.{items}
 use Rattle.mux_history.specs.Log.{Setting, admits, bare, log_of, makes_next, more_of, next_row, treat}
@@ -11,7 +11,7 @@ use Rattle.mux_history.specs.Right.{AreFresh}
 use Rattle.mux_history.specs.Rows.{Admit, BadServer, Gone, Heard, HouseSays, Item, Row, RunEnd, Says, ServerCut, ServerEnd, ServerFailed, Took, any_of, is_admit, is_end, is_ended, rows_of}
 use Rattle.mux_history.specs.Said.{silent}
 use Rattle.mux_history.specs.Settings.{by_lists, by_own}
-use Rattle.mux_history.specs.Solo.{IsUnshared, end_of, item_for, items_for, run_end, seen_alone}
+use Rattle.mux_history.specs.Solo.{IsUnshared, run_end_of, item_for, items_for, run_end, seen_alone}
 use Rattle.mux_history.specs.declared.ended.Ended.{Ended}
 use Rattle.mux_outside.specs.declared.house.HouseReply.{HouseReply}
 use Rattle.mux_history.proofs.Apart.{AreApart}
@@ -105,7 +105,7 @@ module _ (policy : Policy) (pid pick k : ℕ) (real : k ≡ 0 → ⊥) (before :
         own_rows = λ un. (
           record {
             makes = subst (λ (i : Item). makes_next (alone (rows_of k before)) (item_for (rows_of k before) i) ≡ true) (sym f.is) (own-makes f);
-            treats = subst (λ (i : Item). treat policy pid (sent_number (own_of (item_for (rows_of k before) i))) (alone (rows_of k before)) (item_for (rows_of k before) i) ≡ alone_row (rows_of k before) (treat policy pid pick before item)) (sym f.is) (f.treats (subst (λ (i : Item). Unrefused i (is_admit (treat policy pid pick before item))) f.is un.0));
+            treats = subst (λ (i : Item). treat policy pid (sent_number (own_number_of (item_for (rows_of k before) i))) (alone (rows_of k before)) (item_for (rows_of k before) i) ≡ alone_row (rows_of k before) (treat policy pid pick before item)) (sym f.is) (f.treats (subst (λ (i : Item). Unrefused i (is_admit (treat policy pid pick before item))) f.is un.0));
           },
           facts.own un.1,
         );
@@ -177,7 +177,7 @@ admitted-all k (row ∷ own) once admitted = by_case (λ h. admitted-all k own o
 
 -- what ends the run makes no row of the client's
 pub run-end-same : (setting : Setting) (rows : List Row) (items : List Item) → log_of setting (run_end rows ++ items) ≡ log_of setting items
-run-end-same setting rows items = by_end (end_of rows)
+run-end-same setting rows items = by_end (run_end_of rows)
   where
     by_ended : (cause : Ended) (b : Bool) → (elim (elim b as (λ _. Bool) [ true ↦ false | false ↦ false ]) as (λ _. List Row) [ false ↦ log_of setting items | true ↦ next_row setting (log_of setting items) (RunEnd cause) ∷ log_of setting items ]) ≡ log_of setting items
     by_ended cause true = refl

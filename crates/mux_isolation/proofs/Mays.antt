@@ -1,4 +1,4 @@
--- What a client's row may send and tell: data within its window, and what is permitted.
+-- What a client's row may send and give: data within its window, and what is permitted.
 use Rattle.std.proofs.Common.{◌≡◌, ℕ, List, [], ◌∷◌, true, Some}
 use Rattle.std.specs.Prelude.{option_map}
 use Rattle.mux_history.specs.Channels.{with_own}

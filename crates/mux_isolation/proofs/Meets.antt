@@ -2,7 +2,7 @@
 use Rattle.std.proofs.Common.{◌≡◌, ℕ, List, [], ◌∷◌, true, false, Bool, refl, ◌∙◌, ap, arith, sym, Option, Some, subst}
 use Rattle.std.specs.Prelude.{◌==◌, ◌&&◌, filter, find}
 use Rattle.std.proofs.lemmas.Bool.Decides.{nat_tests}
-use Rattle.mux_history.specs.Channels.{Channel, is_held, is_number, with_down}
+use Rattle.mux_history.specs.Channels.{Channel, is_channel_held, is_number, with_down}
 use Rattle.mux_history.specs.Summary.{Act, Confirmation, Confirms, Within}
 use Rattle.ssh_grammar.specs.declared.side.Side.TheVariants.{Down}
 use Rattle.mux_history.proofs.Apart.{AllApart, ApartFrom, each-both, each-filter}
@@ -12,35 +12,35 @@ use Rattle.mux_history.proofs.Bools.{self}
 
 -- two channels that are not over have different numbers and different numbers of the client's own
 pub record Apart (x y : Channel) : Type 0 where
-  pub numbers : is_held x ≡ true → is_held y ≡ true → (n : ℕ) → is_number x.number n ≡ true → is_number y.number n ≡ false
-  pub owns : is_held x ≡ true → is_held y ≡ true → (c : ℕ) → is_number x.own c ≡ true → is_number y.own c ≡ false
+  pub numbers : is_channel_held x ≡ true → is_channel_held y ≡ true → (n : ℕ) → is_number x.number n ≡ true → is_number y.number n ≡ false
+  pub owns : is_channel_held x ≡ true → is_channel_held y ≡ true → (c : ℕ) → is_number x.own c ≡ true → is_number y.own c ≡ false
 
 abbrev pub Distinct : List Channel → Type 0
 Distinct [] = Unit {0}
 Distinct (x ∷ xs) = Each (Apart x) xs × Distinct xs
 
 abbrev pub names : ℕ → Channel → Bool
-names n x = is_number x.number n && is_held x
+names n x = is_number x.number n && is_channel_held x
 
 abbrev pub names_own : ℕ → Channel → Bool
-names_own c x = is_number x.own c && is_held x
+names_own c x = is_number x.own c && is_channel_held x
 
 abbrev pub Meets : ℕ → ℕ → Channel → Type 0
 Meets n c x = names n x ≡ names_own c x
 
 abbrev pub held_by : ℕ → List Channel → Option Channel
-held_by n xs = find (λ y. is_number y.number n) (filter is_held xs)
+held_by n xs = find (λ y. is_number y.number n) (filter is_channel_held xs)
 
 has : (o : Option ℕ) (c : ℕ) → o ≡ Some c → is_number o c ≡ true
 has o c e = rw e (self c)
 
 -- those after the holder meet: neither number is theirs
-behind : (n c : ℕ) (x : Channel) → is_held x ≡ true → is_number x.number n ≡ true → is_number x.own c ≡ true → (ys : List Channel) → Each (Apart x) ys → Each (Meets n c) ys
+behind : (n c : ℕ) (x : Channel) → is_channel_held x ≡ true → is_number x.number n ≡ true → is_number x.own c ≡ true → (ys : List Channel) → Each (Apart x) ys → Each (Meets n c) ys
 behind n c x h e o [] apart = tt
-behind n c x h e o (y ∷ ys) apart = (one (is_held y) refl, behind n c x h e o ys apart.1)
+behind n c x h e o (y ∷ ys) apart = (one (is_channel_held y) refl, behind n c x h e o ys apart.1)
   where
-    one : (b : Bool) → is_held y ≡ b → Meets n c y
-    one true held = ap (λ b. b && is_held y) (apart.0.numbers h held n e ∙ sym (apart.0.owns h held c o))
+    one : (b : Bool) → is_channel_held y ≡ b → Meets n c y
+    one true held = ap (λ b. b && is_channel_held y) (apart.0.numbers h held n e ∙ sym (apart.0.owns h held c o))
     one false over = rw over (both (is_number y.number n) (is_number y.own c))
       where
         both : (a b : Bool) → (a && false) ≡ (b && false)
@@ -51,27 +51,27 @@ behind n c x h e o (y ∷ ys) apart = (one (is_held y) refl, behind n c x h e o 
 
 -- what was found is held, is apart from a channel before it, and holds the number
 record Found (y : Channel) (n : ℕ) (x : Channel) : Type 0 where
-  held : is_held x ≡ true
+  held : is_channel_held x ≡ true
   holds : is_number x.number n ≡ true
   apart : Apart y x
 
-held_by-over : (n : ℕ) (z : Channel) (zs : List Channel) → is_held z ≡ false → held_by n (z ∷ zs) ≡ held_by n zs
-held_by-over n z zs over = ap (find (λ y. is_number y.number n)) (filter-no is_held z zs over)
+held_by-over : (n : ℕ) (z : Channel) (zs : List Channel) → is_channel_held z ≡ false → held_by n (z ∷ zs) ≡ held_by n zs
+held_by-over n z zs over = ap (find (λ y. is_number y.number n)) (filter-no is_channel_held z zs over)
 
-held_by-here : (n : ℕ) (z : Channel) (zs : List Channel) → is_held z ≡ true → is_number z.number n ≡ true → held_by n (z ∷ zs) ≡ Some z
-held_by-here n z zs held e = ap (find (λ y. is_number y.number n)) (filter-yes is_held z zs held) ∙ find-yes (λ (y : Channel). is_number y.number n) z (filter is_held zs) e
+held_by-here : (n : ℕ) (z : Channel) (zs : List Channel) → is_channel_held z ≡ true → is_number z.number n ≡ true → held_by n (z ∷ zs) ≡ Some z
+held_by-here n z zs held e = ap (find (λ y. is_number y.number n)) (filter-yes is_channel_held z zs held) ∙ find-yes (λ (y : Channel). is_number y.number n) z (filter is_channel_held zs) e
 
-held_by-other : (n : ℕ) (z : Channel) (zs : List Channel) → is_held z ≡ true → is_number z.number n ≡ false → held_by n (z ∷ zs) ≡ held_by n zs
-held_by-other n z zs held e = ap (find (λ y. is_number y.number n)) (filter-yes is_held z zs held) ∙ find-no (λ (y : Channel). is_number y.number n) z (filter is_held zs) e
+held_by-other : (n : ℕ) (z : Channel) (zs : List Channel) → is_channel_held z ≡ true → is_number z.number n ≡ false → held_by n (z ∷ zs) ≡ held_by n zs
+held_by-other n z zs held e = ap (find (λ y. is_number y.number n)) (filter-yes is_channel_held z zs held) ∙ find-no (λ (y : Channel). is_number y.number n) z (filter is_channel_held zs) e
 
 some-same : (x z : Channel) → Some z ≡ Some x → z ≡ x
 some-same x z e = cc
 
 found : (y : Channel) (n : ℕ) (x : Channel) (ys : List Channel) → Each (Apart y) ys → held_by n ys ≡ Some x → Found y n x
 found y n x [] apart e = cc
-found y n x (z ∷ zs) apart e = by_held (λ h. found y n x zs apart.1 h) (is_held z) refl (is_number z.number n) refl
+found y n x (z ∷ zs) apart e = by_held (λ h. found y n x zs apart.1 h) (is_channel_held z) refl (is_number z.number n) refl
   where
-    by_held : (held_by n zs ≡ Some x → Found y n x) → (b : Bool) → is_held z ≡ b → (b' : Bool) → is_number z.number n ≡ b' → Found y n x
+    by_held : (held_by n zs ≡ Some x → Found y n x) → (b : Bool) → is_channel_held z ≡ b → (b' : Bool) → is_number z.number n ≡ b' → Found y n x
     by_held later false over b' e' = later (sym (held_by-over n z zs over) ∙ e)
     by_held later true held false e' = later (sym (held_by-other n z zs held e') ∙ e)
     by_held later true held true e' =
@@ -81,7 +81,7 @@ found y n x (z ∷ zs) apart e = by_held (λ h. found y n x zs apart.1 h) (is_he
 -- where the number's holder has the own number, each channel meets
 pub meets-all : (n c : ℕ) (x : Channel) → x.own ≡ Some c → (ys : List Channel) → Distinct ys → held_by n ys ≡ Some x → Each (Meets n c) ys
 meets-all n c x own [] distinct e = tt
-meets-all n c x own (z ∷ zs) distinct e = by_held (λ h. meets-all n c x own zs distinct.1 h) (is_held z) refl (is_number z.number n) refl
+meets-all n c x own (z ∷ zs) distinct e = by_held (λ h. meets-all n c x own zs distinct.1 h) (is_channel_held z) refl (is_number z.number n) refl
   where
     both : (a b : Bool) → (a && false) ≡ (b && false)
     both true true = refl
@@ -89,16 +89,16 @@ meets-all n c x own (z ∷ zs) distinct e = by_held (λ h. meets-all n c x own z
     both false true = refl
     both false false = refl
 
-    by_held : (held_by n zs ≡ Some x → Each (Meets n c) zs) → (b : Bool) → is_held z ≡ b → (b' : Bool) → is_number z.number n ≡ b' → Each (Meets n c) (z ∷ zs)
+    by_held : (held_by n zs ≡ Some x → Each (Meets n c) zs) → (b : Bool) → is_channel_held z ≡ b → (b' : Bool) → is_number z.number n ≡ b' → Each (Meets n c) (z ∷ zs)
     by_held later false over b' e' = (ap (λ b. is_number z.number n && b) over ∙ (both (is_number z.number n) (is_number z.own c) ∙ sym (ap (λ b. is_number z.own c && b) over)), later (sym (held_by-over n z zs over) ∙ e))
     by_held later true held true e' =
         let same : z ≡ x = some-same x z (sym (held_by-here n z zs held e') ∙ e) in
         let mine : is_number z.own c ≡ true = has z.own c (ap (λ (w : Channel). w.own) same ∙ own) in
-        (ap (λ b. b && is_held z) (e' ∙ sym mine), behind n c z held e' mine zs distinct.0)
+        (ap (λ b. b && is_channel_held z) (e' ∙ sym mine), behind n c z held e' mine zs distinct.0)
     by_held later true held false e' =
         let rest : held_by n zs ≡ Some x = sym (held_by-other n z zs held e') ∙ e in
         let f : Found z n x = found z n x zs distinct.0 rest in
-        (ap (λ b. b && is_held z) (e' ∙ sym (not_own f (is_number z.own c) refl)), later rest)
+        (ap (λ b. b && is_channel_held z) (e' ∙ sym (not_own f (is_number z.own c) refl)), later rest)
       where
         not_own : Found z n x → (b : Bool) → is_number z.own c ≡ b → is_number z.own c ≡ false
         not_own f false o = o

@@ -3,8 +3,8 @@
 use Rattle.std.proofs.Common.{◌≡◌, ℕ, ◌<◌, List, [], ◌∷◌, true, false, Bool, refl, ◌∙◌, ap, arith, map, sym, Option, Some, None, subst, inl, inr, Ok, Err}
 use Rattle.std.specs.Prelude.{◌==◌, filter, find, Result}
 use Rattle.std.proofs.lemmas.Bool.Decides.{nat_tests}
-use Rattle.mux_history.specs.Channels.{Channel, begun_by, channels_of, held_of, holder, is_held, is_number, opened_down, opened_up, own_of}
-use Rattle.mux_history.specs.Summary.{Confirmation, Summary, Open, Within, read_summary, reading, recipient_of, sender_of}
+use Rattle.mux_history.specs.Channels.{Channel, begun_by, channels_of, held_of, holder, is_channel_held, is_number, opened_down, opened_up, own_number_of}
+use Rattle.mux_history.specs.Summary.{Confirmation, Summary, Open, Within, read_summary, reading, summary_recipient_of, summary_sender_of}
 use Rattle.mux_history.specs.Heard.{Breaks, ToClient, dest, own_number}
 use Rattle.mux_history.specs.Kept.{Every}
 use Rattle.mux_history.specs.Policy.{Policy}
@@ -88,7 +88,7 @@ module _ (before : List Row) (good : AreApart (channels_of before)) (k : ℕ) wh
 
       by_holder : (o : Option Channel) → holder (rows_of k before) n ≡ o → own_number o < 4294967296
       by_holder None e = omega arith
-      by_holder (Some x) e = by_own x x.own refl (found-each Sound is_held (λ (y : Channel). is_number y.number n) x (channels_of (rows_of k before)) sound-own e)
+      by_holder (Some x) e = by_own x x.own refl (found-each Sound is_channel_held (λ (y : Channel). is_number y.number n) x (channels_of (rows_of k before)) sound-own e)
 
   pub small-item : (item : Item) → SmallItem (rows_of k before) item
   small-item (Heard p) = λ m n reads some. small-own n
@@ -105,13 +105,13 @@ module _ (before : List Row) (good : AreApart (channels_of before)) (k : ℕ) wh
 
   pub holder-local : (n : ℕ) (x : Channel) → holder before n ≡ Some x → x.client ≡ k → holder (rows_of k before) n ≡ Some x
   holder-local n x held mine =
-      ap (λ cs. find (λ (y : Channel). is_number y.number n) (filter is_held cs)) (sym (channels-local k before))
+      ap (λ cs. find (λ (y : Channel). is_number y.number n) (filter is_channel_held cs)) (sym (channels-local k before))
       ∙ find-of k (λ y. is_number y.number n) x (channels_of before) held (is-of x.client k mine)
 
   pub met : (n : ℕ) → Reached before n k → Met (rows_of k before) n
   met n r =
       let is : holder (rows_of k before) n ≡ Some r.channel = holder-local n r.channel r.is r.client in
-      let sound : Sound r.channel = found-each Sound is_held (λ (y : Channel). is_number y.number n) r.channel (channels_of before) good.each r.is in
+      let sound : Sound r.channel = found-each Sound is_channel_held (λ (y : Channel). is_number y.number n) r.channel (channels_of before) good.each r.is in
       let named : r.channel.number ≡ Some n = number-is r.channel.number n (found-true (λ (y : Channel). is_number y.number n) r.channel (held_of before) r.is) in
       let own : (c : ℕ) × (r.channel.own ≡ Some c) = sound.owned n named in
       record {
@@ -129,23 +129,23 @@ module _ (before : List Row) (good : AreApart (channels_of before)) (k : ℕ) wh
   heard-each : (p : List ℕ) → dest before p ≡ ToClient k → Each (ReceivedOne (rows_of k before) (Heard p)) (channels_of (rows_of k before))
   heard-each p to = by_case (read_summary p) refl
     where
-      none-named : (m : Summary) → read_summary p ≡ Ok m → recipient_of m ≡ None → (x : Channel) → Named (rows_of k before) p x
+      none-named : (m : Summary) → read_summary p ≡ Ok m → summary_recipient_of m ≡ None → (x : Channel) → Named (rows_of k before) p x
       none-named m reads none x = record {
         small = λ m' n reads' some. small-own n;
-        meets = λ m' n reads' some. let same : m ≡ m' = ok-same p m m' reads reads' in absurd (let bad : None ≡ Some n = sym none ∙ (ap recipient_of same ∙ some) in cc);
+        meets = λ m' n reads' some. let same : m ≡ m' = ok-same p m m' reads reads' in absurd (let bad : None ≡ Some n = sym none ∙ (ap summary_recipient_of same ∙ some) in cc);
       }
 
-      some-named : (m : Summary) (n : ℕ) → read_summary p ≡ Ok m → recipient_of m ≡ Some n → (r : Met (rows_of k before) n) → (x : Channel) → Meets n r.c x → Named (rows_of k before) p x
+      some-named : (m : Summary) (n : ℕ) → read_summary p ≡ Ok m → summary_recipient_of m ≡ Some n → (r : Met (rows_of k before) n) → (x : Channel) → Meets n r.c x → Named (rows_of k before) p x
       some-named m n reads some r x meets = record {
         small = λ m' n' reads' some'. small-own n';
         meets = λ m' n' reads' some'.
             let same : m ≡ m' = ok-same p m m' reads reads' in
-            let at : Some n ≡ Some n' = sym some ∙ (ap recipient_of same ∙ some') in
+            let at : Some n ≡ Some n' = sym some ∙ (ap summary_recipient_of same ∙ some') in
             let eq : n ≡ n' = cc in
             subst (λ (i : ℕ). Meets i (own_number (holder (rows_of k before) i)) x) eq (subst (λ (c : ℕ). Meets n c x) (sym (number-met n r)) meets);
       }
 
-      by_some : (m : Summary) → read_summary p ≡ Ok m → (o : Option ℕ) → recipient_of m ≡ o → Each (ReceivedOne (rows_of k before) (Heard p)) (channels_of (rows_of k before))
+      by_some : (m : Summary) → read_summary p ≡ Ok m → (o : Option ℕ) → summary_recipient_of m ≡ o → Each (ReceivedOne (rows_of k before) (Heard p)) (channels_of (rows_of k before))
       by_some m reads None none = each-unit (ReceivedOne (rows_of k before) (Heard p)) (none-named m reads none) (channels_of (rows_of k before))
       by_some m reads (Some n) some =
           let r : Met (rows_of k before) n = met n (reached before m n k some (sym (dest-ok before p m reads) ∙ to)) in
@@ -153,7 +153,7 @@ module _ (before : List Row) (good : AreApart (channels_of before)) (k : ℕ) wh
 
       by_case : (r : Result Summary Bad) → read_summary p ≡ r → Each (ReceivedOne (rows_of k before) (Heard p)) (channels_of (rows_of k before))
       by_case (Err bad) reads = let x : Breaks _ ≡ ToClient k = sym (dest-err before p bad reads) ∙ to in absurd (let h = x in cc)
-      by_case (Ok m) reads = by_some m reads (recipient_of m) refl
+      by_case (Ok m) reads = by_some m reads (summary_recipient_of m) refl
 
   -- what the server sends to the client
   down-same : (up : List (List ℕ)) (m : Summary) (c : ℕ) → opened_down k up (readdressed c m) ≡ opened_down k up m
@@ -185,7 +185,7 @@ module _ (before : List Row) (good : AreApart (channels_of before)) (k : ℕ) wh
       by_zero false = same-use (rows_of k before) p (opened_down k up) [] (λ m n reads some. small-own n) (down-same up) ∙ sym (reading-own p up)
 
   -- rows that send nothing and begin nothing
-  pub named-mute : (item : Item) → (up : List (List ℕ)) → up ≡ [] → ((x : Channel) → ReceivedOne (rows_of k before) item x) → own_of item ≡ None → begun_by k [] (item_for (rows_of k before) item) ≡ [] → begun_by k [] item ≡ [] → (fw : List (List ℕ)) → Every Quiet fw → (down : List (List ℕ)) (fate : Fate) → RowNamed (rows_of k before) (as_row item k up fw down fate)
+  pub named-mute : (item : Item) → (up : List (List ℕ)) → up ≡ [] → ((x : Channel) → ReceivedOne (rows_of k before) item x) → own_number_of item ≡ None → begun_by k [] (item_for (rows_of k before) item) ≡ [] → begun_by k [] item ≡ [] → (fw : List (List ℕ)) → Every Quiet fw → (down : List (List ℕ)) (fate : Fate) → RowNamed (rows_of k before) (as_row item k up fw down fate)
   named-mute item up none heard unowned begun begun' fw parting down fate = record {
     heard = each-unit (ReceivedOne (rows_of k before) item) heard (channels_of (rows_of k before));
     ups = subst (λ (o : Option ℕ). UpsNamed o up) (sym unowned) (subst (Every Quiet) (sym none) tt);
@@ -217,12 +217,12 @@ module _ (before : List Row) (good : AreApart (channels_of before)) (k : ℕ) wh
     named-nothing : RowNamed (rows_of k before) (row_sent [])
     named-nothing = record {
       heard = each-unit (ReceivedOne (rows_of k before) (Says k (Payload p) reply)) (λ x. tt) (channels_of (rows_of k before));
-      ups = named-nil (own_of (Says k (Payload p) reply));
+      ups = named-nil (own_number_of (Says k (Payload p) reply));
       parting = parting;
-      begun = ap (λ u. begun_by k u (Says k (Payload p) reply)) (ups-nil (own_of (Says k (Payload p) reply))) ∙ (begun-nil k p reply ∙ sym (ap (map own_numbered) (begun-nil k p reply)));
+      begun = ap (λ u. begun_by k u (Says k (Payload p) reply)) (ups-nil (own_number_of (Says k (Payload p) reply))) ∙ (begun-nil k p reply ∙ sym (ap (map own_numbered) (begun-nil k p reply)));
     }
 
-    named-plain : (m : Summary) → read_summary p ≡ Ok m → sender_of m ≡ None → RowNamed (rows_of k before) (row_sent (p ∷ []))
+    named-plain : (m : Summary) → read_summary p ≡ Ok m → summary_sender_of m ≡ None → RowNamed (rows_of k before) (row_sent (p ∷ []))
     named-plain m reads unowned = record {
       heard = each-unit (ReceivedOne (rows_of k before) (Says k (Payload p) reply)) (λ x. tt) (channels_of (rows_of k before));
       ups = subst (λ (o : Option ℕ). UpsNamed o (p ∷ [])) (sym none) (quiet-plain p m reads unowned, tt);
@@ -230,13 +230,13 @@ module _ (before : List Row) (good : AreApart (channels_of before)) (k : ℕ) wh
       begun = ap (λ o. begun_by k (own_ups o (p ∷ [])) (Says k (Payload p) reply)) none ∙ (begun ∙ sym (ap (map own_numbered) begun));
     }
       where
-        none : own_of (Says k (Payload p) reply) ≡ None
-        none = reading-ok p m sender_of None reads ∙ unowned
+        none : own_number_of (Says k (Payload p) reply) ≡ None
+        none = reading-ok p m summary_sender_of None reads ∙ unowned
 
         begun : begun_by k (p ∷ []) (Says k (Payload p) reply) ≡ []
         begun = reading-ok p m (opened_up k (p ∷ [])) [] reads ∙ opened-plain k (p ∷ []) m unowned
 
-    named-fresh : (pick c : ℕ) (m : Summary) → AreBytes p → read_summary p ≡ Ok m → sender_of m ≡ Some c → RowNamed (rows_of k before) (row_sent (with_sender p pick ∷ []))
+    named-fresh : (pick c : ℕ) (m : Summary) → AreBytes p → read_summary p ≡ Ok m → summary_sender_of m ≡ Some c → RowNamed (rows_of k before) (row_sent (with_sender p pick ∷ []))
     named-fresh pick c m bytes reads owned = record {
       heard = each-unit (ReceivedOne (rows_of k before) (Says k (Payload p) reply)) (λ x. tt) (channels_of (rows_of k before));
       ups = subst (λ (o : Option ℕ). UpsNamed o (with_sender p pick ∷ [])) (sym has_own) (numbered, tt);
@@ -253,8 +253,8 @@ module _ (before : List Row) (good : AreApart (channels_of before)) (k : ℕ) wh
         small : c < 4294967296
         small = own-small p m c bytes reads owned
 
-        has_own : own_of (Says k (Payload p) reply) ≡ Some c
-        has_own = reading-ok p m sender_of None reads ∙ owned
+        has_own : own_number_of (Says k (Payload p) reply) ≡ Some c
+        has_own = reading-ok p m summary_sender_of None reads ∙ owned
 
         numbered : Numbered c (with_sender p pick)
         numbered = record {
@@ -263,10 +263,10 @@ module _ (before : List Row) (good : AreApart (channels_of before)) (k : ℕ) wh
           again = ap read_summary (sent-again p m sender pick c) ∙ (reads-sent p m sender c ∙ (ap (λ i. Ok (resent i m)) (spelled c small) ∙ sym (ap Ok (resent-twice c (word pick) m))));
         }
 
-        at : reading (with_sender (with_sender p pick) c) sender_of None ≡ Some c
-        at = ap (λ q. reading q sender_of None) (sent-again p m sender pick c) ∙ (number-sent p m sender c ∙ ap Some (spelled c small))
+        at : reading (with_sender (with_sender p pick) c) summary_sender_of None ≡ Some c
+        at = ap (λ q. reading q summary_sender_of None) (sent-again p m sender pick c) ∙ (number-sent p m sender c ∙ ap Some (spelled c small))
 
-        begun : (m' : Summary) → sender_of m' ≡ Some c → opened_up k (with_sender (with_sender p pick) c ∷ []) m' ≡ map own_numbered (opened_up k (with_sender p pick ∷ []) m')
+        begun : (m' : Summary) → summary_sender_of m' ≡ Some c → opened_up k (with_sender (with_sender p pick) c ∷ []) m' ≡ map own_numbered (opened_up k (with_sender p pick ∷ []) m')
         begun (Open what c' w max) e = ap (λ (i : Option ℕ). record { client = k; by = Up; own = Some c'; number = i; remote = None; window = w; maximum = max; acts = [] } ∷ []) at ∙ ap (λ (o : Option ℕ). record { client = k; by = Up; own = Some c'; number = o; remote = None; window = w; maximum = max; acts = [] } ∷ []) (sym e)
         begun m' e = refl
 

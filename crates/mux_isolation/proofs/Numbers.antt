@@ -2,7 +2,7 @@
 use Rattle.std.proofs.Common.{◌≡◌, ℕ, List, [], ◌∷◌, ◌++◌, true, false, Bool, refl, ◌∙◌, ap, map, sym, Option, Some, None, Ok, Err}
 use Rattle.std.specs.Prelude.{◌==◌, ◌&&◌, Result}
 use Rattle.std.proofs.lemmas.List.{map-append}
-use Rattle.mux_history.specs.Channels.{Channel, after_farewell, after_item, begun_by, channels_of, received_by, is_held, is_number, own_of, with_up, with_ups}
+use Rattle.mux_history.specs.Channels.{Channel, after_farewell, after_item, begun_by, channels_of, received_by, is_channel_held, is_number, own_number_of, with_up, with_ups}
 use Rattle.mux_history.specs.Summary.{Act, Confirmation, Confirms, Summary, Within, read_summary, reading}
 use Rattle.mux_history.specs.Kept.{Every}
 use Rattle.mux_history.specs.Rows.{Heard, Item, Row}
@@ -29,14 +29,14 @@ UpsNamed None ups = Every Quiet ups
 UpsNamed (Some c) ups = Every (Numbered c) ups
 
 within-up : (own : Option ℕ) (s : ℕ) (act : Act) (x : Channel) → with_up own (Within s act) (own_numbered x) ≡ own_numbered (with_up own (Within s act) x)
-within-up own s act x = pick (is_number x.remote s && is_held x)
+within-up own s act x = pick (is_number x.remote s && is_channel_held x)
   where
     pick : (b : Bool) → (elim b as (λ _. Channel) [ true ↦ record x { number = x.own; acts = (Up, act) ∷ x.acts } | false ↦ own_numbered x ]) ≡ own_numbered (elim b as (λ _. Channel) [ true ↦ record x { acts = (Up, act) ∷ x.acts } | false ↦ x ])
     pick true = refl
     pick false = refl
 
 confirmation-up : (c s a w m : ℕ) (x : Channel) → with_up (Some c) (Confirmation s c w m) (own_numbered x) ≡ own_numbered (with_up (Some c) (Confirmation s a w m) x)
-confirmation-up c s a w m x = pick (is_number x.remote s && is_held x)
+confirmation-up c s a w m x = pick (is_number x.remote s && is_channel_held x)
   where
     pick : (b : Bool) → (elim b as (λ _. Channel) [ true ↦ record x { own = Some c; number = Some c; acts = (Up, Confirms w m) ∷ x.acts } | false ↦ own_numbered x ]) ≡ own_numbered (elim b as (λ _. Channel) [ true ↦ record x { own = Some c; number = Some a; acts = (Up, Confirms w m) ∷ x.acts } | false ↦ x ])
     pick true = refl
@@ -82,30 +82,30 @@ ReceivedOne before item x = Unit {0}
 
 pub record RowNamed (before : List Row) (row : Row) : Type 0 where
   pub heard : Each (ReceivedOne before row.item) (channels_of before)
-  pub ups : UpsNamed (own_of row.item) row.up
+  pub ups : UpsNamed (own_number_of row.item) row.up
   pub parting : Every Quiet row.farewell
-  pub begun : begun_by row.client (own_ups (own_of row.item) row.up) (item_for before row.item) ≡ map own_numbered (begun_by row.client row.up row.item)
+  pub begun : begun_by row.client (own_ups (own_number_of row.item) row.up) (item_for before row.item) ≡ map own_numbered (begun_by row.client row.up row.item)
 
 abbrev pub AllNamed : List Row → Type 0
 AllNamed [] = Unit {0}
 AllNamed (row ∷ before) = RowNamed before row × AllNamed before
 
-own_of-item : (before : List Row) (item : Item) → own_of (item_for before item) ≡ own_of item
-own_of-item before (Heard p) = refl
-own_of-item before item = refl
+own_number_of-item : (before : List Row) (item : Item) → own_number_of (item_for before item) ≡ own_number_of item
+own_number_of-item before (Heard p) = refl
+own_number_of-item before item = refl
 
 heard-one : (before : List Row) (item : Item) (x : Channel) → ReceivedOne before item x → received_by (item_for before item) (own_numbered x) ≡ own_numbered (received_by item x)
 heard-one before (Heard p) x named = heard-alone before p x named
 heard-one before item x named = refl
 
-item-alone : (before : List Row) (row : Row) (x : Channel) → ReceivedOne before row.item x → UpsNamed (own_of row.item) row.up → after_item (alone_row before row) (own_numbered x) ≡ own_numbered (after_item row x)
+item-alone : (before : List Row) (row : Row) (x : Channel) → ReceivedOne before row.item x → UpsNamed (own_number_of row.item) row.up → after_item (alone_row before row) (own_numbered x) ≡ own_numbered (after_item row x)
 item-alone before row x heard ups = by_case (x.client == row.client)
   where
-    by_case : (b : Bool) → (elim b as (λ _. Channel) [ true ↦ with_ups (own_of (item_for before row.item)) (own_ups (own_of row.item) row.up) (received_by (item_for before row.item) (own_numbered x)) | false ↦ own_numbered x ]) ≡ own_numbered (elim b as (λ _. Channel) [ true ↦ with_ups (own_of row.item) row.up (received_by row.item x) | false ↦ x ])
+    by_case : (b : Bool) → (elim b as (λ _. Channel) [ true ↦ with_ups (own_number_of (item_for before row.item)) (own_ups (own_number_of row.item) row.up) (received_by (item_for before row.item) (own_numbered x)) | false ↦ own_numbered x ]) ≡ own_numbered (elim b as (λ _. Channel) [ true ↦ with_ups (own_number_of row.item) row.up (received_by row.item x) | false ↦ x ])
     by_case true =
-        ap (with_ups (own_of (item_for before row.item)) (own_ups (own_of row.item) row.up)) (heard-one before row.item x heard)
-        ∙ (ap (λ o. with_ups o (own_ups (own_of row.item) row.up) (own_numbered (received_by row.item x))) (own_of-item before row.item)
-        ∙ ups-alone (own_of row.item) row.up ups (received_by row.item x))
+        ap (with_ups (own_number_of (item_for before row.item)) (own_ups (own_number_of row.item) row.up)) (heard-one before row.item x heard)
+        ∙ (ap (λ o. with_ups o (own_ups (own_number_of row.item) row.up) (own_numbered (received_by row.item x))) (own_number_of-item before row.item)
+        ∙ ups-alone (own_number_of row.item) row.up ups (received_by row.item x))
     by_case false = refl
 
 leave-alone : (before : List Row) (row : Row) (x : Channel) → Every Quiet row.farewell → after_farewell (alone_row before row) (own_numbered x) ≡ own_numbered (after_farewell row x)
@@ -115,7 +115,7 @@ leave-alone before row x quiet = by_case (x.client == row.client)
     by_case true = quiet-ups row.farewell quiet x
     by_case false = refl
 
-item-all : (before : List Row) (row : Row) (xs : List Channel) → Each (ReceivedOne before row.item) xs → UpsNamed (own_of row.item) row.up → map (after_item (alone_row before row)) (map own_numbered xs) ≡ map own_numbered (map (after_item row) xs)
+item-all : (before : List Row) (row : Row) (xs : List Channel) → Each (ReceivedOne before row.item) xs → UpsNamed (own_number_of row.item) row.up → map (after_item (alone_row before row)) (map own_numbered xs) ≡ map own_numbered (map (after_item row) xs)
 item-all before row [] heard ups = refl
 item-all before row (x ∷ xs) heard ups = ap (λ y. y ∷ map (after_item (alone_row before row)) (map own_numbered xs)) (item-alone before row x heard.0 ups) ∙ ap (λ ys. own_numbered (after_item row x) ∷ ys) (item-all before row xs heard.1 ups)
 
@@ -128,8 +128,8 @@ pub channels-alone : (own : List Row) → AllNamed own → channels_of (alone ow
 channels-alone [] named = refl
 channels-alone (row ∷ before) named =
     ap (map (after_farewell (alone_row before row)))
-    (ap (λ cs. map (after_item (alone_row before row)) cs ++ begun_by row.client (own_ups (own_of row.item) row.up) (item_for before row.item)) (channels-alone before named.1)
-    ∙ (ap (λ cs. cs ++ begun_by row.client (own_ups (own_of row.item) row.up) (item_for before row.item)) (item-all before row (channels_of before) named.0.heard named.0.ups)
+    (ap (λ cs. map (after_item (alone_row before row)) cs ++ begun_by row.client (own_ups (own_number_of row.item) row.up) (item_for before row.item)) (channels-alone before named.1)
+    ∙ (ap (λ cs. cs ++ begun_by row.client (own_ups (own_number_of row.item) row.up) (item_for before row.item)) (item-all before row (channels_of before) named.0.heard named.0.ups)
     ∙ (ap (λ bs. map own_numbered (map (after_item row) (channels_of before)) ++ bs) named.0.begun
     ∙ sym (map-append own_numbered (map (after_item row) (channels_of before)) (begun_by row.client row.up row.item)))))
     ∙ leave-all before row (map (after_item row) (channels_of before) ++ begun_by row.client row.up row.item) named.0.parting

@@ -1,9 +1,9 @@
--- What a client says goes up as it was said.
+-- What a client sends goes up as it was sent.
 use Rattle.std.proofs.Common.{◌≡◌, ℕ, List, [], ◌∷◌, length, true, false, Bool, refl, ◌∙◌, ap, sym, Option, Some, None, subst, Ok, Err, inl, inr}
 use Rattle.std.specs.Prelude.{Result, ◌&&◌, nat_lt, codes}
-use Rattle.mux_history.specs.Channels.{held_of, own_of, with_own}
+use Rattle.mux_history.specs.Channels.{held_of, own_number_of, with_own}
 use Rattle.mux_history.specs.Forwardings.{current}
-use Rattle.mux_history.specs.Summary.{Confirmation, Fails, Summary, Open, Requests, Within, read_summary, reading, sender_of}
+use Rattle.mux_history.specs.Summary.{Confirmation, Fails, Summary, Open, Requests, Within, read_summary, reading, summary_sender_of}
 use Rattle.mux_history.specs.Kept.{ForEach, GoesUp, MustAsk, MustGoUp, MustOpen, Passes}
 use Rattle.mux_history.specs.Keys.{is_askable}
 use Rattle.mux_history.specs.Log.{treat}
@@ -23,10 +23,10 @@ use Rattle.mux_history.proofs.SentApart.{ok-same}
 use Rattle.mux_history.proofs.Sends.{Sent, sent-by}
 use Rattle.mux_isolation.proofs.Fulls.{row-whole}
 
--- ---- what a client says
+-- ---- what a client sends
 
-goes-up : (p : List ℕ) (own : List Row) (pick : ℕ) (m : Summary) (ups : List (List ℕ)) → Sent own pick p m ups → GoesUp ups p (sender_of m)
-goes-up p own pick m ups (inl none) = by_own (sender_of m)
+goes-up : (p : List ℕ) (own : List Row) (pick : ℕ) (m : Summary) (ups : List (List ℕ)) → Sent own pick p m ups → GoesUp ups p (summary_sender_of m)
+goes-up p own pick m ups (inl none) = by_own (summary_sender_of m)
   where
     by_own : (o : Option ℕ) → GoesUp ups p o
     by_own None = inl none
@@ -64,7 +64,7 @@ must-go policy k own pick p m = tt
 -- of a payload
 record SentUp (policy : Policy) (k : ℕ) (own : List Row) (p : List ℕ) (client : ℕ) (ups : List (List ℕ)) : Type 0 where
   mine : client ≡ k
-  unchanged : GoesUp ups p (reading p sender_of None)
+  unchanged : GoesUp ups p (reading p summary_sender_of None)
   must : (m : Summary) → read_summary p ≡ Ok m → MustGoUp policy k own ups p m
 
 payload-up : (policy : Policy) (k : ℕ) (own : List Row) (pick : ℕ) (p : List ℕ) → SentUp policy k own p k (sent_payload policy k own pick p).sent
@@ -76,12 +76,12 @@ payload-up policy k own pick p = by_case (read_summary p) refl
     by_case : (r : Result Summary Bad) → read_summary p ≡ r → SentUp policy k own p k (elim r as (λ _. Outcome) [ Err bad ↦ drops (why.BadMessage bad) | Ok m ↦ sent_summary policy k own pick p m ]).sent
     by_case (Err bad) reads = record {
       mine = refl;
-      unchanged = subst (GoesUp [] p) (sym (reading-err p bad sender_of None reads)) (inl refl);
+      unchanged = subst (GoesUp [] p) (sym (reading-err p bad summary_sender_of None reads)) (inl refl);
       must = λ m reads'. absurd (never (read_summary p) bad m reads reads');
     }
     by_case (Ok m) reads = record {
       mine = refl;
-      unchanged = subst (GoesUp (sent_summary policy k own pick p m).sent p) (sym (reading-ok p m sender_of None reads)) (goes-up p own pick m (sent_summary policy k own pick p m).sent (sent-by policy k own pick p m));
+      unchanged = subst (GoesUp (sent_summary policy k own pick p m).sent p) (sym (reading-ok p m summary_sender_of None reads)) (goes-up p own pick m (sent_summary policy k own pick p m).sent (sent-by policy k own pick p m));
       must = λ m' reads'. subst (MustGoUp policy k own (sent_summary policy k own pick p m).sent p) (ok-same p m m' reads reads') (must-go policy k own pick p m);
     }
 
@@ -91,7 +91,7 @@ passes-treat policy pid pick before item k p given is = subst (λ (i : Item). Se
 passes-row : (policy : Policy) (pid pick : ℕ) (before : List Row) (item : Item) → Passes policy before (treat policy pid pick before item)
 passes-row policy pid pick before item = record {
   client = λ k p given is. (passes-treat policy pid pick before item k p given is).mine;
-  unchanged = λ k p given is. subst (GoesUp (treat policy pid pick before item).up p) (sym (ap own_of is)) (passes-treat policy pid pick before item k p given is).unchanged;
+  unchanged = λ k p given is. subst (GoesUp (treat policy pid pick before item).up p) (sym (ap own_number_of is)) (passes-treat policy pid pick before item k p given is).unchanged;
   must = λ k p given m is reads. (passes-treat policy pid pick before item k p given is).must m reads;
 }
 

@@ -1,10 +1,10 @@
 -- What the server sends to a client goes to it alone too, and does the same.
 use Rattle.std.proofs.Common.{◌≡◌, ℕ, List, [], ◌∷◌, length, true, false, Bool, refl, ◌∙◌, ap, map, sym, Option, Some, None, subst, Ok, Err}
 use Rattle.std.specs.Prelude.{◌==◌, ◌&&◌, filter, find, not, Result, option_map, nat_lt, codes, slice_get}
-use Rattle.mux_history.specs.Channels.{Channel, channels_of, holder, is_held, is_number, live_in}
+use Rattle.mux_history.specs.Channels.{Channel, channels_of, holder, is_channel_held, is_number, live_in}
 use Rattle.mux_history.specs.Farewell.{late, late_refusal, late_success, with_ask}
 use Rattle.mux_history.specs.Forwardings.{Forwarding, live_at}
-use Rattle.mux_history.specs.Summary.{Act, Confirmation, Fails, Summary, Open, Refuses, Requests, Succeeds, Transport, Within, read_summary, recipient_of}
+use Rattle.mux_history.specs.Summary.{Act, Confirmation, Fails, Summary, Open, Refuses, Requests, Succeeds, Transport, Within, read_summary, summary_recipient_of}
 use Rattle.mux_history.specs.Heard.{Breaks, Dest, Disconnects, ToClient, ToMaster, dest, dest_asker, dest_confirmation, dest_summary, dest_open, dest_success, dest_within, for_client, for_lost, received_for, received_summary, is_pending, own_number, renamed}
 use Rattle.mux_history.specs.Keys.{has_key}
 use Rattle.mux_history.specs.Ledger.{breach}
@@ -40,13 +40,13 @@ use Rattle.mux_isolation.proofs.Solos.{alone, alone_row}
 
 -- ---- look-ups alone
 
-each-none : (test : Channel → Bool) (xs : List Channel) → Each (λ x. is_held x ≡ true → test x ≡ false) xs → find test (filter is_held xs) ≡ None
+each-none : (test : Channel → Bool) (xs : List Channel) → Each (λ x. is_channel_held x ≡ true → test x ≡ false) xs → find test (filter is_channel_held xs) ≡ None
 each-none test [] all = refl
-each-none test (x ∷ xs) all = by_case (each-none test xs all.1) (is_held x) refl
+each-none test (x ∷ xs) all = by_case (each-none test xs all.1) (is_channel_held x) refl
   where
-    by_case : find test (filter is_held xs) ≡ None → (b : Bool) → is_held x ≡ b → find test (filter is_held (x ∷ xs)) ≡ None
-    by_case ih false e = ap (find test) (filter-no is_held x xs e) ∙ ih
-    by_case ih true e = ap (find test) (filter-yes is_held x xs e) ∙ (find-no test x (filter is_held xs) (all.0 e) ∙ ih)
+    by_case : find test (filter is_channel_held xs) ≡ None → (b : Bool) → is_channel_held x ≡ b → find test (filter is_channel_held (x ∷ xs)) ≡ None
+    by_case ih false e = ap (find test) (filter-no is_channel_held x xs e) ∙ ih
+    by_case ih true e = ap (find test) (filter-yes is_channel_held x xs e) ∙ (find-no test x (filter is_channel_held xs) (all.0 e) ∙ ih)
 
 same-flags : (a t : Bool) → (a && true) ≡ (t && true) → a ≡ t
 same-flags true true e = refl
@@ -54,23 +54,23 @@ same-flags false false e = refl
 same-flags true false e = cc
 same-flags false true e = cc
 
-find-met : (n c : ℕ) (xs : List Channel) → Each (Meets n c) xs → find (λ x. is_number x.number c) (filter is_held (map own_numbered xs)) ≡ option_map own_numbered (find (λ x. is_number x.number n) (filter is_held xs))
+find-met : (n c : ℕ) (xs : List Channel) → Each (Meets n c) xs → find (λ x. is_number x.number c) (filter is_channel_held (map own_numbered xs)) ≡ option_map own_numbered (find (λ x. is_number x.number n) (filter is_channel_held xs))
 find-met n c [] meets = refl
-find-met n c (x ∷ xs) meets = by_case (find-met n c xs meets.1) (is_held x) refl (is_number x.number n) refl
+find-met n c (x ∷ xs) meets = by_case (find-met n c xs meets.1) (is_channel_held x) refl (is_number x.number n) refl
   where
-    by_case : find (λ y. is_number y.number c) (filter is_held (map own_numbered xs)) ≡ option_map own_numbered (find (λ y. is_number y.number n) (filter is_held xs)) → (b : Bool) → is_held x ≡ b → (t : Bool) → is_number x.number n ≡ t → find (λ y. is_number y.number c) (filter is_held (map own_numbered (x ∷ xs))) ≡ option_map own_numbered (find (λ y. is_number y.number n) (filter is_held (x ∷ xs)))
-    by_case ih false e t f = ap (find (λ (y : Channel). is_number y.number c)) (filter-no is_held (own_numbered x) (map own_numbered xs) e) ∙ (ih ∙ sym (ap (λ ys. option_map own_numbered (find (λ (y : Channel). is_number y.number n) ys)) (filter-no is_held x xs e)))
+    by_case : find (λ y. is_number y.number c) (filter is_channel_held (map own_numbered xs)) ≡ option_map own_numbered (find (λ y. is_number y.number n) (filter is_channel_held xs)) → (b : Bool) → is_channel_held x ≡ b → (t : Bool) → is_number x.number n ≡ t → find (λ y. is_number y.number c) (filter is_channel_held (map own_numbered (x ∷ xs))) ≡ option_map own_numbered (find (λ y. is_number y.number n) (filter is_channel_held (x ∷ xs)))
+    by_case ih false e t f = ap (find (λ (y : Channel). is_number y.number c)) (filter-no is_channel_held (own_numbered x) (map own_numbered xs) e) ∙ (ih ∙ sym (ap (λ ys. option_map own_numbered (find (λ (y : Channel). is_number y.number n) ys)) (filter-no is_channel_held x xs e)))
     by_case ih true e t f = by_test t f (sym (same-flags (is_number x.number n) (is_number x.own c) (subst (λ (b : Bool). (is_number x.number n && b) ≡ (is_number x.own c && b)) e meets.0)) ∙ f)
       where
-        by_test : (t : Bool) → is_number x.number n ≡ t → is_number x.own c ≡ t → find (λ y. is_number y.number c) (filter is_held (map own_numbered (x ∷ xs))) ≡ option_map own_numbered (find (λ y. is_number y.number n) (filter is_held (x ∷ xs)))
+        by_test : (t : Bool) → is_number x.number n ≡ t → is_number x.own c ≡ t → find (λ y. is_number y.number c) (filter is_channel_held (map own_numbered (x ∷ xs))) ≡ option_map own_numbered (find (λ y. is_number y.number n) (filter is_channel_held (x ∷ xs)))
         by_test true f g =
-            ap (find (λ (y : Channel). is_number y.number c)) (filter-yes is_held (own_numbered x) (map own_numbered xs) e)
-            ∙ (find-yes (λ (y : Channel). is_number y.number c) (own_numbered x) (filter is_held (map own_numbered xs)) g
-            ∙ sym (ap (λ ys. option_map own_numbered (find (λ (y : Channel). is_number y.number n) ys)) (filter-yes is_held x xs e) ∙ ap (option_map own_numbered) (find-yes (λ (y : Channel). is_number y.number n) x (filter is_held xs) f)))
+            ap (find (λ (y : Channel). is_number y.number c)) (filter-yes is_channel_held (own_numbered x) (map own_numbered xs) e)
+            ∙ (find-yes (λ (y : Channel). is_number y.number c) (own_numbered x) (filter is_channel_held (map own_numbered xs)) g
+            ∙ sym (ap (λ ys. option_map own_numbered (find (λ (y : Channel). is_number y.number n) ys)) (filter-yes is_channel_held x xs e) ∙ ap (option_map own_numbered) (find-yes (λ (y : Channel). is_number y.number n) x (filter is_channel_held xs) f)))
         by_test false f g =
-            ap (find (λ (y : Channel). is_number y.number c)) (filter-yes is_held (own_numbered x) (map own_numbered xs) e)
-            ∙ (find-no (λ (y : Channel). is_number y.number c) (own_numbered x) (filter is_held (map own_numbered xs)) g
-            ∙ (ih ∙ sym (ap (λ ys. option_map own_numbered (find (λ (y : Channel). is_number y.number n) ys)) (filter-yes is_held x xs e) ∙ ap (option_map own_numbered) (find-no (λ (y : Channel). is_number y.number n) x (filter is_held xs) f))))
+            ap (find (λ (y : Channel). is_number y.number c)) (filter-yes is_channel_held (own_numbered x) (map own_numbered xs) e)
+            ∙ (find-no (λ (y : Channel). is_number y.number c) (own_numbered x) (filter is_channel_held (map own_numbered xs)) g
+            ∙ (ih ∙ sym (ap (λ ys. option_map own_numbered (find (λ (y : Channel). is_number y.number n) ys)) (filter-yes is_channel_held x xs e) ∙ ap (option_map own_numbered) (find-no (λ (y : Channel). is_number y.number n) x (filter is_channel_held xs) f))))
 
 module _ (before : List Row) (good : AreApart (channels_of before)) (orderly : Orderly before) (k : ℕ) (named : AllNamed (rows_of k before)) (small : AllSmall (rows_of k before)) where
   abbrev own : List Row
@@ -82,11 +82,11 @@ module _ (before : List Row) (good : AreApart (channels_of before)) (orderly : O
   live-alone : (s : ℕ) → live_in before s ≡ None → live_in (alone (rows_of k before)) s ≡ None
   live-alone s none =
       find-alike (rows_of k before) (alone (rows_of k before)) alike (λ x. is_number x.remote s) (λ x. refl)
-      ∙ ap (option_map own_numbered) (ap (λ cs. find (λ (x : Channel). is_number x.remote s) (filter is_held cs)) (sym (channels-local k before)) ∙ each-none (λ x. is_number x.remote s) (filter (is_of k) (channels_of before)) (each-filter k (NotLive s) (channels_of before) (find-none (λ x. is_number x.remote s) (channels_of before) none)))
+      ∙ ap (option_map own_numbered) (ap (λ cs. find (λ (x : Channel). is_number x.remote s) (filter is_channel_held cs)) (sym (channels-local k before)) ∙ each-none (λ x. is_number x.remote s) (filter (is_of k) (channels_of before)) (each-filter k (NotLive s) (channels_of before) (find-none (λ x. is_number x.remote s) (channels_of before) none)))
 
   holder-alone : (n : ℕ) (r : Met (rows_of k before) n) → holder (alone (rows_of k before)) r.c ≡ Some (own_numbered r.channel)
   holder-alone n r =
-      ap (λ cs. find (λ (x : Channel). is_number x.number r.c) (filter is_held cs)) (channels-alone (rows_of k before) named)
+      ap (λ cs. find (λ (x : Channel). is_number x.number r.c) (filter is_channel_held cs)) (channels-alone (rows_of k before) named)
       ∙ (find-met n r.c (channels_of (rows_of k before)) r.meets ∙ ap (option_map own_numbered) r.is)
 
   asker-alone : asker (alone (rows_of k before)) ≡ asker (rows_of k before)
@@ -97,8 +97,8 @@ module _ (before : List Row) (good : AreApart (channels_of before)) (orderly : O
 
   -- ---- the payload that the client sees
 
-  seen-number : (p : List ℕ) (m : Summary) (n : ℕ) → read_summary p ≡ Ok m → recipient_of m ≡ Some n → (r : Met (rows_of k before) n) → seen_payload (rows_of k before) p ≡ with_recipient p r.c
-  seen-number p m n reads some r = reading-ok p m (λ m. renamed (rows_of k before) p (recipient_of m)) p reads ∙ (ap (renamed (rows_of k before) p) some ∙ ap (with_recipient p) (number-met before good k n r))
+  seen-number : (p : List ℕ) (m : Summary) (n : ℕ) → read_summary p ≡ Ok m → summary_recipient_of m ≡ Some n → (r : Met (rows_of k before) n) → seen_payload (rows_of k before) p ≡ with_recipient p r.c
+  seen-number p m n reads some r = reading-ok p m (λ m. renamed (rows_of k before) p (summary_recipient_of m)) p reads ∙ (ap (renamed (rows_of k before) p) some ∙ ap (with_recipient p) (number-met before good k n r))
 
   -- ---- it goes to the client alone too
 
@@ -128,7 +128,7 @@ module _ (before : List Row) (good : AreApart (channels_of before)) (orderly : O
   same-channel : (n : ℕ) (x : Channel) → holder before n ≡ Some x → x.client ≡ k → (r : Met (rows_of k before) n) → x ≡ r.channel
   same-channel n x held mine r = some-same x r.channel (sym (holder-local before good k n x held mine) ∙ r.is)
 
-  message-to : (m : Summary) (n : ℕ) → recipient_of m ≡ Some n → dest_summary before m ≡ ToClient k → (r : Met (rows_of k before) n) → dest_summary (alone (rows_of k before)) (readdressed r.c m) ≡ ToClient k
+  message-to : (m : Summary) (n : ℕ) → summary_recipient_of m ≡ Some n → dest_summary before m ≡ ToClient k → (r : Met (rows_of k before) n) → dest_summary (alone (rows_of k before)) (readdressed r.c m) ≡ ToClient k
   message-to (Confirmation n' s w max) n some to r =
       let same : n' ≡ n = cc in
       let f : Confirmed before n' s k = confirmed before n' s k to in
@@ -161,13 +161,13 @@ module _ (before : List Row) (good : AreApart (channels_of before)) (orderly : O
   late-alone (Requests what wants) c = refl
   late-alone (Open what s w max) c = refl
 
-  recorded-number : (p : List ℕ) (m : Summary) (n : ℕ) → read_summary p ≡ Ok m → recipient_of m ≡ Some n → (r : Met (rows_of k before) n) → renamed (alone (rows_of k before)) (with_recipient p r.c) (Some r.c) ≡ renamed (rows_of k before) p (Some n)
+  recorded-number : (p : List ℕ) (m : Summary) (n : ℕ) → read_summary p ≡ Ok m → summary_recipient_of m ≡ Some n → (r : Met (rows_of k before) n) → renamed (alone (rows_of k before)) (with_recipient p r.c) (Some r.c) ≡ renamed (rows_of k before) p (Some n)
   recorded-number p m n reads some r =
       ap (λ o. with_recipient (with_recipient p r.c) (own_number o)) (holder-alone n r)
       ∙ (ap (λ o. with_recipient (with_recipient p r.c) (elim o as (λ _. ℕ) [ None ↦ 0 | Some c ↦ c ])) r.owns
       ∙ (renamed-twice p m r.c r.small reads ∙ sym (ap (with_recipient p) (number-met before good k n r))))
 
-  client-alone : (p : List ℕ) (m : Summary) (n : ℕ) → read_summary p ≡ Ok m → recipient_of m ≡ Some n → (r : Met (rows_of k before) n) → for_client (alone (rows_of k before)) (with_recipient p r.c) (readdressed r.c m) ≡ for_client (rows_of k before) p m
+  client-alone : (p : List ℕ) (m : Summary) (n : ℕ) → read_summary p ≡ Ok m → summary_recipient_of m ≡ Some n → (r : Met (rows_of k before) n) → for_client (alone (rows_of k before)) (with_recipient p r.c) (readdressed r.c m) ≡ for_client (rows_of k before) p m
   client-alone p (Confirmation n' s w max) n reads some r = let same : n ≡ n' = cc in ap (λ q. records (frame_payload q)) (recorded-number p (Confirmation n' s w max) n reads some r) ∙ ap (λ i. records (frame_payload (renamed (rows_of k before) p (Some i)))) same
   client-alone p (Within n' act) n reads some r = let same : n ≡ n' = cc in ap (λ q. records (frame_payload q)) (recorded-number p (Within n' act) n reads some r) ∙ ap (λ i. records (frame_payload (renamed (rows_of k before) p (Some i)))) same
   client-alone p (Transport number) n reads some r = cc
@@ -176,7 +176,7 @@ module _ (before : List Row) (good : AreApart (channels_of before)) (orderly : O
   client-alone p Refuses n reads some r = cc
   client-alone p (Open what s w max) n reads some r = cc
 
-  other-alone : (p : List ℕ) (m : Summary) → recipient_of m ≡ None → for_client (alone (rows_of k before)) p m ≡ for_client (rows_of k before) p m
+  other-alone : (p : List ℕ) (m : Summary) → summary_recipient_of m ≡ None → for_client (alone (rows_of k before)) p m ≡ for_client (rows_of k before) p m
   other-alone p (Open what s w max) none = ap (λ n. elim (nat_lt n 256) as (λ _. Outcome) [ true ↦ records (frame_payload p) | false ↦ sends (open_failure s 4 (codes "too many channels")) ]) (count-alike (rows_of k before) (alone (rows_of k before)) alike)
   other-alone p (Confirmation n s w max) none = cc
   other-alone p (Within n act) none = cc
@@ -196,7 +196,7 @@ module _ (before : List Row) (good : AreApart (channels_of before)) (orderly : O
     pub to : dest (alone (rows_of k before)) (seen_payload (rows_of k before) p) ≡ ToClient k
     pub does : received_for (alone (rows_of k before)) (seen_payload (rows_of k before) p) ≡ received_for (rows_of k before) p
 
-  same-some : (p : List ℕ) (m : Summary) (n : ℕ) → read_summary p ≡ Ok m → recipient_of m ≡ Some n → dest_summary before m ≡ ToClient k → SameReceived p
+  same-some : (p : List ℕ) (m : Summary) (n : ℕ) → read_summary p ≡ Ok m → summary_recipient_of m ≡ Some n → dest_summary before m ≡ ToClient k → SameReceived p
   same-some p m n reads some to =
       let r : Met (rows_of k before) n = met before good k n (reached before m n k some to) in
       let again : read_summary (with_recipient p r.c) ≡ Ok (readdressed r.c m) = read-renamed p m r.c r.small reads in
@@ -208,7 +208,7 @@ module _ (before : List Row) (good : AreApart (channels_of before)) (orderly : O
             ∙ sym (heard-ok (rows_of k before) p m reads)));
       }
 
-  late-same : (m : Summary) → recipient_of m ≡ None → late m (alone (rows_of k before)) ≡ late m (rows_of k before)
+  late-same : (m : Summary) → summary_recipient_of m ≡ None → late m (alone (rows_of k before)) ≡ late m (rows_of k before)
   late-same (Confirmation n s w max) none = cc
   late-same (Within n act) none = cc
   late-same (Succeeds rest) none = ap (λ o. with_ask o (late_success rest)) asker-alone
@@ -217,7 +217,7 @@ module _ (before : List Row) (good : AreApart (channels_of before)) (orderly : O
   late-same (Requests what wants) none = refl
   late-same (Open what s w max) none = refl
 
-  none-to : (m : Summary) → recipient_of m ≡ None → dest_summary before m ≡ ToClient k → dest_summary (alone (rows_of k before)) m ≡ ToClient k
+  none-to : (m : Summary) → summary_recipient_of m ≡ None → dest_summary before m ≡ ToClient k → dest_summary (alone (rows_of k before)) m ≡ ToClient k
   none-to (Open what s w max) none to =
       let f : Offered before s what k = offered before s what k to in
       ap (dest_open (alone (rows_of k before)) s) f.is
@@ -239,7 +239,7 @@ module _ (before : List Row) (good : AreApart (channels_of before)) (orderly : O
   none-to (Confirmation n s w max) none to = cc
   none-to (Within n act) none to = cc
 
-  same-none : (p : List ℕ) (m : Summary) → read_summary p ≡ Ok m → recipient_of m ≡ None → dest_summary before m ≡ ToClient k → SameReceived p
+  same-none : (p : List ℕ) (m : Summary) → read_summary p ≡ Ok m → summary_recipient_of m ≡ None → dest_summary before m ≡ ToClient k → SameReceived p
   same-none p m reads none to =
       let seen_same : seen_payload (rows_of k before) p ≡ p = same-payload (rows_of k before) p m reads none in
       record {
@@ -253,13 +253,13 @@ module _ (before : List Row) (good : AreApart (channels_of before)) (orderly : O
   pub same-heard : (p : List ℕ) → dest before p ≡ ToClient k → SameReceived p
   same-heard p to = by_case (read_summary p) refl
     where
-      by_some : (m : Summary) → read_summary p ≡ Ok m → (o : Option ℕ) → recipient_of m ≡ o → SameReceived p
+      by_some : (m : Summary) → read_summary p ≡ Ok m → (o : Option ℕ) → summary_recipient_of m ≡ o → SameReceived p
       by_some m reads None none = same-none p m reads none (sym (dest-ok before p m reads) ∙ to)
       by_some m reads (Some n) some = same-some p m n reads some (sym (dest-ok before p m reads) ∙ to)
 
       by_case : (r : Result Summary Bad) → read_summary p ≡ r → SameReceived p
       by_case (Err bad) reads = let x : Breaks _ ≡ ToClient k = sym (dest-err before p bad reads) ∙ to in absurd (let h = x in cc)
-      by_case (Ok m) reads = by_some m reads (recipient_of m) refl
+      by_case (Ok m) reads = by_some m reads (summary_recipient_of m) refl
 
   -- the row of it, alone
   pub heard-treats : (policy : Policy) (pid pick : ℕ) (p : List ℕ) → dest before p ≡ ToClient k → treat policy pid pick (alone (rows_of k before)) (item_for (rows_of k before) (Heard p)) ≡ alone_row (rows_of k before) (row_of (Heard p) k (received_for (rows_of k before) p) (rows_of k before))

@@ -1,10 +1,10 @@
 -- What goes down is within its window and permitted.
 use Rattle.std.proofs.Common.{◌≡◌, ℕ, List, [], ◌∷◌, length, true, false, Bool, refl, ◌∙◌, ap, sym, Some, subst, Ok, Err}
 use Rattle.std.specs.Prelude.{◌&&◌, filter, find, Result, nat_lt, codes, option_map}
-use Rattle.mux_history.specs.Channels.{Channel, channels_of, held_of, is_held, is_number, with_own}
+use Rattle.mux_history.specs.Channels.{Channel, channels_of, held_of, is_channel_held, is_number, with_own}
 use Rattle.mux_history.specs.Controls.{greeted, house_sends, sent_body}
 use Rattle.mux_history.specs.Forwardings.{Forwarding}
-use Rattle.mux_history.specs.Summary.{Act, Carries, Confirmation, Summary, Open, Refuses, Requests, Succeeds, Transport, Within, read_summary, recipient_of}
+use Rattle.mux_history.specs.Summary.{Act, Carries, Confirmation, Summary, Open, Refuses, Requests, Succeeds, Transport, Within, read_summary, summary_recipient_of}
 use Rattle.mux_history.specs.Heard.{Breaks, Dest, Disconnects, ToClient, ToMaster, dest, dest_summary, for_client, for_lost, for_master, received_for, received_summary, received_master, renamed}
 use Rattle.mux_history.specs.Kept.{Every, Fits, ForEach}
 use Rattle.mux_history.specs.Ledger.{breach}
@@ -41,30 +41,30 @@ same-flags false false e = refl
 same-flags true false e = cc
 same-flags false true e = cc
 
-find-own-met : (n c : ℕ) (xs : List Channel) → Each (Meets n c) xs → find (λ x. is_number x.own c) (filter is_held xs) ≡ find (λ x. is_number x.number n) (filter is_held xs)
+find-own-met : (n c : ℕ) (xs : List Channel) → Each (Meets n c) xs → find (λ x. is_number x.own c) (filter is_channel_held xs) ≡ find (λ x. is_number x.number n) (filter is_channel_held xs)
 find-own-met n c [] meets = refl
-find-own-met n c (x ∷ xs) meets = by_held (find-own-met n c xs meets.1) (is_held x) refl (is_number x.number n) refl
+find-own-met n c (x ∷ xs) meets = by_held (find-own-met n c xs meets.1) (is_channel_held x) refl (is_number x.number n) refl
   where
-    by_held : find (λ y. is_number y.own c) (filter is_held xs) ≡ find (λ y. is_number y.number n) (filter is_held xs) → (b : Bool) → is_held x ≡ b → (t : Bool) → is_number x.number n ≡ t → find (λ y. is_number y.own c) (filter is_held (x ∷ xs)) ≡ find (λ y. is_number y.number n) (filter is_held (x ∷ xs))
-    by_held ih false e t f = ap (find (λ (y : Channel). is_number y.own c)) (filter-no is_held x xs e) ∙ (ih ∙ sym (ap (find (λ (y : Channel). is_number y.number n)) (filter-no is_held x xs e)))
+    by_held : find (λ y. is_number y.own c) (filter is_channel_held xs) ≡ find (λ y. is_number y.number n) (filter is_channel_held xs) → (b : Bool) → is_channel_held x ≡ b → (t : Bool) → is_number x.number n ≡ t → find (λ y. is_number y.own c) (filter is_channel_held (x ∷ xs)) ≡ find (λ y. is_number y.number n) (filter is_channel_held (x ∷ xs))
+    by_held ih false e t f = ap (find (λ (y : Channel). is_number y.own c)) (filter-no is_channel_held x xs e) ∙ (ih ∙ sym (ap (find (λ (y : Channel). is_number y.number n)) (filter-no is_channel_held x xs e)))
     by_held ih true e t f = by_test t f (sym (same-flags (is_number x.number n) (is_number x.own c) (subst (λ (b : Bool). (is_number x.number n && b) ≡ (is_number x.own c && b)) e meets.0)) ∙ f)
       where
-        by_test : (t : Bool) → is_number x.number n ≡ t → is_number x.own c ≡ t → find (λ y. is_number y.own c) (filter is_held (x ∷ xs)) ≡ find (λ y. is_number y.number n) (filter is_held (x ∷ xs))
+        by_test : (t : Bool) → is_number x.number n ≡ t → is_number x.own c ≡ t → find (λ y. is_number y.own c) (filter is_channel_held (x ∷ xs)) ≡ find (λ y. is_number y.number n) (filter is_channel_held (x ∷ xs))
         by_test true f g =
-            ap (find (λ (y : Channel). is_number y.own c)) (filter-yes is_held x xs e)
-            ∙ (find-yes (λ (y : Channel). is_number y.own c) x (filter is_held xs) g
-            ∙ sym (ap (find (λ (y : Channel). is_number y.number n)) (filter-yes is_held x xs e) ∙ find-yes (λ (y : Channel). is_number y.number n) x (filter is_held xs) f))
+            ap (find (λ (y : Channel). is_number y.own c)) (filter-yes is_channel_held x xs e)
+            ∙ (find-yes (λ (y : Channel). is_number y.own c) x (filter is_channel_held xs) g
+            ∙ sym (ap (find (λ (y : Channel). is_number y.number n)) (filter-yes is_channel_held x xs e) ∙ find-yes (λ (y : Channel). is_number y.number n) x (filter is_channel_held xs) f))
         by_test false f g =
-            ap (find (λ (y : Channel). is_number y.own c)) (filter-yes is_held x xs e)
-            ∙ (find-no (λ (y : Channel). is_number y.own c) x (filter is_held xs) g
-            ∙ (ih ∙ sym (ap (find (λ (y : Channel). is_number y.number n)) (filter-yes is_held x xs e) ∙ find-no (λ (y : Channel). is_number y.number n) x (filter is_held xs) f)))
+            ap (find (λ (y : Channel). is_number y.own c)) (filter-yes is_channel_held x xs e)
+            ∙ (find-no (λ (y : Channel). is_number y.own c) x (filter is_channel_held xs) g
+            ∙ (ih ∙ sym (ap (find (λ (y : Channel). is_number y.number n)) (filter-yes is_channel_held x xs e) ∙ find-no (λ (y : Channel). is_number y.number n) x (filter is_channel_held xs) f)))
 
 module _ (before : List Row) (good : AreApart (channels_of before)) (k : ℕ) (p : List ℕ) where
   some-same : (x y : Channel) → Some x ≡ Some y → x ≡ y
   some-same x y e = cc
 
   -- a message in a channel, under the client's own number
-  renamed-report : (m : Summary) (n : ℕ) → read_summary p ≡ Ok m → recipient_of m ≡ Some n → (r : Met (rows_of k before) n) → MayRecord before k (readdressed r.c m) → RecordOk before k (frame_payload (renamed (rows_of k before) p (Some n)))
+  renamed-report : (m : Summary) (n : ℕ) → read_summary p ≡ Ok m → summary_recipient_of m ≡ Some n → (r : Met (rows_of k before) n) → MayRecord before k (readdressed r.c m) → RecordOk before k (frame_payload (renamed (rows_of k before) p (Some n)))
   renamed-report m n reads some r may m' reads' =
       let at : with_recipient p r.c ≡ renamed (rows_of k before) p (Some n) = sym (ap (with_recipient p) (number-met before good k n r)) in
       subst (MayRecord before k) (ok-same (with_recipient p r.c) (readdressed r.c m) m' (read-renamed p m r.c r.small reads) (ap read_summary at ∙ reads')) may

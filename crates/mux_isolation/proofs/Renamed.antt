@@ -1,7 +1,7 @@
 -- A client's rows and what is seen of it, alone: the same under its own numbers.
 use Rattle.std.proofs.Common.{◌≡◌, ℕ, suc, List, [], ◌∷◌, ◌++◌, length, true, false, Bool, refl, ◌∙◌, ap, map, sym}
 use Rattle.std.specs.Prelude.{◌==◌, filter}
-use Rattle.mux_history.specs.Channels.{Channel, channels_of, held_of, is_held}
+use Rattle.mux_history.specs.Channels.{Channel, channels_of, held_of, is_channel_held}
 use Rattle.mux_history.specs.Kept.{AtEach, ForEach}
 use Rattle.mux_history.specs.Log.{more_of}
 use Rattle.mux_history.specs.Policy.{Policy}
@@ -9,7 +9,7 @@ use Rattle.mux_history.specs.Rows.{Row, rows_of}
 use Rattle.mux_history.specs.Settings.{by_own}
 use Rattle.mux_history.specs.Solo.{item_for, items_for}
 use Rattle.mux_isolation.specs.Renaming.{MoreItems, RowIsRenamed, ViewIsRenamed, channel_alone, view_alone}
-use Rattle.mux_isolation.specs.View.{channel_view, view_of}
+use Rattle.mux_isolation.specs.LogView.{channel_view, view_of}
 use Rattle.mux_history.proofs.Finds.{filter-no, filter-yes}
 use Rattle.mux_history.proofs.OwnRows.{AllOf, rows-all}
 use Rattle.mux_isolation.proofs.Alike.{held-own}
@@ -43,7 +43,7 @@ channels-seen [] = refl
 channels-seen (x ∷ xs) = ap (λ ys. channel_alone (channel_view x) ∷ ys) (channels-seen xs)
 
 held-alone : (own : List Row) → AllNamed own → map channel_view (held_of (alone own)) ≡ map channel_alone (map channel_view (held_of own))
-held-alone own named = ap (λ xs. map channel_view (filter is_held xs)) (channels-alone own named) ∙ (ap (map channel_view) (held-own (channels_of own)) ∙ channels-seen (held_of own))
+held-alone own named = ap (λ xs. map channel_view (filter is_channel_held xs)) (channels-alone own named) ∙ (ap (map channel_view) (held-own (channels_of own)) ∙ channels-seen (held_of own))
 
 view-alone : (k : ℕ) (own : List Row) → AllOf k own → AllNamed own → AllSmall own → own_view (alone own) ≡ view_alone (own_view own)
 view-alone k own all named small =

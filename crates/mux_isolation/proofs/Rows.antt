@@ -2,10 +2,10 @@
 use Rattle.std.proofs.Common.{◌≡◌, ℕ, ◌<◌, List, [], ◌∷◌, ◌++◌, length, true, false, Bool, refl, ◌∙◌, ap, arith, map, sym, Option, Some, None, Ok, Err, drop}
 use Rattle.std.specs.Prelude.{◌==◌, ◌&&◌, not, filter, Result, flat_map}
 use Rattle.std.proofs.lemmas.Bool.Decides.{nat_tests}
-use Rattle.mux_history.specs.Channels.{Channel, channels_of, held_of, holder, is_held, own_of}
+use Rattle.mux_history.specs.Channels.{Channel, channels_of, held_of, holder, is_channel_held, own_number_of}
 use Rattle.mux_history.specs.Farewell.{farewell, leave_channel, leave_forwarding}
 use Rattle.mux_history.specs.Forwardings.{Forwarding, dropped, forwarded, forwardings_of, of_client, replied, requested}
-use Rattle.mux_history.specs.Summary.{Confirmation, Summary, Within, read_summary, reading, recipient_of}
+use Rattle.mux_history.specs.Summary.{Confirmation, Summary, Within, read_summary, reading, summary_recipient_of}
 use Rattle.mux_history.specs.Heard.{own_number, renamed}
 use Rattle.mux_history.specs.Log.{all_recorded, bare, fate_with, fitting, goes, new_answers, overflow, queued, row_of, with_farewell}
 use Rattle.mux_history.specs.Requests.{answers, answers_to, asks, is_reply, is_sent, replies, reply_in, wanted}
@@ -27,27 +27,27 @@ use Rattle.mux_isolation.proofs.Solos.{alone, alone_row}
 
 -- the own number at the recipient's place fits
 abbrev pub IsSmall : List Row → List ℕ → Type 0
-IsSmall before p = (m : Summary) (n : ℕ) → read_summary p ≡ Ok m → recipient_of m ≡ Some n → own_number (holder before n) < 4294967296
+IsSmall before p = (m : Summary) (n : ℕ) → read_summary p ≡ Ok m → summary_recipient_of m ≡ Some n → own_number (holder before n) < 4294967296
 
 abbrev pub seen_payload : List Row → List ℕ → List ℕ
-seen_payload before p = reading p (λ m. renamed before p (recipient_of m)) p
+seen_payload before p = reading p (λ m. renamed before p (summary_recipient_of m)) p
 
 -- what looks at a message but not at its recipient finds the same in the payload that the client
 -- sees
 pub same-use : {A : Type 0} (before : List Row) (p : List ℕ) (f : Summary → A) (other : A) → IsSmall before p → ((m : Summary) (c : ℕ) → f (readdressed c m) ≡ f m) → reading (seen_payload before p) f other ≡ reading p f other
 same-use {A} before p f other small blind = by_case (read_summary p) refl
   where
-    by_some : (m : Summary) → read_summary p ≡ Ok m → (o : Option ℕ) → recipient_of m ≡ o → reading (renamed before p o) f other ≡ f m
+    by_some : (m : Summary) → read_summary p ≡ Ok m → (o : Option ℕ) → summary_recipient_of m ≡ o → reading (renamed before p o) f other ≡ f m
     by_some m reads None none = reading-ok p m f other reads
     by_some m reads (Some n) some = reading-ok (with_recipient p (own_number (holder before n))) (readdressed (own_number (holder before n)) m) f other (read-renamed p m (own_number (holder before n)) (small m n reads some) reads) ∙ blind m (own_number (holder before n))
 
     by_case : (r : Result Summary Bad) → read_summary p ≡ r → reading (seen_payload before p) f other ≡ reading p f other
-    by_case (Err e) reads = ap (λ q. reading q f other) (reading-err p e (λ m. renamed before p (recipient_of m)) p reads)
-    by_case (Ok m) reads = ap (λ q. reading q f other) (reading-ok p m (λ m. renamed before p (recipient_of m)) p reads) ∙ (by_some m reads (recipient_of m) refl ∙ sym (reading-ok p m f other reads))
+    by_case (Err e) reads = ap (λ q. reading q f other) (reading-err p e (λ m. renamed before p (summary_recipient_of m)) p reads)
+    by_case (Ok m) reads = ap (λ q. reading q f other) (reading-ok p m (λ m. renamed before p (summary_recipient_of m)) p reads) ∙ (by_some m reads (summary_recipient_of m) refl ∙ sym (reading-ok p m f other reads))
 
 -- a payload with no recipient is seen as it is
-pub same-payload : (before : List Row) (p : List ℕ) (m : Summary) → read_summary p ≡ Ok m → recipient_of m ≡ None → seen_payload before p ≡ p
-same-payload before p m reads none = reading-ok p m (λ m. renamed before p (recipient_of m)) p reads ∙ ap (renamed before p) none
+pub same-payload : (before : List Row) (p : List ℕ) (m : Summary) → read_summary p ≡ Ok m → summary_recipient_of m ≡ None → seen_payload before p ≡ p
+same-payload before p m reads none = reading-ok p m (λ m. renamed before p (summary_recipient_of m)) p reads ∙ ap (renamed before p) none
 
 replied-all : (place : ℕ) (m : Summary) (c : ℕ) → replied place (readdressed c m) ≡ replied place m
 replied-all place (Confirmation n s w max) c = refl
@@ -59,7 +59,7 @@ reply-blind (Confirmation n s w max) c = refl
 reply-blind (Within n act) c = refl
 reply-blind m c = refl
 
-reply-none : (m : Summary) → is_reply m ≡ true → recipient_of m ≡ None
+reply-none : (m : Summary) → is_reply m ≡ true → summary_recipient_of m ≡ None
 reply-none (Confirmation n s w max) reply = cc
 reply-none (Within n act) reply = cc
 reply-none m reply = refl
@@ -80,7 +80,7 @@ reply-item before (Heard p) small = ap (λ b. elim b as (λ _. List (List ℕ)) 
     by_flag false same = refl
 
     by_case : (r : Result Summary Bad) → read_summary p ≡ r → (elim (reading p is_reply false) as (λ _. List (List ℕ)) [ true ↦ seen_payload before p ∷ [] | false ↦ [] ]) ≡ (elim (reading p is_reply false) as (λ _. List (List ℕ)) [ true ↦ p ∷ [] | false ↦ [] ])
-    by_case (Err e) reads = by_flag (reading p is_reply false) (λ t. reading-err p e (λ m. renamed before p (recipient_of m)) p reads)
+    by_case (Err e) reads = by_flag (reading p is_reply false) (λ t. reading-err p e (λ m. renamed before p (summary_recipient_of m)) p reads)
     by_case (Ok m) reads = by_flag (reading p is_reply false) (λ t. same-payload before p m reads (reply-none m (sym (reading-ok p m is_reply false reads) ∙ t)))
 reply-item before item small = refl
 
@@ -98,12 +98,12 @@ forwarded-alone own row fs small all = by_item row.item small
     by_ups (Some c) [] item k r = refl
     by_ups (Some c) (p ∷ ps) item k r = refl
 
-    by_item : (item : Item) → SmallItem own item → forwarded (record row { item = item_for own item; up = own_ups (own_of row.item) row.up }) (alone own) fs ≡ forwarded (record row { item = item }) own fs
+    by_item : (item : Item) → SmallItem own item → forwarded (record row { item = item_for own item; up = own_ups (own_number_of row.item) row.up }) (alone own) fs ≡ forwarded (record row { item = item }) own fs
     by_item (Heard p) small =
         ap (λ n. reading (seen_payload own p) (λ m. map (of_client row.client (replied n m)) fs) fs) (ap length (replies-alone own all))
         ∙ same-use own p (λ m. map (of_client row.client (replied (length (replies own)) m)) fs) fs small (λ m c. ap (λ g. map (of_client row.client g) fs) (replied-all (length (replies own)) m c))
     by_item (Says k (Payload p) reply) small =
-        ap (λ b. elim b as (λ _. List Forwarding) [ true ↦ reading p (λ m. requested row.client (length (asks (alone own))) m fs) fs | false ↦ fs ]) (by_ups (own_of row.item) row.up row.item k row)
+        ap (λ b. elim b as (λ _. List Forwarding) [ true ↦ reading p (λ m. requested row.client (length (asks (alone own))) m fs) fs | false ↦ fs ]) (by_ups (own_number_of row.item) row.up row.item k row)
         ∙ ap (λ n. elim (is_sent row) as (λ _. List Forwarding) [ true ↦ reading p (λ m. requested row.client n m fs) fs | false ↦ fs ]) (ap length (asks-alone own))
     by_item item small = refl
 
@@ -142,7 +142,7 @@ part-blind (x ∷ xs) = ap (λ ys. leave_channel x ++ ys) (part-blind xs)
 
 farewell-alone : (k : ℕ) (own : List Row) (row : Row) → AllOf k own → AllSmall (row ∷ own) → AllNamed (row ∷ own) → farewell (alone_row own row) (alone own) ≡ farewell row own
 farewell-alone k own row all small named =
-    ap (λ cs. flat_map leave_channel (filter is_held cs) ++ flat_map leave_forwarding (filter (λ (f : Forwarding). not f.over) (forwarded (alone_row own row) (alone own) (forwardings_of (alone own))))) (channels-alone (row ∷ own) named)
+    ap (λ cs. flat_map leave_channel (filter is_channel_held cs) ++ flat_map leave_forwarding (filter (λ (f : Forwarding). not f.over) (forwarded (alone_row own row) (alone own) (forwardings_of (alone own))))) (channels-alone (row ∷ own) named)
     ∙ (ap (λ cs. flat_map leave_channel cs ++ flat_map leave_forwarding (filter (λ (f : Forwarding). not f.over) (forwarded (alone_row own row) (alone own) (forwardings_of (alone own))))) (held-own (channels_of (row ∷ own)))
     ∙ (ap (λ cs. cs ++ flat_map leave_forwarding (filter (λ (f : Forwarding). not f.over) (forwarded (alone_row own row) (alone own) (forwardings_of (alone own))))) (part-blind (held_of (row ∷ own)))
     ∙ ap (λ fs. flat_map leave_channel (held_of (row ∷ own)) ++ flat_map leave_forwarding (filter (λ (f : Forwarding). not f.over) fs))
@@ -169,7 +169,7 @@ parting-alone k own row all small named =
     by_case false = refl
 
 -- the row of an outcome, and alone the row of the same outcome under the client's own number
-pub row-alone : (k : ℕ) (own : List Row) (item : Item) (o : Outcome) → AllOf k own → AllSmall own → SmallItem own item → AllNamed own → RowNamed own (queued (all_recorded (bare item k o) own) (bare item k o) own) → row_of (item_for own item) k (numbered (own_of item) o) (alone own) ≡ alone_row own (row_of item k o own)
+pub row-alone : (k : ℕ) (own : List Row) (item : Item) (o : Outcome) → AllOf k own → AllSmall own → SmallItem own item → AllNamed own → RowNamed own (queued (all_recorded (bare item k o) own) (bare item k o) own) → row_of (item_for own item) k (numbered (own_number_of item) o) (alone own) ≡ alone_row own (row_of item k o own)
 row-alone k own item o all small small_item named row_named =
     ap (λ frames. with_farewell (queued frames (alone_row own (bare item k o)) (alone own)) (alone own)) (recorded-alone own (bare item k o) (small_item, small))
     ∙ (ap (λ r. with_farewell r (alone own)) (queued-alone own (bare item k o) (all_recorded (bare item k o) own))

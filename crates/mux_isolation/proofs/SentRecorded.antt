@@ -1,10 +1,10 @@
--- What a client is told for what it says itself, and in answer to its requests, is no message that
--- it may not be told.
+-- What a client is given for what it sends itself, and in answer to its requests, is no message
+-- that it may not be given.
 use Rattle.std.proofs.Common.{◌≡◌, ℕ, ◌+◌, List, [], ◌∷◌, ◌++◌, length, true, false, Bool, refl, ◌∙◌, ap, map, sym, Option, Some, None, Ok, Err, drop, zero, suc}
 use Rattle.std.specs.Prelude.{◌==◌, ◌&&◌, not, Result, nat_lt, nat_le, codes}
 use Rattle.mux_history.specs.Channels.{Channel, held_of, with_own}
 use Rattle.mux_history.specs.Controls.{answers_ask, answers_maybe, house_answer, house_sends, in_proxy, sent_body, sent_first, sent_later}
-use Rattle.mux_history.specs.Forwardings.{current, is_free_at}
+use Rattle.mux_history.specs.Forwardings.{current, is_forwarding_free_at}
 use Rattle.mux_history.specs.Summary.{Closes, Confirmation, Fails, Summary, Open, Refuses, Requests, Succeeds, Transport, Within, read_summary, reading}
 use Rattle.mux_history.specs.Kept.{Every}
 use Rattle.mux_history.specs.Keys.{is_askable}
@@ -94,7 +94,7 @@ module _ (before : List Row) (k : ℕ) where
   pub admits-report : Every (RecordOk before k) (admits before).recorded
   admits-report = elim (nat_lt (open_matters before) 64) as (λ b. Every (RecordOk before k) (elim b as (λ _. Outcome) [ true ↦ records (frame_answer (Greets VERSION)) | false ↦ record { sent = []; recorded = []; ends = Refused } ]).recorded) [ true ↦ (answer-report (Greets VERSION), tt) | false ↦ tt ]
 
-  -- ---- what is told for what the client says
+  -- ---- what is given for what the client sends
 
   said-report : (policy : Policy) (own : List Row) (pick : ℕ) (p : List ℕ) (m : Summary) → Every (RecordOk before k) (sent_summary policy k own pick p m).recorded
   said-report policy own pick p (Transport number) = elim (number == 1) as (λ b. Every (RecordOk before k) (elim b as (λ _. Outcome) [ true ↦ drops why.Disconnected | false ↦ silent ]).recorded) [ true ↦ tt | false ↦ tt ]
@@ -108,7 +108,7 @@ module _ (before : List Row) (k : ℕ) where
 
       by_what : (g : Global) → Every (RecordOk before k) (sent_request policy k own p g wants).recorded
       by_what (Forward key) = by_if (wants && (is_askable key && (permits policy.listens key && nat_lt (length (current own)) 64)))
-      by_what (Cancel key) = by_if (any_of (is_free_at k key) (current own))
+      by_what (Cancel key) = by_if (any_of (is_forwarding_free_at k key) (current own))
       by_what KeepAlive = tt
       by_what OtherName = tt
 

@@ -1,10 +1,10 @@
 -- Each row of a client, alone: the same row under the client's own numbers.
 use Rattle.std.proofs.Common.{◌≡◌, ℕ, List, [], ◌∷◌, ◌++◌, true, false, Bool, refl, ◌∙◌, ap, sym, Option, None, subst, Ok, Err, Some}
 use Rattle.std.specs.Prelude.{◌==◌, ◌||◌, not, Result, nat_lt}
-use Rattle.mux_history.specs.Channels.{channels_of, own_of}
+use Rattle.mux_history.specs.Channels.{channels_of, own_number_of}
 use Rattle.mux_history.specs.Choices.{sent_number}
 use Rattle.mux_history.specs.Controls.{answers_ask, greeted, house_sends, in_proxy, is_sends, sent_body, proxies_by}
-use Rattle.mux_history.specs.Summary.{Summary, read_summary, sender_of}
+use Rattle.mux_history.specs.Summary.{Summary, read_summary, summary_sender_of}
 use Rattle.mux_history.specs.Heard.{Breaks, Dest, Disconnects, ToClient, ToMaster, dest, received_for}
 use Rattle.mux_history.specs.Kept.{Every}
 use Rattle.mux_history.specs.Log.{admits, all_recorded, bare, entered, received_row, makes_row, matters_of, open_matters, queued, row_of, treat}
@@ -53,7 +53,7 @@ AdmitOnce k (row ∷ before) = AdmitFact k before row.item × AdmitOnce k before
 pub admit-alone : (own : List Row) (row : Row) → is_admit (alone_row own row) ≡ is_admit row
 admit-alone own row = by_item row.item row.fate
   where
-    by_item : (item : Item) (fate : Fate) → is_admit (record { item = item_for own item; client = row.client; up = own_ups (own_of item) row.up; farewell = row.farewell; down = row.down; fate = fate }) ≡ is_admit (record row { item = item; fate = fate })
+    by_item : (item : Item) (fate : Fate) → is_admit (record { item = item_for own item; client = row.client; up = own_ups (own_number_of item) row.up; farewell = row.farewell; down = row.down; fate = fate }) ≡ is_admit (record row { item = item; fate = fate })
     by_item (Heard p) fate = refl
     by_item item fate = refl
 
@@ -131,7 +131,7 @@ pub record OwnFacts (policy : Policy) (pid k : ℕ) (own : List Row) (item : Ite
   pub named : RowNamed own row
   pub small : SmallItem own item
   pub makes : makes_row (alone own) (item_for own item) ≡ true
-  pub treats : Unrefused item (is_admit row) → treat policy pid (sent_number (own_of (item_for own item))) (alone own) (item_for own item) ≡ alone_row own row
+  pub treats : Unrefused item (is_admit row) → treat policy pid (sent_number (own_number_of (item_for own item))) (alone own) (item_for own item) ≡ alone_row own row
 
 -- what is accepted, after the end of the run too
 pub own-took : (policy : Policy) (pid : ℕ) (before : List Row) → AreApart (channels_of before) → (k size : ℕ) → AllNamed (rows_of k before) → OwnFacts policy pid k (rows_of k before) (Took k size) (bare (Took k size) k silent)
@@ -149,7 +149,7 @@ module _ (policy : Policy) (pid pick : ℕ) (before : List Row) (good : AreApart
   makes-same k item is yes_it = is ∙ (ap (λ rows. not (is_out rows)) (rows-all k (alone (rows_of k before)) (alone-all k (rows_of k before) (all-of k before))) ∙ (ap not (out-alone (rows_of k before)) ∙ yes_it))
 
   -- an outcome that is the same alone
-  outcome-treats : (k : ℕ) (named : AllNamed (rows_of k before)) (small : AllSmall (rows_of k before)) (item : Item) (f : List Row → Outcome) (o : Outcome) → RowNamed (rows_of k before) (queued (all_recorded (bare item k o) (rows_of k before)) (bare item k o) (rows_of k before)) → f (alone (rows_of k before)) ≡ numbered (own_of item) o
+  outcome-treats : (k : ℕ) (named : AllNamed (rows_of k before)) (small : AllSmall (rows_of k before)) (item : Item) (f : List Row → Outcome) (o : Outcome) → RowNamed (rows_of k before) (queued (all_recorded (bare item k o) (rows_of k before)) (bare item k o) (rows_of k before)) → f (alone (rows_of k before)) ≡ numbered (own_number_of item) o
       → row_of (item_for (rows_of k before) item) k (f (rows_of k (alone (rows_of k before)))) (rows_of k (alone (rows_of k before))) ≡ alone_row (rows_of k before) (row_of item k o (rows_of k before))
   outcome-treats k named small item f o row_named same =
       ap (λ rows. row_of (item_for (rows_of k before) item) k (f rows) rows) (rows-all k (alone (rows_of k before)) (alone-all k (rows_of k before) (all-of k before)))
@@ -224,15 +224,15 @@ module _ (policy : Policy) (pid pick : ℕ) (before : List Row) (good : AreApart
     treats = λ admitted. outcome-treats k named small (Says k (BadFraming fault) reply) (λ rows. drops (why.BadFrame fault)) (drops (why.BadFrame fault)) (named-mute before good k (Says k (BadFraming fault) reply) [] refl (λ x. tt) refl refl refl [] tt _ _) refl;
   }
 
-  payload-said : (k : ℕ) (named : AllNamed (rows_of k before)) (small : AllSmall (rows_of k before)) (p : List ℕ) (reply : Option HouseReply) → AreBytes p → sent_payload policy k (alone (rows_of k before)) (sent_number (own_of (Says k (Payload p) reply))) p ≡ numbered (own_of (Says k (Payload p) reply)) (sent_payload policy k (rows_of k before) pick p)
+  payload-said : (k : ℕ) (named : AllNamed (rows_of k before)) (small : AllSmall (rows_of k before)) (p : List ℕ) (reply : Option HouseReply) → AreBytes p → sent_payload policy k (alone (rows_of k before)) (sent_number (own_number_of (Says k (Payload p) reply))) p ≡ numbered (own_number_of (Says k (Payload p) reply)) (sent_payload policy k (rows_of k before) pick p)
   payload-said k named small p reply bytes = by_case (read_summary p) refl
     where
-      by_case : (r : Result Summary Bad) → read_summary p ≡ r → (elim r as (λ _. Outcome) [ Err bad ↦ drops (why.BadMessage bad) | Ok m ↦ sent_summary policy k (alone (rows_of k before)) (sent_number (own_of (Says k (Payload p) reply))) p m ]) ≡ numbered (own_of (Says k (Payload p) reply)) (elim r as (λ _. Outcome) [ Err bad ↦ drops (why.BadMessage bad) | Ok m ↦ sent_summary policy k (rows_of k before) pick p m ])
-      by_case (Err bad) reads = sym (ap (λ o. numbered o (drops (why.BadMessage bad))) (reading-err p bad sender_of None reads))
+      by_case : (r : Result Summary Bad) → read_summary p ≡ r → (elim r as (λ _. Outcome) [ Err bad ↦ drops (why.BadMessage bad) | Ok m ↦ sent_summary policy k (alone (rows_of k before)) (sent_number (own_number_of (Says k (Payload p) reply))) p m ]) ≡ numbered (own_number_of (Says k (Payload p) reply)) (elim r as (λ _. Outcome) [ Err bad ↦ drops (why.BadMessage bad) | Ok m ↦ sent_summary policy k (rows_of k before) pick p m ])
+      by_case (Err bad) reads = sym (ap (λ o. numbered o (drops (why.BadMessage bad))) (reading-err p bad summary_sender_of None reads))
       by_case (Ok m) reads =
-          ap (λ o. sent_summary policy k (alone (rows_of k before)) (sent_number o) p m) (reading-ok p m sender_of None reads)
+          ap (λ o. sent_summary policy k (alone (rows_of k before)) (sent_number o) p m) (reading-ok p m summary_sender_of None reads)
           ∙ (message-said (rows_of k before) (alone (rows_of k before)) (alike before good orderly k named small) policy k pick p m (λ c owned. sent-again p m (sender-in p m c bytes reads owned) pick c)
-          ∙ sym (ap (λ o. numbered o (sent_summary policy k (rows_of k before) pick p m)) (reading-ok p m sender_of None reads)))
+          ∙ sym (ap (λ o. numbered o (sent_summary policy k (rows_of k before) pick p m)) (reading-ok p m summary_sender_of None reads)))
 
   own-proxy : (k : ℕ) (p : List ℕ) (reply : Option HouseReply) → AreBytes p → AllNamed (rows_of k before) → AllSmall (rows_of k before) → not (is_out (rows_of k before)) ≡ true → OwnFacts policy pid k (rows_of k before) (Says k (Payload p) reply) (row_of (Says k (Payload p) reply) k (sent_payload policy k (rows_of k before) pick p) (rows_of k before))
   own-proxy k p reply bytes named small makes = record {
@@ -241,7 +241,7 @@ module _ (policy : Policy) (pid pick : ℕ) (before : List Row) (good : AreApart
     named = row-parts (RowNamed (rows_of k before)) (Says k (Payload p) reply) k (sent_payload policy k (rows_of k before) pick p) (rows_of k before) (λ fw parting down fate. named-said before good k p reply fw parting down fate policy pick bytes);
     small = tt;
     makes = makes-same k (Says k (Payload p) reply) refl makes;
-    treats = λ admitted. outcome-treats k named small (Says k (Payload p) reply) (λ rows. sent_payload policy k rows (sent_number (own_of (Says k (Payload p) reply))) p) (sent_payload policy k (rows_of k before) pick p) (named-said before good k p reply [] tt _ _ policy pick bytes) (payload-said k named small p reply bytes);
+    treats = λ admitted. outcome-treats k named small (Says k (Payload p) reply) (λ rows. sent_payload policy k rows (sent_number (own_number_of (Says k (Payload p) reply))) p) (sent_payload policy k (rows_of k before) pick p) (named-said before good k p reply [] tt _ _ policy pick bytes) (payload-said k named small p reply bytes);
   }
 
   own-heard : (k : ℕ) (p : List ℕ) → dest before p ≡ ToClient k → AllNamed (rows_of k before) → AllSmall (rows_of k before) → OwnFacts policy pid k (rows_of k before) (Heard p) (row_of (Heard p) k (received_for (rows_of k before) p) (rows_of k before))

@@ -1,7 +1,7 @@
 -- The log of the items that concern a client, alone, is the list of its rows under its own numbers.
 use Rattle.std.proofs.Common.{◌≡◌, ℕ, List, [], ◌∷◌, true, false, refl, ◌∙◌, ap, map, sym}
 use Rattle.std.specs.Prelude.{◌||◌}
-use Rattle.mux_history.specs.Channels.{own_of}
+use Rattle.mux_history.specs.Channels.{own_number_of}
 use Rattle.mux_history.specs.Choices.{sent_number}
 use Rattle.mux_history.specs.Log.{log_of, makes_next, more_of, treat}
 use Rattle.mux_history.specs.Policy.{Policy}
@@ -13,7 +13,7 @@ use Rattle.mux_isolation.proofs.Solos.{alone, alone_row, seen-alone}
 -- what is known of each row of a client
 pub record RowOwn (policy : Policy) (pid : ℕ) (before : List Row) (row : Row) : Type 0 where
   pub makes : makes_next (alone before) (item_for before row.item) ≡ true
-  pub treats : treat policy pid (sent_number (own_of (item_for before row.item))) (alone before) (item_for before row.item) ≡ alone_row before row
+  pub treats : treat policy pid (sent_number (own_number_of (item_for before row.item))) (alone before) (item_for before row.item) ≡ alone_row before row
 
 abbrev pub AllOwn : Policy → ℕ → List Row → Type 0
 AllOwn policy pid [] = Unit {0}
@@ -23,8 +23,8 @@ pub ended-alone : (own : List Row) → is_ended (alone own) ≡ is_ended own
 ended-alone [] = refl
 ended-alone (row ∷ own) = ap (λ b. is_end row.fate || b) (ended-alone own)
 
-pub one-more : (policy : Policy) (pid : ℕ) (rows : List Row) (item : Item) → makes_next rows item ≡ true → more_of (by_own policy pid) rows item ≡ treat policy pid (sent_number (own_of item)) rows item ∷ rows
-one-more policy pid rows item makes = ap (λ b. elim b as (λ _. List Row) [ false ↦ rows | true ↦ treat policy pid (sent_number (own_of item)) rows item ∷ rows ]) makes
+pub one-more : (policy : Policy) (pid : ℕ) (rows : List Row) (item : Item) → makes_next rows item ≡ true → more_of (by_own policy pid) rows item ≡ treat policy pid (sent_number (own_number_of item)) rows item ∷ rows
+one-more policy pid rows item makes = ap (λ b. elim b as (λ _. List Row) [ false ↦ rows | true ↦ treat policy pid (sent_number (own_number_of item)) rows item ∷ rows ]) makes
 
 pub solo-alone : (policy : Policy) (pid : ℕ) (own : List Row) → AllOwn policy pid own → log_of (by_own policy pid) (items_for own) ≡ alone own
 solo-alone policy pid [] known = refl

@@ -7,12 +7,12 @@ use Rattle.ssh_grammar.specs.declared.fault.Bad.{Bad}
 use Rattle.ssh_grammar.specs.declared.numbers.TheConstants.{CONNECT_FAILED}
 use Rattle.ssh_grammar.specs.declared.side.Side.{Side}
 use Rattle.ssh_grammar.specs.declared.side.Side.TheVariants.{Down, Up}
-use Rattle.mux_history.specs.Channels.{Channel, after_farewell, after_item, begun_by, received_by, held_of, is_closes, is_confirms, is_ends, is_fails, is_held, is_number, is_up, own_of, same_side, with_down, with_up, with_ups}
+use Rattle.mux_history.specs.Channels.{Channel, after_farewell, after_item, begun_by, received_by, held_of, is_closes, is_confirms, is_ends, is_fails, is_channel_held, is_number, is_up, own_number_of, same_side, with_down, with_up, with_ups}
 use Rattle.mux_history.specs.Farewell.{leave_channel, to_number}
 use Rattle.mux_history.specs.Summary.{Act, Confirmation, Confirms, Summary, Within, read_summary, reading}
 use Rattle.mux_history.specs.Ledger.{answered, asked, carried, first_window, granted, other_side, packet}
 use Rattle.mux_history.specs.Rows.{Heard, Item, Row, any_of}
-use Rattle.mux_isolation.specs.View.{ChannelView, Way, channel_view}
+use Rattle.mux_isolation.specs.LogView.{ChannelView, Way, channel_view}
 use Rattle.mux_history.proofs.Finds.{filter-no, filter-yes, find-no, find-yes}
 use Rattle.mux_history.proofs.Steps.{held-step}
 
@@ -57,12 +57,12 @@ down_seen (Within n act) v = elim (is_number v.number n && held_seen v) [ true �
 down_seen _ v = v
 
 down-seen : (m : Summary) (x : Channel) → channel_view (with_down m x) ≡ down_seen m (channel_view x)
-down-seen (Confirmation n s w m) x = by_case (is_number x.number n && is_held x)
+down-seen (Confirmation n s w m) x = by_case (is_number x.number n && is_channel_held x)
   where
     by_case : (b : Bool) → channel_view (elim b as (λ _. Channel) [ true ↦ record x { remote = Some s; acts = (Down, Confirms w m) ∷ x.acts } | false ↦ x ]) ≡ (elim b as (λ _. ChannelView) [ true ↦ add_act Down (Confirms w m) (record (channel_view x) { remote = Some s }) | false ↦ channel_view x ])
     by_case true = act-seen Down (Confirms w m) (record x { remote = Some s })
     by_case false = refl
-down-seen (Within n act) x = by_case (is_number x.number n && is_held x)
+down-seen (Within n act) x = by_case (is_number x.number n && is_channel_held x)
   where
     by_case : (b : Bool) → channel_view (elim b as (λ _. Channel) [ true ↦ record x { acts = (Down, act) ∷ x.acts } | false ↦ x ]) ≡ (elim b as (λ _. ChannelView) [ true ↦ add_act Down act (channel_view x) | false ↦ channel_view x ])
     by_case true = act-seen Down act x
@@ -75,12 +75,12 @@ up_seen own (Within s act) v = elim (is_number v.remote s && held_seen v) [ true
 up_seen own _ v = v
 
 up-seen : (own : Option ℕ) (m : Summary) (x : Channel) → channel_view (with_up own m x) ≡ up_seen own m (channel_view x)
-up-seen own (Confirmation s n w m) x = by_case (is_number x.remote s && is_held x)
+up-seen own (Confirmation s n w m) x = by_case (is_number x.remote s && is_channel_held x)
   where
     by_case : (b : Bool) → channel_view (elim b as (λ _. Channel) [ true ↦ record x { own = own; number = Some n; acts = (Up, Confirms w m) ∷ x.acts } | false ↦ x ]) ≡ (elim b as (λ _. ChannelView) [ true ↦ add_act Up (Confirms w m) (record (channel_view x) { own = own; number = Some n }) | false ↦ channel_view x ])
     by_case true = act-seen Up (Confirms w m) (record x { own = own; number = Some n })
     by_case false = refl
-up-seen own (Within s act) x = by_case (is_number x.remote s && is_held x)
+up-seen own (Within s act) x = by_case (is_number x.remote s && is_channel_held x)
   where
     by_case : (b : Bool) → channel_view (elim b as (λ _. Channel) [ true ↦ record x { acts = (Up, act) ∷ x.acts } | false ↦ x ]) ≡ (elim b as (λ _. ChannelView) [ true ↦ add_act Up act (channel_view x) | false ↦ channel_view x ])
     by_case true = act-seen Up act x
@@ -113,13 +113,13 @@ heard-seen item x = refl
 -- ---- one row
 
 abbrev item_seen : Row → ChannelView → ChannelView
-item_seen row v = elim (v.client == row.client) [ true ↦ ups_seen (own_of row.item) row.up (received_seen row.item v) | false ↦ v ]
+item_seen row v = elim (v.client == row.client) [ true ↦ ups_seen (own_number_of row.item) row.up (received_seen row.item v) | false ↦ v ]
 
 item-seen : (row : Row) (x : Channel) → channel_view (after_item row x) ≡ item_seen row (channel_view x)
 item-seen row x = by_case (x.client == row.client)
   where
-    by_case : (b : Bool) → channel_view (elim b as (λ _. Channel) [ true ↦ with_ups (own_of row.item) row.up (received_by row.item x) | false ↦ x ]) ≡ (elim b as (λ _. ChannelView) [ true ↦ ups_seen (own_of row.item) row.up (received_seen row.item (channel_view x)) | false ↦ channel_view x ])
-    by_case true = ups-seen (own_of row.item) row.up (received_by row.item x) ∙ ap (ups_seen (own_of row.item) row.up) (heard-seen row.item x)
+    by_case : (b : Bool) → channel_view (elim b as (λ _. Channel) [ true ↦ with_ups (own_number_of row.item) row.up (received_by row.item x) | false ↦ x ]) ≡ (elim b as (λ _. ChannelView) [ true ↦ ups_seen (own_number_of row.item) row.up (received_seen row.item (channel_view x)) | false ↦ channel_view x ])
+    by_case true = ups-seen (own_number_of row.item) row.up (received_by row.item x) ∙ ap (ups_seen (own_number_of row.item) row.up) (heard-seen row.item x)
     by_case false = refl
 
 abbrev farewell_seen : Row → ChannelView → ChannelView
@@ -138,13 +138,13 @@ map-view : (f : Channel → Channel) (g : ChannelView → ChannelView) → ((x :
 map-view f g each [] = refl
 map-view f g each (x ∷ xs) = ap (λ y. y ∷ map channel_view (map f xs)) (each x) ∙ ap (λ ys. g (channel_view x) ∷ ys) (map-view f g each xs)
 
-filter-view : (xs : List Channel) → map channel_view (filter is_held xs) ≡ filter held_seen (map channel_view xs)
+filter-view : (xs : List Channel) → map channel_view (filter is_channel_held xs) ≡ filter held_seen (map channel_view xs)
 filter-view [] = refl
-filter-view (x ∷ xs) = by_case (filter-view xs) (is_held x) refl
+filter-view (x ∷ xs) = by_case (filter-view xs) (is_channel_held x) refl
   where
-    by_case : map channel_view (filter is_held xs) ≡ filter held_seen (map channel_view xs) → (b : Bool) → is_held x ≡ b → map channel_view (filter is_held (x ∷ xs)) ≡ filter held_seen (map channel_view (x ∷ xs))
-    by_case ih true e = ap (map channel_view) (filter-yes is_held x xs e) ∙ (ap (λ ys. channel_view x ∷ ys) ih ∙ sym (filter-yes held_seen (channel_view x) (map channel_view xs) e))
-    by_case ih false e = ap (map channel_view) (filter-no is_held x xs e) ∙ (ih ∙ sym (filter-no held_seen (channel_view x) (map channel_view xs) e))
+    by_case : map channel_view (filter is_channel_held xs) ≡ filter held_seen (map channel_view xs) → (b : Bool) → is_channel_held x ≡ b → map channel_view (filter is_channel_held (x ∷ xs)) ≡ filter held_seen (map channel_view (x ∷ xs))
+    by_case ih true e = ap (map channel_view) (filter-yes is_channel_held x xs e) ∙ (ap (λ ys. channel_view x ∷ ys) ih ∙ sym (filter-yes held_seen (channel_view x) (map channel_view xs) e))
+    by_case ih false e = ap (map channel_view) (filter-no is_channel_held x xs e) ∙ (ih ∙ sym (filter-no held_seen (channel_view x) (map channel_view xs) e))
 
 pub find-view : (test : ChannelView → Bool) (xs : List Channel) → option_map channel_view (find (λ x. test (channel_view x)) xs) ≡ find test (map channel_view xs)
 find-view test [] = refl
@@ -154,9 +154,9 @@ find-view test (x ∷ xs) = by_case (find-view test xs) (test (channel_view x)) 
     by_case ih true e = ap (option_map channel_view) (find-yes (λ (x : Channel). test (channel_view x)) x xs e) ∙ sym (find-yes test (channel_view x) (map channel_view xs) e)
     by_case ih false e = ap (option_map channel_view) (find-no (λ (x : Channel). test (channel_view x)) x xs e) ∙ (ih ∙ sym (find-no test (channel_view x) (map channel_view xs) e))
 
-pub any-view : (xs : List Channel) → any_of is_held xs ≡ any_of held_seen (map channel_view xs)
+pub any-view : (xs : List Channel) → any_of is_channel_held xs ≡ any_of held_seen (map channel_view xs)
 any-view [] = refl
-any-view (x ∷ xs) = ap (λ b. is_held x || b) (any-view xs)
+any-view (x ∷ xs) = ap (λ b. is_channel_held x || b) (any-view xs)
 
 -- those that are not over after a row
 abbrev pub next_channels : Row → List ChannelView → List ChannelView
@@ -172,7 +172,7 @@ channels-step row own =
     ∙ ap (λ ys. filter held_seen (map (farewell_seen row) (filter held_seen (ys ++ map channel_view (begun_by row.client row.up row.item))))) (map-view (after_item row) (item_seen row) (item-seen row) (held_of own))))))
   where
     inner : List Channel
-    inner = filter is_held (map (after_item row) (held_of own) ++ begun_by row.client row.up row.item)
+    inner = filter is_channel_held (map (after_item row) (held_of own) ++ begun_by row.client row.up row.item)
 
 -- ---- the farewell
 

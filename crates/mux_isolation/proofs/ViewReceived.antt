@@ -14,7 +14,7 @@ use Rattle.mux_history.specs.Requests.{asker, asks, replies}
 use Rattle.mux_history.specs.Rows.{Row, is_lost}
 use Rattle.mux_history.specs.Said.{Outcome, sends, silent, records}
 use Rattle.mux_history.proofs.AskersSteps.{first-of}
-use Rattle.mux_isolation.specs.View.{ChannelView, View, channel_view}
+use Rattle.mux_isolation.specs.LogView.{ChannelView, LogView, channel_view}
 use Rattle.mux_isolation.proofs.ViewSent.{SeenSame, count, found, own_view}
 
 own-number : (a b : Option Channel) → SeenSame a b → own_number a ≡ own_number b
@@ -28,7 +28,7 @@ own-number (Some x) None same = cc
 
 module _ (own others : List Row) (same : own_view own ≡ own_view others) where
   asker-same : asker own ≡ asker others
-  asker-same = first-of (asks own) (length (replies own)) ∙ (ap (λ (v : View). slice_get v.unreplied 0) same ∙ sym (first-of (asks others) (length (replies others))))
+  asker-same = first-of (asks own) (length (replies own)) ∙ (ap (λ (v : LogView). slice_get v.unreplied 0) same ∙ sym (first-of (asks others) (length (replies others))))
 
   late-same : (m : Summary) → late m own ≡ late m others
   late-same (Succeeds rest) = ap (λ o. with_ask o (late_success rest)) asker-same
@@ -46,7 +46,7 @@ module _ (own others : List Row) (same : own_view own ≡ own_view others) where
 
   summary-same : (p : List ℕ) (m : Summary) → received_summary own p m ≡ received_summary others p m
   summary-same p m =
-      ap (λ b. elim b as (λ _. Outcome) [ true ↦ for_lost own m | false ↦ for_client own p m ]) (ap (λ (v : View). v.lost) same)
+      ap (λ b. elim b as (λ _. Outcome) [ true ↦ for_lost own m | false ↦ for_client own p m ]) (ap (λ (v : LogView). v.lost) same)
       ∙ by_case (is_lost others)
     where
       by_case : (b : Bool) → (elim b as (λ _. Outcome) [ true ↦ for_lost own m | false ↦ for_client own p m ]) ≡ (elim b as (λ _. Outcome) [ true ↦ for_lost others m | false ↦ for_client others p m ])

@@ -14,7 +14,7 @@ use Rattle.mux_history.specs.Pending.{joined, took_by}
 use Rattle.mux_history.specs.Requests.{Ask, answers, answers_to, asks, asks_of, is_sent, replies, reply_in, sent_flags, wanted, wanted_by}
 use Rattle.mux_history.specs.Rows.{Item, Row, Says, is_admit, is_lost, is_refusal, loses, rows_of}
 use Rattle.mux_history.specs.Said.{Outcome}
-use Rattle.mux_isolation.specs.View.{ChannelView, View, Waiting, left_of}
+use Rattle.mux_isolation.specs.LogView.{ChannelView, LogView, Waiting, waiting_left_of}
 use Rattle.mux_history.proofs.CurrentSteps.{current-step, forwarded_at, is_on, on-forwarded}
 use Rattle.mux_isolation.proofs.ViewChannels.{channels-step, leaves-same, next_channels}
 use Rattle.mux_isolation.proofs.ViewSent.{channels, own_view, waiting}
@@ -22,13 +22,13 @@ use Rattle.mux_isolation.proofs.ViewSent.{channels, own_view, waiting}
 -- ---- answers
 
 -- more requests and more replies go on from what was left
-answers-left : (flags more : List Bool) (heard later : List (List ℕ)) → answers_to (flags ++ more) (heard ++ later) ≡ answers_to flags heard ++ answers_to ((left_of flags heard).requests ++ more) ((left_of flags heard).early ++ later)
+answers-left : (flags more : List Bool) (heard later : List (List ℕ)) → answers_to (flags ++ more) (heard ++ later) ≡ answers_to flags heard ++ answers_to ((waiting_left_of flags heard).requests ++ more) ((waiting_left_of flags heard).early ++ later)
 answers-left [] more heard later = refl
 answers-left (false ∷ flags) more heard later = ap (λ xs. request_failure ∷ xs) (answers-left flags more heard later)
 answers-left (true ∷ flags) more [] later = refl
 answers-left (true ∷ flags) more (p ∷ heard) later = ap (λ xs. p ∷ xs) (answers-left flags more heard later)
 
-left-more : (flags more : List Bool) (heard later : List (List ℕ)) → left_of (flags ++ more) (heard ++ later) ≡ left_of ((left_of flags heard).requests ++ more) ((left_of flags heard).early ++ later)
+left-more : (flags more : List Bool) (heard later : List (List ℕ)) → waiting_left_of (flags ++ more) (heard ++ later) ≡ waiting_left_of ((waiting_left_of flags heard).requests ++ more) ((waiting_left_of flags heard).early ++ later)
 left-more [] more heard later = refl
 left-more (false ∷ flags) more heard later = left-more flags more heard later
 left-more (true ∷ flags) more [] later = refl
@@ -37,27 +37,27 @@ left-more (true ∷ flags) more (p ∷ heard) later = left-more flags more heard
 abbrev answers_after : Row → Waiting → List (List ℕ)
 answers_after row w = map frame_payload (answers_to (w.requests ++ sent_flags (is_sent row) (wanted_by row)) (w.early ++ reply_in row.item))
 
-new-answers : (row : Row) (own : List Row) → new_answers row own ≡ answers_after row (left_of (wanted own) (replies own))
+new-answers : (row : Row) (own : List Row) → new_answers row own ≡ answers_after row (waiting_left_of (wanted own) (replies own))
 new-answers row own = ap (map frame_payload) (
     ap (drop (length (answers own))) (answers-left (wanted own) (sent_flags (is_sent row) (wanted_by row)) (replies own) (reply_in row.item))
-    ∙ drop-append_seam (answers own) (answers_to ((left_of (wanted own) (replies own)).requests ++ sent_flags (is_sent row) (wanted_by row)) ((left_of (wanted own) (replies own)).early ++ reply_in row.item)))
+    ∙ drop-append_seam (answers own) (answers_to ((waiting_left_of (wanted own) (replies own)).requests ++ sent_flags (is_sent row) (wanted_by row)) ((waiting_left_of (wanted own) (replies own)).early ++ reply_in row.item)))
 
 -- ---- the row
 
 module _ (own others : List Row) (same : own_view own ≡ own_view others) where
   recorded-same : (row : Row) → all_recorded row own ≡ all_recorded row others
   recorded-same row =
-      ap (λ b. elim (goes row.fate && not b) as (λ _. List (List ℕ)) [ true ↦ row.down ++ new_answers row own | false ↦ row.down ]) (ap (λ (v : View). v.lost) same)
+      ap (λ b. elim (goes row.fate && not b) as (λ _. List (List ℕ)) [ true ↦ row.down ++ new_answers row own | false ↦ row.down ]) (ap (λ (v : LogView). v.lost) same)
       ∙ ap (λ (new : List (List ℕ)). elim (goes row.fate && not (is_lost others)) as (λ _. List (List ℕ)) [ true ↦ row.down ++ new | false ↦ row.down ])
       (new-answers row own ∙ (ap (answers_after row) (waiting own others same) ∙ sym (new-answers row others)))
 
   queued-same : (frames : List (List ℕ)) (row : Row) → queued frames row own ≡ queued frames row others
-  queued-same frames row = ap (λ n. record row { down = fitting n frames; fate = fate_with row.fate (overflow n frames) }) (ap (λ (v : View). length v.pending) same)
+  queued-same frames row = ap (λ n. record row { down = fitting n frames; fate = fate_with row.fate (overflow n frames) }) (ap (λ (v : LogView). length v.pending) same)
 
   cancels-same : (row : Row) → filter is_on (forwarded row own (forwardings_of own)) ≡ filter is_on (forwarded row others (forwardings_of others))
   cancels-same row =
       on-forwarded row (length (asks own)) (length (replies own)) (forwardings_of own)
-      ∙ (ap (λ (v : View). filter is_on (forwarded_at row v.requests v.replied v.forwardings)) same
+      ∙ (ap (λ (v : LogView). filter is_on (forwarded_at row v.requests v.replied v.forwardings)) same
       ∙ sym (on-forwarded row (length (asks others)) (length (replies others)) (forwardings_of others)))
 
   farewell-same : (row : Row) → farewell row own ≡ farewell row others
@@ -83,7 +83,7 @@ drop-append (x ∷ xs) ys zero = let e : 0 ≡ 0 - length (x ∷ xs) = omega ari
 drop-append (x ∷ xs) ys (suc n) = let e : n - length xs ≡ suc n - length (x ∷ xs) = omega arith in drop-append xs ys n ∙ ap (λ i. drop n xs ++ drop i ys) e
 
 -- what is seen of a client after a row
-abbrev pub next_view : Row → View → View
+abbrev pub next_view : Row → LogView → LogView
 next_view row v = record {
   admitted = is_admit row || v.admitted;
   has_greeted = is_sends row.item || v.has_greeted;
@@ -94,27 +94,27 @@ next_view row v = record {
   requests = v.requests + length (asks_of row.client (is_sent row) (wanted_by row));
   replied = v.replied + length (reply_in row.item);
   unreplied = drop (length (reply_in row.item)) (v.unreplied ++ drop (v.replied - v.requests) (asks_of row.client (is_sent row) (wanted_by row)));
-  waiting = left_of (v.waiting.requests ++ sent_flags (is_sent row) (wanted_by row)) (v.waiting.early ++ reply_in row.item);
+  waiting = waiting_left_of (v.waiting.requests ++ sent_flags (is_sent row) (wanted_by row)) (v.waiting.early ++ reply_in row.item);
   forwardings = filter is_on (dropped row (forwarded_at row v.requests v.replied v.forwardings));
   pending = drop (took_by row.item) (v.pending ++ joined row.down);
 }
 
 pub view-step : (row : Row) (own : List Row) → rows_of row.client own ≡ own → own_view (row ∷ own) ≡ next_view row (own_view own)
 view-step row own all =
-    ap (λ x. with_parts x (length (asks (row ∷ own))) (length (replies (row ∷ own))) (drop (length (replies (row ∷ own))) (asks (row ∷ own))) (left_of (wanted (row ∷ own)) (replies (row ∷ own))) (current (row ∷ own))) (channels-step row own)
-    ∙ (ap (λ x. with_parts (next_channels row v.channels) x (length (replies (row ∷ own))) (drop (length (replies (row ∷ own))) (asks (row ∷ own))) (left_of (wanted (row ∷ own)) (replies (row ∷ own))) (current (row ∷ own))) (length-append (asks own) new)
-    ∙ (ap (λ x. with_parts (next_channels row v.channels) (v.requests + length new) x (drop (length (replies (row ∷ own))) (asks (row ∷ own))) (left_of (wanted (row ∷ own)) (replies (row ∷ own))) (current (row ∷ own))) (length-append (replies own) (reply_in row.item))
-    ∙ (ap (λ x. with_parts (next_channels row v.channels) (v.requests + length new) (v.replied + length (reply_in row.item)) x (left_of (wanted (row ∷ own)) (replies (row ∷ own))) (current (row ∷ own))) unreplied-next
+    ap (λ x. with_parts x (length (asks (row ∷ own))) (length (replies (row ∷ own))) (drop (length (replies (row ∷ own))) (asks (row ∷ own))) (waiting_left_of (wanted (row ∷ own)) (replies (row ∷ own))) (current (row ∷ own))) (channels-step row own)
+    ∙ (ap (λ x. with_parts (next_channels row v.channels) x (length (replies (row ∷ own))) (drop (length (replies (row ∷ own))) (asks (row ∷ own))) (waiting_left_of (wanted (row ∷ own)) (replies (row ∷ own))) (current (row ∷ own))) (length-append (asks own) new)
+    ∙ (ap (λ x. with_parts (next_channels row v.channels) (v.requests + length new) x (drop (length (replies (row ∷ own))) (asks (row ∷ own))) (waiting_left_of (wanted (row ∷ own)) (replies (row ∷ own))) (current (row ∷ own))) (length-append (replies own) (reply_in row.item))
+    ∙ (ap (λ x. with_parts (next_channels row v.channels) (v.requests + length new) (v.replied + length (reply_in row.item)) x (waiting_left_of (wanted (row ∷ own)) (replies (row ∷ own))) (current (row ∷ own))) unreplied-next
     ∙ (ap (λ x. with_parts (next_channels row v.channels) (v.requests + length new) (v.replied + length (reply_in row.item)) (drop (length (reply_in row.item)) (v.unreplied ++ drop (v.replied - v.requests) new)) x (current (row ∷ own))) (left-more (wanted own) (sent_flags (is_sent row) (wanted_by row)) (replies own) (reply_in row.item))
-    ∙ ap (λ x. with_parts (next_channels row v.channels) (v.requests + length new) (v.replied + length (reply_in row.item)) (drop (length (reply_in row.item)) (v.unreplied ++ drop (v.replied - v.requests) new)) (left_of (v.waiting.requests ++ sent_flags (is_sent row) (wanted_by row)) (v.waiting.early ++ reply_in row.item)) x) current-next))))
+    ∙ ap (λ x. with_parts (next_channels row v.channels) (v.requests + length new) (v.replied + length (reply_in row.item)) (drop (length (reply_in row.item)) (v.unreplied ++ drop (v.replied - v.requests) new)) (waiting_left_of (v.waiting.requests ++ sent_flags (is_sent row) (wanted_by row)) (v.waiting.early ++ reply_in row.item)) x) current-next))))
   where
-    v : View
+    v : LogView
     v = own_view own
 
     new : List Ask
     new = asks_of row.client (is_sent row) (wanted_by row)
 
-    with_parts : List ChannelView → ℕ → ℕ → List Ask → Waiting → List Forwarding → View
+    with_parts : List ChannelView → ℕ → ℕ → List Ask → Waiting → List Forwarding → LogView
     with_parts vs a r us w fs = record (own_view (row ∷ own)) { channels = vs; requests = a; replied = r; unreplied = us; waiting = w; forwardings = fs }
 
     unreplied-next : drop (length (replies (row ∷ own))) (asks (row ∷ own)) ≡ drop (length (reply_in row.item)) (drop (length (replies own)) (asks own) ++ drop (length (replies own) - length (asks own)) new)

@@ -1,4 +1,4 @@
--- What a client says does the same where the same is seen of it.
+-- What a client sends does the same where the same is seen of it.
 use Rattle.std.proofs.Common.{◌≡◌, ℕ, ◌+◌, List, [], ◌∷◌, map, length, drop, true, false, Bool, refl, ◌∙◌, ap, arith, sym, Option, Some, None, Ok, Err}
 use Rattle.std.specs.Prelude.{◌==◌, ◌&&◌, not, find, option_map, nat_le, nat_lt, Result}
 use Rattle.std.proofs.lemmas.List.{length-map}
@@ -15,7 +15,7 @@ use Rattle.mux_history.specs.declared.limits.TheConstants.{MAX_CHANNELS, MAX_CHA
 use Rattle.mux_history.specs.declared.why.Why.TheVariants as why
 use Rattle.mux_history.specs.Channels.{Channel, held_of, is_number, is_up, with_own}
 use Rattle.mux_history.specs.Controls.{greeted, in_proxy, sent_body}
-use Rattle.mux_history.specs.Forwardings.{Forwarding, current, is_free_at}
+use Rattle.mux_history.specs.Forwardings.{Forwarding, current, is_forwarding_free_at}
 use Rattle.mux_history.specs.Summary.{Act, Answers, Asks, Carries, Confirmation, Ends, Summary, Grants, Open, Refuses, Requests, Succeeds, Transport, Within, read_summary}
 use Rattle.mux_history.specs.Keys.{is_askable}
 use Rattle.mux_history.specs.Ledger.{breach, packet_breach}
@@ -25,12 +25,12 @@ use Rattle.mux_history.specs.Policy.{Policy, permits, may_open}
 use Rattle.mux_history.specs.Requests.{answers_to, asks, replies, unanswered_asks, wanted}
 use Rattle.mux_history.specs.Rows.{Row, any_of, is_admit, is_lost, is_out}
 use Rattle.mux_history.specs.Said.{Outcome, confirmed_at, drops, fails_open, is_failing, is_full_of_asks, on_breach, on_confirmed, on_unused, on_waiting, sent_summary, sent_open, sent_payload, sent_request, sends, sends_as, sends_if, sends_open, waiting_at, reason_for, text_for}
-use Rattle.mux_isolation.specs.View.{ChannelView, View, Waiting, channel_view, left_of, room_in, unanswered_in}
+use Rattle.mux_isolation.specs.LogView.{ChannelView, LogView, Waiting, channel_view, waiting_left_of, room_in, unanswered_in}
 use Rattle.mux_isolation.proofs.ViewChannels.{find-view}
 
 -- ---- the view of a client's own rows
 
-abbrev pub own_view : List Row → View
+abbrev pub own_view : List Row → LogView
 own_view own = record {
   admitted = any_of is_admit own;
   has_greeted = greeted own;
@@ -41,7 +41,7 @@ own_view own = record {
   requests = length (asks own);
   replied = length (replies own);
   unreplied = drop (length (replies own)) (asks own);
-  waiting = left_of (wanted own) (replies own);
+  waiting = waiting_left_of (wanted own) (replies own);
   forwardings = current own;
   pending = pending_down own;
 }
@@ -49,13 +49,13 @@ own_view own = record {
 -- ---- what is looked up in it
 
 -- the requests without an answer are those that are left
-left-count : (flags : List Bool) (heard : List (List ℕ)) → length flags ≡ length (answers_to flags heard) + length (left_of flags heard).requests
+left-count : (flags : List Bool) (heard : List (List ℕ)) → length flags ≡ length (answers_to flags heard) + length (waiting_left_of flags heard).requests
 left-count [] heard = omega arith
 left-count (false ∷ flags) heard = let l = left-count flags heard in omega arith
 left-count (true ∷ flags) [] = omega arith
 left-count (true ∷ flags) (p ∷ heard) = let l = left-count flags heard in omega arith
 
-unanswered-left : (own : List Row) → unanswered_asks own ≡ length (left_of (wanted own) (replies own)).requests
+unanswered-left : (own : List Row) → unanswered_asks own ≡ length (waiting_left_of (wanted own) (replies own)).requests
 unanswered-left own = let l = left-count (wanted own) (replies own) in omega arith
 
 -- the breach of what goes up
@@ -110,13 +110,13 @@ on-confirmed p s act (Some x) None same = cc
 
 module _ (own others : List Row) (same : own_view own ≡ own_view others) where
   pub channels : map channel_view (held_of own) ≡ map channel_view (held_of others)
-  channels = ap (λ (v : View). v.channels) same
+  channels = ap (λ (v : LogView). v.channels) same
 
   pub forwardings : current own ≡ current others
-  forwardings = ap (λ (v : View). v.forwardings) same
+  forwardings = ap (λ (v : LogView). v.forwardings) same
 
-  pub waiting : left_of (wanted own) (replies own) ≡ left_of (wanted others) (replies others)
-  waiting = ap (λ (v : View). v.waiting) same
+  pub waiting : waiting_left_of (wanted own) (replies own) ≡ waiting_left_of (wanted others) (replies others)
+  waiting = ap (λ (v : LogView). v.waiting) same
 
   pub count : length (held_of own) ≡ length (held_of others)
   count = sym (length-map (held_of own) channel_view) ∙ (ap length channels ∙ length-map (held_of others) channel_view)
@@ -136,7 +136,7 @@ module _ (own others : List Row) (same : own_view own ≡ own_view others) where
   unanswered : unanswered_asks own ≡ unanswered_asks others
   unanswered = unanswered-left own ∙ (ap (λ (w : Waiting). length w.requests) waiting ∙ sym (unanswered-left others))
 
-  -- ---- what the client says
+  -- ---- what the client sends
 
   sends-open : (pick : ℕ) (p : List ℕ) (sender : ℕ) → sends_open own pick p sender ≡ sends_open others pick p sender
   sends-open pick p sender = ap (λ n. elim (nat_lt n MAX_CHANNELS) as (λ _. Outcome) [ true ↦ sends_as pick p | false ↦ fails_open sender RESOURCE_SHORTAGE too_many_channels ]) count
@@ -150,7 +150,7 @@ module _ (own others : List Row) (same : own_view own ≡ own_view others) where
 
   said-request : (policy : Policy) (k : ℕ) (p : List ℕ) (what : Global) (wants : Bool) → sent_request policy k own p what wants ≡ sent_request policy k others p what wants
   said-request policy k p (Forward key) wants = ap (λ (fs : List Forwarding). sends_if (wants && (is_askable key && (permits policy.listens key && nat_lt (length fs) MAX_FORWARDINGS))) p) forwardings
-  said-request policy k p (Cancel key) wants = ap (λ (fs : List Forwarding). sends_if (any_of (is_free_at k key) fs) p) forwardings
+  said-request policy k p (Cancel key) wants = ap (λ (fs : List Forwarding). sends_if (any_of (is_forwarding_free_at k key) fs) p) forwardings
   said-request policy k p KeepAlive wants = refl
   said-request policy k p OtherName wants = refl
 
@@ -181,6 +181,6 @@ module _ (own others : List Row) (same : own_view own ≡ own_view others) where
       by_case (Ok m) = said-summary policy k pick p m
 
   pub said-alike : (policy : Policy) (pid k pick : ℕ) (outgoing : Outgoing) (given : Option HouseReply) → sent_by_client policy pid k own pick outgoing given ≡ sent_by_client policy pid k others pick outgoing given
-  said-alike policy pid k pick (Body body) given = ap (λ b. sent_body pid k given b body) (ap (λ (v : View). v.has_greeted) same)
+  said-alike policy pid k pick (Body body) given = ap (λ b. sent_body pid k given b body) (ap (λ (v : LogView). v.has_greeted) same)
   said-alike policy pid k pick (Payload p) given = said-payload policy k pick p
   said-alike policy pid k pick (BadFraming fault) given = refl

@@ -2,7 +2,7 @@
 use Rattle.std.proofs.Common.{◌≡◌, ℕ, List, [], ◌∷◌, map, length, drop, true, false, Bool, refl, ◌∙◌, ap, arith, sym, subst, Some}
 use Rattle.std.specs.Prelude.{◌==◌, ◌||◌, ◌&&◌, not, filter, nat_lt}
 use Rattle.std.proofs.lemmas.Bool.Decides.{nat_tests}
-use Rattle.mux_history.specs.Channels.{Channel, channels_of, held_of, is_held}
+use Rattle.mux_history.specs.Channels.{Channel, channels_of, held_of, is_channel_held}
 use Rattle.mux_history.specs.Controls.{answers_ask, greeted, house_sends, in_proxy}
 use Rattle.mux_history.specs.Farewell.{has_open_matters}
 use Rattle.mux_history.specs.Forwardings.{Forwarding, current, forwardings_of}
@@ -15,7 +15,7 @@ use Rattle.mux_history.specs.Requests.{Ask, asks, replies, wanted}
 use Rattle.mux_history.specs.Rows.{Admit, Gone, Heard, HouseSays, Item, Row, Says, Took, any_of, is_admit, is_lost, is_out, rows_of}
 use Rattle.mux_history.specs.Said.{Outcome, silent}
 use Rattle.mux_isolation.specs.Laws.{SameStep, StepsAlike}
-use Rattle.mux_isolation.specs.View.{View, channel_view, left_of, view_of}
+use Rattle.mux_isolation.specs.LogView.{LogView, channel_view, waiting_left_of, view_of}
 use Rattle.mux_history.proofs.Askers.{asks-local, asks_for}
 use Rattle.mux_history.proofs.CurrentSteps.{is_on}
 use Rattle.mux_history.proofs.Finds.{filter-no, filter-yes}
@@ -41,7 +41,7 @@ filters-turn {X} a b (x ∷ xs) = by_case (filters-turn a b xs) (a x) refl (b x)
     by_case ih false e false f = ap (filter a) (filter-no b x xs f) ∙ (ih ∙ sym (ap (filter b) (filter-no a x xs e)))
 
 held-local : (k : ℕ) (rows : List Row) → filter (is_of k) (held_of rows) ≡ held_of (rows_of k rows)
-held-local k rows = filters-turn (is_of k) is_held (channels_of rows) ∙ ap (filter is_held) (channels-local k rows)
+held-local k rows = filters-turn (is_of k) is_channel_held (channels_of rows) ∙ ap (filter is_channel_held) (channels-local k rows)
 
 current-local : (k : ℕ) (rows : List Row) → filter (for_of k) (current rows) ≡ current (rows_of k rows)
 current-local k rows = filters-turn (for_of k) is_on (forwardings_of rows) ∙ ap (filter is_on) (forwardings-local k rows)
@@ -52,7 +52,7 @@ view-own k rows =
     ∙ (ap (λ xs. with_parts (held_of (rows_of k rows)) xs (filter (for_of k) (current rows))) (asks-local k rows)
     ∙ ap (λ xs. with_parts (held_of (rows_of k rows)) (asks (rows_of k rows)) xs) (current-local k rows))
   where
-    with_parts : List Channel → List Ask → List Forwarding → View
+    with_parts : List Channel → List Ask → List Forwarding → LogView
     with_parts xs us fs = record {
       admitted = any_of is_admit (rows_of k rows);
       has_greeted = greeted (rows_of k rows);
@@ -63,7 +63,7 @@ view-own k rows =
       requests = length us;
       replied = length (replies (rows_of k rows));
       unreplied = drop (length (replies (rows_of k rows))) us;
-      waiting = left_of (wanted (rows_of k rows)) (replies (rows_of k rows));
+      waiting = waiting_left_of (wanted (rows_of k rows)) (replies (rows_of k rows));
       forwardings = fs;
       pending = pending_down (rows_of k rows);
     }
@@ -111,7 +111,7 @@ module _ (policy : Policy) (pid pick k : ℕ) (rows others : List Row) (same : v
       (said-alike (rows_of k rows) (rows_of k others) same-own policy pid k pick outgoing given))
   own-step (HouseSays j id given) is = subst (λ (i : ℕ). SameStep k rows others (treat policy pid pick rows (HouseSays i id given)) (treat policy pid pick others (HouseSays i id given))) (sym is)
       (of-row (HouseSays k id given) (house_sends (rows_of k rows) id given) (house_sends (rows_of k others) id given)
-      (ap (λ (v : View). elim v.proxied as (λ _. Outcome) [ true ↦ silent | false ↦ answers_ask true id (Some given) ]) same-own))
+      (ap (λ (v : LogView). elim v.proxied as (λ _. Outcome) [ true ↦ silent | false ↦ answers_ask true id (Some given) ]) same-own))
   own-step (Gone j) is = subst (λ (i : ℕ). SameStep k rows others (treat policy pid pick rows (Gone i)) (treat policy pid pick others (Gone i))) (sym is) (of-row (Gone k) silent silent refl)
   own-step (Took j size) is = step (bare (Took j size) j silent) (bare (Took j size) j silent) refl is
   own-step item is = absurd is
@@ -123,13 +123,13 @@ module _ (policy : Policy) (pid pick k : ℕ) (rows others : List Row) (same : v
       (of-row (Heard p) (received_for (rows_of k rows) p) (received_for (rows_of k others) p) (heard-alike (rows_of k rows) (rows_of k others) same-own p)))
 
   makes-same : (item : Item) → IsOf k item → makes_row rows item ≡ makes_row others item
-  makes-same (Says j outgoing given) is = ap (λ i. not (is_out (rows_of i rows))) is ∙ (ap (λ (v : View). not v.out) same ∙ ap (λ i. not (is_out (rows_of i others))) (sym is))
-  makes-same (HouseSays j id given) is = ap (λ i. not (is_out (rows_of i rows))) is ∙ (ap (λ (v : View). not v.out) same ∙ ap (λ i. not (is_out (rows_of i others))) (sym is))
-  makes-same (Gone j) is = ap (λ i. not (is_out (rows_of i rows))) is ∙ (ap (λ (v : View). not v.out) same ∙ ap (λ i. not (is_out (rows_of i others))) (sym is))
+  makes-same (Says j outgoing given) is = ap (λ i. not (is_out (rows_of i rows))) is ∙ (ap (λ (v : LogView). not v.out) same ∙ ap (λ i. not (is_out (rows_of i others))) (sym is))
+  makes-same (HouseSays j id given) is = ap (λ i. not (is_out (rows_of i rows))) is ∙ (ap (λ (v : LogView). not v.out) same ∙ ap (λ i. not (is_out (rows_of i others))) (sym is))
+  makes-same (Gone j) is = ap (λ i. not (is_out (rows_of i rows))) is ∙ (ap (λ (v : LogView). not v.out) same ∙ ap (λ i. not (is_out (rows_of i others))) (sym is))
   makes-same (Took j size) is = refl
   makes-same item is = absurd is
 
-  abbrev matters_seen : View → Bool
+  abbrev matters_seen : LogView → Bool
   matters_seen v = (v.admitted && not v.lost) || (any_of held_seen v.channels || nat_lt v.replied v.requests)
 
   matters-view : (own : List Row) → has_open_matters own ≡ matters_seen (own_view own)

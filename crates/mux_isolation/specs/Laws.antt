@@ -13,7 +13,7 @@ use Rattle.mux_history.specs.Heard.{ToClient, dest}
 use Rattle.mux_history.specs.Log.{admits, makes_row, treat}
 use Rattle.mux_history.specs.Kept.{AtEach, ForEach, Window, Permission, Asker, Delivers, Passes, OwnWords, Unshared, Kept}
 use Rattle.mux_history.specs.Laws.{IsOf, OverRight}
-use Rattle.mux_isolation.specs.View.{room_in, unanswered_in, view_of, way_of}
+use Rattle.mux_isolation.specs.LogView.{room_in, unanswered_in, view_of, way_of}
 
 -- each admitted client sees what it would see alone, up to the numbers that represent its own
 abbrev pub Isolation : Type 0

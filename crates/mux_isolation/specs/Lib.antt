@@ -1,4 +1,4 @@
-pub mod View
+pub mod LogView
 pub mod Renaming
 pub mod Laws
 pub mod Bytes

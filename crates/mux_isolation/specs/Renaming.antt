@@ -2,13 +2,13 @@
 -- its own numbers.
 use Rattle.std.specs.Prelude.{ℕ, ◌≡◌, ◌<◌, List, ◌∷◌, ◌++◌, length, map}
 use Rattle.mux_history.specs.Rows.{Row, Item, rows_of}
-use Rattle.mux_history.specs.Channels.{own_of}
+use Rattle.mux_history.specs.Channels.{own_number_of}
 use Rattle.mux_history.specs.Log.{Setting, log_of, more_of}
 use Rattle.mux_history.specs.Right.{IsAdmitted}
 use Rattle.mux_history.specs.Solo.{alone_setting, item_for, items_for, own_ups}
 use Rattle.mux_history.specs.Kept.{AtEach, ForEach}
 use Rattle.mux_history.specs.Laws.{OverRight}
-use Rattle.mux_isolation.specs.View.{ChannelView, View, view_of}
+use Rattle.mux_isolation.specs.LogView.{ChannelView, LogView, view_of}
 
 -- the log of a client alone, as far as these rows of it go
 abbrev pub log_alone : Setting → List Row → List Row
@@ -22,7 +22,7 @@ abbrev pub row_alone : List Row → Row → Row
 row_alone own row = record row {
   item = item_for own row.item;
   up =
-      own_ups (own_of row.item) row.up;
+      own_ups (own_number_of row.item) row.up;
 }
 
 -- the next item of the client makes that row, and no other: what it sends else, its farewell, what
@@ -39,7 +39,7 @@ abbrev pub channel_alone : ChannelView → ChannelView
 channel_alone x = record x { number = x.own }
 
 -- all else is seen as it is among others
-abbrev pub view_alone : View → View
+abbrev pub view_alone : LogView → LogView
 view_alone seen = record seen { channels = map channel_alone seen.channels }
 
 -- of the rows so far

@@ -12,8 +12,8 @@ pub record Skipped : Type 0 where
   pub extensions : List (List ℕ × List ℕ)
   pub rest : List ℕ
 
-abbrev pub ask_of : FwdAsk → grammar.ForwardAsk
-ask_of a = record {
+abbrev pub grammar_ask_of : FwdAsk → grammar.ForwardAsk
+grammar_ask_of a = record {
   kind = a.kind;
   listen_host = a.listen_host.now;
   listen_port = a.listen_port;
@@ -26,8 +26,8 @@ control_of skipped (control.Hello version) = grammar.Hello version skipped.exten
 control_of skipped (control.NewSession id) = grammar.NewSession id skipped.rest
 control_of skipped (control.Alive id) = grammar.AliveCheck id
 control_of skipped (control.Terminate id) = grammar.Terminate id
-control_of skipped (control.OpenForward id what) = grammar.OpenForward id (ask_of what)
-control_of skipped (control.CloseForward id what) = grammar.CloseForward id (ask_of what)
+control_of skipped (control.OpenForward id what) = grammar.OpenForward id (grammar_ask_of what)
+control_of skipped (control.CloseForward id what) = grammar.CloseForward id (grammar_ask_of what)
 control_of skipped (control.StdioForward id) = grammar.StdioForward id skipped.rest
 control_of skipped (control.StopListening id) = grammar.StopListening id
 control_of skipped (control.Proxy id) = grammar.Proxy id

@@ -4,7 +4,7 @@ ghost use Rattle.ssh_grammar.specs.ReadControl.{on_pairs, read_id, read_unread, 
 ghost use Rattle.ssh_grammar.specs.Tables.{by_number};
 ghost use Rattle.ssh_grammar.specs.IsControl.{SpellsControl};
 ghost use Rattle.ssh_grammar.specs.Control as grammar;
-ghost use Rattle.mux_messages.specs.Control.{GivesControl, Skipped, ArePairs, AreNoPairs, control_of, ask_of};
+ghost use Rattle.mux_messages.specs.Control.{GivesControl, Skipped, ArePairs, AreNoPairs, control_of, grammar_ask_of};
 
 use crate::control::Control;
 use mux_outside::FwdAsk;
@@ -38,7 +38,7 @@ fn id_alone(fields: &mut FieldReader<'_>) -> Result<u32, BadControl>
 fn forward<'a>(fields: &mut FieldReader<'a>) -> Result<(u32, FwdAsk<'a>), BadControl>
     requires { fields.old.at ≡ 4 }
     ensures { (message : ℕ → grammar.ForwardAsk → grammar.Control)
-        → Gives (λ x. message x.0 (ask_of x.1)) result (read_forward message fields.old.cursor) }
+        → Gives (λ x. message x.0 (grammar_ask_of x.1)) result (read_forward message fields.old.cursor) }
 {
     let id = fields.take_u32()?;
     let kind = fields.take_u32()?;

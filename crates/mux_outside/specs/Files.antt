@@ -9,10 +9,10 @@ use Rattle.mux_outside.specs.declared.pairs.Pair.{Pair}
 use Rattle.mux_outside.specs.declared.reading.Reading.{Reading}
 
 -- the value under a name, of equal names the first
-abbrev pub value_at : List Pair → List ℕ → Option (List ℕ)
-value_at [] name = None
-value_at (p ∷ ps) name =
-    let later = value_at ps name in
+abbrev pub pair_value_at : List Pair → List ℕ → Option (List ℕ)
+pair_value_at [] name = None
+pair_value_at (p ∷ ps) name =
+    let later = pair_value_at ps name in
     if bytes_eq p.name name then Some p.value else later
 
 -- a slash; alone, it is the root's path too
@@ -32,14 +32,14 @@ inside dir path =
 
 -- whether a path names a directory: the root, or a prefix of a path that isn't empty and that a
 -- slash follows
-abbrev pub is_directory : List Pair → List ℕ → Bool
-is_directory files dir =
+abbrev pub is_folder_at : List Pair → List ℕ → Bool
+is_folder_at files dir =
     bytes_eq dir slash
     || (not (bytes_eq dir []) && list_any (λ p. is_some (inside dir p.name)) files)
 
 -- what a path holds, where it names a file and no directory
-abbrev pub content_at : List Pair → List ℕ → Option (List ℕ)
-content_at files path = if is_directory files path then None else value_at files path
+abbrev pub file_content_at : List Pair → List ℕ → Option (List ℕ)
+file_content_at files path = if is_folder_at files path then None else pair_value_at files path
 
 -- a name, unless it is empty
 abbrev pub as_name : List ℕ → Option (List ℕ)
@@ -47,8 +47,8 @@ as_name [] = None
 as_name (b ∷ bs) = Some (b ∷ bs)
 
 -- the name in a directory by which a path goes on
-abbrev pub name_in : List ℕ → Pair → Option (List ℕ)
-name_in dir p =
+abbrev pub folder_name_in : List ℕ → Pair → Option (List ℕ)
+folder_name_in dir p =
     option_and_then as_name (option_map (before_first (λ b. b == 47)) (inside dir p.name))
 
 -- the names with one more, unless it is among them
@@ -57,19 +57,19 @@ with_name names name = if list_any (bytes_eq name) names then names else names +
 
 -- the names in a directory, each once
 abbrev pub names_in : List Pair → List ℕ → List (List ℕ)
-names_in files dir = fold with_name [] (filter_map (name_in dir) files)
+names_in files dir = fold with_name [] (filter_map (folder_name_in dir) files)
 
 -- the answer of a read: at most so many first bytes of the file, if there is one
 abbrev pub Reads : Option (List Pair) → List ℕ → ℕ → Result (Option (List ℕ)) FileError → Type 0
 Reads None path most read = Unit {0}
 Reads (Some files) path most (Err e) = Unit {0}
-Reads (Some files) path most (Ok found) = found ≡ option_map (take most) (content_at files path)
+Reads (Some files) path most (Ok found) = found ≡ option_map (take most) (file_content_at files path)
 
 -- the names of a directory in any order, if there is such a directory
 abbrev pub ListsNames : List Pair → List ℕ → Option (List (List ℕ)) → Type 0
-ListsNames files dir None = is_directory files dir ≡ false
+ListsNames files dir None = is_folder_at files dir ≡ false
 ListsNames files dir (Some names) =
-    (is_directory files dir ≡ true) × IsPermutation (names_in files dir) names
+    (is_folder_at files dir ≡ true) × IsPermutation (names_in files dir) names
 
 -- the answer of a listing
 abbrev pub Lists : Option (List Pair) → List ℕ → Result (Option (List (List ℕ))) FileError → Type 0

@@ -80,6 +80,10 @@ pub record IsFresh (state : HouseState) : Type 0 where
   pub unrefused : state.refused ≡ None
   pub stands : state.stands []
 
+-- whether something waits for a stream, and it is none of those that failed
+abbrev pub has_waiting : (ℕ → List ℕ) → List ℕ → ℕ → Bool
+has_waiting queue failed t = not (among t failed) && not (length (queue t) == 0)
+
 -- ---- what a call leaves
 
 -- the marks that are recorded after these more
@@ -111,8 +115,8 @@ pub record OffersSame (old new : HouseState) : Type 0 where
 -- ---- ask
 
 -- a client's ask as the marks have it
-abbrev pub ask_of : FwdAsk → StartAsk
-ask_of what = record {
+abbrev pub start_ask_of : FwdAsk → StartAsk
+start_ask_of what = record {
   kind = what.kind;
   listen_host = what.listen_host.now;
   listen_port = what.listen_port;
@@ -125,7 +129,7 @@ ask_of what = record {
 abbrev pub ask_marks : {E : Type 0} → Result HouseReply E → ℕ → ℕ → Bool → FwdAsk
     → List HouseMark
 ask_marks (Ok reply) client id opening what =
-    HouseAsked client id opening (ask_of what) reply ∷ []
+    HouseAsked client id opening (start_ask_of what) reply ∷ []
 ask_marks (Err e) client id opening what = []
 
 -- the open requests after a request with this reply
@@ -277,7 +281,7 @@ ordered_marks (Some order) number = HouseOrder order number ∷ []
 -- ---- turn
 
 -- a stream of its own that isn't paused by its orders and hasn't ended
-pub record Gives (known : Known) (t : ℕ) : Type 0 where
+pub record KnownGives (known : Known) (t : ℕ) : Type 0 where
   pub own : IsTrue (is_one t known.streams)
   pub loud : is_silent t known.streams ≡ false
 
@@ -285,8 +289,8 @@ pub record Gives (known : Known) (t : ℕ) : Type 0 where
 abbrev pub OwnTurnFits : OwnTurn → Known → Quiet → Type 0
 OwnTurnFits (Joined l t) known quiet = IsTrue (among l known.listeners) × IsNewTo known t
 OwnTurnFits (Got t bytes) known quiet =
-    Gives known t × IsAtRest quiet × (0 < length bytes.now) × (length bytes.now ≤ LONGEST_PIECE)
-OwnTurnFits (End t) known quiet = Gives known t
+    KnownGives known t × IsAtRest quiet × (0 < length bytes.now) × (length bytes.now ≤ LONGEST_PIECE)
+OwnTurnFits (End t) known quiet = KnownGives known t
 OwnTurnFits (Writable t) known quiet = IsTrue (is_one t known.streams)
 OwnTurnFits (Failed t) known quiet = IsTrue (is_one t known.streams)
 

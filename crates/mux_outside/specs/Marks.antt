@@ -5,8 +5,8 @@ use Rattle.mux_outside.specs.declared.mark.Mark.TheVariants.{Waits, Accepts, Get
 
 -- the bytes that a stream accepted at one mark
 abbrev pub taken_at : ℕ → Mark → List ℕ
-taken_at stream (Takes t bytes) = if t == stream then bytes else []
-taken_at stream (Waits waiting want streams listens) = []
+taken_at stream (Takes t bytes listens) = if t == stream then bytes else []
+taken_at stream (Waits waiting want streams shown) = []
 taken_at stream (Accepts k) = []
 taken_at stream (Gets t bytes) = []
 taken_at stream (Ends t) = []

@@ -22,7 +22,7 @@ is_one t own = list_any (λ s. s.number == t) own
 abbrev pub is_silent : ℕ → List OwnStream → Bool
 is_silent t own = list_any (λ s. (s.number == t) && (s.paused || s.ended)) own
 
--- whether it is one that takes no more bytes
+-- whether it is finished
 abbrev pub is_finished : ℕ → List OwnStream → Bool
 is_finished t own = list_any (λ s. (s.number == t) && s.finished) own
 

@@ -58,22 +58,22 @@ turn_of last (Writable t ∷ steps) = IsWritable t
 turn_of last (Join l t ∷ steps) = Joined l t
 
 -- the bytes that it gives, if any: they come in pieces
-abbrev pub bytes_of : List Step → Option (List ℕ)
-bytes_of [] = None
-bytes_of (Accept ∷ steps) = None
-bytes_of (Bytes t text ∷ steps) = Some (take LONGEST_PIECE text)
-bytes_of (End t ∷ steps) = None
-bytes_of (Fail t ∷ steps) = None
-bytes_of (Writable t ∷ steps) = None
-bytes_of (Join l t ∷ steps) = None
+abbrev pub step_bytes_of : List Step → Option (List ℕ)
+step_bytes_of [] = None
+step_bytes_of (Accept ∷ steps) = None
+step_bytes_of (Bytes t text ∷ steps) = Some (take LONGEST_PIECE text)
+step_bytes_of (End t ∷ steps) = None
+step_bytes_of (Fail t ∷ steps) = None
+step_bytes_of (Writable t ∷ steps) = None
+step_bytes_of (Join l t ∷ steps) = None
 
 -- the buffer after that turn
 abbrev pub piece_of : List Step → List ℕ → List ℕ
-piece_of steps piece = unwrap_or (bytes_of steps) piece
+piece_of steps piece = unwrap_or (step_bytes_of steps) piece
 
 -- the bytes of a turn that is given
-abbrev pub bytes_in : Given → Option (List ℕ)
-bytes_in given = option_map (λ bytes. bytes.now) given.bytes
+abbrev pub given_bytes_in : Given → Option (List ℕ)
+given_bytes_in given = option_map (λ bytes. bytes.now) given.bytes
 
 -- the steps after that turn: a step of bytes stays with those that it hasn't given
 abbrev pub steps_after : List Step → List Step
@@ -106,8 +106,8 @@ steps_from steps place = cut_first place.offset (drop place.step steps)
 -- ---- writes
 
 -- the entry of a write after so many others: after the last entry all is accepted
-abbrev pub entry_at : List WriteEntry → ℕ → WriteEntry
-entry_at entries i = unwrap_or (slice_get entries i) All
+abbrev pub write_entry_at : List WriteEntry → ℕ → WriteEntry
+write_entry_at entries i = unwrap_or (slice_get entries i) All
 
 -- the answer to a write of so many bytes: one at least is accepted
 abbrev pub answer_of : WriteEntry → ℕ → Wrote

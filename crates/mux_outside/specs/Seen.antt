@@ -13,17 +13,18 @@ use Rattle.mux_outside.specs.declared.order.Order.{Order}
 use Rattle.mux_outside.specs.declared.order.Order.TheVariants.{Listen, Connect}
 use Rattle.mux_outside.specs.declared.own_streams.OwnStream.{OwnStream}
 use Rattle.mux_outside.specs.declared.own_streams.TheConstants.{LAST_CLIENT}
+use Rattle.mux_outside.specs.declared.shown.Shown.{Shown}
 use Rattle.mux_outside.specs.declared.turn.Turn.{Turn}
 use Rattle.mux_outside.specs.declared.turn.Turn.TheVariants.{Accepted, Got, End, Writable, Failed, Joined, NoMemory}
 use Rattle.mux_outside.specs.declared.turn.Want.{Want}
 use Rattle.mux_outside.specs.declared.turn.Wrote.{Wrote}
 use Rattle.mux_outside.specs.declared.turn.Wrote.TheVariants.{Took, Later, Failed as FailedWrite, NoMemory as NoMemoryToWrite}
 
--- what is seen of a wire: its marks so far, where they are told; the open streams, in the order in
--- which they were opened; those that take no bytes for now; whether clients are accepted; the last
--- client accepted, 0 before the first; the master's own listeners that are open; its own streams
--- that are open, which stand among the open streams too; and the last number of either, the last
--- one of a client before the first
+-- what is seen of a wire: its marks so far, where they are recorded; the open streams, in the order
+-- in which they were opened; those that take no bytes for now; whether clients are accepted; the
+-- last client accepted, 0 before the first; the master's own listeners that are open; its own
+-- streams that are open, which stand among the open streams too; and the last number of either, the
+-- last one of a client before the first
 pub record Seen : Type 0 where
   pub recorded : Option (List Mark)
   pub streams : List ℕ
@@ -34,7 +35,7 @@ pub record Seen : Type 0 where
   pub own : List OwnStream
   pub last_own : ℕ
 
--- of a wire that was never called and tells nothing
+-- of a wire that was never called and records nothing
 abbrev pub nothing_seen : Seen
 nothing_seen = record {
   recorded = None;
@@ -47,13 +48,17 @@ nothing_seen = record {
   last_own = LAST_CLIENT;
 }
 
--- the same but for what is told
+-- the same but for what is recorded
 abbrev pub untold : Seen → Seen
 untold seen = record seen { recorded = None }
 
+-- what it shows of itself at a wait, beside the open streams
+abbrev pub shown_of : Seen → Shown
+shown_of seen = record { listens = seen.listens; own = seen.own; listeners = seen.listeners }
+
 -- ---- marks and streams after a turn and after a write
 
--- the mark of a turn, for want of memory none
+-- the mark of a turn, none if memory runs out
 abbrev pub turn_marks : Turn → List ℕ → List Mark
 turn_marks (Accepted k) bytes = Accepts k ∷ []
 turn_marks (Got t) bytes = Gets t bytes ∷ []
@@ -63,21 +68,21 @@ turn_marks (Failed t) bytes = Fails t ∷ []
 turn_marks (Joined l t) bytes = Joins l t ∷ []
 turn_marks NoMemory bytes = []
 
--- the marks that a call of wait adds: the call and its turn, for want of memory none
-abbrev pub wait_marks : Turn → List ℕ → Want → List ℕ → Bool → List ℕ → List Mark
-wait_marks (Accepted k) waiting want streams listens bytes =
-    Waits waiting want streams listens ∷ Accepts k ∷ []
-wait_marks (Got t) waiting want streams listens bytes =
-    Waits waiting want streams listens ∷ Gets t bytes ∷ []
-wait_marks (End t) waiting want streams listens bytes =
-    Waits waiting want streams listens ∷ Ends t ∷ []
-wait_marks (Writable t) waiting want streams listens bytes =
-    Waits waiting want streams listens ∷ Frees t ∷ []
-wait_marks (Failed t) waiting want streams listens bytes =
-    Waits waiting want streams listens ∷ Fails t ∷ []
-wait_marks (Joined l t) waiting want streams listens bytes =
-    Waits waiting want streams listens ∷ Joins l t ∷ []
-wait_marks NoMemory waiting want streams listens bytes = []
+-- the marks that a call of wait adds: the call and its turn, none if memory runs out
+abbrev pub wait_marks : Turn → List ℕ → Want → List ℕ → Shown → List ℕ → List Mark
+wait_marks (Accepted k) waiting want streams shown bytes =
+    Waits waiting want streams shown ∷ Accepts k ∷ []
+wait_marks (Got t) waiting want streams shown bytes =
+    Waits waiting want streams shown ∷ Gets t bytes ∷ []
+wait_marks (End t) waiting want streams shown bytes =
+    Waits waiting want streams shown ∷ Ends t ∷ []
+wait_marks (Writable t) waiting want streams shown bytes =
+    Waits waiting want streams shown ∷ Frees t ∷ []
+wait_marks (Failed t) waiting want streams shown bytes =
+    Waits waiting want streams shown ∷ Fails t ∷ []
+wait_marks (Joined l t) waiting want streams shown bytes =
+    Waits waiting want streams shown ∷ Joins l t ∷ []
+wait_marks NoMemory waiting want streams shown bytes = []
 
 -- the streams that are open after a turn
 abbrev pub open_after : Turn → List ℕ → List ℕ
@@ -129,12 +134,12 @@ last_own_after (Failed t) last = last
 last_own_after (Joined l t) last = t
 last_own_after NoMemory last = last
 
--- the mark that a write adds, for want of memory none
-abbrev pub write_marks : Wrote → ℕ → List ℕ → List Mark
-write_marks (Took n) t bytes = Takes t (take n bytes) ∷ []
-write_marks Later t bytes = Holds t ∷ []
-write_marks FailedWrite t bytes = WriteFails t ∷ []
-write_marks NoMemoryToWrite t bytes = []
+-- the mark that a write adds, with whether clients are accepted: none if memory runs out
+abbrev pub write_marks : Wrote → ℕ → List ℕ → Bool → List Mark
+write_marks (Took n) t bytes listens = Takes t (take n bytes) listens ∷ []
+write_marks Later t bytes listens = Holds t ∷ []
+write_marks FailedWrite t bytes listens = WriteFails t ∷ []
+write_marks NoMemoryToWrite t bytes listens = []
 
 -- the streams that are blocked after a write
 abbrev pub blocked_after_write : Wrote → ℕ → List ℕ → List ℕ
@@ -182,7 +187,7 @@ moved_by_turn turn seen = record seen {
 abbrev pub seen_after_turn : Turn → List ℕ → Want → List ℕ → Seen → Seen
 seen_after_turn turn waiting want bytes seen = record (moved_by_turn turn seen) {
   recorded = option_map (λ m.
-      m ++ wait_marks turn waiting want seen.streams seen.listens bytes) seen.recorded;
+      m ++ wait_marks turn waiting want seen.streams (shown_of seen) bytes) seen.recorded;
 }
 
 -- the streams after a write
@@ -193,7 +198,7 @@ moved_by_write wrote stream seen =
 -- after a write
 abbrev pub seen_after_write : Wrote → ℕ → List ℕ → Seen → Seen
 seen_after_write wrote stream bytes seen = record (moved_by_write wrote stream seen) {
-  recorded = option_map (λ m. m ++ write_marks wrote stream bytes) seen.recorded;
+  recorded = option_map (λ m. m ++ write_marks wrote stream bytes seen.listens) seen.recorded;
 }
 
 -- after a stream was closed
@@ -204,7 +209,7 @@ seen_after_close stream seen = record seen {
   own = without_stream stream seen.own;
 }
 
--- after a house's mark was noted
+-- after a forwarder's mark was noted
 abbrev pub seen_after_note : {E : Type 0} → Result (Unit {0}) E → HouseMark → Seen → Seen
 seen_after_note (Ok x) mark seen =
     record seen { recorded = option_map (λ m. m ++ House mark ∷ []) seen.recorded }

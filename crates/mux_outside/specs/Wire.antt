@@ -22,7 +22,7 @@ use Rattle.mux_outside.specs.declared.turn.Wrote.TheVariants.{Took, Later, Faile
 
 -- ---- open
 
--- the arguments that a call adds to those told: for want of memory none
+-- the arguments that a call adds to those recorded: none if memory runs out
 abbrev pub openings_of : Result (Unit {0}) FileError → List ℕ → List ℕ → List OpenCall
 openings_of (Ok x) control transport = record { control = control; transport = transport } ∷ []
 openings_of (Err FailedFile) control transport =
@@ -37,7 +37,7 @@ OpenFaults (Err OutOfMemory) old new = new ≡ old
 
 -- ---- join
 
--- the argument that a call adds to those told: for want of memory none
+-- the argument that a call adds to those recorded: none if memory runs out
 abbrev pub joinings_of : Result (Unit {0}) FileError → List ℕ → List (List ℕ)
 joinings_of (Ok x) control = control ∷ []
 joinings_of (Err FailedFile) control = control ∷ []
@@ -79,7 +79,7 @@ pub record IsNewOwn (last n : ℕ) : Type 0 where
   pub above : last < n
   pub at_most : n ≤ LAST_OWN
 
--- which turns may be given of the master's own listeners and streams: nothing comes of a stream
+-- which turns may be given of the master's own listeners and streams: nothing is given of a stream
 -- that is paused or has ended
 abbrev pub OwnFits : Turn → Seen → Type 0
 OwnFits (Joined l t) seen = IsTrue (among l seen.listeners) × IsNewOwn seen.last_own t
@@ -102,7 +102,8 @@ TurnFaults NoMemory old new = new ≡ old
 
 -- ---- write
 
--- when bytes may be handed to a stream: it is open, not blocked and not finished, and there are some
+-- when bytes may be handed to a stream: it is open, not blocked and not finished, and there are
+-- some
 pub record MayWrite (stream : ℕ) (bytes : List ℕ) (seen : Seen) : Type 0 where
   pub is_open : IsTrue (among stream seen.streams)
   pub unblocked : among stream seen.blocked ≡ false
@@ -125,8 +126,8 @@ WroteFaults NoMemoryToWrite t old new = new ≡ old
 
 -- ---- note
 
--- a mark that may be noted: an order that is to make something is told by the call that carries it
--- out
+-- a mark that may be noted: an order that is to make something is recorded by the call that carries
+-- it out
 abbrev pub MayNote : HouseMark → Type 0
 MayNote (HouseOrder (Listen host port) number) = ⊥
 MayNote (HouseOrder (Connect host port) number) = ⊥

@@ -16,7 +16,7 @@ pub record Logged : Type 0 where
 abbrev pub nothing_logged : Logged
 nothing_logged = record { state = recording [] [] [] nothing_called; faults = no_faults }
 
--- a call of open or join succeeds exactly where it is to, but for want of memory
+-- a call of open or join succeeds exactly where it is to, unless memory runs out
 abbrev pub OpensAs : Bool → Result (Unit {0}) FileError → Type 0
 OpensAs opens (Ok x) = opens ≡ true
 OpensAs opens (Err Failed) = opens ≡ false

@@ -14,8 +14,8 @@ use std::alloc::Global;
 const SLASH: &[u8] = b"/";
 
 /// The value under a name, of equal names the first.
-pub fn value_at<'a>(pairs: &'a [Pair], name: &[u8]) -> Option<&'a [u8]>
-    ensures { option_map (λ v. v.now) result ≡ files_are.value_at pairs.now name.now }
+pub fn pair_value_at<'a>(pairs: &'a [Pair], name: &[u8]) -> Option<&'a [u8]>
+    ensures { option_map (λ v. v.now) result ≡ files_are.pair_value_at pairs.now name.now }
 {
     for pair in pairs {
         if pair.name.as_bytes() == name {
@@ -36,8 +36,8 @@ fn inside<'a>(dir: &[u8], path: &'a [u8]) -> Option<&'a [u8]>
 }
 
 /// Whether a path names a directory.
-pub fn is_directory(files: &[Pair], dir: &[u8]) -> bool
-    ensures { result ≡ files_are.is_directory files.now dir.now }
+pub fn is_folder_at(files: &[Pair], dir: &[u8]) -> bool
+    ensures { result ≡ files_are.is_folder_at files.now dir.now }
 {
     dir == SLASH || (!dir.is_empty() && has_paths_inside(files, dir))
 }
@@ -67,8 +67,8 @@ fn component(rest: &[u8]) -> &[u8]
 }
 
 // The name in a directory by which a path goes on.
-fn name_in<'a>(dir: &[u8], pair: &'a Pair) -> Option<&'a [u8]>
-    ensures { option_map (λ v. v.now) result ≡ files_are.name_in dir.now pair.now }
+fn folder_name_in<'a>(dir: &[u8], pair: &'a Pair) -> Option<&'a [u8]>
+    ensures { option_map (λ v. v.now) result ≡ files_are.folder_name_in dir.now pair.now }
 {
     let name = component(inside(dir, pair.name.as_bytes())?);
     if name.is_empty() { None } else { Some(name) }
@@ -92,7 +92,7 @@ pub fn names_in(alloc: Global, files: &[Pair], dir: &[u8]) -> Result<Texts, OutO
 {
     let mut names = Texts::new(alloc);
     for pair in files {
-        if let Some(name) = name_in(dir, pair) {
+        if let Some(name) = folder_name_in(dir, pair) {
             if !is_among(names.as_slice(), name) {
                 names.push(Text::copy(alloc, name)?)?;
             }

@@ -1,11 +1,11 @@
-ghost use Rattle.std.specs.Prelude.{◌≡◌, ◌∷◌, ◌≤◌, ℕ, false, [], List, length, take, OnOk, IfOk, IsSome, IsTrue, Ok};
-ghost use Rattle.mux_outside.specs.OwnStreams.{is_one, is_finished};
+ghost use Rattle.std.specs.Prelude.{◌≡◌, ◌∷◌, ◌++◌, ◌≤◌, ℕ, false, [], List, filter, length, take, OnOk, IfOk, IsSome, IsTrue, Ok};
+ghost use Rattle.mux_outside.specs.OwnStreams.{is_one, is_finished, numbers_of};
 ghost use Rattle.mux_outside.specs.declared.house.HouseReply.{HouseReply as TheReply};
 ghost use Rattle.mux_outside.specs.House.{HouseState as TheState, Gave, GaveOr, IsBlank, IsFresh, OffersSame, recorded_more};
 ghost use Rattle.mux_outside.specs.House.{ask_marks, known_after_ask, AnswerFits, answer_marks, known_after_answer, gives_none};
 ghost use Rattle.mux_outside.specs.House.{SendsFits, sends_marks, sends_nothing, takes_marks};
 ghost use Rattle.mux_outside.specs.House.{OrderFits, order_marks, known_after_order, NumberFits, ordered_marks, known_after_ordered};
-ghost use Rattle.mux_outside.specs.House.{OwnTurnFits, known_after_own_turn, queue_after_took};
+ghost use Rattle.mux_outside.specs.House.{OwnTurnFits, known_after_own_turn, has_waiting, queue_after_took};
 ghost use Rattle.mux_outside.specs.HouseCalls.{HouseCall as TheCall, Begins, Receives, HandsOn, Takes, Turns, happening_of};
 ghost use Rattle.mux_outside.specs.Greeting.{GreetsFirst};
 
@@ -13,6 +13,7 @@ use crate::order::Order;
 use crate::own_turn::OwnTurn;
 use crate::piece::Piece;
 use crate::starts::Starts;
+use crate::streams::Streams;
 use ssh_fields::OutOfMemory;
 
 /// What a client asks of the master's own forwardings (PROTOCOL.mux, MUX_C_OPEN_FWD and
@@ -45,7 +46,7 @@ pub trait Asks {
     /// The replies that may be given at once.
     ghost may: { TheReply → Type 0 };
 
-    /// What is known of the house.
+    /// What is known of the forwarder.
     ghost state: { Self → TheState };
 
     /// Opens a forwarding for a client, or closes one where `opening` is false.
@@ -65,8 +66,8 @@ pub trait Asks {
 /// The master's own forwardings: a client of the connection that has no stream of its own, but
 /// listeners and streams on this machine's side.
 ///
-/// A call that finds no memory answers so, and then nothing but the room for what it told is
-/// known of the house.
+/// A call that finds no memory answers so, and then nothing but the room for what it recorded is
+/// known of the forwarder.
 pub trait House: Asks {
     /// It was never called.
     ghost fresh: { Self → Type 0 };
@@ -74,8 +75,8 @@ pub trait House: Asks {
     /// `begin` alone was called.
     ghost begun: { Self → Type 0 };
 
-    /// Whether there is a house at all. Where there is none, it is only asked. The first piece that
-    /// one says is the greeting.
+    /// Whether there is a forwarder at all. Where there is none, it is only asked. The first piece
+    /// that one says is the greeting.
     fn present(&self) -> bool
         ensures present { result ≡ (Self.state self.now).known.present }
         ensures fresh { fresh self.now → IsFresh (Self.state self.now) }
@@ -96,7 +97,7 @@ pub trait House: Asks {
         ensures stands { OnOk result ((Self.state self.old).stands []
             → (Self.state self.new).stands (Begins starts.now ∷ [])) };
 
-    /// The next reply to an ask that was to get it later.
+    /// The next reply to a request that was to get it later.
     fn answer(&mut self) -> Option<(u64, u32, HouseReply)>
         requires { (Self.state self.old).known.ordering ≡ None }
         ensures fits { AnswerFits result (Self.state self.old).known.asks }
@@ -105,7 +106,7 @@ pub trait House: Asks {
         ensures gave { Gave (answer_marks result) (known_after_answer result)
             (Self.state self.old) (Self.state self.new) };
 
-    /// What it says next as a client, if anything.
+    /// What it sends next as a client, if anything.
     fn says(&mut self, into: &mut Piece) -> Result<bool, OutOfMemory>
         requires { (Self.state self.old).known.ordering ≡ None }
         ensures fits { SendsFits result into.new }
@@ -162,7 +163,13 @@ pub trait House: Asks {
         ensures finished { IsTrue (is_finished stream (Self.state self.now).known.streams)
             → result.now ≡ [] };
 
-    /// A stream took so many bytes of what waits for it.
+    /// Adds those of its streams for which something waits, but for these that failed.
+    fn list_waiting(&self, failed: &Streams, into: &mut Streams) -> Result<(), OutOfMemory>
+        ensures { OnOk result (into.new ≡ into.old
+            ++ filter (has_waiting (Self.state self.now).queue failed.now)
+            (numbers_of (Self.state self.now).known.streams)) };
+
+    /// A stream accepted so many bytes of what waits for it.
     fn took(&mut self, stream: u64, n: usize)
         requires ordering { (Self.state self.old).known.ordering ≡ None }
         requires fits { n ≤ length ((Self.state self.old).queue stream) }

@@ -5,7 +5,7 @@ use ssh_fields::OutOfMemory;
 use std::alloc::Global;
 use std::marker::Model;
 
-/// A mark of a house, in a place of its own, so that the other marks take no more room for it.
+/// A mark of a forwarder, in a place of its own, so that the other marks take no more room for it.
 #[derive(Drop)]
 pub struct KeptMark {
     place: Box<HouseMark>,

@@ -1,13 +1,13 @@
 ghost use Rattle.std.specs.Prelude.{◌≡◌, ◌≤◌, ◌++◌, ◌∷◌, [], length, Some, IfOk, IfErr, IfSome, OnOk};
 ghost use Rattle.mux_outside.specs.Calls.{CountsCall, FailsWhereNoted};
 ghost use Rattle.mux_outside.specs.Counts.{HasCause, Rose};
-ghost use Rattle.mux_outside.specs.Files.{Reads, Lists, ListsNames, NotesFailed, NotesReading, content_at};
+ghost use Rattle.mux_outside.specs.Files.{Reads, Lists, ListsNames, NotesFailed, NotesReading, file_content_at};
 ghost use Rattle.std.specs.Prelude.{take};
 ghost use Rattle.std.specs.Option.{option_map};
 
 use crate::calls::Calls;
 use crate::counts::{counted, raised};
-use crate::directories::{is_directory, names_in, value_at};
+use crate::directories::{is_folder_at, names_in, pair_value_at};
 use crate::file_error::FileError;
 use crate::files::Files;
 use crate::pairs::{Pair, Pairs};
@@ -92,12 +92,12 @@ fn read_first(
     most: usize,
 ) -> Result<Option<Text>, OutOfMemory>
     ensures { IfOk result (λ found.
-        found ≡ option_map (take most) (content_at files.now path.now)) }
+        found ≡ option_map (take most) (file_content_at files.now path.now)) }
 {
-    if is_directory(files, path) {
+    if is_folder_at(files, path) {
         return Ok(None);
     }
-    let Some(content) = value_at(files, path) else {
+    let Some(content) = pair_value_at(files, path) else {
         return Ok(None);
     };
     let count = content.len().min(most);
@@ -108,7 +108,7 @@ fn read_first(
 fn list_names(alloc: Global, files: &[Pair], dir: &[u8]) -> Result<Option<Texts>, OutOfMemory>
     ensures { IfOk result (ListsNames files.now dir.now) }
 {
-    if !is_directory(files, dir) {
+    if !is_folder_at(files, dir) {
         return Ok(None);
     }
     Ok(Some(names_in(alloc, files, dir)?))

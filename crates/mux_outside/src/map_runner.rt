@@ -2,7 +2,7 @@ ghost use Rattle.std.specs.Prelude.{◌≡◌, ◌++◌, [], Some};
 ghost use Rattle.std.specs.Option.{option_map};
 ghost use Rattle.mux_outside.specs.Calls.{FailsByNumber, calls_after};
 ghost use Rattle.mux_outside.specs.Counts.{HasCause};
-ghost use Rattle.mux_outside.specs.Runner.{EndsWith, commands_run, status_of as status_by};
+ghost use Rattle.mux_outside.specs.Runner.{EndsWith, commands_run, runner_status_of as status_by};
 
 use crate::calls::Calls;
 use crate::counts::{counted, raised};
@@ -51,7 +51,7 @@ impl MapRunner {
 }
 
 // The status of a command.
-fn status_of(statuses: &[CommandStatus], command: &[u8]) -> u8
+fn runner_status_of(statuses: &[CommandStatus], command: &[u8]) -> u8
     ensures { result ≡ status_by statuses.now command.now }
 {
     for known in statuses {
@@ -85,7 +85,7 @@ impl Runner for MapRunner {
             self.faults = raised(self.faults);
             return Err(FileError::Failed);
         }
-        let status = status_of(self.statuses.as_slice(), command);
+        let status = runner_status_of(self.statuses.as_slice(), command);
         self.ran.push(Text::copy(self.alloc, command)?)?;
         self.calls = call;
         Ok(status)

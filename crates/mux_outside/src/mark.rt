@@ -2,6 +2,7 @@ ghost use Rattle.std.specs.Prelude.{◌≡◌, ◌++◌, IfOk};
 ghost use Rattle.mux_outside.specs.Marks.{bytes_taken as all_taken, taken_at as all_taken_at};
 
 use crate::kept_mark::KeptMark;
+use crate::kept_shown::KeptShown;
 use crate::kept_streams::KeptStreams;
 use crate::turn::Want;
 use ssh_fields::{OutOfMemory, Text};
@@ -18,9 +19,9 @@ pub struct OpenCall {
 /// answer to a write.
 #[derive(Drop)]
 pub enum Mark {
-    /// A call of `wait`: the waiting streams, what was wanted, the streams open then, and whether
-    /// clients were accepted then.
-    Waits(KeptStreams, Want, KeptStreams, bool),
+    /// A call of `wait`: the waiting streams, what was wanted, the streams open then, and what else
+    /// the wire showed then.
+    Waits(KeptStreams, Want, KeptStreams, KeptShown),
     /// A client came.
     Accepts(u64),
     /// A stream gave bytes.
@@ -31,8 +32,8 @@ pub enum Mark {
     Frees(u64),
     /// A stream failed at a wait.
     Fails(u64),
-    /// A stream accepted bytes.
-    Takes(u64, Text),
+    /// A stream accepted bytes; and whether clients were accepted then.
+    Takes(u64, Text, bool),
     /// A stream accepted nothing at a write, and is blocked.
     Holds(u64),
     /// A stream failed at a write.
@@ -59,7 +60,7 @@ fn taken_at(mark: &Mark, stream: u64) -> &[u8]
     ensures { result.now ≡ all_taken_at stream mark.now }
 {
     match mark {
-        Mark::Takes(taker, bytes) if *taker == stream => bytes.as_bytes(),
+        Mark::Takes(taker, bytes, _) if *taker == stream => bytes.as_bytes(),
         _ => b"",
     }
 }

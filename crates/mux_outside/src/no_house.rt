@@ -7,6 +7,7 @@ use crate::order::Order;
 use crate::own_turn::OwnTurn;
 use crate::piece::Piece;
 use crate::starts::Starts;
+use crate::streams::Streams;
 use ssh_fields::OutOfMemory;
 
 /// A master with no forwardings of its own: it refuses every request.
@@ -70,6 +71,10 @@ impl House for NoHouse {
 
     fn queue_of(&self, _stream: u64) -> &[u8] {
         &[]
+    }
+
+    fn list_waiting(&self, _failed: &Streams, _into: &mut Streams) -> Result<(), OutOfMemory> {
+        Ok(())
     }
 
     fn took(&mut self, _stream: u64, _n: usize) {}

@@ -1,4 +1,4 @@
-ghost use Rattle.std.specs.Prelude.{◌≡◌, [], ◌∷◌, ◌++◌, ◌-◌, length, take, OnOk, OnErr};
+ghost use Rattle.std.specs.Prelude.{◌≡◌, [], ◌∷◌, ◌++◌, ◌-◌, length, take, IfOk, OnOk, OnErr};
 ghost use Rattle.mux_outside.specs.OwnStreams.{new_stream, is_one, is_silent, is_finished, without_stream, with_pause, with_finish, with_end};
 ghost use Rattle.mux_outside.specs.OwnStreams.{is_own, pause_one, finish_one, end_one};
 
@@ -68,6 +68,14 @@ impl OwnStreams {
         OwnStreams {
             streams: Vec::new(alloc),
         }
+    }
+
+    /// These streams.
+    pub fn copy(alloc: Global, streams: &[OwnStream]) -> Result<OwnStreams, OutOfMemory>
+        ensures { IfOk result (λ copied. copied ≡ streams.now) }
+    {
+        let streams = Vec::from_slice(alloc, streams)?;
+        Ok(OwnStreams { streams })
     }
 
     /// Adds a stream as it is made. An `Err` changes nothing.

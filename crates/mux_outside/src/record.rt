@@ -1,7 +1,7 @@
-//! The marks that a wire in memory records of its calls. There is room before they are told.
+//! The marks that a wire in memory records of its calls. There is room before they are recorded.
 ghost use Rattle.std.specs.Prelude.{◌≡◌, ◌≢◌, ◌≤◌, ◌+◌, OnOk, IfOk, ◌∷◌, [], length, vec_len, vec_capacity};
 ghost use Rattle.mux_outside.specs.Wire.{WroteFits};
-ghost use Rattle.mux_outside.specs.Seen.{turn_marks, wait_marks, write_marks};
+ghost use Rattle.mux_outside.specs.Seen.{shown_of, turn_marks, wait_marks, write_marks};
 ghost use Rattle.mux_outside.specs.declared.house_mark.HouseMark.TheVariants.{HouseOrder};
 ghost use Rattle.mux_outside.specs.declared.mark.Mark.TheVariants.{House as TheHouse};
 ghost use Rattle.mux_outside.specs.declared.turn.Turn.TheVariants.{NoMemory};
@@ -19,7 +19,7 @@ use ssh_fields::{OutOfMemory, Text};
 use std::alloc::Global;
 
 /// The marks of a call of `wait` and of its turn, by the streams that are open before it. There is
-/// room for them, and they aren't told yet.
+/// room for them, and they aren't recorded yet.
 pub fn marks_of_wait(
     alloc: Global,
     marks: &mut Marks,
@@ -30,7 +30,7 @@ pub fn marks_of_wait(
     bytes: &[u8],
 ) -> Result<(Mark, Mark), OutOfMemory>
     ensures marks { IfOk result (λ two. wait_marks turn waiting.now want state.old.seen.streams
-        state.old.seen.listens bytes.now ≡ two.0 ∷ two.1 ∷ []) }
+        (shown_of state.old.seen) bytes.now ≡ two.0 ∷ two.1 ∷ []) }
     ensures recorded { marks.new.recorded.items ≡ marks.old.recorded.items }
     ensures room { OnOk result
         (vec_len marks.new.recorded + 2 ≤ vec_capacity marks.new.recorded) }
@@ -39,7 +39,7 @@ pub fn marks_of_wait(
 {
     let gives = mark_of_turn(alloc, turn, bytes)?;
     let open = state.keep()?;
-    let waits = marks.wait_mark(alloc, waiting, want, open, state.is_listening())?;
+    let waits = marks.wait_mark(alloc, waiting, want, open, state)?;
     marks.recorded.reserve(2)?;
     Ok((waits, gives))
 }
@@ -59,22 +59,24 @@ fn mark_of_turn(alloc: Global, turn: Turn, bytes: &[u8]) -> Result<Mark, OutOfMe
     }
 }
 
-/// The mark of an answer to a write. There is room for it, and it isn't told yet.
+/// The mark of an answer to a write, with whether clients are accepted. There is room for it, and it
+/// isn't recorded yet.
 pub fn mark_of_write(
     alloc: Global,
     marks: &mut Marks,
     wrote: Wrote,
     stream: u64,
     bytes: &[u8],
+    listens: bool,
 ) -> Result<Mark, OutOfMemory>
     requires { WroteFits wrote (length bytes.now) }
-    ensures mark { IfOk result (λ mark. write_marks wrote stream bytes.now ≡ mark ∷ []) }
+    ensures mark { IfOk result (λ mark. write_marks wrote stream bytes.now listens ≡ mark ∷ []) }
     ensures recorded { marks.new.recorded.items ≡ marks.old.recorded.items }
     ensures room { OnOk result (vec_len marks.new.recorded + 1 ≤ vec_capacity marks.new.recorded) }
     ensures memory { OnOk result (wrote ≢ NoMemoryToWrite) }
 {
     let mark = match wrote {
-        Wrote::Took(count) => Mark::Takes(stream, Text::copy(alloc, &bytes[..count])?),
+        Wrote::Took(count) => Mark::Takes(stream, Text::copy(alloc, &bytes[..count])?, listens),
         Wrote::Later => Mark::Holds(stream),
         Wrote::Failed => Mark::WriteFails(stream),
         Wrote::NoMemory => return Err(OutOfMemory),
@@ -84,7 +86,7 @@ pub fn mark_of_write(
 }
 
 /// The mark of an order that is to make something, which has this number. There is room for it, and
-/// it isn't told yet.
+/// it isn't recorded yet.
 pub fn mark_of_made(
     alloc: Global,
     marks: &mut Marks,

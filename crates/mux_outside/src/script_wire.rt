@@ -1,10 +1,11 @@
 ghost use Rattle.std.specs.Prelude.{◌≡◌, ◌≢◌, ◌≤◌, ◌++◌, ℕ, List, true, false, Some, IfSome, length, unwrap_or};
-ghost use Rattle.mux_outside.specs.Script.{bytes_in};
+ghost use Rattle.mux_outside.specs.Script.{given_bytes_in};
 ghost use Rattle.mux_outside.specs.ScriptWire.{FollowsEntry, GivesAt, GivesNext, KeepsOpens, KeepsSteps, KeepsWrites, MakesByNumber, OpensByNumber, SameScript, Starts};
 ghost use Rattle.mux_outside.specs.Seen.{seen_after_close, seen_after_connect, seen_after_finish, seen_after_listen, seen_after_note, seen_after_pause, seen_after_silence, seen_after_unlisten};
 ghost use Rattle.mux_outside.specs.Tally.{no_tally};
 ghost use Rattle.mux_outside.specs.Wire.{JoinFaults, MakeFaults, MayWait, MayWrite, NumberFits, OpenFaults, OwnFits, TurnFaults, TurnFits, WroteFaults, WroteFits};
 ghost use Rattle.mux_outside.specs.WireState.{seeing, state_after_join, state_after_open, state_after_wait, state_after_write};
+ghost use Rattle.mux_outside.specs.declared.house_mark.HouseMark.TheVariants.{HouseSaid};
 ghost use Rattle.mux_outside.specs.declared.turn.Turn.TheVariants.{NoMemory};
 ghost use Rattle.mux_outside.specs.declared.turn.Wrote.TheVariants.{NoMemory as NoMemoryToWrite};
 
@@ -22,8 +23,8 @@ use crate::wire_log::WireLog;
 use ssh_fields::OutOfMemory;
 use std::alloc::Global;
 
-/// A wire in memory, which gives the turns of its steps, answers writes by its entries, and tells
-/// everything. After the last step the server ends; after the last entry all bytes are taken.
+/// A wire in memory, which gives the turns of its steps, answers writes by its entries, and records
+/// everything. After the last step the server ends; after the last entry all bytes are accepted.
 #[derive(Drop)]
 pub struct ScriptWire {
     steps: Steps,
@@ -73,11 +74,11 @@ fn given<'a>(
 ) -> Given<'a>
     requires may { MayWait waiting.now want log.now.state.seen }
     ensures turn { (piece : List ℕ) → TurnFits result.turn want log.now.state.seen
-        (unwrap_or (bytes_in result) piece) }
+        (unwrap_or (given_bytes_in result) piece) }
     ensures own_turn { OwnFits result.turn log.now.state.seen }
-    ensures short { IfSome (bytes_in result) (λ bytes. length bytes ≤ LONGEST_PIECE) }
+    ensures short { IfSome (given_bytes_in result) (λ bytes. length bytes ≤ LONGEST_PIECE) }
     ensures script { (piece : List ℕ) → GivesAt want waiting.now log.now.state.seen steps.now
-        place result.place result.turn piece (unwrap_or (bytes_in result) piece) }
+        place result.place result.turn piece (unwrap_or (given_bytes_in result) piece) }
 {
     match want {
         Want::Read => {
@@ -196,6 +197,15 @@ impl Wire for ScriptWire {
         ensures same { SameScript self.old self.new }
     {
         self.log.noted(m)
+    }
+
+    fn note_said(&mut self, piece: &[u8]) -> Result<(), OutOfMemory>
+        ensures state { self.new.log.state
+            ≡ seeing (seen_after_note result (HouseSaid piece.now)) self.old.log.state }
+        ensures faults { self.new.log.faults ≡ self.old.log.faults }
+        ensures same { SameScript self.old self.new }
+    {
+        self.log.noted_said(piece)
     }
 
     fn listen(&mut self, host: &[u8], port: u32) -> Result<u64, FileError>

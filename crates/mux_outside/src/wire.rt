@@ -1,4 +1,5 @@
 ghost use Rattle.std.specs.Prelude.{◌≡◌, false, true, length};
+ghost use Rattle.mux_outside.specs.declared.house_mark.HouseMark.TheVariants.{HouseSaid};
 ghost use Rattle.mux_outside.specs.declared.turn.Turn.TheVariants.{NoMemory};
 ghost use Rattle.mux_outside.specs.declared.turn.Wrote.TheVariants.{NoMemory as NoMemoryToWrite};
 ghost use Rattle.mux_outside.specs.Faults.{Faults as TheFaults};
@@ -47,7 +48,7 @@ pub trait Wire {
         ensures err { result ≡ NoMemory → (state self.new).tally ≡ (state self.old).tally }
         ensures kept { result ≡ NoMemory → into.new ≡ into.old };
 
-    /// Hands bytes to a stream, which takes one of them at least, or none for now.
+    /// Hands bytes to a stream, which accepts one of them at least, or none for now.
     fn write(&mut self, stream: u64, bytes: &[u8]) -> Wrote
         requires may { MayWrite stream bytes.now (state self.old).seen }
         ensures wrote { WroteFits result (length bytes.now) }
@@ -67,21 +68,28 @@ pub trait Wire {
         ensures state { state self.new ≡ seeing (seen_after_close stream) (state self.old) }
         ensures faults { faults self.new ≡ faults self.old };
 
-    /// Adds a mark of a house to those that are told. What is made by an order is told by `listen`
-    /// and `connect`.
+    /// Adds a mark of a forwarder to those that are recorded. What is made by an order is recorded
+    /// by `listen` and `connect`.
     fn note(&mut self, m: &HouseMark) -> Result<(), OutOfMemory>
         requires may { MayNote m.now }
         ensures state { state self.new ≡ seeing (seen_after_note result m.now) (state self.old) }
         ensures faults { faults self.new ≡ faults self.old };
 
-    /// Opens a listener of the master's own there, and tells the mark of that order.
+    /// Adds the mark that a forwarder sent these bytes, as `note` of it does. A wire that records no
+    /// marks copies none of them.
+    fn note_said(&mut self, piece: &[u8]) -> Result<(), OutOfMemory>
+        ensures state { state self.new
+            ≡ seeing (seen_after_note result (HouseSaid piece.now)) (state self.old) }
+        ensures faults { faults self.new ≡ faults self.old };
+
+    /// Opens a listener of the master's own there, and records the mark of that order.
     fn listen(&mut self, host: &[u8], port: u32) -> Result<u64, FileError>
         ensures fits { NumberFits result (state self.old).seen.last_own }
         ensures state { state self.new
             ≡ seeing (seen_after_listen result host.now port) (state self.old) }
         ensures cause { MakeFaults result (faults self.old) (faults self.new) };
 
-    /// Makes a stream of the master's own that connects there, and tells the mark of that order.
+    /// Makes a stream of the master's own that connects there, and records the mark of that order.
     /// The stream is blocked until it is connected.
     fn connect(&mut self, host: &[u8], port: u32) -> Result<u64, FileError>
         ensures fits { NumberFits result (state self.old).seen.last_own }
@@ -104,7 +112,7 @@ pub trait Wire {
         ensures state { state self.new ≡ seeing (seen_after_pause false stream) (state self.old) }
         ensures faults { faults self.new ≡ faults self.old };
 
-    /// One of the master's own streams takes no more bytes.
+    /// One of the master's own streams accepts no more bytes.
     fn finish(&mut self, stream: u64)
         ensures state { state self.new ≡ seeing (seen_after_finish stream) (state self.old) }
         ensures faults { faults self.new ≡ faults self.old };

@@ -6,6 +6,7 @@ ghost use Rattle.mux_outside.specs.Seen.{seen_after_close, seen_after_connect, s
 ghost use Rattle.mux_outside.specs.Wire.{JoinFaults, MakeFaults, NumberFits, OpenFaults, OwnFits, TurnFaults, WroteFaults, WroteFits};
 ghost use Rattle.mux_outside.specs.WireLog.{MakesAs, NextOwn, OpensAs, nothing_logged};
 ghost use Rattle.mux_outside.specs.WireState.{answer_kept, seeing, state_after_join, state_after_open, state_after_wait, state_after_write, turn_kept};
+ghost use Rattle.mux_outside.specs.declared.house_mark.HouseMark.TheVariants.{HouseSaid};
 ghost use Rattle.mux_outside.specs.declared.own_streams.TheConstants.{LAST_CLIENT};
 ghost use Rattle.mux_outside.specs.declared.turn.Turn.TheVariants.{NoMemory};
 
@@ -25,7 +26,7 @@ use ssh_fields::{OutOfMemory, Text};
 use std::alloc::{AllocError, Global};
 use std::marker::Model;
 
-/// What a wire in memory keeps of its calls: all that a wire may tell, and what it counts.
+/// What a wire in memory keeps of its calls: all that a wire may record, and what it counts.
 #[derive(Drop)]
 pub struct WireLog {
     alloc: Global,
@@ -114,7 +115,7 @@ impl WireLog {
         self.joinings.as_slice()
     }
 
-    /// All bytes that a stream took.
+    /// All bytes that a stream accepted.
     pub fn taken(&self, stream: u64) -> Result<Text, OutOfMemory>
         ensures { IfOk result (λ bytes. Some bytes
             ≡ option_map (all_taken stream) self.now.state.seen.recorded) }
@@ -211,7 +212,8 @@ impl WireLog {
         ensures cause { WroteFaults (answer_kept result wrote) stream
             self.old.faults self.new.faults }
     {
-        let mark = mark_of_write(self.alloc, &mut self.marks, wrote, stream, bytes);
+        let listens = self.state.is_listening();
+        let mark = mark_of_write(self.alloc, &mut self.marks, wrote, stream, bytes, listens);
         let Ok(mark) = mark else {
             self.state.starved_write(stream);
             return Err(OutOfMemory);
@@ -238,12 +240,24 @@ impl WireLog {
         self.state.close(stream);
     }
 
-    /// Keeps a house's mark.
+    /// Keeps a forwarder's mark.
     pub fn noted(&mut self, mark: &HouseMark) -> Result<(), OutOfMemory>
         ensures state { self.new.state ≡ seeing (seen_after_note result mark.now) self.old.state }
         ensures faults { self.new.faults ≡ self.old.faults }
     {
         let kept = KeptMark::copy(self.alloc, mark)?;
+        self.marks.recorded.push(Mark::House(kept))?;
+        Ok(())
+    }
+
+    /// Keeps the mark that a forwarder sent these bytes.
+    pub fn noted_said(&mut self, piece: &[u8]) -> Result<(), OutOfMemory>
+        ensures state { self.new.state
+            ≡ seeing (seen_after_note result (HouseSaid piece.now)) self.old.state }
+        ensures faults { self.new.faults ≡ self.old.faults }
+    {
+        let said = HouseMark::HouseSaid(Text::copy(self.alloc, piece)?);
+        let kept = KeptMark::keep(self.alloc, said)?;
         self.marks.recorded.push(Mark::House(kept))?;
         Ok(())
     }

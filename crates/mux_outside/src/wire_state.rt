@@ -20,7 +20,7 @@ use std::alloc::Global;
 use std::marker::Model;
 
 /// What is always known of a wire: its streams, clients and listeners, and how often it was called.
-/// It tells nothing of the calls themselves.
+/// It records nothing of the calls themselves.
 #[derive(Drop)]
 pub struct WireState {
     alloc: Global,

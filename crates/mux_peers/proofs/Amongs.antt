@@ -21,14 +21,14 @@ use Rattle.mux_core.specs.declared.heard.Delivery as declared
 use Rattle.mux_core.specs.declared.heard.Delivery.TheVariants as heard
 use Rattle.mux_core.specs.State.{CoreState}
 use Rattle.mux_core.specs.Stands.{look}
-use Rattle.mux_core.specs.Calls.{ReceivesIn, ReceivesOn, recorded_by}
+use Rattle.mux_core.specs.Calls.{CoreReceivesIn, CoreReceivesOn, recorded_by}
 use Rattle.mux_peers.specs.State.{ClientState, ClientsState, clients_and_queue, part}
-use Rattle.mux_peers.specs.Stands.{Fits, PeerFits, standing_of}
+use Rattle.mux_peers.specs.Stands.{PartFits, PeerFits, standing_of}
 use Rattle.mux_peers.specs.Stands as stands
 use Rattle.mux_peers.specs.Receives.{ReceivesRecorded}
 use Rattle.mux_peers.specs.Receivings.{ReceivedBy, ReceivesAll, ReceivesPayload, end_by}
 use Rattle.mux_peers.specs.Losing.{loss_between}
-use Rattle.mux_peers.specs.Among.{AllFit, AreApart, ChangesOne, EachFits, ReceivesAt, ReceivesNoting, InFits, is_present}
+use Rattle.mux_peers.specs.Among.{AllFit, ArePeersApart, ChangesOne, EachFits, ReceivesAt, ReceivesNoting, InFits, is_present}
 use Rattle.mux_peers.proofs.Heards.{peer-heard}
 use Rattle.mux_peers.proofs.RowForms.{made}
 use Rattle.mux_peers.proofs.Receivings.{EndRow, QuietRow, ReceivedRow, IsTo, heard-client, heard-master, heard-lost, heard-disconnects, heard-broke, heard-goes, heard-next, is-to, known-admitted}
@@ -64,7 +64,7 @@ record ReceivedOne (p : List ℕ) (core2 : CoreState) (up2 : QueueState) (rows :
 
 -- one of them that goes on so
 heard-one : (pid : ℕ) (picks : List ℕ) (given : List HouseReply) (p p' : List ℕ) (k n : ℕ) (core0 core1 core2 : CoreState) (cs : List ClientState) (up up1 up2 : QueueState) (rows : List Row) (x y : ClientState)
-    → AllFit rows core0 cs up → is_ended rows ≡ false → ReceivesOn core0 core1 p p' up up1 (heard.Client k n) → x.peer.number ≡ k → InFits rows x → ReceivesRecorded (recorded_by (heard.Client k n) p') (part core1 x.peer up1) (part core2 y.peer up2)
+    → AllFit rows core0 cs up → is_ended rows ≡ false → CoreReceivesOn core0 core1 p p' up up1 (heard.Client k n) → x.peer.number ≡ k → InFits rows x → ReceivesRecorded (recorded_by (heard.Client k n) p') (part core1 x.peer up1) (part core2 y.peer up2)
     → ReceivedOne p core2 up2 rows (next_row (by_lists core0.policy pid picks given) rows (Heard p)) x y
 heard-one pid picks given p p' k n core0 core1 core2 cs up up1 up2 rows x y fit live receives num f r =
     let t : IsTo core1 k n p p' up up1 rows = is-to core1 k n p p' up up1 rows (dest rows p) refl (receives rows (fit.core live)).row in
@@ -74,12 +74,12 @@ heard-one pid picks given p p' k n core0 core1 core2 cs up up1 up2 rows x y fit 
     record {
       here = in-it;
       in_rows = heard-client pid picks given p p' core0 core1 x.peer (part core2 y.peer up2) up up1 n rows (record { core = fit.core; peer = f.peer; up = fit.up }) live in-it
-          (subst (λ i. ReceivesOn core0 core1 p p' up up1 (heard.Client i n)) (sym num) receives) (subst (λ i. ReceivesRecorded (recorded_by (heard.Client i n) p') (part core1 x.peer up1) (part core2 y.peer up2)) (sym num) r);
+          (subst (λ i. CoreReceivesOn core0 core1 p p' up up1 (heard.Client i n)) (sym num) receives) (subst (λ i. ReceivesRecorded (recorded_by (heard.Client i n) p') (part core1 x.peer up1) (part core2 y.peer up2)) (sym num) r);
     }
 
 -- and is lost by it as it is noted
 heard-loss : (pid : ℕ) (picks : List ℕ) (given : List HouseReply) (p p' : List ℕ) (k n : ℕ) (noted : List (ℕ × Option Why)) (core0 core1 core2 : CoreState) (cs cs' : List ClientState) (up up1 up2 : QueueState) (rows : List Row)
-    → AllFit rows core0 cs up → is_ended rows ≡ false → is_present cs k ≡ true → ReceivesOn core0 core1 p p' up up1 (heard.Client k n)
+    → AllFit rows core0 cs up → is_ended rows ≡ false → is_present cs k ≡ true → CoreReceivesOn core0 core1 p p' up up1 (heard.Client k n)
     → ChangesOne k (ReceivesNoting k (recorded_by (heard.Client k n) p') noted core1 core2 up1 up2) cs cs' → loss_by (next_row (by_lists core0.policy pid picks given) rows (Heard p)) ≡ noted
 heard-loss pid picks given p p' k n noted core0 core1 core2 cs cs' up up1 up2 rows fit live here receives change =
     one-gives k rows (ReceivesNoting k (recorded_by (heard.Client k n) p') noted core1 core2 up1 up2) (loss_by row ≡ noted) cs cs' fit.each here
@@ -96,7 +96,7 @@ heard-loss pid picks given p p' k n noted core0 core1 core2 cs cs' up up1 up2 ro
     row = next_row (by_lists core0.policy pid picks given) rows (Heard p)
 
 pub heard-among : (pid : ℕ) (picks : List ℕ) (given : List HouseReply) (p p' : List ℕ) (k n : ℕ) (core0 core1 core2 : CoreState) (cs cs' : List ClientState) (up up1 up2 : QueueState) (rows : List Row)
-    → AllFit rows core0 cs up → is_ended rows ≡ false → is_present cs k ≡ true → AreApart cs' → ReceivesOn core0 core1 p p' up up1 (heard.Client k n)
+    → AllFit rows core0 cs up → is_ended rows ≡ false → is_present cs k ≡ true → ArePeersApart cs' → CoreReceivesOn core0 core1 p p' up up1 (heard.Client k n)
     → ChangesOne k (λ x y. ReceivesRecorded (recorded_by (heard.Client k n) p') (part core1 x.peer up1) (part core2 y.peer up2)) cs cs'
     → AllFit (next_row (by_lists core0.policy pid picks given) rows (Heard p) ∷ rows) core2 cs' up2
 heard-among pid picks given p p' k n core0 core1 core2 cs cs' up up1 up2 rows fit live here apart' receives change =
@@ -166,7 +166,7 @@ end-all p cause core0 core1 cs up up1 rows row fit q = record {
 }
 
 pub client-all : (pid : ℕ) (picks : List ℕ) (given : List HouseReply) (p p' : List ℕ) (k n : ℕ) (core0 core1 core2 : CoreState) (cs cs' : List ClientState) (up up1 up2 : QueueState) (rows : List Row)
-    → AllFit rows core0 cs up → is_ended rows ≡ false → is_present cs k ≡ true → ReceivesOn core0 core1 p p' up up1 (heard.Client k n)
+    → AllFit rows core0 cs up → is_ended rows ≡ false → is_present cs k ≡ true → CoreReceivesOn core0 core1 p p' up up1 (heard.Client k n)
     → ChangesOne k (λ x y. ReceivesRecorded (recorded_by (heard.Client k n) p') (part core1 x.peer up1) (part core2 y.peer up2)) cs cs'
     → AllFit (next_row (by_lists core0.policy pid picks given) rows (Heard p) ∷ rows) core2 cs' up2
 client-all pid picks given p p' k n core0 core1 core2 cs cs' up up1 up2 rows fit live here receives change =
@@ -201,25 +201,25 @@ quiet-by p core0 core1 cs up up1 rows row fit q = record { fit = quiet-all p cor
 end-by : (p : List ℕ) (cause : Ended) (core0 core1 : CoreState) (cs : List ClientState) (up up1 : QueueState) (rows : List Row) (row : Row) → AllFit rows core0 cs up → EndRow p up1 cause rows row → ReceivedBy [] core1 cs up1 (Some cause) rows row
 end-by p cause core0 core1 cs up up1 rows row fit q = record { fit = end-all p cause core0 core1 cs up up1 rows row fit q; lost = ap (λ (r : Row). losses rows ++ loss_by r) q.is; ended_is = sym (ap (λ (r : Row). end_by r.fate) q.is) }
 
-pub receives-none : (h : declared.Delivery) (p p' : List ℕ) (index : ℕ) (core0 core1 : CoreState) (cs : List ClientState) (up up1 : QueueState) → (h ≡ heard.Master) ⊎ ((k : ℕ) × (h ≡ heard.Lost k)) → ReceivesOn core0 core1 p p' up up1 h → ReceivesAll p index [] core0 core1 cs cs up up1 None
+pub receives-none : (h : declared.Delivery) (p p' : List ℕ) (index : ℕ) (core0 core1 : CoreState) (cs : List ClientState) (up up1 : QueueState) → (h ≡ heard.Master) ⊎ ((k : ℕ) × (h ≡ heard.Lost k)) → CoreReceivesOn core0 core1 p p' up up1 h → ReceivesAll p index [] core0 core1 cs cs up up1 None
 receives-none h p p' index core0 core1 cs up up1 (inl e) receives pid picks given rows fit live here place =
-    quiet-by p core0 core1 cs up up1 rows _ fit (heard-master pid picks given core0.policy p p' core0 core1 up up1 rows (fit.core live) fit.up (subst (λ g. ReceivesOn core0 core1 p p' up up1 g) e receives))
+    quiet-by p core0 core1 cs up up1 rows _ fit (heard-master pid picks given core0.policy p p' core0 core1 up up1 rows (fit.core live) fit.up (subst (λ g. CoreReceivesOn core0 core1 p p' up up1 g) e receives))
 receives-none h p p' index core0 core1 cs up up1 (inr w) receives pid picks given rows fit live here place =
-    quiet-by p core0 core1 cs up up1 rows _ fit (heard-lost pid picks given core0.policy p p' core0 core1 up up1 w.0 rows (fit.core live) fit.up (subst (λ g. ReceivesOn core0 core1 p p' up up1 g) w.1 receives))
+    quiet-by p core0 core1 cs up up1 rows _ fit (heard-lost pid picks given core0.policy p p' core0 core1 up up1 w.0 rows (fit.core live) fit.up (subst (λ g. CoreReceivesOn core0 core1 p p' up up1 g) w.1 receives))
 
-pub receives-disconnect : (h : declared.Delivery) (p p' : List ℕ) (index : ℕ) (core0 core1 : CoreState) (cs : List ClientState) (up up1 : QueueState) → h ≡ heard.Disconnect → ReceivesOn core0 core1 p p' up up1 h → ReceivesAll p index [] core0 core1 cs cs up up1 (Some ended.Disconnected)
+pub receives-disconnect : (h : declared.Delivery) (p p' : List ℕ) (index : ℕ) (core0 core1 : CoreState) (cs : List ClientState) (up up1 : QueueState) → h ≡ heard.Disconnect → CoreReceivesOn core0 core1 p p' up up1 h → ReceivesAll p index [] core0 core1 cs cs up up1 (Some ended.Disconnected)
 receives-disconnect h p p' index core0 core1 cs up up1 e receives pid picks given rows fit live here place =
-    end-by p ended.Disconnected core0 core1 cs up up1 rows _ fit (heard-disconnects pid picks given core0.policy p p' core0 core1 up up1 rows (fit.core live) fit.up (subst (λ g. ReceivesOn core0 core1 p p' up up1 g) e receives))
+    end-by p ended.Disconnected core0 core1 cs up up1 rows _ fit (heard-disconnects pid picks given core0.policy p p' core0 core1 up up1 rows (fit.core live) fit.up (subst (λ g. CoreReceivesOn core0 core1 p p' up up1 g) e receives))
 
-pub receives-broke : (h : declared.Delivery) (why : Break) (p p' : List ℕ) (index : ℕ) (core0 core1 : CoreState) (cs : List ClientState) (up up1 : QueueState) → h ≡ heard.Broke why → ReceivesOn core0 core1 p p' up up1 h → ReceivesAll p index [] core0 core1 cs cs up up1 (Some (ended.Broke index why))
+pub receives-broke : (h : declared.Delivery) (why : Break) (p p' : List ℕ) (index : ℕ) (core0 core1 : CoreState) (cs : List ClientState) (up up1 : QueueState) → h ≡ heard.Broke why → CoreReceivesOn core0 core1 p p' up up1 h → ReceivesAll p index [] core0 core1 cs cs up up1 (Some (ended.Broke index why))
 receives-broke h why p p' index core0 core1 cs up up1 e receives pid picks given rows fit live here place =
-    end-by p (ended.Broke index why) core0 core1 cs up up1 rows _ fit (heard-broke pid picks given core0.policy p p' core0 core1 up up1 why index rows (fit.core live) fit.up place (subst (λ g. ReceivesOn core0 core1 p p' up up1 g) e receives))
+    end-by p (ended.Broke index why) core0 core1 cs up up1 rows _ fit (heard-broke pid picks given core0.policy p p' core0 core1 up up1 why index rows (fit.core live) fit.up place (subst (λ g. CoreReceivesOn core0 core1 p p' up up1 g) e receives))
 
-receives-client : (h : declared.Delivery) (k n : ℕ) (p p' : List ℕ) (index : ℕ) (noted : List (ℕ × Option Why)) (core0 core1 core2 : CoreState) (cs cs' : List ClientState) (up up1 up2 : QueueState) → h ≡ heard.Client k n → ReceivesOn core0 core1 p p' up up1 h
+receives-client : (h : declared.Delivery) (k n : ℕ) (p p' : List ℕ) (index : ℕ) (noted : List (ℕ × Option Why)) (core0 core1 core2 : CoreState) (cs cs' : List ClientState) (up up1 up2 : QueueState) → h ≡ heard.Client k n → CoreReceivesOn core0 core1 p p' up up1 h
     → (is_present cs k ≡ true → ChangesOne k (ReceivesNoting k (recorded_by (heard.Client k n) p') noted core1 core2 up1 up2) cs cs') → ReceivesAll p index noted core0 core2 cs cs' up up2 None
 receives-client h k n p p' index noted core0 core1 core2 cs cs' up up1 up2 e receives change pid picks given rows fit live here place =
-    let on : ReceivesOn core0 core1 p p' up up1 (heard.Client k n) = subst (λ g. ReceivesOn core0 core1 p p' up up1 g) e receives in
-    let h1 : ReceivesIn core0 core1 p p' up up1 (heard.Client k n) rows = on rows (fit.core live) in
+    let on : CoreReceivesOn core0 core1 p p' up up1 (heard.Client k n) = subst (λ g. CoreReceivesOn core0 core1 p p' up up1 g) e receives in
+    let h1 : CoreReceivesIn core0 core1 p p' up up1 (heard.Client k n) rows = on rows (fit.core live) in
     let t : IsTo core1 k n p p' up up1 rows = is-to core1 k n p p' up up1 rows (dest rows p) refl h1.row in
     let present : is_present cs k ≡ true = here k (known-admitted (look rows) k core0.clients (fit.core live).clients.each h1.let_in) t.here in
     record {
@@ -234,7 +234,7 @@ receives-client h k n p p' index noted core0 core1 core2 cs cs' up up1 up2 e rec
 pub notes-none : (p : List ℕ) (index : ℕ) (cs : ClientsState) (core core' : CoreState) (up up' : QueueState) (ended : Option Ended) → ReceivesAll p index [] core core' cs.all cs.all up up' ended → ReceivesPayload p index (clients_and_queue cs core up) (clients_and_queue cs core' up') ended
 notes-none p index cs core core' up up' ended h = record { noted = []; leaves = sym (append-nil cs.leaving); receives = h; among = tt; reading = keep-same cs.all }
 
-pub notes-client : (h : declared.Delivery) (k n : ℕ) (p p' : List ℕ) (index : ℕ) (core0 core1 core2 : CoreState) (cs cs' : ClientsState) (up up1 up2 : QueueState) → h ≡ heard.Client k n → ReceivesOn core0 core1 p p' up up1 h
+pub notes-client : (h : declared.Delivery) (k n : ℕ) (p p' : List ℕ) (index : ℕ) (core0 core1 core2 : CoreState) (cs cs' : ClientsState) (up up1 up2 : QueueState) → h ≡ heard.Client k n → CoreReceivesOn core0 core1 p p' up up1 h
     → ReceivesAt k (recorded_by (heard.Client k n) p') (clients_and_queue cs core1 up1) (clients_and_queue cs' core2 up2) → ReceivesPayload p index (clients_and_queue cs core0 up) (clients_and_queue cs' core2 up2) None
 notes-client h k n p p' index core0 core1 core2 cs cs' up up1 up2 e receives at = record {
   noted = at.noted;

@@ -10,7 +10,7 @@ use Rattle.ssh_grammar.specs.Said.{Outgoing, Body, Payload, BadFraming, InContro
 use Rattle.proxy_frames.specs.State.{QueueState}
 use Rattle.mux_history.specs.declared.why.Why.{Why}
 use Rattle.mux_history.specs.Rows.{Row, rows_of, any_of, is_admit, is_end, is_ended, is_lost, HouseSays, Says, Gone, Item, Fate, Goes, Refused, Drop, End}
-use Rattle.mux_history.specs.Channels.{Channel, after_item, held_of, is_held}
+use Rattle.mux_history.specs.Channels.{Channel, after_item, held_of, is_channel_held}
 use Rattle.mux_history.specs.Pending.{joined, pending_up, waiting_down}
 use Rattle.mux_history.specs.Controls.{answers_ask, answers_maybe, greeted, house_answer, house_sends, in_proxy, is_proxy, proxies_by}
 use Rattle.mux_history.specs.Farewell.{farewell}
@@ -30,7 +30,7 @@ use Rattle.mux_core.proofs.Served.{quiet-stands, served}
 use Rattle.mux_peers.specs.declared.standing.Standing.{Standing}
 use Rattle.mux_peers.specs.declared.standing.Standing.TheVariants.{Awaited, Greeted, Proxied, Unread, Lost}
 use Rattle.mux_peers.specs.State.{PeerState, part}
-use Rattle.mux_peers.specs.Stands.{Fits, PeerFits, is_greeted, is_proxied, keep_lost, standing_by, standing_in, stands_by, standing_of}
+use Rattle.mux_peers.specs.Stands.{PartFits, PeerFits, is_greeted, is_proxied, keep_lost, standing_by, standing_in, stands_by, standing_of}
 use Rattle.mux_peers.specs.Stands as stands
 use Rattle.mux_peers.specs.Decisions.{frames}
 use Rattle.mux_peers.specs.Answering.{AnswersLater, IsAnswered}
@@ -115,7 +115,7 @@ after-house k id given recorded x = elim (x.client == k) as (λ b. (elim b as (�
 held-house : (k id : ℕ) (given : HouseReply) (recorded : List (List ℕ)) (rows : List Row) → held_of (house_row k id given recorded ∷ rows) ≡ held_of rows
 held-house k id given recorded rows =
     held-bare (HouseSays k id given) k (record { sent = []; recorded = recorded; ends = Goes }) rows
-    ∙ (ap (filter is_held) (append-nil (map (after_item (house_row k id given recorded)) (held_of rows)) ∙ map-same (after_item (house_row k id given recorded)) (after-house k id given recorded) (held_of rows))
+    ∙ (ap (filter is_channel_held) (append-nil (map (after_item (house_row k id given recorded)) (held_of rows)) ∙ map-same (after_item (house_row k id given recorded)) (after-house k id given recorded) (held_of rows))
     ∙ held-held rows)
 
 house-stands : (s : CoreState) (k id : ℕ) (given : HouseReply) (recorded : List (List ℕ)) (rows : List Row) → Stands s rows → any_of is_admit (rows_of k rows) ≡ true → is_lost (rows_of k rows) ≡ false → Stands s (house_row k id given recorded ∷ rows)
@@ -147,7 +147,7 @@ peer-house k id given fw down f own s s' q q' fine fits standing queue =
 
 house-fits : (k id : ℕ) (given : HouseReply) (fw down : List (List ℕ)) (f : Fate) (rows : List Row) (peer peer' : PeerState) (s' : CoreState) (up up' : QueueState) → GoesOrDrops f → peer'.number ≡ k → PeerFits (rows_of k rows) peer.standing peer.queue → up.waiting ≡ pending_up rows
     → peer'.standing ≡ standing_received f peer.standing → peer'.queue ≡ peer.queue ++ joined down → up'.waiting ≡ up.waiting ++ joined (map frame_payload fw) → Stands s' (made (HouseSays k id given) k [] fw down f ∷ rows)
-    → Fits (made (HouseSays k id given) k [] fw down f ∷ rows) (part s' peer' up')
+    → PartFits (made (HouseSays k id given) k [] fw down f ∷ rows) (part s' peer' up')
 house-fits k id given fw down f rows peer peer' s' up up' fine num fits waits standing queue sent st =
     let row : Row = made (HouseSays k id given) k [] fw down f in
     record {
@@ -164,7 +164,7 @@ module _ (id : ℕ) (given : HouseReply) (c : CoreState) (peer : PeerState) (up 
   fs = frames answer
 
   -- the row, but for the bound of the queue
-  outcome-of : (rows : List Row) → Fits rows (part c peer up) → is_ended rows ≡ false → stands.is_lost peer.standing ≡ false → house_sends (rows_of peer.number rows) id given ≡ says answer
+  outcome-of : (rows : List Row) → PartFits rows (part c peer up) → is_ended rows ≡ false → stands.is_lost peer.standing ≡ false → house_sends (rows_of peer.number rows) id given ≡ says answer
   outcome-of rows fits live here =
       house-outcome (rows_of peer.number rows) (is_proxied peer.standing) id given
       (proxied-is (rows_of peer.number rows) (ended-part peer.number rows live) (ap stands.is_lost (sym fits.peer.standing_is) ∙ here) ∙ ap is_proxied (sym fits.peer.standing_is))

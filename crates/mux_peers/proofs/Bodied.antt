@@ -29,10 +29,10 @@ use Rattle.mux_peers.specs.declared.decision.Effect as declared
 use Rattle.mux_peers.specs.declared.decision.Effect.TheVariants as effect
 use Rattle.mux_peers.specs.declared.run_change.RunChange.{RunChange}
 use Rattle.mux_peers.specs.State.{PeerState, Part, part}
-use Rattle.mux_peers.specs.Stands.{Fits, PeerFits, stands_by}
+use Rattle.mux_peers.specs.Stands.{PartFits, PeerFits, stands_by}
 use Rattle.mux_peers.specs.Stands as stands
-use Rattle.mux_peers.specs.Decisions.{GoesOn, StandsAs, fate_of, frames, is_stops, outcome_of, reading_answer}
-use Rattle.mux_peers.specs.Bodies.{Does, FollowsBy, IsDecided}
+use Rattle.mux_peers.specs.Decisions.{DecisionGoesOn, StandsAs, fate_of, frames, is_stops, outcome_of, reading_answer}
+use Rattle.mux_peers.specs.Bodies.{DoesBody, FollowsBy, IsDecided}
 use Rattle.mux_peers.specs.Nexts.{FaultBy}
 use Rattle.mux_peers.proofs.Idle.{body-quiet, body-stands, body_row}
 use Rattle.mux_peers.proofs.Refusing.{Recorded}
@@ -76,7 +76,7 @@ by-drop o cause e q = subst (λ (f : Fate). elim f as (λ _. Type 0) [ Drop caus
 
 -- ---- before the row
 
-unlost : (peer : PeerState) (c : CoreState) (up : QueueState) (rows : List Row) → Fits rows (part c peer up) → stands.is_lost peer.standing ≡ false → is_lost (rows_of peer.number rows) ≡ false
+unlost : (peer : PeerState) (c : CoreState) (up : QueueState) (rows : List Row) → PartFits rows (part c peer up) → stands.is_lost peer.standing ≡ false → is_lost (rows_of peer.number rows) ≡ false
 unlost peer c up rows fits here = not_lost (rows_of peer.number rows) (out_is (rows_of peer.number rows) ∙ (ap stands.is_lost (sym fits.peer.standing_is) ∙ here))
 
 said-row : (pid : ℕ) (given : Option HouseReply) (body : List ℕ) (rows : List Row) (old : Part) (d : Decision) → IsDecided pid given body rows old d
@@ -109,7 +109,7 @@ follows-on d c peer mid peer' up heard heard' goes recorded fit num standing que
     let is = said-row pid given body rows (part c peer up) d h ∙ row-on (Says k (Body body) given) k (outcome_of d) own fs refl goes recorded' (ap (λ n. overflow n fs) wait ∙ fit) in
     let st : Stands c (row ∷ rows) = body-stands c k body given fs rows (h.fits.core h.live) h.fits.peer.admitted (unlost peer c up rows h.fits h.here) in
     let num' : peer'.number ≡ k = num ∙ ap (λ (t : PeerState). t.number) recorded in
-    subst (Does (part c peer' up) heard heard' rows) (sym is) (record {
+    subst (DoesBody (part c peer' up) heard heard' rows) (sym is) (record {
       client_is = sym num';
       fits = row-fits k (Body body) given [] [] fs Goes rows peer peer' c up up tt num' h.here h.fits.peer h.fits.up (standing (stands_by (Body body)) h.stands)
           (queue ∙ (ap (λ (t : PeerState). t.queue) recorded ∙ ap (λ gs. peer.queue ++ joined gs) (fits-all (length peer.queue) fs fit))) (no-more up) st;
@@ -139,7 +139,7 @@ follows-full d cause c c2 peer mid peer' up up2 heard goes recorded full left le
     let fw : List (List ℕ) = farewell q own in
     let is = said-row pid given body rows (part c peer up) d h ∙ row-full (Says k (Body body) given) k (outcome_of d) own fs cause goes recorded' (ap (λ n. overflow n fs) wait ∙ full) in
     let num' : peer'.number ≡ k = ap (λ (t : PeerState). t.number) left ∙ ap (λ (t : PeerState). t.number) recorded in
-    subst (Does (part c2 peer' up2) heard heard rows) (sym is) (record {
+    subst (DoesBody (part c2 peer' up2) heard heard rows) (sym is) (record {
       client_is = sym num';
       fits = row-fits k (Body body) given [] fw down (Drop cause) rows peer peer' c2 up up2 tt num' h.here h.fits.peer h.fits.up (ap (λ (t : PeerState). t.standing) left)
           (ap (λ (t : PeerState). t.queue) left ∙ (ap (λ (t : PeerState). t.queue) recorded ∙ ap (λ n. peer.queue ++ joined (fitting n fs)) (sym wait))) gone.sent gone.stands;
@@ -165,7 +165,7 @@ follows-drop d cause c c2 peer peer' up up2 heard is-drop left leaves pid given 
     sym (ap (λ (o : Outcome). o.recorded) h.answers) ∙ by-drop (reading_answer pid k given (greeted own) (read_control body)) cause (ap (λ (o : Outcome). o.ends) h.answers ∙ ends) (quiet-reading pid k given (greeted own) (read_control body)) in
     let is = said-row pid given body rows (part c peer up) d h ∙ row-drops (Says k (Body body) given) k (outcome_of d) own cause ends untold in
     let num' : peer'.number ≡ k = ap (λ (t : PeerState). t.number) left in
-    subst (Does (part c2 peer' up2) heard heard rows) (sym is) (record {
+    subst (DoesBody (part c2 peer' up2) heard heard rows) (sym is) (record {
       client_is = sym num';
       fits = row-fits k (Body body) given [] fw [] (Drop cause) rows peer peer' c2 up up2 tt num' h.here h.fits.peer h.fits.up (ap (λ (t : PeerState). t.standing) left)
           (ap (λ (t : PeerState). t.queue) left ∙ sym (append-nil peer.queue)) gone.sent gone.stands;
@@ -178,11 +178,11 @@ follows-drop d cause c c2 peer peer' up up2 heard is-drop left leaves pid given 
 abbrev pub GoesBy : declared.Effect → Type 0
 GoesBy f = (f ≡ effect.Goes) ⊎ ((f ≡ effect.Switches) ⊎ ((f ≡ effect.Unreads) ⊎ (f ≡ effect.Stops)))
 
-pub goes-by : (f : declared.Effect) → GoesBy f → Going f × GoesOn f
-goes-by f (inl e) = (ap fate_of e, subst GoesOn (sym e) tt)
-goes-by f (inr (inl e)) = (ap fate_of e, subst GoesOn (sym e) tt)
-goes-by f (inr (inr (inl e))) = (ap fate_of e, subst GoesOn (sym e) tt)
-goes-by f (inr (inr (inr e))) = (ap fate_of e, subst GoesOn (sym e) tt)
+pub goes-by : (f : declared.Effect) → GoesBy f → Going f × DecisionGoesOn f
+goes-by f (inl e) = (ap fate_of e, subst DecisionGoesOn (sym e) tt)
+goes-by f (inr (inl e)) = (ap fate_of e, subst DecisionGoesOn (sym e) tt)
+goes-by f (inr (inr (inl e))) = (ap fate_of e, subst DecisionGoesOn (sym e) tt)
+goes-by f (inr (inr (inr e))) = (ap fate_of e, subst DecisionGoesOn (sym e) tt)
 
 -- ---- a frame that is none
 
@@ -200,7 +200,7 @@ faults-drop fault c c2 peer peer' up up2 heard left leaves rows fits live not-lo
     let fw : List (List ℕ) = farewell q own in
     let is = row-drops (Says k (BadFraming fault) None) k (drops cause) own cause refl refl in
     let num' : peer'.number ≡ k = ap (λ (t : PeerState). t.number) left in
-    subst (Does (part c2 peer' up2) heard heard rows) (sym is) (record {
+    subst (DoesBody (part c2 peer' up2) heard heard rows) (sym is) (record {
       client_is = sym num';
       fits = row-fits k (BadFraming fault) None [] fw [] (Drop cause) rows peer peer' c2 up up2 tt num' not-lost fits.peer fits.up (ap (λ (t : PeerState). t.standing) left)
           (ap (λ (t : PeerState). t.queue) left ∙ sym (append-nil peer.queue)) gone.sent gone.stands;

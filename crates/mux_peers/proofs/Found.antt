@@ -12,7 +12,7 @@ use Rattle.mux_peers.specs.declared.run_change.RunChange.{RunChange}
 use Rattle.mux_peers.specs.declared.standing.Standing.{Standing}
 use Rattle.mux_peers.specs.State.{ClientState, ClientsState, clients_of, clients_and_queue, part}
 use Rattle.mux_peers.specs.Stands as stands
-use Rattle.mux_peers.specs.Among.{ChangesOne, GoesAt, KeepReading, at_client, client_index, in_client, is_present}
+use Rattle.mux_peers.specs.Among.{ChangesOne, PeerGoesAt, KeepReading, at_client, client_index, in_client, is_present}
 use Rattle.mux_peers.specs.Losing.{Loses, LosesIn, LosesNothing, NotesMore, loss_between, loss_in}
 use Rattle.mux_peers.specs.Asked.{Applies}
 use Rattle.mux_peers.specs.Pieces.{ReceivesIn, ReceivesNothing, ReceivesPiece}
@@ -70,7 +70,7 @@ found-at k i f x y cs fd e = at_client_set k i f x y cs fd.place (e ∙ ap f fd.
 -- it goes on so, and its loss is noted
 pub found-goes : (k i : ℕ) (R : List (ℕ × Option Why) → ClientState → ClientState → Type 0) (before now : Standing) (x y : ClientState) (cs : List ClientState) (leaving leaving' : List (ℕ × Option Why)) (core core' : CoreState) (up up' : QueueState)
     → Found k i x cs → leaving' ≡ leaving ++ loss_between before now k → R (loss_between before now k) x y → y.peer.number ≡ x.peer.number → (stands.is_lost y.peer.standing ≡ false → (y.peer.standing ≡ x.peer.standing) × (y.rest ≡ x.rest))
-    → GoesAt k R (clients_and_queue (clients_of cs leaving) core up) (clients_and_queue (clients_of (set cs i y) leaving') core' up')
+    → PeerGoesAt k R (clients_and_queue (clients_of cs leaving) core up) (clients_and_queue (clients_of (set cs i y) leaving') core' up')
 found-goes k i R before now x y cs leaving leaving' core core' up up' f leaves goes same reads = record {
   noted = loss_between before now k;
   leaves = leaves;
@@ -104,7 +104,7 @@ keeps-same cs up = record { present = λ j. refl; numbers_same = refl; room = λ
 pub none-noted : (l : List (ℕ × Option Why)) → NotesMore l l
 none-noted l = record { more = []; longer = sym (append-nil l) }
 
-pub none-goes : (k : ℕ) (R : List (ℕ × Option Why) → ClientState → ClientState → Type 0) (s : ClientsState) (core : CoreState) (up : QueueState) → is_present s.all k ≡ false → GoesAt k R (clients_and_queue s core up) (clients_and_queue s core up)
+pub none-goes : (k : ℕ) (R : List (ℕ × Option Why) → ClientState → ClientState → Type 0) (s : ClientsState) (core : CoreState) (up : QueueState) → is_present s.all k ≡ false → PeerGoesAt k R (clients_and_queue s core up) (clients_and_queue s core up)
 none-goes k R s core up gone = record {
   noted = [];
   leaves = sym (append-nil s.leaving);

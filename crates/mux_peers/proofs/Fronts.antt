@@ -16,14 +16,14 @@ use Rattle.mux_peers.specs.declared.decision.Decision.{Decision}
 use Rattle.mux_peers.specs.declared.standing.Standing.{Standing}
 use Rattle.mux_peers.specs.declared.standing.Standing.TheVariants.{Awaited, Greeted, Proxied, Unread, Lost}
 use Rattle.mux_peers.specs.State.{ClientState, PeerState, part}
-use Rattle.mux_peers.specs.Stands.{framing_of, is_greeted, is_proxied, is_read, mode_of, rest_if}
+use Rattle.mux_peers.specs.Stands.{framing_of, is_greeted, is_proxied, is_read, parse_mode_of, rest_if}
 use Rattle.mux_peers.specs.Decisions.{DecidesBy}
 use Rattle.mux_peers.specs.Bodies.{FollowsBy}
 use Rattle.mux_peers.specs.Nexts.{FaultBy, NextFrame, SendsNext}
 
 -- ---- how it is cut
 
-read_in : (s : Standing) (bytes : List ℕ) → is_read s ≡ true → first_in (mode_of s) bytes ≡ first_frame (framing_of s) bytes
+read_in : (s : Standing) (bytes : List ℕ) → is_read s ≡ true → first_in (parse_mode_of s) bytes ≡ first_frame (framing_of s) bytes
 read_in Awaited bytes e = refl
 read_in Greeted bytes e = refl
 read_in Proxied bytes e = refl
@@ -31,9 +31,9 @@ read_in Unread bytes e = absurd (cc)
 read_in (Lost why) bytes e = absurd (cc)
 
 -- a framer that cuts so and reported no fault shows the front of its bytes
-pub front_at : (s : Standing) (f : FramerState) → is_read s ≡ true → f.framing ≡ framing_of s → f.fault ≡ None → first_in (mode_of s) (rest_if (is_read s) f.rest) ≡ front_of f
+pub front_at : (s : Standing) (f : FramerState) → is_read s ≡ true → f.framing ≡ framing_of s → f.fault ≡ None → first_in (parse_mode_of s) (rest_if (is_read s) f.rest) ≡ front_of f
 front_at s f read cuts well =
-    ap (λ b. first_in (mode_of s) (rest_if b f.rest)) read
+    ap (λ b. first_in (parse_mode_of s) (rest_if b f.rest)) read
     ∙ (read_in s f.rest read
     ∙ (ap (λ (m : Framing). first_frame m f.rest) (sym cuts) ∙ sym (ap (λ (x : Option BadFrame). once_recorded x Faulty (first_frame f.framing f.rest)) well)))
 
@@ -81,11 +81,11 @@ client_of peer f = record { peer = peer; rest = rest_if (is_read peer.standing) 
 pub sends_fault : (May : HouseReply → Type 0) (recorded : Option (List Asked)) (pid : ℕ) (core core' : CoreState) (up up' : QueueState) (peer peer' : PeerState) (f f' : FramerState) (now : ClientState) (heard : RunChange) (fault : BadFrame)
     → client_of peer f ≡ now → is_read now.peer.standing ≡ true → Cuts peer.standing f → next.Bad fault ≡ answer_to (front_of f)
     → FaultBy fault (part core peer up) heard (part core' peer' up') heard → is_read peer'.standing ≡ false
-    → SendsNext May recorded recorded pid true (first_in (mode_of now.peer.standing) now.rest) core core' up up' now heard (client_of peer' f') heard
+    → SendsNext May recorded recorded pid true (first_in (parse_mode_of now.peer.standing) now.rest) core core' up up' now heard (client_of peer' f') heard
 sends_fault May recorded pid core core' up up' peer peer' f f' now heard fault view read cuts recorded-so faults out =
     let reads : is_read peer.standing ≡ true = ap (λ (x : ClientState). is_read x.peer.standing) view ∙ read in
-    let front : first_in (mode_of peer.standing) (client_of peer f).rest ≡ Faulty fault = front_at peer.standing f reads (cuts reads).0 (cuts reads).1 ∙ fault_was (front_of f) fault recorded-so in
-    subst (λ (x : ClientState). SendsNext May recorded recorded pid true (first_in (mode_of x.peer.standing) x.rest) core core' up up' x heard (client_of peer' f') heard) view
+    let front : first_in (parse_mode_of peer.standing) (client_of peer f).rest ≡ Faulty fault = front_at peer.standing f reads (cuts reads).0 (cuts reads).1 ∙ fault_was (front_of f) fault recorded-so in
+    subst (λ (x : ClientState). SendsNext May recorded recorded pid true (first_in (parse_mode_of x.peer.standing) x.rest) core core' up up' x heard (client_of peer' f') heard) view
     (subst (λ (x : Front). SendsNext May recorded recorded pid true x core core' up up' (client_of peer f) heard (client_of peer' f') heard) (sym front) (record {
       faults = faults;
       left = ap (λ b. rest_if b f'.rest) out;
@@ -99,11 +99,11 @@ pub sends_decided : (May : HouseReply → Type 0) (before recorded' : Option (Li
     → next.Frame ≡ answer_to (front_of f) → f' ≡ after_front (front_of f) f → f'.current ≡ Some body → f''.rest ≡ f'.rest
     → k ≡ peer.number → greeted ≡ is_greeted peer.standing → DecidesBy May before recorded' pid k greeted body d
     → FollowsBy d (part core peer up) heard (part core' peer' up') heard'
-    → SendsNext May before recorded' pid true (first_in (mode_of now.peer.standing) now.rest) core core' up up' now heard (client_of peer' f'') heard'
+    → SendsNext May before recorded' pid true (first_in (parse_mode_of now.peer.standing) now.rest) core core' up up' now heard (client_of peer' f'') heard'
 sends_decided May before recorded' pid k core core' up up' peer peer' f f' f'' body now greeted heard heard' d view read cuts control whole after current same num awaits decides follows =
     let reads : is_read peer.standing ≡ true = ap (λ (x : ClientState). is_read x.peer.standing) view ∙ read in
-    let front : first_in (mode_of peer.standing) (client_of peer f).rest ≡ Frame body f'.rest = front_at peer.standing f reads (cuts reads).0 (cuts reads).1 ∙ front_was (front_of f) f f' body whole after current in
-    subst (λ (x : ClientState). SendsNext May before recorded' pid true (first_in (mode_of x.peer.standing) x.rest) core core' up up' x heard (client_of peer' f'') heard') view
+    let front : first_in (parse_mode_of peer.standing) (client_of peer f).rest ≡ Frame body f'.rest = front_at peer.standing f reads (cuts reads).0 (cuts reads).1 ∙ front_was (front_of f) f f' body whole after current in
+    subst (λ (x : ClientState). SendsNext May before recorded' pid true (first_in (parse_mode_of x.peer.standing) x.rest) core core' up up' x heard (client_of peer' f'') heard') view
     (subst (λ (x : Front). SendsNext May before recorded' pid true x core core' up up' (client_of peer f) heard (client_of peer' f'') heard') (sym front)
     (subst (λ (b : Bool). NextFrame b May before recorded' pid body f'.rest core core' up up' (client_of peer f) heard (client_of peer' f'') heard') (sym control) (record {
       decision = d;

@@ -14,7 +14,7 @@ use Rattle.mux_core.specs.Calls.{Leaves, LeavesRecorded}
 use Rattle.mux_peers.specs.declared.standing.Standing.{Standing}
 use Rattle.mux_peers.specs.declared.standing.Standing.TheVariants.{Lost}
 use Rattle.mux_peers.specs.State.{PeerState, part}
-use Rattle.mux_peers.specs.Stands.{Fits, PeerFits, is_greeted}
+use Rattle.mux_peers.specs.Stands.{PartFits, PeerFits, is_greeted}
 use Rattle.mux_peers.specs.Stands as stands
 use Rattle.mux_peers.specs.Receives.{ReceivesRecorded}
 use Rattle.mux_peers.proofs.Free.{down-free}
@@ -57,7 +57,7 @@ peer-heard p k ups fw down f own s s' q q' fine fits standing queue =
 
 heard-fits : (p : List ℕ) (k : ℕ) (ups fw down : List (List ℕ)) (f : Fate) (rows : List Row) (peer peer' : PeerState) (s' : CoreState) (up' : QueueState) → GoesOrDrops f → peer'.number ≡ k → PeerFits (rows_of k rows) peer.standing peer.queue
     → peer'.standing ≡ standing_received f peer.standing → peer'.queue ≡ peer.queue ++ joined down → up'.waiting ≡ pending_up rows ++ joined (map frame_payload (ups ++ fw)) → Stands s' (made (Heard p) k ups fw down f ∷ rows)
-    → Fits (made (Heard p) k ups fw down f ∷ rows) (part s' peer' up')
+    → PartFits (made (Heard p) k ups fw down f ∷ rows) (part s' peer' up')
 heard-fits p k ups fw down f rows peer peer' s' up' fine num fits standing queue waits st =
     let row : Row = made (Heard p) k ups fw down f in
     record {
@@ -77,7 +77,7 @@ receives-on fs c peer peer' up recorded fit = record {
       let wait : waiting_down own ≡ length peer.queue = ap length (sym h.peer.queue_is) in
       let is : row_of (Heard p) k o own ≡ made (Heard p) k o.sent [] fs Goes = row-on (Heard p) k o own fs refl h.ends h.recorded (ap (λ n. overflow n fs) wait ∙ fit) in
       let st : Stands c (made (Heard p) k o.sent [] fs Goes ∷ rows) = subst (λ (f : Fate). Stands c (made (Heard p) k o.sent [] fs f ∷ rows)) h.ends (down-free c (bare (Heard p) k o) rows fs h.core) in
-      subst (λ (row : Row). Fits (row ∷ rows) (part c peer' up)) (sym is)
+      subst (λ (row : Row). PartFits (row ∷ rows) (part c peer' up)) (sym is)
       (heard-fits p k o.sent [] fs Goes rows peer peer' c up tt (ap (λ (t : PeerState). t.number) recorded) h.peer (ap (λ (t : PeerState). t.standing) recorded)
       (ap (λ (t : PeerState). t.queue) recorded ∙ ap (λ gs. peer.queue ++ joined gs) (fits-all (length peer.queue) fs fit))
       (h.up ∙ ap (λ (l : List (List ℕ)). pending_up rows ++ joined (map frame_payload l)) (sym (append-nil o.sent))) st);
@@ -100,7 +100,7 @@ receives-full fs cause c c2 peer mid peer' up up2 recorded full left leaves = re
       let gone : Leaves c2 q up up2 rows = (subst (λ j. LeavesRecorded c c2 j up up2) (ap (λ (t : PeerState). t.number) recorded) leaves) rows (bare (Heard p) k o) down cause h.core served refl h.ends goes refl in
       let fw : List (List ℕ) = farewell q own in
       let is : row_of (Heard p) k o own ≡ made (Heard p) k o.sent fw down (Drop cause) = row-full (Heard p) k o own fs cause h.ends h.recorded (ap (λ n. overflow n fs) wait ∙ full) in
-      subst (λ (row : Row). Fits (row ∷ rows) (part c2 peer' up2)) (sym is)
+      subst (λ (row : Row). PartFits (row ∷ rows) (part c2 peer' up2)) (sym is)
       (heard-fits p k o.sent fw down (Drop cause) rows peer peer' c2 up2 tt num h.peer (ap (λ (t : PeerState). t.standing) left)
       (ap (λ (t : PeerState). t.queue) left ∙ (ap (λ (t : PeerState). t.queue) recorded ∙ ap (λ n. peer.queue ++ joined (fitting n fs)) (sym wait)))
       (gone.sent ∙ (ap (λ l. l ++ joined (map frame_payload fw)) h.up

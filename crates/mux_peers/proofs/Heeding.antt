@@ -8,7 +8,7 @@ use Rattle.mux_outside.specs.declared.house.FwdAsk.{FwdAsk}
 use Rattle.mux_outside.specs.declared.house.HouseReply.{HouseReply}
 use Rattle.mux_outside.specs.declared.house_mark.HouseMark.{HouseMark as Asked}
 use Rattle.mux_outside.specs.declared.house_mark.HouseMark.TheVariants.{HouseAsked}
-use Rattle.mux_outside.specs.House.{GaveOr, HouseState, Known, ask_of, known_after_ask}
+use Rattle.mux_outside.specs.House.{GaveOr, HouseState, Known, start_ask_of, known_after_ask}
 use Rattle.mux_outside.specs.HouseCalls.{HandsOn, HouseCall, calls_of}
 use Rattle.mux_outside.proofs.HouseCalls.{calls-append, hands-none, hands-then}
 use Rattle.mux_peers.specs.Asked.{Applies, RecordsAsks, known_after}
@@ -49,10 +49,10 @@ applies_none r asks state = record {
 }
 
 -- it was asked this
-pub applies_ask : {A E F : Type 0} (r : Result A E) (client id : ℕ) (opening : Bool) (what : FwdAsk) (reply : HouseReply) {asks asks' : List Asked} {old new : HouseState} → asks' ≡ asks ++ HouseAsked client id opening (ask_of what) reply ∷ []
-    → GaveOr {A = HouseReply} {E = F} (Ok reply) (HouseAsked client id opening (ask_of what) reply ∷ []) (λ given. known_after_ask given client id opening) old new → Applies r asks asks' old new
+pub applies_ask : {A E F : Type 0} (r : Result A E) (client id : ℕ) (opening : Bool) (what : FwdAsk) (reply : HouseReply) {asks asks' : List Asked} {old new : HouseState} → asks' ≡ asks ++ HouseAsked client id opening (start_ask_of what) reply ∷ []
+    → GaveOr {A = HouseReply} {E = F} (Ok reply) (HouseAsked client id opening (start_ask_of what) reply ∷ []) (λ given. known_after_ask given client id opening) old new → Applies r asks asks' old new
 applies_ask r client id opening what reply noted gave = record {
-  more = HouseAsked client id opening (ask_of what) reply ∷ [];
+  more = HouseAsked client id opening (start_ask_of what) reply ∷ [];
   unnoted = [];
   noted = noted;
   all_noted = on-any r refl;

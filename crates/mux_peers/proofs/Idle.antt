@@ -4,7 +4,7 @@ use Rattle.std.specs.Prelude.{filter, ◌==◌}
 use Rattle.mux_outside.specs.declared.house.HouseReply.{HouseReply}
 use Rattle.ssh_grammar.specs.Said.{Body}
 use Rattle.mux_history.specs.Rows.{Row, rows_of, any_of, is_admit, is_lost, Says, Goes}
-use Rattle.mux_history.specs.Channels.{Channel, after_item, held_of, is_held}
+use Rattle.mux_history.specs.Channels.{Channel, after_item, held_of, is_channel_held}
 use Rattle.mux_core.specs.State.{CoreState}
 use Rattle.mux_core.specs.Stands.{Stands, TableFits, look}
 use Rattle.mux_core.proofs.Bare.{held-bare}
@@ -27,7 +27,7 @@ after-body k body given recorded x = elim (x.client == k) as (λ b. (elim b as (
 held-body : (k : ℕ) (body : List ℕ) (given : Option HouseReply) (recorded : List (List ℕ)) (rows : List Row) → held_of (body_row k body given recorded ∷ rows) ≡ held_of rows
 held-body k body given recorded rows =
     held-bare (Says k (Body body) given) k (record { sent = []; recorded = recorded; ends = Goes }) rows
-    ∙ (ap (filter is_held) (append-nil (map (after_item (body_row k body given recorded)) (held_of rows)) ∙ map-same (after_item (body_row k body given recorded)) (after-body k body given recorded) (held_of rows))
+    ∙ (ap (filter is_channel_held) (append-nil (map (after_item (body_row k body given recorded)) (held_of rows)) ∙ map-same (after_item (body_row k body given recorded)) (after-body k body given recorded) (held_of rows))
     ∙ held-held rows)
 
 pub body-stands : (s : CoreState) (k : ℕ) (body : List ℕ) (given : Option HouseReply) (recorded : List (List ℕ)) (rows : List Row) → Stands s rows → any_of is_admit (rows_of k rows) ≡ true → is_lost (rows_of k rows) ≡ false → Stands s (body_row k body given recorded ∷ rows)

@@ -16,9 +16,9 @@ use Rattle.mux_history.specs.Log.{Setting, makes_next, more_all, more_of, next_r
 use Rattle.mux_core.specs.State.{CoreState}
 use Rattle.mux_peers.specs.declared.run_change.RunChange.{RunChange}
 use Rattle.mux_peers.specs.State.{ClientState}
-use Rattle.mux_peers.specs.Stands.{is_read, mode_of}
+use Rattle.mux_peers.specs.Stands.{is_read, parse_mode_of}
 use Rattle.mux_peers.specs.Pieces.{AreOfBytes, ReadsNoMore, ReadsOn, RunsTo, behind, rows_sent}
-use Rattle.mux_peers.specs.Laws.{IsReadTo, PiecesOfAClient, ReadsAs, rows_given}
+use Rattle.mux_peers.specs.Laws.{IsReadTo, PiecesOfAClient, ReadsClientAs, rows_given}
 use Rattle.mux_peers.proofs.Adds.{said-adds}
 use Rattle.mux_peers.proofs.OfBytes.{front-of-bytes, parse-bytes}
 
@@ -59,26 +59,26 @@ says-new a bytes mode rest m r =
 
 -- with all that was sent in a piece, the rows are those of the mark
 piece-rows : (policy : Policy) (pid : ℕ) (picks : List ℕ) (given : List HouseReply) (k : ℕ) (a bytes : List ℕ) (first now : ClientState) (picked : List ℕ) (used : List HouseReply) (asks : List Asked) (rows : List Row) (core : CoreState) (up : QueueState) (heard : RunChange)
-    → (parse InControl a).mode ≡ mode_of first.peer.standing → (parse InControl a).rest ≡ first.rest → (is_read now.peer.standing ≡ true → first_in (mode_of now.peer.standing) now.rest ≡ More)
-    → (r : RunsTo policy pid picks given k (mode_of first.peer.standing) (first.rest ++ bytes) picked used asks rows core up now heard)
+    → (parse InControl a).mode ≡ parse_mode_of first.peer.standing → (parse InControl a).rest ≡ first.rest → (is_read now.peer.standing ≡ true → first_in (parse_mode_of now.peer.standing) now.rest ≡ More)
+    → (r : RunsTo policy pid picks given k (parse_mode_of first.peer.standing) (first.rest ++ bytes) picked used asks rows core up now heard)
     → more_all (by_lists policy pid picks given) rows (new_sayings k a (a ++ bytes)) ≡ rows_sent policy pid picks given k rows r.says
 piece-rows policy pid picks given k a bytes first now picked used asks rows core up heard m rest whole r =
-    ap (λ xs. more_all (by_lists policy pid picks given) rows (map (sent_item k) xs)) (says-new a bytes (mode_of first.peer.standing) first.rest m rest)
+    ap (λ xs. more_all (by_lists policy pid picks given) rows (map (sent_item k) xs)) (says-new a bytes (parse_mode_of first.peer.standing) first.rest m rest)
     ∙ by_read (is_read now.peer.standing) refl
   where
     s : Setting
     s = by_lists policy pid picks given
 
     all : Parsed
-    all = parse (mode_of first.peer.standing) (first.rest ++ bytes)
+    all = parse (parse_mode_of first.peer.standing) (first.rest ++ bytes)
 
     by_read : (b : Bool) → is_read now.peer.standing ≡ b → more_all s rows (map (sent_item k) all.says) ≡ rows_sent policy pid picks given k rows r.says
     by_read true e =
-        let on : ReadsOn (first.rest ++ bytes) (mode_of first.peer.standing) now (rows_sent policy pid picks given k rows r.says) r.says = r.reads e in
-        let says : all.says ≡ r.says = ap (λ (p : Parsed). p.says) (on.rest ∙ ap (behind r.says) (parse-at (mode_of now.peer.standing) now.rest More (whole e))) ∙ append-nil r.says in
+        let on : ReadsOn (first.rest ++ bytes) (parse_mode_of first.peer.standing) now (rows_sent policy pid picks given k rows r.says) r.says = r.reads e in
+        let says : all.says ≡ r.says = ap (λ (p : Parsed). p.says) (on.rest ∙ ap (behind r.says) (parse-at (parse_mode_of now.peer.standing) now.rest More (whole e))) ∙ append-nil r.says in
         ap (λ xs. more_all s rows (map (sent_item k) xs)) says
     by_read false e =
-        let o : ReadsNoMore (first.rest ++ bytes) (mode_of first.peer.standing) now (rows_sent policy pid picks given k rows r.says) r.says = r.over e in
+        let o : ReadsNoMore (first.rest ++ bytes) (parse_mode_of first.peer.standing) now (rows_sent policy pid picks given k rows r.says) r.says = r.over e in
         ap (λ xs. more_all s rows (map (sent_item k) xs)) o.sends_all
         ∙ (ap (more_all s rows) (map-append (sent_item k) r.says o.more)
         ∙ (more-append s rows (map (sent_item k) r.says) (map (sent_item k) o.more)
@@ -89,14 +89,14 @@ piece-rows policy pid picks given k a bytes first now picked used asks rows core
 
 -- and while it is read on, all its bytes are read so
 piece-reads : (policy : Policy) (pid : ℕ) (picks : List ℕ) (given : List HouseReply) (k : ℕ) (a bytes : List ℕ) (first now : ClientState) (picked : List ℕ) (used : List HouseReply) (asks : List Asked) (rows : List Row) (core : CoreState) (up : QueueState) (heard : RunChange)
-    → ReadsAs a first → is_read now.peer.standing ≡ true → first_in (mode_of now.peer.standing) now.rest ≡ More
-    → RunsTo policy pid picks given k (mode_of first.peer.standing) (first.rest ++ bytes) picked used asks rows core up now heard → ReadsAs (a ++ bytes) now
+    → ReadsClientAs a first → is_read now.peer.standing ≡ true → first_in (parse_mode_of now.peer.standing) now.rest ≡ More
+    → RunsTo policy pid picks given k (parse_mode_of first.peer.standing) (first.rest ++ bytes) picked used asks rows core up now heard → ReadsClientAs (a ++ bytes) now
 piece-reads policy pid picks given k a bytes first now picked used asks rows core up heard reads e whole r =
     let on = r.reads e in
-    let more : parse (parse InControl a).mode ((parse InControl a).rest ++ bytes) ≡ behind r.says (record { says = []; mode = mode_of now.peer.standing; rest = now.rest }) =
+    let more : parse (parse InControl a).mode ((parse InControl a).rest ++ bytes) ≡ behind r.says (record { says = []; mode = parse_mode_of now.peer.standing; rest = now.rest }) =
     ap (λ (i : Mode). parse i ((parse InControl a).rest ++ bytes)) reads.mode
-    ∙ (ap (λ (l : List ℕ). parse (mode_of first.peer.standing) (l ++ bytes)) reads.rest
-    ∙ (on.rest ∙ ap (behind r.says) (parse-at (mode_of now.peer.standing) now.rest More whole))) in
+    ∙ (ap (λ (l : List ℕ). parse (parse_mode_of first.peer.standing) (l ++ bytes)) reads.rest
+    ∙ (on.rest ∙ ap (behind r.says) (parse-at (parse_mode_of now.peer.standing) now.rest More whole))) in
     record {
       mode = ap (λ (p : Parsed). p.mode) (parse-append InControl a bytes) ∙ ap (λ (p : Parsed). p.mode) more;
       rest = ap (λ (p : Parsed). p.rest) (parse-append InControl a bytes) ∙ ap (λ (p : Parsed). p.rest) more;
@@ -104,20 +104,20 @@ piece-reads policy pid picks given k a bytes first now picked used asks rows cor
 
 -- what was sent so far is of bytes, where the piece and what came before it are
 says-bytes : (policy : Policy) (pid : ℕ) (picks : List ℕ) (given : List HouseReply) (k : ℕ) (before bytes : List ℕ) (first now : ClientState) (picked : List ℕ) (used : List HouseReply) (asks : List Asked) (rows : List Row) (core : CoreState) (up : QueueState) (heard : RunChange)
-    → (parse InControl before).rest ≡ first.rest → (r : RunsTo policy pid picks given k (mode_of first.peer.standing) (first.rest ++ bytes) picked used asks rows core up now heard) → AreBytes before → AreBytes bytes → AreOfBytes k r.says
+    → (parse InControl before).rest ≡ first.rest → (r : RunsTo policy pid picks given k (parse_mode_of first.peer.standing) (first.rest ++ bytes) picked used asks rows core up now heard) → AreBytes before → AreBytes bytes → AreOfBytes k r.says
 says-bytes policy pid picks given k before bytes first now picked used asks rows core up heard rest r b c = by_read (is_read now.peer.standing) refl
   where
     all : Parsed
-    all = parse (mode_of first.peer.standing) (first.rest ++ bytes)
+    all = parse (parse_mode_of first.peer.standing) (first.rest ++ bytes)
 
     left : AreBytes first.rest
     left = subst AreBytes rest (parse-bytes k (length before) InControl before b).1
 
     says : AreOfBytes k all.says
-    says = (parse-bytes k (length (first.rest ++ bytes)) (mode_of first.peer.standing) (first.rest ++ bytes) (AreBytes-append first.rest bytes left c)).0
+    says = (parse-bytes k (length (first.rest ++ bytes)) (parse_mode_of first.peer.standing) (first.rest ++ bytes) (AreBytes-append first.rest bytes left c)).0
 
     by_read : (t : Bool) → is_read now.peer.standing ≡ t → AreOfBytes k r.says
-    by_read true e = front-of-bytes k r.says (parse (mode_of now.peer.standing) now.rest).says (subst (λ (xs : List Outgoing). AreOfBytes k xs) (ap (λ (p : Parsed). p.says) (r.reads e).rest) says)
+    by_read true e = front-of-bytes k r.says (parse (parse_mode_of now.peer.standing) now.rest).says (subst (λ (xs : List Outgoing). AreOfBytes k xs) (ap (λ (p : Parsed). p.says) (r.reads e).rest) says)
     by_read false e = front-of-bytes k r.says (r.over e).more (subst (λ (xs : List Outgoing). AreOfBytes k xs) (r.over e).sends_all says)
 
 pub pieces-of-a-client : PiecesOfAClient
@@ -137,6 +137,6 @@ pieces-of-a-client policy pid picks given k before bytes first now picked used a
       stopped = λ e h l.
           ap (λ (p : Parsed). p.mode) (parse-append InControl before bytes)
           ∙ (ap (λ (i : Mode). (parse i ((parse InControl before).rest ++ bytes)).mode) reads.mode
-          ∙ (ap (λ (xs : List ℕ). (parse (mode_of first.peer.standing) (xs ++ bytes)).mode) reads.rest ∙ (r.over e).stopped h l));
+          ∙ (ap (λ (xs : List ℕ). (parse (parse_mode_of first.peer.standing) (xs ++ bytes)).mode) reads.rest ∙ (r.over e).stopped h l));
       reads = λ e. piece-reads policy pid picks given k before bytes first now picked used asks rows core up heard reads e (whole e) r;
     })

@@ -31,7 +31,7 @@ pub mod Places
 pub mod Found
 pub mod Adds
 pub mod Losses
-pub mod Enters
+pub mod PeerEnters
 pub mod Keeping
 pub mod Answered
 pub mod Starved

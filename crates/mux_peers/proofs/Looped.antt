@@ -20,8 +20,8 @@ use Rattle.mux_peers.specs.declared.standing.Standing.{Standing}
 use Rattle.mux_peers.specs.declared.standing.Standing.TheVariants.{Awaited, Greeted, Proxied, Unread, Lost}
 use Rattle.mux_peers.specs.declared.run_change.RunChange.{RunChange}
 use Rattle.mux_peers.specs.State.{ClientState, PeerState, part, KeepsRoom}
-use Rattle.mux_peers.specs.Stands.{Fits, is_greeted, is_proxied, is_read, mode_of, rest_if}
-use Rattle.mux_peers.specs.Asked.{Applies, asked_of, reading_asks, sending_asks}
+use Rattle.mux_peers.specs.Stands.{PartFits, is_greeted, is_proxied, is_read, parse_mode_of, rest_if}
+use Rattle.mux_peers.specs.Asked.{Applies, asks_of_rows, reading_asks, sending_asks}
 use Rattle.mux_peers.specs.Decisions.{reply_list}
 use Rattle.mux_peers.specs.Nexts.{NextBody, NextFault, NextFrame, NextPayload, SendsNext}
 use Rattle.mux_peers.specs.Pieces.{Receiving, ReceivesPiece, rows_sent}
@@ -72,28 +72,28 @@ receiving_first May recorded pid all core up first now read peer rest = record {
   goes = λ picks given rows fits live next reply. record {
     says = [];
     number = ap (λ (t : PeerState). t.number) peer;
-    fits = subst (λ (t : PeerState). Fits rows (part core t up)) (sym peer) fits;
+    fits = subst (λ (t : PeerState). PartFits rows (part core t up)) (sym peer) fits;
     taken = omega arith;
     given_is = omega arith;
-    asked = sym (append-nil (asked_of rows));
+    asked = sym (append-nil (asks_of_rows rows));
     fresh = λ bytes f. f;
     stops_is = refl;
     ended_is = refl;
-    reads = λ e. record { live = live; rest = ap (λ (t : PeerState). parse (mode_of t.standing) all) (sym peer) ∙ ap (parse (mode_of now.peer.standing)) (sym rest) };
+    reads = λ e. record { live = live; rest = ap (λ (t : PeerState). parse (parse_mode_of t.standing) all) (sym peer) ∙ ap (parse (parse_mode_of now.peer.standing)) (sym rest) };
     over = λ e. absurd (let d : false ≡ true = sym e ∙ (ap (λ (t : PeerState). is_read t.standing) peer ∙ read) in cc);
   };
 }
 
 -- ---- one turn more
 
-proxied-says : (s : Standing) (content : List ℕ) → is_proxied s ≡ true → sending_in (mode_of s) content ≡ Payload content
+proxied-says : (s : Standing) (content : List ℕ) → is_proxied s ≡ true → sending_in (parse_mode_of s) content ≡ Payload content
 proxied-says Proxied content e = refl
 proxied-says Awaited content e = absurd (cc)
 proxied-says Greeted content e = absurd (cc)
 proxied-says Unread content e = absurd (cc)
 proxied-says (Lost why) content e = absurd (cc)
 
-pub control-says : (s : Standing) (content : List ℕ) → is_read s ≡ true → is_proxied s ≡ false → sending_in (mode_of s) content ≡ Body content
+pub control-says : (s : Standing) (content : List ℕ) → is_read s ≡ true → is_proxied s ≡ false → sending_in (parse_mode_of s) content ≡ Body content
 control-says Awaited content r e = refl
 control-says Greeted content r e = refl
 control-says Proxied content r e = absurd (cc)
@@ -101,7 +101,7 @@ control-says Unread content r e = absurd (cc)
 control-says (Lost why) content r e = absurd (cc)
 
 receiving_payload : (May : HouseReply → Type 0) (start mid recorded : Option (List Asked)) (pid : ℕ) (all content rest : List ℕ) (core0 core core' : CoreState) (up0 up up' : QueueState) (first now new : ClientState) (heard heard' : RunChange) → is_read now.peer.standing ≡ true → is_proxied now.peer.standing ≡ true → core'.policy ≡ core.policy
-    → first_in (mode_of now.peer.standing) now.rest ≡ Frame content rest → Receiving May start mid pid all core0 up0 first core up now heard → NextPayload mid recorded content rest core core' up up' now heard new heard' → Receiving May start recorded pid all core0 up0 first core' up' new heard'
+    → first_in (parse_mode_of now.peer.standing) now.rest ≡ Frame content rest → Receiving May start mid pid all core0 up0 first core up now heard → NextPayload mid recorded content rest core core' up up' now heard new heard' → Receiving May start recorded pid all core0 up0 first core' up' new heard'
 receiving_payload May start mid recorded pid all content rest core0 core core' up0 up up' first now new heard heard' read proxied pol front h n = record {
   picked = h.picked ++ n.says.picked;
   used = h.used ++ [];
@@ -112,13 +112,13 @@ receiving_payload May start mid recorded pid all content rest core0 core core' u
   policy = pol ∙ h.policy;
   goes = λ picks given rows fits live next reply.
       let r = h.goes picks given rows fits live (come-first h.picked n.says.picked rows picks next) (reply-first h.used [] rows given reply) in
-      frame-runs core0.policy pid picks given first.peer.number (mode_of first.peer.standing) all h.picked n.says.picked h.used [] h.asks [] rows core core' up up' now new heard heard' content rest read front n.left r
+      frame-runs core0.policy pid picks given first.peer.number (parse_mode_of first.peer.standing) all h.picked n.says.picked h.used [] h.asks [] rows core core' up up' now new heard heard' content rest read front n.left r
       (subst (λ (x : Outgoing). OneMore core0.policy pid picks given first.peer.number (rows_sent core0.policy pid picks given first.peer.number rows r.says) x n.says.picked [] [] core' up' new.peer heard heard') (sym (proxied-says now.peer.standing content proxied))
-      (payload-more core0.policy pid picks given first.peer.number (mode_of first.peer.standing) all h.picked h.used h.asks rows core core' up up' now new heard heard' content h.policy read proxied n.number n.same n.says next r));
+      (payload-more core0.policy pid picks given first.peer.number (parse_mode_of first.peer.standing) all h.picked h.used h.asks rows core core' up up' now new heard heard' content h.policy read proxied n.number n.same n.says next r));
 }
 
 receiving_body : (May : HouseReply → Type 0) (start mid recorded : Option (List Asked)) (pid : ℕ) (all content rest : List ℕ) (core0 core core' : CoreState) (up0 up up' : QueueState) (first now new : ClientState) (heard heard' : RunChange) → is_read now.peer.standing ≡ true → is_proxied now.peer.standing ≡ false → core'.policy ≡ core.policy
-    → first_in (mode_of now.peer.standing) now.rest ≡ Frame content rest → Receiving May start mid pid all core0 up0 first core up now heard → NextBody May mid recorded pid content rest core core' up up' now heard new heard' → Receiving May start recorded pid all core0 up0 first core' up' new heard'
+    → first_in (parse_mode_of now.peer.standing) now.rest ≡ Frame content rest → Receiving May start mid pid all core0 up0 first core up now heard → NextBody May mid recorded pid content rest core core' up up' now heard new heard' → Receiving May start recorded pid all core0 up0 first core' up' new heard'
 receiving_body May start mid recorded pid all content rest core0 core core' up0 up up' first now new heard heard' read control pol front h n =
     let by = n.decides in
     let more : List Asked = sending_asks now.peer.number (Body content) by.given in
@@ -132,13 +132,13 @@ receiving_body May start mid recorded pid all content rest core0 core core' up0 
       policy = pol ∙ h.policy;
       goes = λ picks given rows fits live next reply.
           let r = h.goes picks given rows fits live (come-first h.picked [] rows picks next) (reply-first h.used (reply_list by.given) rows given reply) in
-          frame-runs core0.policy pid picks given first.peer.number (mode_of first.peer.standing) all h.picked [] h.used (reply_list by.given) h.asks more rows core core' up up' now new heard heard' content rest read front n.left r
+          frame-runs core0.policy pid picks given first.peer.number (parse_mode_of first.peer.standing) all h.picked [] h.used (reply_list by.given) h.asks more rows core core' up up' now new heard heard' content rest read front n.left r
           (subst (λ (x : Outgoing). OneMore core0.policy pid picks given first.peer.number (rows_sent core0.policy pid picks given first.peer.number rows r.says) x [] (reply_list by.given) more core' up' new.peer heard heard') (sym (control-says now.peer.standing content read control))
-          (body-more May mid recorded core0.policy pid picks given first.peer.number (mode_of first.peer.standing) all h.picked h.used h.asks rows core core' up up' now new heard heard' content n.decision read by n.follows reply r));
+          (body-more May mid recorded core0.policy pid picks given first.peer.number (parse_mode_of first.peer.standing) all h.picked h.used h.asks rows core core' up up' now new heard heard' content n.decision read by n.follows reply r));
     }
 
 receiving_fault : (May : HouseReply → Type 0) (start mid recorded : Option (List Asked)) (pid : ℕ) (all : List ℕ) (fault : BadFrame) (core0 core core' : CoreState) (up0 up up' : QueueState) (first now new : ClientState) (heard heard' : RunChange) → is_read now.peer.standing ≡ true → core'.policy ≡ core.policy
-    → first_in (mode_of now.peer.standing) now.rest ≡ Faulty fault → Receiving May start mid pid all core0 up0 first core up now heard → NextFault mid recorded fault core core' up up' now heard new heard' → Receiving May start recorded pid all core0 up0 first core' up' new heard'
+    → first_in (parse_mode_of now.peer.standing) now.rest ≡ Faulty fault → Receiving May start mid pid all core0 up0 first core up now heard → NextFault mid recorded fault core core' up up' now heard new heard' → Receiving May start recorded pid all core0 up0 first core' up' new heard'
 receiving_fault May start mid recorded pid all fault core0 core core' up0 up up' first now new heard heard' read pol front h n = record {
   picked = h.picked ++ [];
   used = h.used ++ [];
@@ -149,14 +149,14 @@ receiving_fault May start mid recorded pid all fault core0 core core' up0 up up'
   policy = pol ∙ h.policy;
   goes = λ picks given rows fits live next reply.
       let r = h.goes picks given rows fits live (come-first h.picked [] rows picks next) (reply-first h.used [] rows given reply) in
-      fault-runs core0.policy pid picks given first.peer.number (mode_of first.peer.standing) all h.picked h.used h.asks rows core core' up up' now new heard heard' fault read front n.left n.out n.faults r;
+      fault-runs core0.policy pid picks given first.peer.number (parse_mode_of first.peer.standing) all h.picked h.used h.asks rows core core' up up' now new heard heard' fault read front n.left n.out n.faults r;
 }
 
 pub receiving_goes : (May : HouseReply → Type 0) (start mid recorded : Option (List Asked)) (pid : ℕ) (all : List ℕ) (core0 core core' : CoreState) (up0 up up' : QueueState) (first now new : ClientState) (heard heard' : RunChange) → is_read now.peer.standing ≡ true → core'.policy ≡ core.policy
-    → Receiving May start mid pid all core0 up0 first core up now heard → SendsNext May mid recorded pid true (first_in (mode_of now.peer.standing) now.rest) core core' up up' now heard new heard' → Receiving May start recorded pid all core0 up0 first core' up' new heard'
-receiving_goes May start mid recorded pid all core0 core core' up0 up up' first now new heard heard' read pol h says = by_front (first_in (mode_of now.peer.standing) now.rest) refl says
+    → Receiving May start mid pid all core0 up0 first core up now heard → SendsNext May mid recorded pid true (first_in (parse_mode_of now.peer.standing) now.rest) core core' up up' now heard new heard' → Receiving May start recorded pid all core0 up0 first core' up' new heard'
+receiving_goes May start mid recorded pid all core0 core core' up0 up up' first now new heard heard' read pol h says = by_front (first_in (parse_mode_of now.peer.standing) now.rest) refl says
   where
-    by_front : (f : Front) → first_in (mode_of now.peer.standing) now.rest ≡ f → SendsNext May mid recorded pid true f core core' up up' now heard new heard' → Receiving May start recorded pid all core0 up0 first core' up' new heard'
+    by_front : (f : Front) → first_in (parse_mode_of now.peer.standing) now.rest ≡ f → SendsNext May mid recorded pid true f core core' up up' now heard new heard' → Receiving May start recorded pid all core0 up0 first core' up' new heard'
     by_front (Frame content rest) e s = by_kind (is_proxied now.peer.standing) refl s
       where
         by_kind : (b : Bool) → is_proxied now.peer.standing ≡ b → NextFrame b May mid recorded pid content rest core core' up up' now heard new heard' → Receiving May start recorded pid all core0 up0 first core' up' new heard'
@@ -177,14 +177,14 @@ receives_same May start mid recorded pid all core0 core core' up0 up up' first n
 
 -- nothing whole is left
 pub receives_rest : (May : HouseReply → Type 0) (start mid recorded : Option (List Asked)) (pid : ℕ) (bytes : List ℕ) (core0 core core' : CoreState) (up0 up up' : QueueState) (first now new : ClientState) (heard heard' : RunChange)
-    → Receiving May start mid pid (first.rest ++ bytes) core0 up0 first core up now heard → SendsNext May mid recorded pid false (first_in (mode_of now.peer.standing) now.rest) core core' up up' now heard new heard' → ReceivesPiece May start recorded pid bytes core0 up0 first core' up' new heard'
-receives_rest May start mid recorded pid bytes core0 core core' up0 up up' first now new heard heard' h says = by_front (first_in (mode_of now.peer.standing) now.rest) refl says
+    → Receiving May start mid pid (first.rest ++ bytes) core0 up0 first core up now heard → SendsNext May mid recorded pid false (first_in (parse_mode_of now.peer.standing) now.rest) core core' up up' now heard new heard' → ReceivesPiece May start recorded pid bytes core0 up0 first core' up' new heard'
+receives_rest May start mid recorded pid bytes core0 core core' up0 up up' first now new heard heard' h says = by_front (first_in (parse_mode_of now.peer.standing) now.rest) refl says
   where
-    by_front : (f : Front) → first_in (mode_of now.peer.standing) now.rest ≡ f → SendsNext May mid recorded pid false f core core' up up' now heard new heard' → ReceivesPiece May start recorded pid bytes core0 up0 first core' up' new heard'
+    by_front : (f : Front) → first_in (parse_mode_of now.peer.standing) now.rest ≡ f → SendsNext May mid recorded pid false f core core' up up' now heard new heard' → ReceivesPiece May start recorded pid bytes core0 up0 first core' up' new heard'
     by_front (Frame content rest) e s = absurd s
     by_front More e s = record {
       receiving = receives_same May start mid recorded pid (first.rest ++ bytes) core0 core core' up0 up up' first now new heard heard' s.same s.core_same s.up_same s.received_same s.recorded h;
-      whole = λ r. ap (λ (x : ClientState). first_in (mode_of x.peer.standing) x.rest) s.same ∙ e;
+      whole = λ r. ap (λ (x : ClientState). first_in (parse_mode_of x.peer.standing) x.rest) s.same ∙ e;
     }
     by_front (Faulty fault) e s = absurd s
 

@@ -17,7 +17,7 @@ use Rattle.mux_core.specs.Stands.{Stands}
 use Rattle.mux_core.specs.Calls.{Leaves, LeavesUnsent}
 use Rattle.mux_peers.specs.declared.standing.Standing.TheVariants.{Lost}
 use Rattle.mux_peers.specs.State.{PeerState, part}
-use Rattle.mux_peers.specs.Stands.{Fits, PeerFits}
+use Rattle.mux_peers.specs.Stands.{PartFits, PeerFits}
 use Rattle.mux_peers.specs.Stands as stands
 use Rattle.mux_peers.specs.Losing.{Loses}
 use Rattle.mux_peers.proofs.RowForms.{made}
@@ -73,7 +73,7 @@ gone-loses c c' peer peer' up up' num standing queue leaves = record {
       let unlost : is_lost own ≡ false = not_lost own (out_is own ∙ (ap stands.is_lost (sym fits.peer.standing_is) ∙ here)) in
       let left : Leaves c' (gone k) up up' rows = leaves rows (gone k) st (served-of c rows k st fits.peer.admitted unlost) refl refl refl refl refl in
       let mine : rows_of peer'.number (row ∷ rows) ≡ row ∷ own = ap (λ j. rows_of j (row ∷ rows)) num ∙ own_row k row rows refl in
-      subst (λ (r : Row). Fits (r ∷ rows) (part c' peer' up')) (sym (gone-row policy pid picks given k rows)) (record {
+      subst (λ (r : Row). PartFits (r ∷ rows) (part c' peer' up')) (sym (gone-row policy pid picks given k rows)) (record {
         core = λ l. left.stands;
         peer = subst (λ (o : List Row). PeerFits o peer'.standing peer'.queue) (sym mine)
             (subst (λ (s : _). PeerFits (row ∷ own) s peer'.queue) (sym standing) (subst (PeerFits (row ∷ own) (Lost None)) (sym queue) (peer-gone k fw own peer.standing peer.queue fits.peer)));

@@ -11,7 +11,7 @@ use Rattle.proxy_frames.specs.State.{QueueState}
 use Rattle.mux_history.specs.Policy.{Policy}
 use Rattle.mux_history.specs.declared.why.Why.TheVariants as why
 use Rattle.mux_history.specs.Rows.{Row, rows_of, is_end, is_out, loses, Item, Says, Fate, Goes, Refused, Drop, End}
-use Rattle.mux_history.specs.Channels.{holder, own_of}
+use Rattle.mux_history.specs.Channels.{holder, own_number_of}
 use Rattle.mux_history.specs.Choices.{FromLists, has_reply, numbers_taken, pick_of, replies_given, reply_at, takes_number}
 use Rattle.mux_history.specs.Controls.{body_asks, body_stops, greeted, sent_body}
 use Rattle.mux_history.specs.Farewell.{farewell}
@@ -21,7 +21,7 @@ use Rattle.mux_history.specs.declared.limits.TheConstants.{NUMBERS_END}
 use Rattle.mux_history.specs.Right.{AreFresh, carried_number}
 use Rattle.mux_history.specs.Settings.{by_lists}
 use Rattle.mux_history.specs.Promises.{listens, stops}
-use Rattle.mux_history.specs.Solo.{end_of}
+use Rattle.mux_history.specs.Solo.{run_end_of}
 use Rattle.mux_history.specs.declared.ended.Ended.{Ended}
 use Rattle.mux_history.specs.Journal.{sent_item}
 use Rattle.mux_history.specs.Treat.{goes, all_recorded, bare, queued, row_of, treat}
@@ -32,11 +32,11 @@ use Rattle.mux_peers.specs.declared.standing.Standing.TheVariants.{Awaited, Gree
 use Rattle.mux_peers.specs.declared.run_change.RunChange.{RunChange}
 use Rattle.mux_peers.specs.declared.decision.Decision.{Decision}
 use Rattle.mux_peers.specs.State.{ClientState, part}
-use Rattle.mux_peers.specs.Stands.{Fits, is_greeted, is_proxied, is_read, mode_of, rest_if, standing_of}
+use Rattle.mux_peers.specs.Stands.{PartFits, is_greeted, is_proxied, is_read, parse_mode_of, rest_if, standing_of}
 use Rattle.mux_peers.specs.Stands as stands
-use Rattle.mux_peers.specs.Asked.{asked_of, item_asks, sending_asks}
+use Rattle.mux_peers.specs.Asked.{asks_of_rows, item_asks, sending_asks}
 use Rattle.mux_peers.specs.Decisions.{Decides, DecidesBy, reply_list}
-use Rattle.mux_peers.specs.Bodies.{Does, FollowsBy, end_in}
+use Rattle.mux_peers.specs.Bodies.{DoesBody, FollowsBy, end_in}
 use Rattle.mux_peers.specs.Says.{ComeNext, Makes, SendsPayload}
 use Rattle.mux_peers.specs.Nexts.{FaultBy}
 use Rattle.mux_peers.specs.Pieces.{ReadsOn, ReplyNext, RunsTo, behind, rows_sent}
@@ -87,8 +87,8 @@ and-no : (b : Bool) → (b && false) ≡ false
 and-no true = refl
 and-no false = refl
 
-no-number : (row : Row) (item : Item) → row.item ≡ item → own_of item ≡ None → takes_number row ≡ false
-no-number row item e o = ap (λ (i : Item). is_sent row && is_some (own_of i)) e ∙ (ap (λ (c : Option ℕ). is_sent row && is_some c) o ∙ and-no (is_sent row))
+no-number : (row : Row) (item : Item) → row.item ≡ item → own_number_of item ≡ None → takes_number row ≡ false
+no-number row item e o = ap (λ (i : Item). is_sent row && is_some (own_number_of i)) e ∙ (ap (λ (c : Option ℕ). is_sent row && is_some c) o ∙ and-no (is_sent row))
 
 fresh-none : (row : Row) (rows : List Row) → takes_number row ≡ false → AreFresh rows → AreFresh (row ∷ rows)
 fresh-none row rows e f = (subst (λ b. MatchBool b ((carried_number row.up < NUMBERS_END) × (holder rows (carried_number row.up) ≡ None)) (Unit {0})) (sym e) tt, f)
@@ -185,8 +185,8 @@ body-more May before recorded policy pid picks given k mode all picked used asks
     let greets : greeted (rows_of now.peer.number rows') ≡ is_greeted now.peer.standing = r.fits.peer.greeted_is here in
     let dec : Decides pid now.peer.number (greeted (rows_of now.peer.number rows')) body by.given d = subst (λ b. Decides pid now.peer.number b body by.given d) (sym greets) by.decides in
     let done0 = follows pid by.given body rows' (record { fits = r.fits; live = on.live; here = here; answers = dec.answers; stops = dec.stops; stands = dec.stands }) in
-    let done : Does (part core' new.peer up') heard heard' rows' (row_of (Says k (Body body) by.given) k (sent_body pid k by.given (greeted own) body) own) =
-    subst (λ j. Does (part core' new.peer up') heard heard' rows' (row_of (Says j (Body body) by.given) j (sent_body pid j by.given (greeted (rows_of j rows')) body) (rows_of j rows'))) r.number done0 in
+    let done : DoesBody (part core' new.peer up') heard heard' rows' (row_of (Says k (Body body) by.given) k (sent_body pid k by.given (greeted own) body) own) =
+    subst (λ j. DoesBody (part core' new.peer up') heard heard' rows' (row_of (Says j (Body body) by.given) j (sent_body pid j by.given (greeted (rows_of j rows')) body) (rows_of j rows'))) r.number done0 in
     let asked : is_some by.given ≡ (greeted own && body_asks body) = dec.asked ∙ ap (λ (l : List Row). greeted l && body_asks body) mine in
     let is = body-row policy pid picks given k rows' body by.given asked (reply-after used (reply_list by.given) rows rows' given r.given_is next) in
     let row : Row = row_of (Says k (Body body) by.given) k (sent_body pid k by.given (greeted own) body) own in
@@ -197,7 +197,7 @@ body-more May before recorded policy pid picks given k mode all picked used asks
       item_is = ap (λ (w : Row). w.item) is ∙ parts.0;
       client_is = ap (λ (w : Row). w.client) is ∙ parts.1;
       number = sym done.client_is ∙ parts.1;
-      fits = subst (λ (w : Row). Fits (w ∷ rows') (part core' new.peer up')) (sym is) done.fits;
+      fits = subst (λ (w : Row). PartFits (w ∷ rows') (part core' new.peer up')) (sym is) done.fits;
       taken = ap (λ (w : Row). numbers_taken (w ∷ rows')) is ∙ count-none row rows' (no-number row (Says k (Body body) by.given) parts.0 refl);
       given_is = ap (λ (w : Row). replies_given (w ∷ rows')) is ∙ counts-reply row rows' k body by.given parts.0;
       fresh = λ bytes f. subst (λ (w : Row). AreFresh (w ∷ rows')) (sym is) (fresh-none row rows' (no-number row (Says k (Body body) by.given) parts.0 refl) f);
@@ -208,7 +208,7 @@ body-more May before recorded policy pid picks given k mode all picked used asks
 -- ---- a fault
 
 pub fault-runs : (policy : Policy) (pid : ℕ) (picks : List ℕ) (given : List HouseReply) (k : ℕ) (mode : Mode) (all picked : List ℕ) (used : List HouseReply) (asks : List Asked) (rows : List Row) (core core' : CoreState) (up up' : QueueState) (now new : ClientState) (heard heard' : RunChange) (fault : BadFrame)
-    → is_read now.peer.standing ≡ true → first_in (mode_of now.peer.standing) now.rest ≡ Faulty fault → new.rest ≡ [] → is_read new.peer.standing ≡ false → FaultBy fault (part core now.peer up) heard (part core' new.peer up') heard'
+    → is_read now.peer.standing ≡ true → first_in (parse_mode_of now.peer.standing) now.rest ≡ Faulty fault → new.rest ≡ [] → is_read new.peer.standing ≡ false → FaultBy fault (part core now.peer up) heard (part core' new.peer up') heard'
     → RunsTo policy pid picks given k mode all picked used asks rows core up now heard → RunsTo policy pid picks given k mode all (picked ++ []) (used ++ []) (asks ++ []) rows core' up' new heard'
 fault-runs policy pid picks given k mode all picked used asks rows core core' up up' now new heard heard' fault read front left unread faults r =
     let x : Outgoing = BadFraming fault in
@@ -220,24 +220,24 @@ fault-runs policy pid picks given k mode all picked used asks rows core core' up
     let last = rows-last policy pid picks given k rows r.says x on.live out in
     let row : Row = row_of (Says k x None) k (drops (why.BadFrame fault)) own in
     let done0 = faults rows' r.fits on.live here in
-    let done : Does (part core' new.peer up') heard heard' rows' row = subst (λ j. Does (part core' new.peer up') heard heard' rows' (row_of (Says j x None) j (drops (why.BadFrame fault)) (rows_of j rows'))) r.number done0 in
+    let done : DoesBody (part core' new.peer up') heard heard' rows' row = subst (λ j. DoesBody (part core' new.peer up') heard heard' rows' (row_of (Says j x None) j (drops (why.BadFrame fault)) (rows_of j rows'))) r.number done0 in
     let parts = parts-of (Says k x None) k (drops (why.BadFrame fault)) own in
     record {
       says = r.says ++ x ∷ [];
       number = sym done.client_is ∙ parts.1;
-      fits = subst (λ l. Fits l (part core' new.peer up')) (sym last) done.fits;
+      fits = subst (λ l. PartFits l (part core' new.peer up')) (sym last) done.fits;
       taken = ap numbers_taken last ∙ (count-none row rows' (no-number row (Says k x None) parts.0 refl) ∙ (let t : numbers_taken rows' ≡ numbers_taken rows + length picked = r.taken in omega (arith, length-append picked [])));
       given_is = ap replies_given last ∙ (count-reply row rows' false (ap has_reply parts.0) ∙ (let t : replies_given rows' ≡ replies_given rows + length used = r.given_is in omega (arith, length-append used [])));
-      asked = ap asked_of last ∙ (ap (λ (l : List Asked). asked_of rows' ++ l) (ap item_asks parts.0) ∙ (ap (λ (l : List Asked). l ++ []) r.asked ∙ append_assoc (asked_of rows) asks []));
+      asked = ap asks_of_rows last ∙ (ap (λ (l : List Asked). asks_of_rows rows' ++ l) (ap item_asks parts.0) ∙ (ap (λ (l : List Asked). l ++ []) r.asked ∙ append_assoc (asks_of_rows rows) asks []));
       fresh = λ bytes f. let q = bytes-last k r.says x bytes in subst AreFresh (sym last) (fresh-none row rows' (no-number row (Says k x None) parts.0 refl) (r.fresh q.0 f));
       stops_is = ap listens last ∙ stops-more heard.stops (stops row (rows_of row.client rows')) heard'.stops (listens rows') (listens rows) done.stops_is r.stops_is;
-      ended_is = ap end_of last ∙ ended-more row.fate row rows' heard.ended heard'.ended (end_of rows) refl done.ended_is r.ended_is;
+      ended_is = ap run_end_of last ∙ ended-more row.fate row rows' heard.ended heard'.ended (run_end_of rows) refl done.ended_is r.ended_is;
       reads = λ e. absurd (let d = sym unread ∙ e in cc);
       over = λ e. record {
         more = [];
-        sends_all = ap (λ (p : Parsed). p.says) (on.rest ∙ ap (behind r.says) (parse-at (mode_of now.peer.standing) now.rest (Faulty fault) front)) ∙ sym (append-nil (r.says ++ x ∷ []));
+        sends_all = ap (λ (p : Parsed). p.says) (on.rest ∙ ap (behind r.says) (parse-at (parse_mode_of now.peer.standing) now.rest (Faulty fault) front)) ∙ sym (append-nil (r.says ++ x ∷ []));
         none = inr refl;
-        stopped = λ h l. ap (λ (p : Parsed). p.mode) (on.rest ∙ ap (behind r.says) (parse-at (mode_of now.peer.standing) now.rest (Faulty fault) front));
+        stopped = λ h l. ap (λ (p : Parsed). p.mode) (on.rest ∙ ap (behind r.says) (parse-at (parse_mode_of now.peer.standing) now.rest (Faulty fault) front));
         empty = left;
       };
     }

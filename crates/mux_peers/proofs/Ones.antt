@@ -13,9 +13,9 @@ use Rattle.mux_history.proofs.OwnRows.{idle_row}
 use Rattle.mux_core.specs.State.{CoreState}
 use Rattle.mux_core.specs.Stands.{Stands}
 use Rattle.mux_peers.specs.State.{ClientState, part}
-use Rattle.mux_peers.specs.Stands.{Fits, PeerFits}
+use Rattle.mux_peers.specs.Stands.{PartFits, PeerFits}
 use Rattle.mux_peers.specs.Receivings.{AreHere}
-use Rattle.mux_peers.specs.Among.{AddsFor, AreApart, ChangesOne, EachFits, InFits, MovesTo, is_present}
+use Rattle.mux_peers.specs.Among.{AddsFor, ArePeersApart, ChangesOne, EachFits, InFits, MovesTo, is_present}
 use Rattle.mux_peers.specs.Laws.{OneMovesAll}
 
 -- a row refuses no client whose outcome doesn't
@@ -76,8 +76,8 @@ pub record OneMoved (rows' : List Row) (cs' : List ClientState) (c : CoreState) 
   pub each : EachFits rows' cs'
   pub rest : here ≡ true → (is_ended rows' ≡ false → Stands c rows') × (up.waiting ≡ pending_up rows')
 
-pub one-moves : (k : ℕ) (rows rows' : List Row) → OthersStay k rows rows' → (R : ClientState → ClientState → Type 0) (cs cs' : List ClientState) (c' : CoreState) (up' : QueueState) → EachFits rows cs → AreApart cs → ChangesOne k R cs cs'
-    → ((x y : ClientState) → x.peer.number ≡ k → InFits rows x → R x y → InFits rows' y × Fits rows' (part c' y.peer up')) → OneMoved rows' cs' c' up' (is_present cs k)
+pub one-moves : (k : ℕ) (rows rows' : List Row) → OthersStay k rows rows' → (R : ClientState → ClientState → Type 0) (cs cs' : List ClientState) (c' : CoreState) (up' : QueueState) → EachFits rows cs → ArePeersApart cs → ChangesOne k R cs cs'
+    → ((x y : ClientState) → x.peer.number ≡ k → InFits rows x → R x y → InFits rows' y × PartFits rows' (part c' y.peer up')) → OneMoved rows' cs' c' up' (is_present cs k)
 one-moves k rows rows' e R [] cs' c' up' each apart change step = record { each = subst (EachFits rows') (sym change) tt; rest = λ h. absurd (let d : false ≡ true = h in cc) }
 one-moves k rows rows' e R (c ∷ cs) cs' c' up' each apart change step = by_head (c.peer.number == k) refl change (λ ds h. one-moves k rows rows' e R cs ds c' up' each.1 apart.1 h step)
   where
@@ -97,21 +97,21 @@ one-moves k rows rows' e R (c ∷ cs) cs' c' up' each apart change step = by_hea
           rest = o.rest;
         }
 
-pub apart-changed : (k : ℕ) (R : ClientState → ClientState → Type 0) → ((x y : ClientState) → R x y → y.peer.number ≡ x.peer.number) → (cs cs' : List ClientState) → ChangesOne k R cs cs' → ((j : ℕ) → is_present cs' j ≡ is_present cs j) × (AreApart cs → AreApart cs')
-apart-changed k R same [] cs' h = ((λ j. ap (λ l. is_present l j) h), λ a. subst AreApart (sym h) tt)
+pub apart-changed : (k : ℕ) (R : ClientState → ClientState → Type 0) → ((x y : ClientState) → R x y → y.peer.number ≡ x.peer.number) → (cs cs' : List ClientState) → ChangesOne k R cs cs' → ((j : ℕ) → is_present cs' j ≡ is_present cs j) × (ArePeersApart cs → ArePeersApart cs')
+apart-changed k R same [] cs' h = ((λ j. ap (λ l. is_present l j) h), λ a. subst ArePeersApart (sym h) tt)
 apart-changed k R same (c ∷ cs) cs' h = by_head (c.peer.number == k) h (λ ds g. apart-changed k R same cs ds g)
   where
     by_head : (b : Bool) → MatchBool b ((y : ClientState) × (R c y × (cs' ≡ y ∷ cs))) ((ds : List ClientState) × (ChangesOne k R cs ds × (cs' ≡ c ∷ ds)))
-        → ((ds : List ClientState) → ChangesOne k R cs ds → ((j : ℕ) → is_present ds j ≡ is_present cs j) × (AreApart cs → AreApart ds)) → ((j : ℕ) → is_present cs' j ≡ is_present (c ∷ cs) j) × (AreApart (c ∷ cs) → AreApart cs')
+        → ((ds : List ClientState) → ChangesOne k R cs ds → ((j : ℕ) → is_present ds j ≡ is_present cs j) × (ArePeersApart cs → ArePeersApart ds)) → ((j : ℕ) → is_present cs' j ≡ is_present (c ∷ cs) j) × (ArePeersApart (c ∷ cs) → ArePeersApart cs')
     by_head true w ih =
         let n : w.0.peer.number ≡ c.peer.number = same c w.0 w.1.0 in (
           (λ j. ap (λ l. is_present l j) w.1.1 ∙ ap (λ i. elim (i == j) as (λ _. Bool) [ true ↦ true | false ↦ is_present cs j ]) n),
-          λ a. subst AreApart (sym w.1.1) (ap (is_present cs) n ∙ a.0, a.1),
+          λ a. subst ArePeersApart (sym w.1.1) (ap (is_present cs) n ∙ a.0, a.1),
         )
     by_head false w ih =
         let i = ih w.0 w.1.0 in (
           (λ j. ap (λ l. is_present l j) w.1.1 ∙ ap (λ (b : Bool). elim (c.peer.number == j) as (λ _. Bool) [ true ↦ true | false ↦ b ]) (i.0 j)),
-          λ a. subst AreApart (sym w.1.1) (i.0 c.peer.number ∙ a.0, i.1 a.1),
+          λ a. subst ArePeersApart (sym w.1.1) (i.0 c.peer.number ∙ a.0, i.1 a.1),
         )
 
 -- by another relation, which the client's part in the rows gives

@@ -1,4 +1,4 @@
--- What the outcome of a payload depends on, what one tells that drops its client, and that none
+-- What the outcome of a payload depends on, what one gives that drops its client, and that none
 -- refuses it.
 use Rattle.std.proofs.Common.{◌≡◌, ℕ, List, [], ◌∷◌, true, false, Bool, refl, ◌∙◌, ap, sym, subst, Option, Some, None, Ok, Err, Result, length}
 use Rattle.std.specs.Prelude.{◌&&◌, ◌==◌, is_some, nat_lt}
@@ -12,9 +12,9 @@ use Rattle.ssh_grammar.specs.Said.{Payload}
 use Rattle.mux_history.specs.declared.limits.TheConstants.{MAX_CHANNELS, MAX_GLOBAL_REQUESTS}
 use Rattle.mux_history.specs.declared.why.Why.{Why}
 use Rattle.mux_history.specs.declared.why.Why.TheVariants as why
-use Rattle.mux_history.specs.Summary.{Summary, Transport, Requests, Succeeds, Refuses, Open, Confirmation, Within, Act, read_summary, sender_of}
+use Rattle.mux_history.specs.Summary.{Summary, Transport, Requests, Succeeds, Refuses, Open, Confirmation, Within, Act, read_summary, summary_sender_of}
 use Rattle.mux_history.specs.Rows.{Row, Says, Fate, Goes, Drop, Refused, End, is_refusal}
-use Rattle.mux_history.specs.Channels.{Channel, held_of, own_of, with_own}
+use Rattle.mux_history.specs.Channels.{Channel, held_of, own_number_of, with_own}
 use Rattle.mux_history.specs.Choices.{takes_number}
 use Rattle.mux_history.specs.Ledger.{breach}
 use Rattle.mux_history.specs.Policy.{Policy, may_open}
@@ -27,7 +27,7 @@ abbrev sends_some : List (List ℕ) → Bool
 sends_some [] = false
 sends_some (p ∷ ps) = true
 
--- ---- the number that is picked is looked at only where one is taken
+-- ---- the number that is picked is looked at only where one is used
 
 -- the same with either number, unless the outcome sends
 abbrev FreeOf : Outcome → Outcome → Type 0
@@ -60,7 +60,7 @@ and-some : (a : Bool) (c : ℕ) → (a && is_some (Some c)) ≡ false → a ≡ 
 and-some true c h = h
 and-some false c h = refl
 
-free-summary : (policy : Policy) (k : ℕ) (own : List Row) (n pick : ℕ) (p : List ℕ) (m : Summary) → (sends_some (sent_summary policy k own pick p m).sent && is_some (sender_of m)) ≡ false → sent_summary policy k own n p m ≡ sent_summary policy k own pick p m
+free-summary : (policy : Policy) (k : ℕ) (own : List Row) (n pick : ℕ) (p : List ℕ) (m : Summary) → (sends_some (sent_summary policy k own pick p m).sent && is_some (summary_sender_of m)) ≡ false → sent_summary policy k own n p m ≡ sent_summary policy k own pick p m
 free-summary policy k own n pick p (Open what sender w x) h =
     free-unused sender (sent_open policy own pick p sender what) (sent_open policy own n p sender what) (with_own own sender) (free-kind policy own n pick p sender what) (and-some _ sender h)
 free-summary policy k own n pick p (Confirmation s sender w x) h =
@@ -72,7 +72,7 @@ free-summary policy k own n pick p (Succeeds rest) h = refl
 free-summary policy k own n pick p Refuses h = refl
 free-summary policy k own n pick p (Within r a) h = refl
 
--- where no number is taken the outcome is the same with any
+-- where no number is used the outcome is the same with any
 pub pick-free : (policy : Policy) (k : ℕ) (own : List Row) (n pick : ℕ) (p : List ℕ) → takes_number (bare (Says k (Payload p) None) k (sent_payload policy k own pick p)) ≡ false → sent_payload policy k own n p ≡ sent_payload policy k own pick p
 pick-free policy k own n pick p h = by_read (read_summary p) refl
   where
@@ -81,11 +81,11 @@ pick-free policy k own n pick p h = by_read (read_summary p) refl
     by_read (Ok m) e =
         let a : sent_payload policy k own n p ≡ sent_summary policy k own n p m = ap (λ (r : Result Summary Bad). elim r as (λ _. Outcome) [ Err bad ↦ drops (why.BadMessage bad) | Ok m ↦ sent_summary policy k own n p m ]) e in
         let b : sent_payload policy k own pick p ≡ sent_summary policy k own pick p m = ap (λ (r : Result Summary Bad). elim r as (λ _. Outcome) [ Err bad ↦ drops (why.BadMessage bad) | Ok m ↦ sent_summary policy k own pick p m ]) e in
-        let t : (sends_some (sent_summary policy k own pick p m).sent && is_some (sender_of m)) ≡ false =
-        sym (ap (λ (o : Outcome). sends_some o.sent && is_some (own_of (Says k (Payload p) None))) b ∙ ap (λ (c : Option ℕ). sends_some (sent_summary policy k own pick p m).sent && is_some c) (reading-ok p m sender_of None e)) ∙ h in
+        let t : (sends_some (sent_summary policy k own pick p m).sent && is_some (summary_sender_of m)) ≡ false =
+        sym (ap (λ (o : Outcome). sends_some o.sent && is_some (own_number_of (Says k (Payload p) None))) b ∙ ap (λ (c : Option ℕ). sends_some (sent_summary policy k own pick p m).sent && is_some c) (reading-ok p m summary_sender_of None e)) ∙ h in
         a ∙ (free-summary policy k own n pick p m t ∙ sym b)
 
--- ---- what drops its client tells it nothing
+-- ---- what drops its client gives it nothing
 
 abbrev RecordsUndropped : Outcome → Type 0
 RecordsUndropped o = elim o.ends [ Drop cause ↦ o.recorded ≡ [] | Goes ↦ Unit {0} | Refused ↦ ⊥ | End cause ↦ Unit {0} ]

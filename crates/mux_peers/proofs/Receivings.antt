@@ -25,12 +25,12 @@ use Rattle.mux_core.specs.State.{CoreState}
 use Rattle.std.specs.List.{AllByRecursion}
 use Rattle.mux_history.proofs.Bools.{same-number}
 use Rattle.mux_core.specs.State as core
-use Rattle.mux_core.specs.Stands.{ClientFits, Look, Stands, is_known}
-use Rattle.mux_core.specs.Calls.{ReceivesAs, ReceivesClient, ReceivesOn, recorded_by}
+use Rattle.mux_core.specs.Stands.{ClientFits, Look, Stands, is_member_known}
+use Rattle.mux_core.specs.Calls.{ReceivesAs, ReceivesClient, CoreReceivesOn, recorded_by}
 use Rattle.mux_peers.specs.State.{PeerState, Part, part}
-use Rattle.mux_peers.specs.Stands.{Fits}
+use Rattle.mux_peers.specs.Stands.{PartFits}
 use Rattle.mux_peers.specs.Stands as stands
-use Rattle.mux_peers.specs.Receives.{ReceivesRecorded, IsReceived}
+use Rattle.mux_peers.specs.Receives.{ReceivesRecorded, IsPayloadReceived}
 use Rattle.mux_peers.proofs.Free.{down-free}
 use Rattle.mux_peers.proofs.RowForms.{made, row-on}
 
@@ -73,13 +73,13 @@ heard-next policy pid picks given rows p d e = ap (received_row rows p) e
 -- ---- a client that isn't lost
 
 -- a client that the core knows was admitted
-pub known-admitted : (l : Look) (k : ℕ) (cs : List core.MemberState) → AllByRecursion (ClientFits l) cs → is_known cs k ≡ true → l.admitted k ≡ true
+pub known-admitted : (l : Look) (k : ℕ) (cs : List core.MemberState) → AllByRecursion (ClientFits l) cs → is_member_known cs k ≡ true → l.admitted k ≡ true
 known-admitted l k [] all h = absurd (cc)
 known-admitted l k (c ∷ cs) all h = by_head (c.number == k) refl (λ t. known-admitted l k cs all.1 t)
   where
-    by_head : (b : Bool) → (c.number == k) ≡ b → (is_known cs k ≡ true → l.admitted k ≡ true) → l.admitted k ≡ true
+    by_head : (b : Bool) → (c.number == k) ≡ b → (is_member_known cs k ≡ true → l.admitted k ≡ true) → l.admitted k ≡ true
     by_head true e ih = subst (λ j. l.admitted j ≡ true) (same-number c.number k e) all.0.admitted
-    by_head false e ih = ih (sym (ap (λ b. b || is_known cs k) e) ∙ h)
+    by_head false e ih = ih (sym (ap (λ b. b || is_member_known cs k) e) ∙ h)
 
 pub record IsTo (core1 : CoreState) (k n : ℕ) (p p' : List ℕ) (up up1 : QueueState) (rows : List Row) : Type 0 where
   pub to : dest rows p ≡ ToClient k
@@ -102,7 +102,7 @@ is-to core1 k n p p' up up1 rows (ToClient j) e h =
 pub record ReceivedRow (p : List ℕ) (new : Part) (rows : List Row) (row : Row) : Type 0 where
   pub item_is : row.item ≡ Heard p
   pub client_is : row.client ≡ new.peer.number
-  pub fits : Fits (row ∷ rows) new
+  pub fits : PartFits (row ∷ rows) new
   pub untaken : takes_number row ≡ false
 
 parts-of : (p : List ℕ) (k : ℕ) (o : Outcome) (own : List Row) → ((row_of (Heard p) k o own).item ≡ Heard p) × ((row_of (Heard p) k o own).client ≡ k)
@@ -116,14 +116,14 @@ parts-of p k o own = by_loss (Rattle.mux_history.specs.Rows.loses (Rattle.mux_hi
     by_loss false = (refl, refl)
 
 no-number : (p : List ℕ) (row : Row) → row.item ≡ Heard p → takes_number row ≡ false
-no-number p row e = ap (λ (item : Rattle.mux_history.specs.Rows.Item). Rattle.mux_history.specs.Requests.is_sent row && Rattle.std.specs.Prelude.is_some (Rattle.mux_history.specs.Channels.own_of item)) e ∙ and-no (Rattle.mux_history.specs.Requests.is_sent row)
+no-number p row e = ap (λ (item : Rattle.mux_history.specs.Rows.Item). Rattle.mux_history.specs.Requests.is_sent row && Rattle.std.specs.Prelude.is_some (Rattle.mux_history.specs.Channels.own_number_of item)) e ∙ and-no (Rattle.mux_history.specs.Requests.is_sent row)
   where
     and-no : (b : Bool) → (b && false) ≡ false
     and-no true = refl
     and-no false = refl
 
 pub heard-client : (pid : ℕ) (picks : List ℕ) (given : List HouseReply) (p p' : List ℕ) (core0 core1 : CoreState) (peer : PeerState) (new : Part) (up up1 : QueueState) (n : ℕ) (rows : List Row)
-    → Fits rows (part core0 peer up) → is_ended rows ≡ false → stands.is_lost peer.standing ≡ false → ReceivesOn core0 core1 p p' up up1 (heard.Client peer.number n) → ReceivesRecorded (recorded_by (heard.Client peer.number n) p') (part core1 peer up1) new
+    → PartFits rows (part core0 peer up) → is_ended rows ≡ false → stands.is_lost peer.standing ≡ false → CoreReceivesOn core0 core1 p p' up up1 (heard.Client peer.number n) → ReceivesRecorded (recorded_by (heard.Client peer.number n) p') (part core1 peer up1) new
     → ReceivedRow p new rows (next_row (by_lists core0.policy pid picks given) rows (Heard p))
 heard-client pid picks given p p' core0 core1 peer new up up1 n rows fits live here receives recorded =
     let k : ℕ = peer.number in
@@ -131,7 +131,7 @@ heard-client pid picks given p p' core0 core1 peer new up up1 n rows fits live h
     let o : Outcome = received_for own p in
     let t : IsTo core1 k n p p' up up1 rows = is-to core1 k n p p' up up1 rows (dest rows p) refl (receives rows (fits.core live)).row in
     let is : next_row (by_lists core0.policy pid picks given) rows (Heard p) ≡ row_of (Heard p) k o own = heard-next core0.policy pid picks given rows p (ToClient k) t.to in
-    let h : IsReceived (recorded_by (heard.Client k n) p') p o rows (part core1 peer up1) = record {
+    let h : IsPayloadReceived (recorded_by (heard.Client k n) p') p o rows (part core1 peer up1) = record {
       core = t.receives.stands;
       peer = fits.peer;
       up = t.receives.sent ∙ ap (λ l. l ++ joined (map frame_payload o.sent)) fits.up;
@@ -185,7 +185,7 @@ master-goes p = by_read (read_summary p)
     by_read (Ok m) = going-master m
 
 -- the master's, where nothing goes to a client; or an open that is answered for it
-pub heard-master : (pid : ℕ) (picks : List ℕ) (given : List HouseReply) (policy : Policy) (p p' : List ℕ) (core0 core1 : CoreState) (up up1 : QueueState) (rows : List Row) → Stands core0 rows → up.waiting ≡ pending_up rows → ReceivesOn core0 core1 p p' up up1 heard.Master
+pub heard-master : (pid : ℕ) (picks : List ℕ) (given : List HouseReply) (policy : Policy) (p p' : List ℕ) (core0 core1 : CoreState) (up up1 : QueueState) (rows : List Row) → Stands core0 rows → up.waiting ≡ pending_up rows → CoreReceivesOn core0 core1 p p' up up1 heard.Master
     → QuietRow p core1 up1 rows (next_row (by_lists policy pid picks given) rows (Heard p))
 heard-master pid picks given policy p p' core0 core1 up up1 rows st waits receives = by_dest (dest rows p) refl (receives rows st).row
   where
@@ -215,7 +215,7 @@ heard-master pid picks given policy p p' core0 core1 up up1 rows st waits receiv
     by_dest (Breaks why) e h = absurd (let d = h.to in cc)
 
 -- a client that is lost
-pub heard-lost : (pid : ℕ) (picks : List ℕ) (given : List HouseReply) (policy : Policy) (p p' : List ℕ) (core0 core1 : CoreState) (up up1 : QueueState) (k : ℕ) (rows : List Row) → Stands core0 rows → up.waiting ≡ pending_up rows → ReceivesOn core0 core1 p p' up up1 (heard.Lost k)
+pub heard-lost : (pid : ℕ) (picks : List ℕ) (given : List HouseReply) (policy : Policy) (p p' : List ℕ) (core0 core1 : CoreState) (up up1 : QueueState) (k : ℕ) (rows : List Row) → Stands core0 rows → up.waiting ≡ pending_up rows → CoreReceivesOn core0 core1 p p' up up1 (heard.Lost k)
     → QuietRow p core1 up1 rows (next_row (by_lists policy pid picks given) rows (Heard p))
 heard-lost pid picks given policy p p' core0 core1 up up1 k rows st waits receives = by_dest (dest rows p) refl (receives rows st).row
   where
@@ -234,7 +234,7 @@ pub record EndRow (p : List ℕ) (up1 : QueueState) (cause : _) (rows : List Row
 end-row : (p : List ℕ) (up up1 : QueueState) (cause : Rattle.mux_history.specs.declared.ended.Ended.Ended) (rows : List Row) (row : Row) → row ≡ made (Heard p) 0 [] [] [] (End cause) → up.waiting ≡ pending_up rows → up1 ≡ up → EndRow p up1 cause rows row
 end-row p up up1 cause rows row e waits same = record { is = e; up = ap (λ (q : QueueState). q.waiting) same ∙ (waits ∙ (sym (append-nil (pending_up rows)) ∙ ap (λ (r : Row). pending_up (r ∷ rows)) (sym e))) }
 
-pub heard-disconnects : (pid : ℕ) (picks : List ℕ) (given : List HouseReply) (policy : Policy) (p p' : List ℕ) (core0 core1 : CoreState) (up up1 : QueueState) (rows : List Row) → Stands core0 rows → up.waiting ≡ pending_up rows → ReceivesOn core0 core1 p p' up up1 heard.Disconnect
+pub heard-disconnects : (pid : ℕ) (picks : List ℕ) (given : List HouseReply) (policy : Policy) (p p' : List ℕ) (core0 core1 : CoreState) (up up1 : QueueState) (rows : List Row) → Stands core0 rows → up.waiting ≡ pending_up rows → CoreReceivesOn core0 core1 p p' up up1 heard.Disconnect
     → EndRow p up1 ended.Disconnected rows (next_row (by_lists policy pid picks given) rows (Heard p))
 heard-disconnects pid picks given policy p p' core0 core1 up up1 rows st waits receives = by_dest (dest rows p) refl (receives rows st).row
   where
@@ -245,7 +245,7 @@ heard-disconnects pid picks given policy p p' core0 core1 up up1 rows st waits r
     by_dest (Breaks why) e h = absurd (let d = h.to in cc)
 
 pub heard-broke : (pid : ℕ) (picks : List ℕ) (given : List HouseReply) (policy : Policy) (p p' : List ℕ) (core0 core1 : CoreState) (up up1 : QueueState) (why : Break) (index : ℕ) (rows : List Row) → Stands core0 rows → up.waiting ≡ pending_up rows
-    → index ≡ Rattle.std.specs.Prelude.min (Rattle.mux_history.specs.Heard.next_index rows) 18446744073709551615 → ReceivesOn core0 core1 p p' up up1 (heard.Broke why)
+    → index ≡ Rattle.std.specs.Prelude.min (Rattle.mux_history.specs.Heard.next_index rows) 18446744073709551615 → CoreReceivesOn core0 core1 p p' up up1 (heard.Broke why)
     → EndRow p up1 (ended.Broke index why) rows (next_row (by_lists policy pid picks given) rows (Heard p))
 heard-broke pid picks given policy p p' core0 core1 up up1 why index rows st waits place receives = by_dest (dest rows p) refl (receives rows st).row
   where

@@ -11,7 +11,7 @@ use Rattle.mux_history.specs.Rows.{Row, rows_of, is_end, is_ended, is_out, Item,
 use Rattle.mux_history.specs.Choices.{numbers_taken, replies_given}
 use Rattle.mux_history.specs.Settings.{by_lists}
 use Rattle.mux_history.specs.Promises.{listens, stops}
-use Rattle.mux_history.specs.Solo.{end_of}
+use Rattle.mux_history.specs.Solo.{run_end_of}
 use Rattle.mux_history.specs.declared.ended.Ended.{Ended}
 use Rattle.mux_history.specs.Journal.{sent_item}
 use Rattle.mux_history.specs.Log.{Setting, makes_next, more_all, more_of, next_row}
@@ -19,10 +19,10 @@ use Rattle.mux_core.specs.State.{CoreState}
 use Rattle.mux_peers.specs.declared.standing.Standing.{Standing}
 use Rattle.mux_peers.specs.declared.standing.Standing.TheVariants.{Awaited, Greeted, Proxied, Unread, Lost}
 use Rattle.mux_peers.specs.State.{ClientState, PeerState, part}
-use Rattle.mux_peers.specs.Stands.{Fits, is_read, mode_of, rest_if, standing_in, stands_by, standing_of}
+use Rattle.mux_peers.specs.Stands.{PartFits, is_read, parse_mode_of, rest_if, standing_in, stands_by, standing_of}
 use Rattle.mux_peers.specs.Stands as stands
 use Rattle.mux_peers.specs.declared.run_change.RunChange.{RunChange}
-use Rattle.mux_peers.specs.Asked.{asked_of, item_asks, sending_asks}
+use Rattle.mux_peers.specs.Asked.{asks_of_rows, item_asks, sending_asks}
 use Rattle.mux_peers.specs.Bodies.{end_in}
 use Rattle.mux_peers.specs.Says.{IsOfBytes}
 use Rattle.mux_history.specs.Right.{AreFresh}
@@ -81,7 +81,7 @@ shows-out (End cause) k x given s s' here e r = inl (inl refl)
 
 -- ---- the mode
 
-stands-mode : (m : Mode) → mode_of (standing_in m) ≡ m
+stands-mode : (m : Mode) → parse_mode_of (standing_in m) ≡ m
 stands-mode InControl = refl
 stands-mode InProxy = refl
 stands-mode Stopped = refl
@@ -92,14 +92,14 @@ stands-stopped InProxy e = absurd (cc)
 stands-stopped Stopped e = refl
 
 -- after a frame the client is read as its saying has it
-pub mode-next : (s : Standing) (content : List ℕ) → is_read s ≡ true → mode_of (stands_by (sending_in (mode_of s) content)) ≡ mode_after (mode_of s) content
+pub mode-next : (s : Standing) (content : List ℕ) → is_read s ≡ true → parse_mode_of (stands_by (sending_in (parse_mode_of s) content)) ≡ mode_after (parse_mode_of s) content
 mode-next Awaited content e = stands-mode (after_body content)
 mode-next Greeted content e = stands-mode (after_body content)
 mode-next Proxied content e = refl
 mode-next Unread content e = absurd (cc)
 mode-next (Lost why) content e = absurd (cc)
 
-mode-stops : (s : Standing) (content : List ℕ) → is_read s ≡ true → is_read (stands_by (sending_in (mode_of s) content)) ≡ false → mode_after (mode_of s) content ≡ Stopped
+mode-stops : (s : Standing) (content : List ℕ) → is_read s ≡ true → is_read (stands_by (sending_in (parse_mode_of s) content)) ≡ false → mode_after (parse_mode_of s) content ≡ Stopped
 mode-stops Awaited content e r = stands-stopped (after_body content) r
 mode-stops Greeted content e r = stands-stopped (after_body content) r
 mode-stops Proxied content e r = absurd (cc)
@@ -117,7 +117,7 @@ pub record OneMore (policy : Policy) (pid : ℕ) (picks : List ℕ) (given : Lis
   pub item_is : (next_row (by_lists policy pid picks given) rows' (sent_item k x)).item ≡ Says k x reply
   pub client_is : (next_row (by_lists policy pid picks given) rows' (sent_item k x)).client ≡ k
   pub number : peer.number ≡ k
-  pub fits : Fits (next_row (by_lists policy pid picks given) rows' (sent_item k x) ∷ rows') (part core peer up)
+  pub fits : PartFits (next_row (by_lists policy pid picks given) rows' (sent_item k x) ∷ rows') (part core peer up)
   pub taken : numbers_taken (next_row (by_lists policy pid picks given) rows' (sent_item k x) ∷ rows') ≡ numbers_taken rows' + length picked
   pub given_is : replies_given (next_row (by_lists policy pid picks given) rows' (sent_item k x) ∷ rows') ≡ replies_given rows' + length used
   pub fresh : IsOfBytes (sent_item k x) → AreFresh rows' → AreFresh (next_row (by_lists policy pid picks given) rows' (sent_item k x) ∷ rows')
@@ -138,21 +138,21 @@ stops-more a b c l m e f = ap (λ x. not b && x) f ∙ (by_case a b ∙ ap (λ x
     by_case false true = refl
     by_case false false = refl
 
-pub ended-more : (f : Fate) (row : Row) (rows : List Row) (a c m : Option Ended) → row.fate ≡ f → c ≡ end_in f a → end_of rows ≡ ended_then a m → end_of (row ∷ rows) ≡ ended_then c m
-ended-more (End cause) row rows a c m e h g = ap (λ (f : Fate). elim f as (λ _. Option Ended) [ End cause ↦ Some cause | Goes ↦ end_of rows | Refused ↦ end_of rows | Drop why ↦ end_of rows ]) e ∙ sym (ap (λ x. ended_then x m) h)
-ended-more Goes row rows a c m e h g = ap (λ (f : Fate). elim f as (λ _. Option Ended) [ End cause ↦ Some cause | Goes ↦ end_of rows | Refused ↦ end_of rows | Drop why ↦ end_of rows ]) e ∙ (g ∙ sym (ap (λ x. ended_then x m) h))
-ended-more Refused row rows a c m e h g = ap (λ (f : Fate). elim f as (λ _. Option Ended) [ End cause ↦ Some cause | Goes ↦ end_of rows | Refused ↦ end_of rows | Drop why ↦ end_of rows ]) e ∙ (g ∙ sym (ap (λ x. ended_then x m) h))
-ended-more (Drop why) row rows a c m e h g = ap (λ (f : Fate). elim f as (λ _. Option Ended) [ End cause ↦ Some cause | Goes ↦ end_of rows | Refused ↦ end_of rows | Drop why ↦ end_of rows ]) e ∙ (g ∙ sym (ap (λ x. ended_then x m) h))
+pub ended-more : (f : Fate) (row : Row) (rows : List Row) (a c m : Option Ended) → row.fate ≡ f → c ≡ end_in f a → run_end_of rows ≡ ended_then a m → run_end_of (row ∷ rows) ≡ ended_then c m
+ended-more (End cause) row rows a c m e h g = ap (λ (f : Fate). elim f as (λ _. Option Ended) [ End cause ↦ Some cause | Goes ↦ run_end_of rows | Refused ↦ run_end_of rows | Drop why ↦ run_end_of rows ]) e ∙ sym (ap (λ x. ended_then x m) h)
+ended-more Goes row rows a c m e h g = ap (λ (f : Fate). elim f as (λ _. Option Ended) [ End cause ↦ Some cause | Goes ↦ run_end_of rows | Refused ↦ run_end_of rows | Drop why ↦ run_end_of rows ]) e ∙ (g ∙ sym (ap (λ x. ended_then x m) h))
+ended-more Refused row rows a c m e h g = ap (λ (f : Fate). elim f as (λ _. Option Ended) [ End cause ↦ Some cause | Goes ↦ run_end_of rows | Refused ↦ run_end_of rows | Drop why ↦ run_end_of rows ]) e ∙ (g ∙ sym (ap (λ x. ended_then x m) h))
+ended-more (Drop why) row rows a c m e h g = ap (λ (f : Fate). elim f as (λ _. Option Ended) [ End cause ↦ Some cause | Goes ↦ run_end_of rows | Refused ↦ run_end_of rows | Drop why ↦ run_end_of rows ]) e ∙ (g ∙ sym (ap (λ x. ended_then x m) h))
 
 -- of a frame that its client sends
 pub frame-runs : (policy : Policy) (pid : ℕ) (picks : List ℕ) (given : List HouseReply) (k : ℕ) (mode : Mode) (all picked picked' : List ℕ) (used used' : List HouseReply) (asks asks' : List Asked) (rows : List Row) (core core' : CoreState) (up up' : QueueState) (now new : ClientState) (heard heard' : RunChange) (content rest : List ℕ)
-    → is_read now.peer.standing ≡ true → first_in (mode_of now.peer.standing) now.rest ≡ Frame content rest → new.rest ≡ rest_if (is_read new.peer.standing) rest
+    → is_read now.peer.standing ≡ true → first_in (parse_mode_of now.peer.standing) now.rest ≡ Frame content rest → new.rest ≡ rest_if (is_read new.peer.standing) rest
     → (r : RunsTo policy pid picks given k mode all picked used asks rows core up now heard)
-    → OneMore policy pid picks given k (rows_sent policy pid picks given k rows r.says) (sending_in (mode_of now.peer.standing) content) picked' used' asks' core' up' new.peer heard heard'
+    → OneMore policy pid picks given k (rows_sent policy pid picks given k rows r.says) (sending_in (parse_mode_of now.peer.standing) content) picked' used' asks' core' up' new.peer heard heard'
     → RunsTo policy pid picks given k mode all (picked ++ picked') (used ++ used') (asks ++ asks') rows core' up' new heard'
 frame-runs policy pid picks given k mode all picked picked' used used' asks asks' rows core core' up up' now new heard heard' content rest read front left r one =
     let s : Standing = now.peer.standing in
-    let x : Outgoing = sending_in (mode_of s) content in
+    let x : Outgoing = sending_in (parse_mode_of s) content in
     let rows' : List Row = rows_sent policy pid picks given k rows r.says in
     let own : List Row = rows_of k rows' in
     let row : Row = next_row (by_lists policy pid picks given) rows' (sent_item k x) in
@@ -164,27 +164,27 @@ frame-runs policy pid picks given k mode all picked picked' used used' asks asks
     let mine : rows_of new.peer.number (row ∷ rows') ≡ row ∷ own = ap (λ j. rows_of j (row ∷ rows')) one.number ∙ own_row k row rows' one.client_is in
     let stands' : new.peer.standing ≡ standing_step row.fate (Says k x one.reply) s =
     one.fits.peer.standing_is ∙ (ap standing_of mine ∙ (standing_row (Says k x one.reply) row.fate row own one.item_is refl ∙ ap (standing_step row.fate (Says k x one.reply)) (sym stood))) in
-    let said-rest : parse mode all ≡ behind (r.says ++ x ∷ []) (parse (mode_after (mode_of s) content) rest) =
-    on.rest ∙ (ap (behind r.says) (parse-at (mode_of s) now.rest (Frame content rest) front) ∙ behind-more r.says x (parse (mode_after (mode_of s) content) rest)) in
+    let said-rest : parse mode all ≡ behind (r.says ++ x ∷ []) (parse (mode_after (parse_mode_of s) content) rest) =
+    on.rest ∙ (ap (behind r.says) (parse-at (parse_mode_of s) now.rest (Frame content rest) front) ∙ behind-more r.says x (parse (mode_after (parse_mode_of s) content) rest)) in
     record {
       says = r.says ++ x ∷ [];
       number = one.number;
-      fits = subst (λ l. Fits l (part core' new.peer up')) (sym last) one.fits;
+      fits = subst (λ l. PartFits l (part core' new.peer up')) (sym last) one.fits;
       taken = ap numbers_taken last ∙ (one.taken ∙ (let t : numbers_taken rows' ≡ numbers_taken rows + length picked = r.taken in omega (arith, length-append picked picked')));
       given_is = ap replies_given last ∙ (one.given_is ∙ (let t : replies_given rows' ≡ replies_given rows + length used = r.given_is in omega (arith, length-append used used')));
-      asked = ap asked_of last ∙ (ap (λ (l : List Asked). asked_of rows' ++ l) (ap item_asks one.item_is ∙ one.asks_is) ∙ (ap (λ (l : List Asked). l ++ asks') r.asked ∙ append_assoc (asked_of rows) asks asks'));
+      asked = ap asks_of_rows last ∙ (ap (λ (l : List Asked). asks_of_rows rows' ++ l) (ap item_asks one.item_is ∙ one.asks_is) ∙ (ap (λ (l : List Asked). l ++ asks') r.asked ∙ append_assoc (asks_of_rows rows) asks asks'));
       fresh = λ bytes f. let q = bytes-last k r.says x bytes in subst AreFresh (sym last) (one.fresh q.1 (r.fresh q.0 f));
       stops_is = ap listens last ∙ stops-more heard.stops (stops row (rows_of row.client rows')) heard'.stops (listens rows') (listens rows) one.stops_is r.stops_is;
-      ended_is = ap end_of last ∙ ended-more row.fate row rows' heard.ended heard'.ended (end_of rows) refl one.ended_is r.ended_is;
+      ended_is = ap run_end_of last ∙ ended-more row.fate row rows' heard.ended heard'.ended (run_end_of rows) refl one.ended_is r.ended_is;
       reads = λ e.
           let shown = shows-read row.fate k x one.reply s new.peer.standing here stands' e in
           record {
             live = ap is_ended last ∙ (ap (λ b. b || is_ended rows') shown.0 ∙ on.live);
-            rest = said-rest ∙ (ap (λ m. behind (r.says ++ x ∷ []) (parse m rest)) (sym (ap mode_of shown.1 ∙ mode-next s content read)) ∙ ap (λ l. behind (r.says ++ x ∷ []) (parse (mode_of new.peer.standing) l)) (sym (left ∙ ap (λ b. rest_if b rest) e)));
+            rest = said-rest ∙ (ap (λ m. behind (r.says ++ x ∷ []) (parse m rest)) (sym (ap parse_mode_of shown.1 ∙ mode-next s content read)) ∙ ap (λ l. behind (r.says ++ x ∷ []) (parse (parse_mode_of new.peer.standing) l)) (sym (left ∙ ap (λ b. rest_if b rest) e)));
           };
       over = λ e.
           record {
-            more = (parse (mode_after (mode_of s) content) rest).says;
+            more = (parse (mode_after (parse_mode_of s) content) rest).says;
             sends_all = ap (λ (p : Parsed). p.says) said-rest;
             none = elim (shows-out row.fate k x one.reply s new.peer.standing here stands' e) [
               | inl w ↦ inl (elim w [
@@ -200,8 +200,8 @@ frame-runs policy pid picks given k mode all picked picked' used used' asks asks
     }
   where
     -- the run neither ended by the row nor was the client lost by it
-    by_shown : {P : Type 0} (row : Row) (rows' : List Row) (was : Bool) → is_ended rows' ≡ false → stands.is_lost new.peer.standing ≡ false → (is_end row.fate || is_ended rows') ≡ false → ((is_end row.fate ≡ true) ⊎ (stands.is_lost new.peer.standing ≡ true)) ⊎ (is_read (stands_by (sending_in (mode_of now.peer.standing) content)) ≡ false)
-        → (is_read (stands_by (sending_in (mode_of now.peer.standing) content)) ≡ false → P) → P
+    by_shown : {P : Type 0} (row : Row) (rows' : List Row) (was : Bool) → is_ended rows' ≡ false → stands.is_lost new.peer.standing ≡ false → (is_end row.fate || is_ended rows') ≡ false → ((is_end row.fate ≡ true) ⊎ (stands.is_lost new.peer.standing ≡ true)) ⊎ (is_read (stands_by (sending_in (parse_mode_of now.peer.standing) content)) ≡ false)
+        → (is_read (stands_by (sending_in (parse_mode_of now.peer.standing) content)) ≡ false → P) → P
     by_shown row rows' was live h l (inl (inl t)) f = absurd (let d : true ≡ false = sym (ap (λ b. b || is_ended rows') t) ∙ l in cc)
     by_shown row rows' was live h l (inl (inr t)) f = absurd (let d : true ≡ false = sym t ∙ h in cc)
     by_shown row rows' was live h l (inr t) f = f t

@@ -27,7 +27,7 @@ use Rattle.mux_core.specs.Calls.{Leaves, LeavesRecorded, LeavesUnsent}
 use Rattle.mux_peers.specs.declared.standing.Standing.{Standing}
 use Rattle.mux_peers.specs.declared.standing.Standing.TheVariants.{Lost, Proxied}
 use Rattle.mux_peers.specs.State.{PeerState, Part, part}
-use Rattle.mux_peers.specs.Stands.{Fits, PeerFits}
+use Rattle.mux_peers.specs.Stands.{PartFits, PeerFits}
 use Rattle.mux_peers.specs.Stands as stands
 use Rattle.mux_peers.specs.Says.{ComeNext, Makes}
 use Rattle.mux_peers.proofs.Free.{down-free}
@@ -77,7 +77,7 @@ fresh-by row p rows true e f bytes all = (subst (λ b. MatchBool b ((carried_num
 fresh-by row p rows false e f bytes all = (subst (λ b. MatchBool b ((carried_number row.up < NUMBERS_END) × (holder rows (carried_number row.up) ≡ None)) (Unit {0})) (sym e) tt, all)
 
 makes : (k : ℕ) (p : List ℕ) (ups fw down : List (List ℕ)) (f : Fate) (rows : List Row) (row : Row) (new : Part) (pick : ℕ) (tk : Bool) → row ≡ made (said k p) k ups fw down f → new.peer.number ≡ k
-    → takes_number (made (said k p) k ups fw down f) ≡ tk → FreshBy tk p rows ups → is_end f ≡ false → Fits (made (said k p) k ups fw down f ∷ rows) new → Makes (picked_if tk pick) (said k p) new rows row
+    → takes_number (made (said k p) k ups fw down f) ≡ tk → FreshBy tk p rows ups → is_end f ≡ false → PartFits (made (said k p) k ups fw down f ∷ rows) new → Makes (picked_if tk pick) (said k p) new rows row
 makes k p ups fw down f rows row new pick tk e num takes fresh runs fits = subst (Makes (picked_if tk pick) (said k p) new rows) (sym e) (record {
   item_is = refl;
   client_is = sym num;
@@ -90,7 +90,7 @@ makes k p ups fw down f rows row new pick tk e num takes fresh runs fits = subst
 -- ---- what is known before the row, of a client in proxy mode
 
 pub record Before (core0 : CoreState) (peer : PeerState) (up : QueueState) (rows : List Row) : Type 0 where
-  pub fits : Fits rows (part core0 peer up)
+  pub fits : PartFits rows (part core0 peer up)
   pub live : is_ended rows ≡ false
   pub proxied : peer.standing ≡ Proxied
 

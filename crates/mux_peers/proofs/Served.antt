@@ -17,7 +17,7 @@ use Rattle.mux_history.specs.Pending.{pending_up}
 use Rattle.mux_history.specs.Treat.{received_row}
 use Rattle.ssh_grammar.specs.declared.fault.BadFrame.{BadFrame}
 use Rattle.mux_history.specs.Settings.{by_lists}
-use Rattle.mux_history.specs.Solo.{end_of}
+use Rattle.mux_history.specs.Solo.{run_end_of}
 use Rattle.mux_history.specs.Journal.{received_item}
 use Rattle.mux_history.specs.Log.{Setting, is_took, makes_next, makes_row, more_all, more_of, next_row}
 use Rattle.mux_history.proofs.OwnRows.{idle_row, own_row}
@@ -49,11 +49,11 @@ makes-heard s item rows live makes =
 
 -- ---- what the row changes
 
-pub end-shown : (f : Fate) (row : Row) (rows : List Row) → row.fate ≡ f → end_of rows ≡ None → end_of (row ∷ rows) ≡ end_by f
-end-shown (End cause) row rows e n = ap (λ (f : Fate). elim f as (λ _. Option Ended) [ End cause ↦ Some cause | Goes ↦ end_of rows | Refused ↦ end_of rows | Drop why ↦ end_of rows ]) e
-end-shown Goes row rows e n = ap (λ (f : Fate). elim f as (λ _. Option Ended) [ End cause ↦ Some cause | Goes ↦ end_of rows | Refused ↦ end_of rows | Drop why ↦ end_of rows ]) e ∙ n
-end-shown Refused row rows e n = ap (λ (f : Fate). elim f as (λ _. Option Ended) [ End cause ↦ Some cause | Goes ↦ end_of rows | Refused ↦ end_of rows | Drop why ↦ end_of rows ]) e ∙ n
-end-shown (Drop why) row rows e n = ap (λ (f : Fate). elim f as (λ _. Option Ended) [ End cause ↦ Some cause | Goes ↦ end_of rows | Refused ↦ end_of rows | Drop why ↦ end_of rows ]) e ∙ n
+pub end-shown : (f : Fate) (row : Row) (rows : List Row) → row.fate ≡ f → run_end_of rows ≡ None → run_end_of (row ∷ rows) ≡ end_by f
+end-shown (End cause) row rows e n = ap (λ (f : Fate). elim f as (λ _. Option Ended) [ End cause ↦ Some cause | Goes ↦ run_end_of rows | Refused ↦ run_end_of rows | Drop why ↦ run_end_of rows ]) e
+end-shown Goes row rows e n = ap (λ (f : Fate). elim f as (λ _. Option Ended) [ End cause ↦ Some cause | Goes ↦ run_end_of rows | Refused ↦ run_end_of rows | Drop why ↦ run_end_of rows ]) e ∙ n
+end-shown Refused row rows e n = ap (λ (f : Fate). elim f as (λ _. Option Ended) [ End cause ↦ Some cause | Goes ↦ run_end_of rows | Refused ↦ run_end_of rows | Drop why ↦ run_end_of rows ]) e ∙ n
+end-shown (Drop why) row rows e n = ap (λ (f : Fate). elim f as (λ _. Option Ended) [ End cause ↦ Some cause | Goes ↦ run_end_of rows | Refused ↦ run_end_of rows | Drop why ↦ run_end_of rows ]) e ∙ n
 
 goes-on : (f : Fate) → end_by f ≡ None → is_end f ≡ false
 goes-on (End cause) e = absurd (cc)
@@ -113,7 +113,7 @@ payload-heard policy pid picks given all noted noted' rows core core' cs cs' que
       says = r.says ++ Payload content ∷ [];
       fit = subst (λ l. AllFit l core' cs' queue') (sym last) by.fit;
       lost = ap losses last ∙ (by.lost ∙ (ap (λ l. l ++ noted') r.lost ∙ append_assoc (losses rows) noted noted'));
-      ended_is = by.ended_is ∙ (sym (end-shown row.fate row rows' refl (sym r.ended_is)) ∙ ap end_of (sym last));
+      ended_is = by.ended_is ∙ (sym (end-shown row.fate row rows' refl (sym r.ended_is)) ∙ ap run_end_of (sym last));
       on = λ e. record {
         live = ap is_ended last ∙ (ap (λ b. b || is_ended rows') (goes-on row.fate (sym by.ended_is ∙ e)) ∙ on.live);
         sent_is = said;

@@ -11,7 +11,7 @@ use Rattle.mux_history.specs.declared.why.Why.{Why}
 use Rattle.mux_history.specs.Policy.{Policy}
 use Rattle.mux_history.specs.Rows.{Row, Item, Says, Heard, BadServer, rows_of, is_ended}
 use Rattle.mux_history.specs.declared.limits.TheConstants.{NUMBERS_END}
-use Rattle.mux_history.specs.Channels.{holder, own_of}
+use Rattle.mux_history.specs.Channels.{holder, own_number_of}
 use Rattle.mux_history.specs.Choices.{has_reply, numbers_taken, replies_given, takes_number}
 use Rattle.mux_history.specs.Controls.{body_stops, greeted}
 use Rattle.mux_history.specs.Promises.{listens, stops}
@@ -24,7 +24,7 @@ use Rattle.mux_core.specs.State.{CoreState}
 use Rattle.mux_peers.specs.State.{ClientState}
 use Rattle.mux_peers.specs.Pieces.{behind}
 use Rattle.mux_peers.specs.Server.{ReceivedTo, ReceivesOnwards, rows_received}
-use Rattle.mux_peers.specs.Laws.{IsReceivedTo, PiecesOfTheServer, ServerReads, rows_recorded}
+use Rattle.mux_peers.specs.Laws.{IsReceivedTo, PiecesOfTheServer, PeersReadServer, rows_recorded}
 use Rattle.mux_peers.proofs.Journaled.{drop-front, map-append, more-append}
 use Rattle.mux_peers.proofs.Served.{heard-item}
 use Rattle.mux_peers.proofs.ServerPieces.{ended-some}
@@ -54,9 +54,9 @@ quiet-row row rows takes reply stop = record {
 }
 
 -- of an item that is no client's saying
-quiet-item : (item : Item) (row : Row) (rows : List Row) → row.item ≡ item → own_of item ≡ None → has_reply item ≡ false → stops_by item (rows_of row.client rows) ≡ false → Quiet rows (row ∷ rows)
+quiet-item : (item : Item) (row : Row) (rows : List Row) → row.item ≡ item → own_number_of item ≡ None → has_reply item ≡ false → stops_by item (rows_of row.client rows) ≡ false → Quiet rows (row ∷ rows)
 quiet-item item row rows e own reply stop = quiet-row row rows
-    (ap (λ (i : Item). is_sent row && is_some (own_of i)) e ∙ (ap (λ (o : Option ℕ). is_sent row && is_some o) own ∙ and-false (is_sent row)))
+    (ap (λ (i : Item). is_sent row && is_some (own_number_of i)) e ∙ (ap (λ (o : Option ℕ). is_sent row && is_some o) own ∙ and-false (is_sent row)))
     (ap has_reply e ∙ reply)
     (ap (λ (i : Item). goes row.fate && stops_by i (rows_of row.client rows)) e ∙ (ap (λ b. goes row.fate && b) stop ∙ and-false (goes row.fate)))
 
@@ -103,7 +103,7 @@ no-rows s (x ∷ xs) rows e = ap (λ l. more_all s l (map received_item xs)) (no
 -- ---- the rows of the mark
 
 -- what is new in what is sent by more bytes
-says-new : (before bytes rest : List ℕ) → ServerReads before rest → drop (length (parse InProxy before).says) (parse InProxy (before ++ bytes)).says ≡ (parse InProxy (rest ++ bytes)).says
+says-new : (before bytes rest : List ℕ) → PeersReadServer before rest → drop (length (parse InProxy before).says) (parse InProxy (before ++ bytes)).says ≡ (parse InProxy (rest ++ bytes)).says
 says-new before bytes rest r =
     ap (λ (p : Parsed). drop (length (parse InProxy before).says) p.says) (parse-append InProxy before bytes)
     ∙ (drop-front (parse InProxy before).says (parse (parse InProxy before).mode ((parse InProxy before).rest ++ bytes)).says
@@ -111,7 +111,7 @@ says-new before bytes rest r =
 
 -- with all that was received in a piece, the rows are those of the mark
 rows-same : (policy : Policy) (pid : ℕ) (picks : List ℕ) (given : List HouseReply) (before bytes rest rest' : List ℕ) (noted : List (ℕ × Option Why)) (rows : List Row) (core : CoreState) (cs : List ClientState) (queue : QueueState) (index : ℕ) (ended : Option Ended)
-    → ServerReads before rest → (ended ≡ None → first_in InProxy rest' ≡ More) → (r : ReceivedTo policy pid picks given (rest ++ bytes) noted rows core cs queue rest' index ended)
+    → PeersReadServer before rest → (ended ≡ None → first_in InProxy rest' ≡ More) → (r : ReceivedTo policy pid picks given (rest ++ bytes) noted rows core cs queue rest' index ended)
     → rows_recorded policy pid picks given before bytes rows ≡ rows_received policy pid picks given rows r.says
 rows-same policy pid picks given before bytes rest rest' noted rows core cs queue index ended reads whole r =
     ap (λ xs. more_all s rows (map received_item xs)) (says-new before bytes rest reads) ∙ by_end ended refl
@@ -136,7 +136,7 @@ rows-same policy pid picks given before bytes rest rest' noted rows core cs queu
 
 -- and while the run goes on all its bytes are read so
 reads-on : (policy : Policy) (pid : ℕ) (picks : List ℕ) (given : List HouseReply) (before bytes rest rest' : List ℕ) (noted : List (ℕ × Option Why)) (rows : List Row) (core : CoreState) (cs : List ClientState) (queue : QueueState) (index : ℕ) (ended : Option Ended)
-    → ServerReads before rest → first_in InProxy rest' ≡ More → ended ≡ None → ReceivedTo policy pid picks given (rest ++ bytes) noted rows core cs queue rest' index ended → ServerReads (before ++ bytes) rest'
+    → PeersReadServer before rest → first_in InProxy rest' ≡ More → ended ≡ None → ReceivedTo policy pid picks given (rest ++ bytes) noted rows core cs queue rest' index ended → PeersReadServer (before ++ bytes) rest'
 reads-on policy pid picks given before bytes rest rest' noted rows core cs queue index ended reads whole e r =
     let on = r.on e in
     let more : parse (parse InProxy before).mode ((parse InProxy before).rest ++ bytes) ≡ behind r.says (record { says = []; mode = InProxy; rest = rest' }) =

@@ -14,7 +14,7 @@ use Rattle.mux_history.specs.declared.why.Why.{Why}
 use Rattle.mux_history.specs.Policy.{Policy}
 use Rattle.mux_history.specs.Rows.{Row, BadServer, Fate, Goes, Refused, Drop, End, is_end, is_ended, losses}
 use Rattle.mux_history.specs.Settings.{by_lists}
-use Rattle.mux_history.specs.Solo.{end_of}
+use Rattle.mux_history.specs.Solo.{run_end_of}
 use Rattle.mux_history.specs.Journal.{received_item}
 use Rattle.mux_history.specs.Log.{Setting, more_all, next_row}
 use Rattle.mux_core.specs.State.{CoreState}
@@ -24,7 +24,7 @@ use Rattle.mux_peers.specs.Among.{AllFit}
 use Rattle.mux_peers.specs.Receivings.{ReceivedBy, end_by}
 use Rattle.mux_peers.specs.Pieces.{behind}
 use Rattle.mux_peers.specs.Room.{HasRoom}
-use Rattle.mux_peers.specs.Server.{AllAwait, ReceivingAll, ReceivesOnwards, ReceivedTo, ServerFault, ServerFrame, ServerNext, ServerState, rows_received}
+use Rattle.mux_peers.specs.Server.{AllAwait, ReceivingAll, ReceivesOnwards, ReceivedTo, EndsByServerFault, ServerFrame, ServerNext, ServerState, rows_received}
 use Rattle.mux_peers.proofs.Keeping.{among-then, keep-same, keep-then}
 use Rattle.mux_peers.proofs.Served.{end-shown, fault-heard, heard-item, makes-heard, map-last, more-last, or-first, payload-heard}
 
@@ -41,13 +41,13 @@ or-left true b e = absurd (cc)
 or-left false b e = refl
 
 -- a run that goes on has no end
-pub end-none : (rows : List Row) → is_ended rows ≡ false → end_of rows ≡ None
+pub end-none : (rows : List Row) → is_ended rows ≡ false → run_end_of rows ≡ None
 end-none [] e = refl
 end-none (row ∷ rows) e =
     end-shown row.fate row rows refl (end-none rows (or-first (is_end row.fate) (is_ended rows) e)) ∙ unended row.fate (or-left (is_end row.fate) (is_ended rows) e)
 
 -- and one that has an end is over
-pub ended-some : (rows : List Row) (cause : Ended) → Some cause ≡ end_of rows → is_ended rows ≡ true
+pub ended-some : (rows : List Row) (cause : Ended) → Some cause ≡ run_end_of rows → is_ended rows ≡ true
 ended-some rows cause e = by_end (is_ended rows) refl
   where
     by_end : (b : Bool) → is_ended rows ≡ b → is_ended rows ≡ true
@@ -98,7 +98,7 @@ heard-fault policy pid picks given all noted rows core cs queue rest rest' i i' 
       says = r.says ++ BadFraming fault ∷ [];
       fit = subst (λ l. AllFit l core cs queue) (sym last) by.fit;
       lost = ap losses last ∙ (by.lost ∙ (append-nil (losses rows') ∙ r.lost));
-      ended_is = by.ended_is ∙ (sym (end-shown row.fate row rows' refl (sym r.ended_is)) ∙ ap end_of (sym last));
+      ended_is = by.ended_is ∙ (sym (end-shown row.fate row rows' refl (sym r.ended_is)) ∙ ap run_end_of (sym last));
       on = λ e. absurd (cc);
       over = ([], ap (λ (p : Parsed). p.says) (on.sent_is ∙ ap (behind r.says) (parse-at InProxy rest (Faulty fault) front)) ∙ sym (append-nil (r.says ++ BadFraming fault ∷ [])));
     }
@@ -120,7 +120,7 @@ receiving-frame all content rest old mid new first was now ended' pol front h s 
 }
 
 receiving-fault : (all : List ℕ) (fault : BadFrame) (old mid new : ClientsAndQueue) (first was now : ServerState) (ended' : Option Ended)
-    → first_in InProxy was.rest ≡ Faulty fault → ReceivingAll all old mid first was None → ServerFault fault mid new was ended' → ReceivingAll all old new first now ended'
+    → first_in InProxy was.rest ≡ Faulty fault → ReceivingAll all old mid first was None → EndsByServerFault fault mid new was ended' → ReceivingAll all old new first now ended'
 receiving-fault all fault old mid new first was now ended' front h s =
     subst (λ (x : ClientsAndQueue). ReceivingAll all old x first now ended') (sym s.untouched)
     (subst (λ (x : Option Ended). ReceivingAll all old mid first now x) (sym s.ends) (record {

@@ -25,13 +25,13 @@ use Rattle.mux_peers.specs.declared.standing.Standing.{Standing}
 use Rattle.mux_peers.specs.declared.decision.Decision.{Decision}
 use Rattle.mux_peers.specs.declared.run_change.RunChange.{RunChange}
 use Rattle.mux_peers.specs.State.{ClientState, PeerState}
-use Rattle.mux_peers.specs.Stands.{is_greeted, is_proxied, is_read, mode_of, standing_of}
+use Rattle.mux_peers.specs.Stands.{is_greeted, is_proxied, is_read, parse_mode_of, standing_of}
 use Rattle.mux_peers.specs.Stands as stands
 use Rattle.mux_peers.specs.Among.{client_index}
-use Rattle.mux_peers.specs.Asked.{Applies, RecordsAsks, ask_of, asked_by, asked_of, item_asks, reading_asks, sending_asks}
+use Rattle.mux_peers.specs.Asked.{Applies, RecordsAsks, ask_of, asked_by, asks_of_rows, item_asks, reading_asks, sending_asks}
 use Rattle.mux_peers.specs.Decisions.{DecidesBy, reply_list}
 use Rattle.mux_peers.specs.Pieces.{Receiving, ReceivesPiece, ReadsOn, ReplyNext, RunsTo, behind, rows_sent}
-use Rattle.mux_peers.specs.Starved.{AsksAtMost, AsksBody, AsksFront, AsksNext, AsksThis, BeginsWith, ReceivesSome, OneIs}
+use Rattle.mux_peers.specs.Starved.{AsksAtMost, AsksBody, AsksFront, AsksNext, AsksThis, BeginsWithAsked, ReceivesSome, OneIs}
 use Rattle.mux_peers.proofs.Fronts.{Cuts, client_of, front_at, front_was}
 use Rattle.mux_peers.proofs.Heeding.{applies_recorded, records_none, records_then}
 use Rattle.mux_peers.proofs.Journaled.{map-append, more-append}
@@ -85,12 +85,12 @@ asks-decided May {asks} {asks'} {old} {new} pid k greets body d by h = asks-give
 pub asks-front : (May : HouseReply → Type 0) (recorded recorded' : Option (List Asked)) (k : ℕ) (peer : PeerState) (f f' : FramerState) (body : List ℕ) (now : ClientState) (greets : Bool)
     → client_of peer f ≡ now → is_read now.peer.standing ≡ true → Cuts peer.standing f → is_proxied peer.standing ≡ false
     → next.Frame ≡ answer_to (front_of f) → f' ≡ after_front (front_of f) f → f'.current ≡ Some body → k ≡ peer.number → greets ≡ is_greeted peer.standing
-    → AsksAtMost May recorded recorded' k greets body → AsksNext May recorded recorded' now.peer.number now.peer.standing (first_in (mode_of now.peer.standing) now.rest)
+    → AsksAtMost May recorded recorded' k greets body → AsksNext May recorded recorded' now.peer.number now.peer.standing (first_in (parse_mode_of now.peer.standing) now.rest)
 asks-front May recorded recorded' k peer f f' body now greets view read cuts control whole after current num awaits (inl same) = inl same
 asks-front May recorded recorded' k peer f f' body now greets view read cuts control whole after current num awaits (inr asks) =
     let reads : is_read peer.standing ≡ true = ap (λ (x : ClientState). is_read x.peer.standing) view ∙ read in
-    let front : first_in (mode_of peer.standing) (client_of peer f).rest ≡ Frame body f'.rest = front_at peer.standing f reads (cuts reads).0 (cuts reads).1 ∙ front_was (front_of f) f f' body whole after current in
-    inr (subst (λ (x : ClientState). AsksFront May recorded recorded' x.peer.number x.peer.standing (first_in (mode_of x.peer.standing) x.rest)) view (record {
+    let front : first_in (parse_mode_of peer.standing) (client_of peer f).rest ≡ Frame body f'.rest = front_at peer.standing f reads (cuts reads).0 (cuts reads).1 ∙ front_was (front_of f) f f' body whole after current in
+    inr (subst (λ (x : ClientState). AsksFront May recorded recorded' x.peer.number x.peer.standing (first_in (parse_mode_of x.peer.standing) x.rest)) view (record {
       body = body;
       rest = f'.rest;
       control = control;
@@ -100,29 +100,29 @@ asks-front May recorded recorded' k peer f f' body now greets view read cuts con
 
 -- ---- the rows go on
 
-more-begins : (s : Setting) (rows : List Row) (item : Item) → BeginsWith (asked_of rows) [] (asked_of (more_of s rows item))
+more-begins : (s : Setting) (rows : List Row) (item : Item) → BeginsWithAsked (asks_of_rows rows) [] (asks_of_rows (more_of s rows item))
 more-begins s rows item = by_made (makes_next rows item)
   where
-    by_made : (b : Bool) → BeginsWith (asked_of rows) [] (asked_of (elim b as (λ _. List Row) [ false ↦ rows | true ↦ next_row s rows item ∷ rows ]))
+    by_made : (b : Bool) → BeginsWithAsked (asks_of_rows rows) [] (asks_of_rows (elim b as (λ _. List Row) [ false ↦ rows | true ↦ next_row s rows item ∷ rows ]))
     by_made true = record { rest = asked_by (next_row s rows item); all_is = refl }
-    by_made false = record { rest = []; all_is = sym (append-nil (asked_of rows)) }
+    by_made false = record { rest = []; all_is = sym (append-nil (asks_of_rows rows)) }
 
-pub all-begin : (s : Setting) (rows : List Row) (items : List Item) → BeginsWith (asked_of rows) [] (asked_of (more_all s rows items))
-all-begin s rows [] = record { rest = []; all_is = sym (append-nil (asked_of rows)) }
+pub all-begin : (s : Setting) (rows : List Row) (items : List Item) → BeginsWithAsked (asks_of_rows rows) [] (asks_of_rows (more_all s rows items))
+all-begin s rows [] = record { rest = []; all_is = sym (append-nil (asks_of_rows rows)) }
 all-begin s rows (item ∷ items) =
     let one = more-begins s rows item in
     let later = all-begin s (more_of s rows item) items in
-    record { rest = one.rest ++ later.rest; all_is = later.all_is ∙ (ap (λ (l : List Asked). l ++ later.rest) one.all_is ∙ append_assoc (asked_of rows) one.rest later.rest) }
+    record { rest = one.rest ++ later.rest; all_is = later.all_is ∙ (ap (λ (l : List Asked). l ++ later.rest) one.all_is ∙ append_assoc (asks_of_rows rows) one.rest later.rest) }
 
 -- what was sent first requests first
-begins-on : (policy : Policy) (pid : ℕ) (picks : List ℕ) (given : List HouseReply) (k : ℕ) (rows : List Row) (says more all : List Outgoing) (asks : List Asked) → all ≡ says ++ more → asked_of (rows_sent policy pid picks given k rows says) ≡ asked_of rows ++ asks → BeginsWith (asked_of rows) asks (asked_of (rows_sent policy pid picks given k rows all))
+begins-on : (policy : Policy) (pid : ℕ) (picks : List ℕ) (given : List HouseReply) (k : ℕ) (rows : List Row) (says more all : List Outgoing) (asks : List Asked) → all ≡ says ++ more → asks_of_rows (rows_sent policy pid picks given k rows says) ≡ asks_of_rows rows ++ asks → BeginsWithAsked (asks_of_rows rows) asks (asks_of_rows (rows_sent policy pid picks given k rows all))
 begins-on policy pid picks given k rows says more all asks e h =
     let s : Setting = by_lists policy pid picks given in
     let mid : List Row = rows_sent policy pid picks given k rows says in
     let later = all-begin s mid (map (sent_item k) more) in
     let same : rows_sent policy pid picks given k rows all ≡ more_all s mid (map (sent_item k) more) =
     ap (λ (xs : List Outgoing). more_all s rows (map (sent_item k) xs)) e ∙ (ap (more_all s rows) (map-append (sent_item k) says more) ∙ more-append s rows (map (sent_item k) says) (map (sent_item k) more)) in
-    record { rest = later.rest; all_is = ap asked_of same ∙ (later.all_is ∙ (ap (λ (l : List Asked). l ++ later.rest) h ∙ append_assoc (asked_of rows) asks later.rest)) }
+    record { rest = later.rest; all_is = ap asks_of_rows same ∙ (later.all_is ∙ (ap (λ (l : List Asked). l ++ later.rest) h ∙ append_assoc (asks_of_rows rows) asks later.rest)) }
 
 -- ---- a piece
 
@@ -136,14 +136,14 @@ receives-none May recorded pid bytes core up first read = record {
   may = tt;
   records = records_none recorded;
   begins = λ picks given rows fits live come next.
-      let says : List Outgoing = (parse (mode_of first.peer.standing) (first.rest ++ bytes)).says in
-      begins-on core.policy pid picks given first.peer.number rows [] says says [] refl (sym (append-nil (asked_of rows)));
+      let says : List Outgoing = (parse (parse_mode_of first.peer.standing) (first.rest ++ bytes)).says in
+      begins-on core.policy pid picks given first.peer.number rows [] says says [] refl (sym (append-nil (asks_of_rows rows)));
 }
 
 -- the row of a body that asks
 asked-row : (policy : Policy) (pid : ℕ) (picks : List ℕ) (given : List HouseReply) (k : ℕ) (mode : Mode) (all picked : List ℕ) (used : List HouseReply) (asks : List Asked) (rows : List Row) (core : CoreState) (up : QueueState) (now : ClientState) (heard : RunChange) (body : List ℕ) (reply : HouseReply) (x : Outgoing)
     → is_read now.peer.standing ≡ true → x ≡ Body body → (is_greeted now.peer.standing && body_asks body) ≡ true → ReplyNext (used ++ reply ∷ []) rows given → (r : RunsTo policy pid picks given k mode all picked used asks rows core up now heard)
-    → asked_of (rows_sent policy pid picks given k rows (r.says ++ x ∷ [])) ≡ asked_of rows ++ (asks ++ sending_asks now.peer.number (Body body) (Some reply))
+    → asks_of_rows (rows_sent policy pid picks given k rows (r.says ++ x ∷ [])) ≡ asks_of_rows rows ++ (asks ++ sending_asks now.peer.number (Body body) (Some reply))
 asked-row policy pid picks given k mode all picked used asks rows core up now heard body reply x read is ask next r =
     let rows' : List Row = rows_sent policy pid picks given k rows r.says in
     let own : List Row = rows_of k rows' in
@@ -157,23 +157,23 @@ asked-row policy pid picks given k mode all picked used asks rows core up now he
     let item-is = ap (λ (w : Row). w.item) row-is ∙ (parts-of (Says k (Body body) (Some reply)) k (sent_body pid k (Some reply) (greeted own) body) own).0 in
     let last = rows-last policy pid picks given k rows r.says (Body body) on.live out in
     let more : List Asked = sending_asks now.peer.number (Body body) (Some reply) in
-    ap (λ (y : Outgoing). asked_of (rows_sent policy pid picks given k rows (r.says ++ y ∷ []))) is
-    ∙ (ap asked_of last
-    ∙ (ap (λ (l : List Asked). asked_of rows' ++ l) (ap item_asks item-is ∙ sym (ap (λ j. sending_asks j (Body body) (Some reply)) r.number))
-    ∙ (ap (λ (l : List Asked). l ++ more) r.asked ∙ append_assoc (asked_of rows) asks more)))
+    ap (λ (y : Outgoing). asks_of_rows (rows_sent policy pid picks given k rows (r.says ++ y ∷ []))) is
+    ∙ (ap asks_of_rows last
+    ∙ (ap (λ (l : List Asked). asks_of_rows rows' ++ l) (ap item_asks item-is ∙ sym (ap (λ j. sending_asks j (Body body) (Some reply)) r.number))
+    ∙ (ap (λ (l : List Asked). l ++ more) r.asked ∙ append_assoc (asks_of_rows rows) asks more)))
 
 -- what was asked so far, and what the front asks
 pub receives-some : {A E : Type 0} {x : A} (May : HouseReply → Type 0) {asks asks' : List Asked} {old mid : HouseState} (recorded' : Option (List Asked)) (pid : ℕ) (bytes : List ℕ) (core0 core : CoreState) (up0 up : QueueState) (first now : ClientState) (heard : RunChange) → is_read first.peer.standing ≡ true → is_read now.peer.standing ≡ true
-    → Receiving May (Some asks) (Some asks') pid (first.rest ++ bytes) core0 up0 first core up now heard → Applies {A = A} {E = E} (Ok x) asks asks' old mid → AsksNext May mid.recorded recorded' now.peer.number now.peer.standing (first_in (mode_of now.peer.standing) now.rest) → ReceivesSome May old.recorded recorded' pid bytes core0 up0 first
+    → Receiving May (Some asks) (Some asks') pid (first.rest ++ bytes) core0 up0 first core up now heard → Applies {A = A} {E = E} (Ok x) asks asks' old mid → AsksNext May mid.recorded recorded' now.peer.number now.peer.standing (first_in (parse_mode_of now.peer.standing) now.rest) → ReceivesSome May old.recorded recorded' pid bytes core0 up0 first
 receives-some May {asks} {asks'} {old} {mid} recorded' pid bytes core0 core up0 up first now heard read0 read h a next = by_next next
   where
     so-far : RecordsAsks old.recorded mid.recorded h.asks
     so-far = recorded-noted h.asks a h.records
 
     all : Parsed
-    all = parse (mode_of first.peer.standing) (first.rest ++ bytes)
+    all = parse (parse_mode_of first.peer.standing) (first.rest ++ bytes)
 
-    by_next : AsksNext May mid.recorded recorded' now.peer.number now.peer.standing (first_in (mode_of now.peer.standing) now.rest) → ReceivesSome May old.recorded recorded' pid bytes core0 up0 first
+    by_next : AsksNext May mid.recorded recorded' now.peer.number now.peer.standing (first_in (parse_mode_of now.peer.standing) now.rest) → ReceivesSome May old.recorded recorded' pid bytes core0 up0 first
     by_next (inl same) = record {
       read = read0;
       picked = h.picked;
@@ -183,12 +183,12 @@ receives-some May {asks} {asks'} {old} {mid} recorded' pid bytes core0 core up0 
       records = subst (λ (t : Option (List Asked)). RecordsAsks old.recorded t h.asks) (sym same) so-far;
       begins = λ picks given rows fits live come reply.
           let r = h.goes picks given rows fits live come reply in
-          begins-on core0.policy pid picks given first.peer.number rows r.says (parse (mode_of now.peer.standing) now.rest).says all.says h.asks (ap (λ (p : Parsed). p.says) (r.reads read).rest) r.asked;
+          begins-on core0.policy pid picks given first.peer.number rows r.says (parse (parse_mode_of now.peer.standing) now.rest).says all.says h.asks (ap (λ (p : Parsed). p.says) (r.reads read).rest) r.asked;
     }
     by_next (inr f) =
         let given : HouseReply = f.asks.this.0 in
         let s : Standing = now.peer.standing in
-        let x : Outgoing = sending_in (mode_of s) f.body in
+        let x : Outgoing = sending_in (parse_mode_of s) f.body in
         let more : List Asked = sending_asks now.peer.number (Body f.body) (Some given) in
         record {
           read = read0;
@@ -199,10 +199,10 @@ receives-some May {asks} {asks'} {old} {mid} recorded' pid bytes core0 core up0 
           records = records_then old.recorded mid.recorded recorded' h.asks more so-far f.asks.this.1.1;
           begins = λ picks replies rows fits live come reply.
               let r = h.goes picks replies rows fits live come (reply-first h.used (given ∷ []) rows replies reply) in
-              let left : Parsed = parse (mode_after (mode_of s) f.body) f.rest in
-              let says-all : all ≡ behind (r.says ++ x ∷ []) left = (r.reads read).rest ∙ (ap (behind r.says) (parse-at (mode_of s) now.rest (Frame f.body f.rest) f.front_is) ∙ behind-more r.says x left) in
+              let left : Parsed = parse (mode_after (parse_mode_of s) f.body) f.rest in
+              let says-all : all ≡ behind (r.says ++ x ∷ []) left = (r.reads read).rest ∙ (ap (behind r.says) (parse-at (parse_mode_of s) now.rest (Frame f.body f.rest) f.front_is) ∙ behind-more r.says x left) in
               begins-on core0.policy pid picks replies first.peer.number rows (r.says ++ x ∷ []) left.says all.says (h.asks ++ more) (ap (λ (p : Parsed). p.says) says-all)
-              (asked-row core0.policy pid picks replies first.peer.number (mode_of first.peer.standing) (first.rest ++ bytes) h.picked h.used h.asks rows core up now heard f.body given x read (control-says s f.body read f.control) f.asks.asks reply r);
+              (asked-row core0.policy pid picks replies first.peer.number (parse_mode_of first.peer.standing) (first.rest ++ bytes) h.picked h.used h.asks rows core up now heard f.body given x read (control-says s f.body read f.control) f.asks.asks reply r);
         }
 
 -- all of it was applied, and then there was no memory
@@ -223,11 +223,11 @@ receives-all May {asks} {asks'} {old} {new} pid bytes core0 core up0 up first no
     }
   where
     all : Parsed
-    all = parse (mode_of first.peer.standing) (first.rest ++ bytes)
+    all = parse (parse_mode_of first.peer.standing) (first.rest ++ bytes)
 
-    by_read : (picks : List ℕ) (given : List HouseReply) (rows : List Row) (r : RunsTo core0.policy pid picks given first.peer.number (mode_of first.peer.standing) (first.rest ++ bytes) piece.receiving.picked piece.receiving.used piece.receiving.asks rows core up now heard) (b : Bool) → is_read now.peer.standing ≡ b
-        → BeginsWith (asked_of rows) piece.receiving.asks (asked_of (rows_sent core0.policy pid picks given first.peer.number rows all.says))
-    by_read picks given rows r true e = begins-on core0.policy pid picks given first.peer.number rows r.says (parse (mode_of now.peer.standing) now.rest).says all.says piece.receiving.asks (ap (λ (p : Parsed). p.says) (r.reads e).rest) r.asked
+    by_read : (picks : List ℕ) (given : List HouseReply) (rows : List Row) (r : RunsTo core0.policy pid picks given first.peer.number (parse_mode_of first.peer.standing) (first.rest ++ bytes) piece.receiving.picked piece.receiving.used piece.receiving.asks rows core up now heard) (b : Bool) → is_read now.peer.standing ≡ b
+        → BeginsWithAsked (asks_of_rows rows) piece.receiving.asks (asks_of_rows (rows_sent core0.policy pid picks given first.peer.number rows all.says))
+    by_read picks given rows r true e = begins-on core0.policy pid picks given first.peer.number rows r.says (parse (parse_mode_of now.peer.standing) now.rest).says all.says piece.receiving.asks (ap (λ (p : Parsed). p.says) (r.reads e).rest) r.asked
     by_read picks given rows r false e = begins-on core0.policy pid picks given first.peer.number rows r.says (r.over e).more all.says piece.receiving.asks (r.over e).sends_all r.asked
 
 -- ---- among all

@@ -17,7 +17,7 @@ use Rattle.mux_core.specs.Stands.{Stands, ClientFits, Look, look, has_matters}
 use Rattle.mux_peers.specs.declared.standing.Standing.{Standing}
 use Rattle.mux_peers.specs.declared.standing.Standing.TheVariants.{Lost, Unread}
 use Rattle.mux_peers.specs.State.{PeerState, part}
-use Rattle.mux_peers.specs.Stands.{Fits, PeerFits, is_greeted, keep_lost, stands_by, standing_of}
+use Rattle.mux_peers.specs.Stands.{PartFits, PeerFits, is_greeted, keep_lost, stands_by, standing_of}
 use Rattle.mux_peers.specs.Stands as stands
 use Rattle.mux_peers.proofs.RowForms.{made}
 use Rattle.mux_peers.proofs.Stood.{own_row, standing_row, standing_step, kept_here, stands_greeted, or_true}
@@ -75,7 +75,7 @@ peer-row k x given ups fw down f own s s' q q' fine here fits stands' queue' =
 pub row-fits : (k : ℕ) (x : Outgoing) (given : Option HouseReply) (ups fw down : List (List ℕ)) (f : Fate) (rows : List Row) (peer peer' : PeerState) (s' : core.CoreState) (up up' : QueueState) → NotRefused f
     → peer'.number ≡ k → stands.is_lost peer.standing ≡ false → PeerFits (rows_of k rows) peer.standing peer.queue → up.waiting ≡ pending_up rows
     → peer'.standing ≡ standing_after f x → peer'.queue ≡ peer.queue ++ joined down → up'.waiting ≡ up.waiting ++ joined (map frame_payload (ups ++ fw))
-    → Stands s' (made (Says k x given) k ups fw down f ∷ rows) → Fits (made (Says k x given) k ups fw down f ∷ rows) (part s' peer' up')
+    → Stands s' (made (Says k x given) k ups fw down f ∷ rows) → PartFits (made (Says k x given) k ups fw down f ∷ rows) (part s' peer' up')
 row-fits k x given ups fw down f rows peer peer' s' up up' fine num here fits waits standing queue sent st =
     let row : Row = made (Says k x given) k ups fw down f in
     record {

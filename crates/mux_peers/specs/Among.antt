@@ -10,7 +10,7 @@ use Rattle.mux_core.specs.State.{CoreState}
 use Rattle.mux_core.specs.Stands as core
 use Rattle.mux_peers.specs.State.{ClientState, ClientsState, ClientsAndQueue, part}
 use Rattle.mux_peers.specs.Receives.{ReceivesRecorded}
-use Rattle.mux_peers.specs.Stands.{Fits, PeerFits}
+use Rattle.mux_peers.specs.Stands.{PartFits, PeerFits}
 use Rattle.mux_peers.specs.Stands as stands
 use Rattle.mux_peers.specs.Losing.{loss_between}
 
@@ -29,15 +29,15 @@ EachFits rows [] = Unit {0}
 EachFits rows (c ∷ cs) = InFits rows c × EachFits rows cs
 
 -- no two clients have one number
-abbrev pub AreApart : List ClientState → Type 0
-AreApart [] = Unit {0}
-AreApart (c ∷ cs) = (is_present cs c.peer.number ≡ false) × AreApart cs
+abbrev pub ArePeersApart : List ClientState → Type 0
+ArePeersApart [] = Unit {0}
+ArePeersApart (c ∷ cs) = (is_present cs c.peer.number ≡ false) × ArePeersApart cs
 
 pub record AllFit (rows : List Row) (c : CoreState) (cs : List ClientState) (queue : QueueState) :
     Type 0 where
   pub core : is_ended rows ≡ false → core.Stands c rows
   pub each : EachFits rows cs
-  pub apart : AreApart cs
+  pub apart : ArePeersApart cs
   pub up : queue.waiting ≡ pending_up rows
 
 -- the numbers of all clients, in their order
@@ -79,7 +79,7 @@ KeepReading (c ∷ cs) (d ∷ ds) =
 
 -- the client of a number goes on so with what is noted, where it is here; the losses are noted
 -- after those of before
-pub record GoesAt (k : ℕ) (R : List (ℕ × Option Why) → ClientState → ClientState → Type 0)
+pub record PeerGoesAt (k : ℕ) (R : List (ℕ × Option Why) → ClientState → ClientState → Type 0)
     (old new : ClientsAndQueue) : Type 0 where
   pub noted : List (ℕ × Option Why)
   pub leaves : new.clients.leaving ≡ old.clients.leaving ++ noted
@@ -91,7 +91,7 @@ pub record GoesAt (k : ℕ) (R : List (ℕ × Option Why) → ClientState → Cl
 -- what the client of a number receives
 abbrev pub ReceivesAt : ℕ → List (List ℕ) → ClientsAndQueue → ClientsAndQueue → Type 0
 ReceivesAt k fs old new =
-    GoesAt k (λ noted. ReceivesNoting k fs noted old.core new.core old.up new.up) old new
+    PeerGoesAt k (λ noted. ReceivesNoting k fs noted old.core new.core old.up new.up) old new
 
 -- a client that goes on so, and the loss that is noted of it
 pub record Noting (k : ℕ) (noted : List (ℕ × Option Why)) (R : ClientState → ClientState → Type 0)
@@ -164,4 +164,4 @@ pub record AddsFor (k : ℕ) (rows rows' : List Row) : Type 0 where
 pub record MovesTo (rows' : List Row) (core' : CoreState) (up' : QueueState) (x y : ClientState) :
     Type 0 where
   pub number : y.peer.number ≡ x.peer.number
-  pub fits : Fits rows' (part core' y.peer up')
+  pub fits : PartFits rows' (part core' y.peer up')

@@ -10,9 +10,9 @@ use Rattle.mux_history.specs.Settings.{by_lists}
 use Rattle.mux_history.specs.Log.{next_row}
 use Rattle.mux_core.specs.State.{CoreState}
 use Rattle.mux_peers.specs.State.{ClientState, ClientsAndQueue, Part, part}
-use Rattle.mux_peers.specs.Stands.{Fits, is_lost}
+use Rattle.mux_peers.specs.Stands.{PartFits, is_lost}
 use Rattle.mux_peers.specs.Losing.{loss_between}
-use Rattle.mux_peers.specs.Among.{GoesAt}
+use Rattle.mux_peers.specs.Among.{PeerGoesAt}
 
 -- the row of it, with which the part represents the longer log: the run goes on, nothing is sent,
 -- and the client stays or is dropped
@@ -20,7 +20,7 @@ pub record IsAnswered (k id : ℕ) (given : HouseReply) (new : Part) (rows : Lis
     Type 0 where
   pub item_is : row.item ≡ HouseSays k id given
   pub client_is : row.client ≡ k
-  pub fits : Fits (row ∷ rows) new
+  pub fits : PartFits (row ∷ rows) new
   pub unsent : row.up ≡ []
   pub unrefused : is_refusal row.fate ≡ false
   pub runs : is_end row.fate ≡ false
@@ -29,7 +29,7 @@ pub record IsAnswered (k id : ℕ) (given : HouseReply) (new : Part) (rows : Lis
 pub record AnswersLater (id : ℕ) (given : HouseReply) (old new : Part) : Type 0 where
   pub number : new.peer.number ≡ old.peer.number
   pub goes : (policy : Policy) (pid : ℕ) (picks : List ℕ) (replies : List HouseReply)
-      (rows : List Row) → Fits rows old → is_ended rows ≡ false → is_lost old.peer.standing ≡ false
+      (rows : List Row) → PartFits rows old → is_ended rows ≡ false → is_lost old.peer.standing ≡ false
       → IsAnswered old.peer.number id given new rows
       (next_row (by_lists policy pid picks replies) rows (HouseSays old.peer.number id given))
 
@@ -48,4 +48,4 @@ pub record AnswersNoting (k id : ℕ) (given : HouseReply) (noted : List (ℕ ×
 -- the reply to the client of a number
 abbrev pub AnswersAt : ℕ → ℕ → HouseReply → ClientsAndQueue → ClientsAndQueue → Type 0
 AnswersAt k id given old new =
-    GoesAt k (λ noted. AnswersNoting k id given noted old.core new.core old.up new.up) old new
+    PeerGoesAt k (λ noted. AnswersNoting k id given noted old.core new.core old.up new.up) old new

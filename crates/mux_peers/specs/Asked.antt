@@ -43,9 +43,9 @@ abbrev pub asked_by : Row → List HouseMark
 asked_by row = item_asks row.item
 
 -- the requests of the rows, the oldest first
-abbrev pub asked_of : List Row → List HouseMark
-asked_of [] = []
-asked_of (row ∷ before) = asked_of before ++ asked_by row
+abbrev pub asks_of_rows : List Row → List HouseMark
+asks_of_rows [] = []
+asks_of_rows (row ∷ before) = asks_of_rows before ++ asked_by row
 
 -- what a forwarder records now, if it recorded `before` then and these requests were made of it
 -- since

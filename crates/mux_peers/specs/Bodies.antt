@@ -11,7 +11,7 @@ use Rattle.mux_history.specs.Log.{row_of}
 use Rattle.mux_peers.specs.declared.decision.Decision.{Decision}
 use Rattle.mux_peers.specs.declared.run_change.RunChange.{RunChange}
 use Rattle.mux_peers.specs.State.{Part}
-use Rattle.mux_peers.specs.Stands.{Fits, stands_by}
+use Rattle.mux_peers.specs.Stands.{PartFits, stands_by}
 use Rattle.mux_peers.specs.Stands as stands
 use Rattle.mux_peers.specs.Decisions.{StandsAs, is_stops, outcome_of, reading_answer}
 
@@ -22,16 +22,16 @@ end_in _ before = before
 
 -- with a row of what a client sends the part represents the longer log, and what was done beyond
 -- the client is what the row does
-pub record Does (new : Part) (heard heard' : RunChange) (rows : List Row) (row : Row) : Type 0 where
+pub record DoesBody (new : Part) (heard heard' : RunChange) (rows : List Row) (row : Row) : Type 0 where
   pub client_is : row.client ≡ new.peer.number
-  pub fits : Fits (row ∷ rows) new
+  pub fits : PartFits (row ∷ rows) new
   pub stops_is : heard'.stops ≡ (heard.stops || stops row (rows_of row.client rows))
   pub ended_is : heard'.ended ≡ end_in row.fate heard.ended
 
 -- a body of which this was decided, with the reply of the forwarder
 pub record IsDecided (pid : ℕ) (given : Option HouseReply) (body : List ℕ) (rows : List Row)
     (old : Part) (d : Decision) : Type 0 where
-  pub fits : Fits rows old
+  pub fits : PartFits rows old
   pub live : is_ended rows ≡ false
   pub here : stands.is_lost old.peer.standing ≡ false
   pub answers : reading_answer pid old.peer.number given (greeted (rows_of old.peer.number rows))
@@ -43,6 +43,6 @@ abbrev pub FollowsBy : Decision → Part → RunChange → Part → RunChange �
 FollowsBy d old heard new heard' =
     (pid : ℕ) (given : Option HouseReply) (body : List ℕ) (rows : List Row)
     → IsDecided pid given body rows old d
-    → Does new heard heard' rows (row_of (Says old.peer.number (Body body) given) old.peer.number
+    → DoesBody new heard heard' rows (row_of (Says old.peer.number (Body body) given) old.peer.number
     (sent_body pid old.peer.number given (greeted (rows_of old.peer.number rows)) body)
     (rows_of old.peer.number rows))

@@ -56,10 +56,10 @@ StandsAs (Ends cause) s = Unit {0}
 StandsAs (Drops why) s = Unit {0}
 
 -- neither the run ends nor the client is dropped
-abbrev pub GoesOn : Effect → Type 0
-GoesOn (Ends cause) = ⊥
-GoesOn (Drops why) = ⊥
-GoesOn effect = Unit {0}
+abbrev pub DecisionGoesOn : Effect → Type 0
+DecisionGoesOn (Ends cause) = ⊥
+DecisionGoesOn (Drops why) = ⊥
+DecisionGoesOn effect = Unit {0}
 
 -- a reply, if there is one
 abbrev pub reply_list : Option HouseReply → List HouseReply

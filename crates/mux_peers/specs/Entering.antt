@@ -11,7 +11,7 @@ use Rattle.mux_history.specs.Rows.{Row, Admit, is_ended}
 use Rattle.mux_history.specs.Settings.{by_lists}
 use Rattle.mux_history.specs.Log.{next_row, open_matters}
 use Rattle.mux_core.specs.State.{CoreState}
-use Rattle.mux_core.specs.Calls.{IsNew}
+use Rattle.mux_core.specs.Calls.{IsNewClient}
 use Rattle.mux_peers.specs.declared.standing.Standing.TheVariants.{Awaited}
 use Rattle.mux_peers.specs.State.{ClientState}
 use Rattle.mux_peers.specs.Among.{AllFit}
@@ -33,9 +33,9 @@ pub record EntersBy (core' : CoreState) (cs cs' : List ClientState) (queue : Que
   pub fit : AllFit (row ∷ rows) core' cs' queue
   pub here : AreHere rows cs → AreHere (row ∷ rows) cs'
 
-abbrev pub Enters : ℕ → CoreState → CoreState → List ClientState → List ClientState → Bool → Type 0
-Enters k core core' cs cs' let_in =
+abbrev pub PeerEnters : ℕ → CoreState → CoreState → List ClientState → List ClientState → Bool → Type 0
+PeerEnters k core core' cs cs' let_in =
     (policy : Policy) (pid : ℕ) (picks : List ℕ) (given : List HouseReply) (queue : QueueState)
-    (rows : List Row) → AllFit rows core cs queue → is_ended rows ≡ false → IsNew k rows
+    (rows : List Row) → AllFit rows core cs queue → is_ended rows ≡ false → IsNewClient k rows
     → EntersBy core' cs cs' queue let_in rows
     (next_row (by_lists policy pid picks given) rows (Admit k))

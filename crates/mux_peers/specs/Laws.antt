@@ -12,7 +12,7 @@ use Rattle.mux_history.specs.declared.why.Why.{Why}
 use Rattle.mux_history.specs.Rows.{Row, Gone, is_ended, losses}
 use Rattle.mux_history.specs.Choices.{numbers_taken, replies_given}
 use Rattle.mux_history.specs.Promises.{listens}
-use Rattle.mux_history.specs.Solo.{end_of}
+use Rattle.mux_history.specs.Solo.{run_end_of}
 use Rattle.mux_history.specs.Right.{AreFresh}
 use Rattle.mux_history.specs.Settings.{by_lists}
 use Rattle.mux_history.specs.Journal.{new_received, new_sayings}
@@ -20,8 +20,8 @@ use Rattle.mux_history.specs.Log.{more_all, next_row}
 use Rattle.mux_core.specs.State.{CoreState}
 use Rattle.mux_peers.specs.declared.run_change.RunChange.{RunChange}
 use Rattle.mux_peers.specs.State.{ClientState, part}
-use Rattle.mux_peers.specs.Stands.{Fits, is_lost, is_read, mode_of}
-use Rattle.mux_peers.specs.Asked.{asked_of}
+use Rattle.mux_peers.specs.Stands.{PartFits, is_lost, is_read, parse_mode_of}
+use Rattle.mux_peers.specs.Asked.{asks_of_rows}
 use Rattle.mux_peers.specs.Pieces.{RunsTo, ended_then}
 use Rattle.mux_peers.specs.Among.{AddsFor, AllFit, ChangesOne, MovesTo, is_present}
 use Rattle.mux_peers.specs.Receivings.{AreHere}
@@ -30,8 +30,8 @@ use Rattle.mux_peers.specs.Server.{AllAwait, ReceivedTo}
 -- ---- a client
 
 -- of all its bytes so far these are not read yet, and are to be read so
-pub record ReadsAs (bytes : List ℕ) (c : ClientState) : Type 0 where
-  pub mode : (parse InControl bytes).mode ≡ mode_of c.peer.standing
+pub record ReadsClientAs (bytes : List ℕ) (c : ClientState) : Type 0 where
+  pub mode : (parse InControl bytes).mode ≡ parse_mode_of c.peer.standing
   pub rest : (parse InControl bytes).rest ≡ c.rest
 
 -- the rows of the log after a piece of a client that gave other bytes before
@@ -46,18 +46,18 @@ pub record IsReadTo (k : ℕ) (before bytes picked : List ℕ) (used : List Hous
     (now : ClientState) (heard : RunChange) : Type 0 where
   pub number : now.peer.number ≡ k
   pub adds : AddsFor k rows rows'
-  pub fits : Fits rows' (part core now.peer up)
+  pub fits : PartFits rows' (part core now.peer up)
   pub taken : numbers_taken rows' ≡ numbers_taken rows + length picked
   pub given_is : replies_given rows' ≡ replies_given rows + length used
-  pub asked : asked_of rows' ≡ asked_of rows ++ asks
+  pub asked : asks_of_rows rows' ≡ asks_of_rows rows ++ asks
   pub fresh : AreBytes before → AreBytes bytes → AreFresh rows → AreFresh rows'
   pub stops_is : listens rows' ≡ (not heard.stops && listens rows)
-  pub ended_is : end_of rows' ≡ ended_then heard.ended (end_of rows)
+  pub ended_is : run_end_of rows' ≡ ended_then heard.ended (run_end_of rows)
   pub live : is_read now.peer.standing ≡ true → is_ended rows' ≡ false
   -- one that isn't read any more, nor lost, has stopped for good
   pub stopped : is_read now.peer.standing ≡ false → is_lost now.peer.standing ≡ false
       → is_ended rows' ≡ false → (parse InControl (before ++ bytes)).mode ≡ Stopped
-  pub reads : is_read now.peer.standing ≡ true → ReadsAs (before ++ bytes) now
+  pub reads : is_read now.peer.standing ≡ true → ReadsClientAs (before ++ bytes) now
 
 -- what was sent so far is all of the piece where nothing whole is left
 abbrev pub PiecesOfAClient : Type 0
@@ -65,9 +65,9 @@ PiecesOfAClient =
     (policy : Policy) (pid : ℕ) (picks : List ℕ) (given : List HouseReply) (k : ℕ)
     (before bytes : List ℕ) (first now : ClientState) (picked : List ℕ) (used : List HouseReply)
     (asks : List Asked) (rows : List Row) (core : CoreState) (up : QueueState) (heard : RunChange)
-    → ReadsAs before first
-    → (is_read now.peer.standing ≡ true → first_in (mode_of now.peer.standing) now.rest ≡ More)
-    → RunsTo policy pid picks given k (mode_of first.peer.standing) (first.rest ++ bytes) picked
+    → ReadsClientAs before first
+    → (is_read now.peer.standing ≡ true → first_in (parse_mode_of now.peer.standing) now.rest ≡ More)
+    → RunsTo policy pid picks given k (parse_mode_of first.peer.standing) (first.rest ++ bytes) picked
     used asks rows core up now heard
     → IsReadTo k before bytes picked used asks rows
     (rows_given policy pid picks given k before bytes rows) core up now heard
@@ -75,7 +75,7 @@ PiecesOfAClient =
 -- ---- the server
 
 -- of all its bytes so far these are not read yet
-pub record ServerReads (bytes left : List ℕ) : Type 0 where
+pub record PeersReadServer (bytes left : List ℕ) : Type 0 where
   pub mode : (parse InProxy bytes).mode ≡ InProxy
   pub rest : (parse InProxy bytes).rest ≡ left
 
@@ -91,13 +91,13 @@ pub record IsReceivedTo (before bytes : List ℕ) (noted : List (ℕ × Option W
     (ended : Option Ended) : Type 0 where
   pub fit : AllFit rows' core cs queue
   pub lost : losses rows' ≡ losses rows ++ noted
-  pub ended_is : ended ≡ end_of rows'
+  pub ended_is : ended ≡ run_end_of rows'
   pub taken : numbers_taken rows' ≡ numbers_taken rows
   pub given_is : replies_given rows' ≡ replies_given rows
   pub fresh : AreFresh rows → AreFresh rows'
   pub stops_is : listens rows' ≡ listens rows
   pub awaits : ended ≡ None → AllAwait rows' core cs queue index
-  pub reads : ended ≡ None → ServerReads (before ++ bytes) rest
+  pub reads : ended ≡ None → PeersReadServer (before ++ bytes) rest
 
 abbrev pub PiecesOfTheServer : Type 0
 PiecesOfTheServer =
@@ -105,7 +105,7 @@ PiecesOfTheServer =
     (before bytes rest rest' : List ℕ) (noted : List (ℕ × Option Why)) (rows : List Row)
     (core : CoreState) (cs : List ClientState) (queue : QueueState) (index : ℕ)
     (ended : Option Ended)
-    → ServerReads before rest → (ended ≡ None → first_in InProxy rest' ≡ More)
+    → PeersReadServer before rest → (ended ≡ None → first_in InProxy rest' ≡ More)
     → ReceivedTo policy pid picks given (rest ++ bytes) noted rows core cs queue rest' index ended
     → IsReceivedTo before bytes noted rows (rows_recorded policy pid picks given before bytes rows) core cs
     queue rest' index ended

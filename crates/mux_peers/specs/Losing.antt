@@ -11,15 +11,15 @@ use Rattle.mux_core.specs.State.{CoreState}
 use Rattle.mux_peers.specs.declared.standing.Standing.{Standing}
 use Rattle.mux_peers.specs.declared.standing.Standing.TheVariants.{Lost}
 use Rattle.mux_peers.specs.State.{ClientState, Part, part}
-use Rattle.mux_peers.specs.Stands.{Fits, is_lost}
+use Rattle.mux_peers.specs.Stands.{PartFits, is_lost}
 
 -- it is lost, and with the row and its farewell the part represents the longer log
 pub record Loses (old new : Part) : Type 0 where
   pub number : new.peer.number ≡ old.peer.number
   pub standing : new.peer.standing ≡ Lost None
   pub goes : (policy : Policy) (pid : ℕ) (picks : List ℕ) (given : List HouseReply)
-      (rows : List Row) → Fits rows old → is_ended rows ≡ false → is_lost old.peer.standing ≡ false
-      → Fits (next_row (by_lists policy pid picks given) rows (Gone old.peer.number) ∷ rows) new
+      (rows : List Row) → PartFits rows old → is_ended rows ≡ false → is_lost old.peer.standing ≡ false
+      → PartFits (next_row (by_lists policy pid picks given) rows (Gone old.peer.number) ∷ rows) new
 
 -- one that is lost already stays as it is
 pub record LosesNothing (old new : CoreState) (up up' : QueueState) (x y : ClientState) :

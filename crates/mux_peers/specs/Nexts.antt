@@ -18,9 +18,9 @@ use Rattle.mux_peers.specs.declared.run_change.RunChange.{RunChange}
 use Rattle.mux_peers.specs.declared.standing.Standing.{Standing}
 use Rattle.mux_peers.specs.State.{ClientState, Part, part}
 use Rattle.mux_peers.specs.Stands as stands
-use Rattle.mux_peers.specs.Stands.{Fits, is_greeted, is_proxied, is_read, rest_if}
+use Rattle.mux_peers.specs.Stands.{PartFits, is_greeted, is_proxied, is_read, rest_if}
 use Rattle.mux_peers.specs.Decisions.{DecidesBy}
-use Rattle.mux_peers.specs.Bodies.{Does, FollowsBy}
+use Rattle.mux_peers.specs.Bodies.{DoesBody, FollowsBy}
 use Rattle.mux_peers.specs.Says.{SendsPayload}
 
 -- what a client sends next is read: there is room for its farewell, and the forwarder waits for no
@@ -53,9 +53,9 @@ pub record NextBody (May : HouseReply → Type 0) (before now : Option (List Ask
 -- a fault, from every log that the part represented
 abbrev pub FaultBy : BadFrame → Part → RunChange → Part → RunChange → Type 0
 FaultBy fault old heard new heard' =
-    (rows : List Row) → Fits rows old → is_ended rows ≡ false
+    (rows : List Row) → PartFits rows old → is_ended rows ≡ false
     → stands.is_lost old.peer.standing ≡ false
-    → Does new heard heard' rows
+    → DoesBody new heard heard' rows
     (row_of (Says old.peer.number (BadFraming fault) None) old.peer.number
     (drops (why.BadFrame fault)) (rows_of old.peer.number rows))
 

@@ -9,7 +9,7 @@ use Rattle.mux_history.specs.Policy.{Policy}
 use Rattle.mux_history.specs.Rows.{Row, rows_of, is_ended, is_out}
 use Rattle.mux_history.specs.Choices.{numbers_taken, replies_given}
 use Rattle.mux_history.specs.Promises.{MayGive, listens}
-use Rattle.mux_history.specs.Solo.{end_of}
+use Rattle.mux_history.specs.Solo.{run_end_of}
 use Rattle.mux_history.specs.declared.ended.Ended.{Ended}
 use Rattle.mux_history.specs.Right.{AreFresh}
 use Rattle.mux_history.specs.Settings.{by_lists}
@@ -18,9 +18,9 @@ use Rattle.mux_history.specs.Log.{more_all}
 use Rattle.mux_core.specs.State.{CoreState}
 use Rattle.mux_peers.specs.declared.run_change.RunChange.{RunChange}
 use Rattle.mux_peers.specs.State.{ClientState, part}
-use Rattle.mux_peers.specs.Stands.{Fits, is_lost, is_read, mode_of}
+use Rattle.mux_peers.specs.Stands.{PartFits, is_lost, is_read, parse_mode_of}
 use Rattle.mux_peers.specs.Says.{ComeNext, IsOfBytes}
-use Rattle.mux_peers.specs.Asked.{RecordsAsks, asked_of}
+use Rattle.mux_peers.specs.Asked.{RecordsAsks, asks_of_rows}
 
 -- the rows after what a client sends
 abbrev pub rows_sent : Policy → ℕ → List ℕ → List HouseReply → ℕ → List Row → List Outgoing → List Row
@@ -40,7 +40,7 @@ behind says p = record { says = says ++ p.says; mode = p.mode; rest = p.rest }
 pub record ReadsOn (all : List ℕ) (mode : Mode) (now : ClientState) (rows' : List Row)
     (says : List Outgoing) : Type 0 where
   pub live : is_ended rows' ≡ false
-  pub rest : parse mode all ≡ behind says (parse (mode_of now.peer.standing) now.rest)
+  pub rest : parse mode all ≡ behind says (parse (parse_mode_of now.peer.standing) now.rest)
 
 -- once it isn't, nothing more makes a row: the run is over, or the client is out, or nothing more
 -- is sent
@@ -72,18 +72,18 @@ pub record RunsTo (policy : Policy) (pid : ℕ) (picks : List ℕ) (given : List
     Type 0 where
   pub says : List Outgoing
   pub number : now.peer.number ≡ k
-  pub fits : Fits (rows_sent policy pid picks given k rows says) (part core now.peer up)
+  pub fits : PartFits (rows_sent policy pid picks given k rows says) (part core now.peer up)
   pub taken : numbers_taken (rows_sent policy pid picks given k rows says)
       ≡ numbers_taken rows + length picked
   pub given_is : replies_given (rows_sent policy pid picks given k rows says)
       ≡ replies_given rows + length used
-  pub asked : asked_of (rows_sent policy pid picks given k rows says) ≡ asked_of rows ++ asks
+  pub asked : asks_of_rows (rows_sent policy pid picks given k rows says) ≡ asks_of_rows rows ++ asks
   pub fresh : AreOfBytes k says → AreFresh rows
       → AreFresh (rows_sent policy pid picks given k rows says)
   pub stops_is : listens (rows_sent policy pid picks given k rows says)
       ≡ (not heard.stops && listens rows)
-  pub ended_is : end_of (rows_sent policy pid picks given k rows says)
-      ≡ ended_then heard.ended (end_of rows)
+  pub ended_is : run_end_of (rows_sent policy pid picks given k rows says)
+      ≡ ended_then heard.ended (run_end_of rows)
   pub reads : is_read now.peer.standing ≡ true
       → ReadsOn all mode now (rows_sent policy pid picks given k rows says) says
   pub over : is_read now.peer.standing ≡ false
@@ -101,9 +101,9 @@ pub record Receiving (May : HouseReply → Type 0) (start recorded : Option (Lis
   pub records : RecordsAsks start recorded asks
   pub policy : core.policy ≡ core0.policy
   pub goes : (picks : List ℕ) (given : List HouseReply) (rows : List Row)
-      → Fits rows (part core0 first.peer up0) → is_ended rows ≡ false → ComeNext picked rows picks
+      → PartFits rows (part core0 first.peer up0) → is_ended rows ≡ false → ComeNext picked rows picks
       → ReplyNext used rows given
-      → RunsTo core0.policy pid picks given first.peer.number (mode_of first.peer.standing) all
+      → RunsTo core0.policy pid picks given first.peer.number (parse_mode_of first.peer.standing) all
       picked used asks rows core up now heard
 
 -- a piece of a client that is read: all that is sent by it was handled
@@ -112,7 +112,7 @@ pub record ReceivesPiece (May : HouseReply → Type 0) (start recorded : Option 
     (up : QueueState) (now : ClientState) (heard : RunChange) : Type 0 where
   pub receiving : Receiving May start recorded pid (first.rest ++ bytes) core0 up0 first core up now heard
   pub whole : is_read now.peer.standing ≡ true
-      → first_in (mode_of now.peer.standing) now.rest ≡ More
+      → first_in (parse_mode_of now.peer.standing) now.rest ≡ More
 
 -- what was done beyond a client of which nothing was received
 abbrev pub unheard : RunChange

@@ -8,7 +8,7 @@ use Rattle.mux_history.specs.Log.{all_recorded, bare, row_of}
 use Rattle.mux_core.specs.Stands as core
 use Rattle.mux_peers.specs.State.{Part}
 use Rattle.mux_peers.specs.Stands as stands
-use Rattle.mux_peers.specs.Stands.{Fits, PeerFits}
+use Rattle.mux_peers.specs.Stands.{PartFits, PeerFits}
 
 -- the row of what the server sends to the client, as far as the item goes
 abbrev pub received_bare : ℕ → List ℕ → Outcome → Row
@@ -16,7 +16,7 @@ received_bare k p o = bare (Heard p) k o
 
 -- before it: the core represents the row already, and what waits for the server has what the row
 -- sends; the client isn't lost, and the row goes on and records these frames
-pub record IsReceived (fs : List (List ℕ)) (p : List ℕ) (o : Outcome) (rows : List Row) (old : Part) :
+pub record IsPayloadReceived (fs : List (List ℕ)) (p : List ℕ) (o : Outcome) (rows : List Row) (old : Part) :
     Type 0 where
   pub core : core.Stands old.core (received_bare old.peer.number p o ∷ rows)
   pub peer : PeerFits (rows_of old.peer.number rows) old.peer.standing old.peer.queue
@@ -28,5 +28,5 @@ pub record IsReceived (fs : List (List ℕ)) (p : List ℕ) (o : Outcome) (rows 
 -- then the part represents the log with the whole row
 pub record ReceivesRecorded (fs : List (List ℕ)) (old new : Part) : Type 0 where
   pub number : new.peer.number ≡ old.peer.number
-  pub goes : (p : List ℕ) (o : Outcome) (rows : List Row) → IsReceived fs p o rows old
-      → Fits (row_of (Heard p) old.peer.number o (rows_of old.peer.number rows) ∷ rows) new
+  pub goes : (p : List ℕ) (o : Outcome) (rows : List Row) → IsPayloadReceived fs p o rows old
+      → PartFits (row_of (Heard p) old.peer.number o (rows_of old.peer.number rows) ∷ rows) new

@@ -23,12 +23,12 @@ pub record KeepsAll (cs cs' : List ClientState) (up up' : QueueState) : Type 0 w
   pub room : HasRoom cs up → HasRoom cs' up'
 
 -- the room that a client's farewell may need yet
-abbrev pub farewell_of : ClientState → ℕ
-farewell_of c = if is_lost c.peer.standing then 0 else FAREWELL_ROOM
+abbrev pub farewell_room_of : ClientState → ℕ
+farewell_room_of c = if is_lost c.peer.standing then 0 else FAREWELL_ROOM
 
 -- where a client goes on so, the room for all others stays
 abbrev pub LeavesRoom : QueueState → QueueState → ClientState → ClientState → Type 0
-LeavesRoom up up' x y = up.spare + farewell_of y ≤ up'.spare + farewell_of x
+LeavesRoom up up' x y = up.spare + farewell_room_of y ≤ up'.spare + farewell_room_of x
 
 -- ---- what a call to one client leaves of the others
 

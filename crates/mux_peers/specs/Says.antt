@@ -10,7 +10,7 @@ use Rattle.mux_history.specs.Settings.{by_lists}
 use Rattle.mux_history.specs.Log.{next_row}
 use Rattle.mux_peers.specs.declared.standing.Standing.TheVariants.{Proxied}
 use Rattle.mux_peers.specs.State.{Part}
-use Rattle.mux_peers.specs.Stands.{Fits}
+use Rattle.mux_peers.specs.Stands.{PartFits}
 
 -- ---- one row more
 
@@ -25,7 +25,7 @@ pub record Makes (picked : List ℕ) (item : Item) (new : Part) (rows : List Row
     Type 0 where
   pub item_is : row.item ≡ item
   pub client_is : row.client ≡ new.peer.number
-  pub fits : Fits (row ∷ rows) new
+  pub fits : PartFits (row ∷ rows) new
   pub runs : is_end row.fate ≡ false
   pub taken : numbers_taken (row ∷ rows) ≡ numbers_taken rows + length picked
   pub fresh : IsOfBytes item → AreFresh rows → AreFresh (row ∷ rows)
@@ -39,7 +39,7 @@ ComeNext picked rows picks = (later : List ℕ) × (drop (numbers_taken rows) pi
 pub record SendsPayload (p : List ℕ) (old new : Part) : Type 0 where
   pub picked : List ℕ
   pub goes : (pid : ℕ) (picks : List ℕ) (given : List HouseReply) (rows : List Row)
-      → Fits rows old → is_ended rows ≡ false → old.peer.standing ≡ Proxied
+      → PartFits rows old → is_ended rows ≡ false → old.peer.standing ≡ Proxied
       → ComeNext picked rows picks
       → Makes picked (Says old.peer.number (Payload p) None) new rows
       (next_row (by_lists old.core.policy pid picks given) rows

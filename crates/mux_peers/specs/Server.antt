@@ -15,7 +15,7 @@ use Rattle.mux_history.specs.declared.why.Why.{Why}
 use Rattle.mux_history.specs.Rows.{Row, is_ended, losses}
 use Rattle.mux_history.specs.Heard.{next_index}
 use Rattle.mux_history.specs.Settings.{by_lists}
-use Rattle.mux_history.specs.Solo.{end_of}
+use Rattle.mux_history.specs.Solo.{run_end_of}
 use Rattle.mux_history.specs.Journal.{received_item}
 use Rattle.mux_history.specs.Log.{more_all}
 use Rattle.mux_core.specs.State.{CoreState}
@@ -46,7 +46,7 @@ pub record ReceivedTo (policy : Policy) (pid : ℕ) (picks : List ℕ) (given : 
   pub says : List Outgoing
   pub fit : AllFit (rows_received policy pid picks given rows says) core cs queue
   pub lost : losses (rows_received policy pid picks given rows says) ≡ losses rows ++ noted
-  pub ended_is : ended ≡ end_of (rows_received policy pid picks given rows says)
+  pub ended_is : ended ≡ run_end_of (rows_received policy pid picks given rows says)
   pub on : ended ≡ None
       → ReceivesOnwards all cs rest index (rows_received policy pid picks given rows says) says
   pub over : (more : List Outgoing) × ((parse InProxy all).says ≡ says ++ more)
@@ -70,7 +70,7 @@ pub record ServerFrame (content rest : List ℕ) (old new : ClientsAndQueue) (wa
   pub next : now.index ≡ min (was.index + 1) (2 ^ 64 - 1)
 
 -- a fault ends the run, and touches nothing else
-pub record ServerFault (fault : BadFrame) (old new : ClientsAndQueue) (was : ServerState)
+pub record EndsByServerFault (fault : BadFrame) (old new : ClientsAndQueue) (was : ServerState)
     (ended' : Option Ended) : Type 0 where
   pub untouched : IsUntouched old new
   pub ends : ended' ≡ Some (ended.Broke was.index (broke.Frame fault))
@@ -85,7 +85,7 @@ abbrev pub ServerNext : Bool → Front → ClientsAndQueue → ClientsAndQueue �
     → Option Ended → Type 0
 ServerNext true (Frame content rest) old new was now ended ended' =
     ServerFrame content rest old new was now ended'
-ServerNext true (Faulty fault) old new was now ended ended' = ServerFault fault old new was ended'
+ServerNext true (Faulty fault) old new was now ended ended' = EndsByServerFault fault old new was ended'
 ServerNext true More old new was now ended ended' = ⊥
 ServerNext false More old new was now ended ended' = ServerNone old new was now ended ended'
 ServerNext false _ old new was now ended ended' = ⊥

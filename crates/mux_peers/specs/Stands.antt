@@ -42,12 +42,12 @@ framing_of Proxied = framing.Proxy
 framing_of _ = framing.Control
 
 -- and read
-abbrev pub mode_of : Standing → Mode
-mode_of Awaited = InControl
-mode_of Greeted = InControl
-mode_of Proxied = InProxy
-mode_of Unread = Stopped
-mode_of (Lost why) = Stopped
+abbrev pub parse_mode_of : Standing → Mode
+parse_mode_of Awaited = InControl
+parse_mode_of Greeted = InControl
+parse_mode_of Proxied = InProxy
+parse_mode_of Unread = Stopped
+parse_mode_of (Lost why) = Stopped
 
 -- the bytes that are left are kept while the client is read
 abbrev pub rest_if : Bool → List ℕ → List ℕ
@@ -95,7 +95,7 @@ pub record PeerFits (own : List Row) (standing : Standing) (queue : List ℕ) : 
 
 -- while the run goes on the shared connection represents the rows; the client and what waits for
 -- the server always do
-pub record Fits (rows : List Row) (p : Part) : Type 0 where
+pub record PartFits (rows : List Row) (p : Part) : Type 0 where
   pub core : is_ended rows ≡ false → core.Stands p.core rows
   pub peer : PeerFits (rows_of p.peer.number rows) p.peer.standing p.peer.queue
   pub up : p.up.waiting ≡ pending_up rows

@@ -12,8 +12,8 @@ use Rattle.mux_history.specs.Promises.{MayGive}
 use Rattle.mux_core.specs.State.{CoreState}
 use Rattle.mux_peers.specs.declared.standing.Standing.{Standing}
 use Rattle.mux_peers.specs.State.{ClientState, part}
-use Rattle.mux_peers.specs.Stands.{Fits, is_greeted, is_proxied, is_read, mode_of}
-use Rattle.mux_peers.specs.Asked.{RecordsAsks, asked_of, sending_asks}
+use Rattle.mux_peers.specs.Stands.{PartFits, is_greeted, is_proxied, is_read, parse_mode_of}
+use Rattle.mux_peers.specs.Asked.{RecordsAsks, asks_of_rows, sending_asks}
 use Rattle.mux_peers.specs.Says.{ComeNext}
 use Rattle.mux_peers.specs.Pieces.{ReplyNext, rows_sent}
 
@@ -57,7 +57,7 @@ AsksNext May recorded recorded' k standing front =
 -- ---- a piece
 
 -- these are the first that come after those
-pub record BeginsWith (before asks all : List Asked) : Type 0 where
+pub record BeginsWithAsked (before asks all : List Asked) : Type 0 where
   pub rest : List Asked
   pub all_is : all ≡ before ++ (asks ++ rest)
 
@@ -72,11 +72,11 @@ pub record ReceivesSome (May : HouseReply → Type 0) (recorded recorded' : Opti
   pub may : MayGive May used
   pub records : RecordsAsks recorded recorded' asks
   pub begins : (picks : List ℕ) (given : List HouseReply) (rows : List Row)
-      → Fits rows (part core first.peer up) → is_ended rows ≡ false → ComeNext picked rows picks
+      → PartFits rows (part core first.peer up) → is_ended rows ≡ false → ComeNext picked rows picks
       → ReplyNext used rows given
-      → BeginsWith (asked_of rows) asks
-      (asked_of (rows_sent core.policy pid picks given first.peer.number rows
-      (parse (mode_of first.peer.standing) (first.rest ++ bytes)).says))
+      → BeginsWithAsked (asks_of_rows rows) asks
+      (asks_of_rows (rows_sent core.policy pid picks given first.peer.number rows
+      (parse (parse_mode_of first.peer.standing) (first.rest ++ bytes)).says))
 
 -- the client of a number is so
 abbrev pub OneIs : ℕ → (ClientState → Type 0) → List ClientState → Type 0

@@ -1,5 +1,5 @@
 ghost use Rattle.std.specs.Prelude.{◌≡◌, [], ◌∷◌, ◌++◌, All, IfOk, OnOk, OnErr};
-ghost use Rattle.mux_outside.specs.House.{ask_of};
+ghost use Rattle.mux_outside.specs.House.{start_ask_of};
 ghost use Rattle.mux_outside.specs.Wire.{MayNote};
 
 use mux_outside::{FwdAsk, HouseMark, HouseReply, StartAsk};
@@ -7,7 +7,7 @@ use ssh_fields::{OutOfMemory, Text};
 use std::alloc::Global;
 use std::marker::Model;
 
-/// What the house was asked, in order, each with its reply.
+/// What the forwarder was asked, in order, each with its reply.
 #[derive(Drop)]
 pub struct AskLog {
     alloc: Global,
@@ -39,7 +39,7 @@ impl AskLog {
 
     // What a client asks, as it is noted.
     pub fn copied(&self, what: &FwdAsk<'_>) -> Result<StartAsk, OutOfMemory>
-        ensures { IfOk result (λ ask. ask ≡ ask_of what.now) }
+        ensures { IfOk result (λ ask. ask ≡ start_ask_of what.now) }
     {
         let listen_host = Text::copy(self.alloc, what.listen_host)?;
         let connect_host = Text::copy(self.alloc, what.connect_host)?;
@@ -53,7 +53,7 @@ impl AskLog {
         })
     }
 
-    /// Adds an ask with its reply. An `Err` changes nothing.
+    /// Adds a request with its reply. An `Err` changes nothing.
     pub fn push(&mut self, mark: HouseMark) -> Result<(), OutOfMemory>
         requires may { MayNote mark }
         ensures ok { OnOk result (self.new ≡ self.old ++ mark ∷ []) }

@@ -6,7 +6,7 @@ ghost use Rattle.mux_peers.specs.Asked.{Applies};
 ghost use Rattle.mux_peers.specs.State.{client_took, part, refusals_of, KeepsPeer};
 ghost use Rattle.mux_peers.specs.Receives.{ReceivesRecorded};
 ghost use Rattle.ssh_grammar.specs.Said.{first_in};
-ghost use Rattle.mux_peers.specs.Stands.{is_lost, is_read, mode_of};
+ghost use Rattle.mux_peers.specs.Stands.{is_lost, is_read, parse_mode_of};
 ghost use Rattle.mux_peers.specs.Room.{LeavesRoom};
 ghost use Rattle.mux_peers.specs.Nexts.{MaySend, SendsNext};
 ghost use Rattle.mux_peers.specs.Pieces.{ReceivesIn, ReceivesPiece};
@@ -224,11 +224,11 @@ impl Client {
         ensures applies { Applies result asks.old asks.new (H.state house.old) (H.state house.new) }
         ensures next { IfOk result (λ more.
             SendsNext H.may (Some asks.old) (Some asks.new) pid more
-            (first_in (mode_of self.old.peer.standing) self.old.rest) core.old core.new up.old
+            (first_in (parse_mode_of self.old.peer.standing) self.old.rest) core.old core.new up.old
             up.new self.old change.old self.new change.new) }
         ensures cut { OnErr result (AsksNext H.may (H.state house.old).recorded (H.state house.new).recorded
             self.old.peer.number self.old.peer.standing
-            (first_in (mode_of self.old.peer.standing) self.old.rest)) }
+            (first_in (parse_mode_of self.old.peer.standing) self.old.rest)) }
         ensures policy { core.new.policy ≡ core.old.policy }
         ensures keeps { OnOk result (KeepsPeer up.old up.new self.old.peer self.new.peer) }
     {

@@ -15,7 +15,7 @@ ghost use Rattle.mux_peers.specs.Stands.{is_lost};
 ghost use Rattle.mux_peers.specs.Losing.{LosesIn, NotesMore, loss_between};
 ghost use Rattle.mux_peers.specs.Room.{HasRoom, KeepsAll, LeavesRest, served_in};
 ghost use Rattle.mux_peers.specs.Answering.{AnswersAt};
-ghost use Rattle.mux_peers.specs.Entering.{Enters, new_client};
+ghost use Rattle.mux_peers.specs.Entering.{PeerEnters, new_client};
 
 mod views;
 
@@ -124,7 +124,7 @@ impl Clients {
     /// awaited; else it is to be closed.
     pub fn admit(&mut self, number: u64, core: &mut Core) -> Result<bool, OutOfMemory>
         ensures enters { IfOk result (λ let_in.
-            Enters number core.old core.new self.old.all self.new.all let_in) }
+            PeerEnters number core.old core.new self.old.all self.new.all let_in) }
         ensures clients { IfOk result (λ let_in. self.new.all
             ≡ (if let_in then self.old.all ++ new_client number ∷ [] else self.old.all)) }
         ensures leaving { IfOk result (λ let_in. self.new.leaving

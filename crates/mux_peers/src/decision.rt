@@ -3,7 +3,7 @@ ghost use Rattle.mux_outside.specs.declared.house.HouseReply.{HouseReply as TheR
 ghost use Rattle.ssh_grammar.specs.Frames.{frame_answer};
 ghost use Rattle.mux_history.specs.Controls.{type_of as kind_of, house_answer};
 ghost use Rattle.mux_messages.specs.Control.{control_of, Skipped};
-ghost use Rattle.mux_outside.specs.House.{ask_of};
+ghost use Rattle.mux_outside.specs.House.{start_ask_of};
 ghost use Rattle.mux_outside.specs.declared.house_mark.HouseMark.TheVariants.{HouseAsked};
 ghost use Rattle.mux_peers.specs.declared.decision.Effect.TheVariants.{Goes};
 ghost use Rattle.mux_peers.specs.Asked.{Applies};
@@ -136,10 +136,10 @@ fn ask<H: Asks>(
     requires ordering { (H.state house.old).known.ordering ≡ None }
     ensures asked { IfOk result (λ decision. (given : TheReply) × (H.may given
         × ((decision ≡ record { recorded = option_map frame_answer (house_answer opening id given); effect = Goes })
-        × (asks.new ≡ asks.old ++ HouseAsked client id opening (ask_of what.now) given ∷ [])))) }
+        × (asks.new ≡ asks.old ++ HouseAsked client id opening (start_ask_of what.now) given ∷ [])))) }
     ensures cut { OnErr result (((H.state house.new).recorded ≡ (H.state house.old).recorded)
         ⊎ AsksThis H.may (H.state house.old).recorded (H.state house.new).recorded
-        (λ given. HouseAsked client id opening (ask_of what.now) given ∷ [])) }
+        (λ given. HouseAsked client id opening (start_ask_of what.now) given ∷ [])) }
     ensures applies { Applies result asks.old asks.new (H.state house.old) (H.state house.new) }
 {
     let ask = asks.copied(what)?;

@@ -12,7 +12,7 @@ ghost use Rattle.mux_peers.specs.Losing.{Loses};
 ghost use Rattle.mux_peers.specs.Answering.{AnswersLater};
 ghost use Rattle.mux_peers.specs.Entering.{new_client};
 ghost use Rattle.mux_peers.specs.declared.standing.Standing.{Standing as TheStanding};
-ghost use Rattle.mux_peers.specs.Decisions.{frames, is_stops, GoesOn, StandsAs};
+ghost use Rattle.mux_peers.specs.Decisions.{frames, is_stops, DecisionGoesOn, StandsAs};
 ghost use Rattle.mux_peers.specs.Bodies.{FollowsBy};
 ghost use Rattle.mux_peers.specs.declared.run_change.RunChange.{RunChange as TheRunChange};
 ghost use Rattle.mux_peers.specs.Nexts.{FaultBy};
@@ -58,7 +58,7 @@ impl Model for Peer {
 
 // How a client stands that goes on so.
 fn standing_by(effect: Effect) -> Standing
-    ensures { (s : TheStanding) → StandsAs effect s → GoesOn effect → result ≡ s }
+    ensures { (s : TheStanding) → StandsAs effect s → DecisionGoesOn effect → result ≡ s }
 {
     match effect {
         Effect::Switches => Standing::Proxied,

@@ -7,13 +7,14 @@ use Rattle.ssh_grammar.specs.Said.{InControl, InProxy, Mode, Parsed, Outgoing, p
 use Rattle.ssh_grammar.proofs.Parses.{parse-append}
 use Rattle.mux_outside.specs.declared.mark.Mark.{Mark}
 use Rattle.mux_outside.specs.declared.mark.Mark.TheVariants as wire
+use Rattle.mux_outside.specs.declared.shown.Shown.{Shown}
 use Rattle.mux_outside.specs.declared.turn.Want.{Want}
 use Rattle.mux_outside.specs.declared.house_mark.HouseMark.{HouseMark}
 use Rattle.mux_outside.specs.declared.house_mark.HouseMark.TheVariants.{HouseAnswer, HouseAsked, HouseIn, HouseOrder, HouseSaid, HouseTook}
 use Rattle.mux_history.specs.declared.limits.TheConstants.{HOUSE}
 use Rattle.mux_history.specs.Journal.{bytes_in, bytes_of, received_item, is_own_stream, items, items_in, new_received, new_sayings, sent_item, server_end, unless_own}
 use Rattle.mux_history.specs.Rows.{Item, Gone}
-use Rattle.mux_pieces.specs.Pieces.{AreAlike}
+use Rattle.mux_pieces.specs.Pieces.{AreCutAlike}
 
 -- ---- what is new in two parts
 
@@ -96,10 +97,10 @@ kept-parts : (b : Bool) (x a c : List ℕ) → ((x ++ kept b a) ++ []) ++ kept b
 kept-parts true x a c = ap (λ l. l ++ c) (append-nil (x ++ a)) ∙ append_assoc x a c
 kept-parts false x a c = append-nil ((x ++ []) ++ []) ∙ append-nil (x ++ [])
 
-module _ (before : List Mark) (waiting : List ℕ) (want : Want) (streams : List ℕ) (listens : Bool) where
+module _ (before : List Mark) (waiting : List ℕ) (want : Want) (streams : List ℕ) (shown : Shown) where
   -- a piece and a wait after it
   abbrev then_waits : ℕ → List ℕ → List Mark
-  then_waits t a = wire.Waits waiting want streams listens ∷ wire.Gets t a ∷ before
+  then_waits t a = wire.Waits waiting want streams shown ∷ wire.Gets t a ∷ before
 
   behind : (t : ℕ) (a : List ℕ) → bytes_of t (then_waits t a) ≡ bytes_of t before ++ a
   behind t a =
@@ -129,10 +130,10 @@ module _ (before : List Mark) (waiting : List ℕ) (want : Want) (streams : List
     | inr q ↦ items-other t a b q.0
   ]
 
-pub parts-alike : (before : List Mark) (t : ℕ) (a b : List ℕ) (waiting : List ℕ) (want : Want) (streams : List ℕ) (listens : Bool)
-    → AreAlike (wire.Gets t b ∷ wire.Waits waiting want streams listens ∷ wire.Gets t a ∷ before) (wire.Gets t (a ++ b) ∷ before)
-parts-alike before t a b waiting want streams listens = record {
-  same_items = items-alike before waiting want streams listens t a b;
+pub parts-alike : (before : List Mark) (t : ℕ) (a b : List ℕ) (waiting : List ℕ) (want : Want) (streams : List ℕ) (shown : Shown)
+    → AreCutAlike (wire.Gets t b ∷ wire.Waits waiting want streams shown ∷ wire.Gets t a ∷ before) (wire.Gets t (a ++ b) ∷ before)
+parts-alike before t a b waiting want streams shown = record {
+  same_items = items-alike before waiting want streams shown t a b;
   same_bytes = λ u. kept-parts (t == u) (bytes_of u before) a b;
 }
 
@@ -147,8 +148,8 @@ module _ (marks others : List Mark) (same : (t : ℕ) → bytes_of t marks ≡ b
   mark-alike (wire.Accepts k) = refl
   mark-alike (wire.Fails t) = refl
   mark-alike (wire.WriteFails t) = refl
-  mark-alike (wire.Takes t bytes) = refl
-  mark-alike (wire.Waits waiting want streams listens) = refl
+  mark-alike (wire.Takes t bytes accepts) = refl
+  mark-alike (wire.Waits waiting want streams shown) = refl
   mark-alike (wire.Frees t) = refl
   mark-alike (wire.Holds t) = refl
   mark-alike (wire.Joins listener t) = refl
@@ -162,7 +163,7 @@ module _ (marks others : List Mark) (same : (t : ℕ) → bytes_of t marks ≡ b
       house-alike (HouseAnswer k id given) = refl
       house-alike (HouseOrder order number) = refl
 
-pub goes-on : (marks others : List Mark) (mark : Mark) → AreAlike marks others → AreAlike (mark ∷ marks) (mark ∷ others)
+pub goes-on : (marks others : List Mark) (mark : Mark) → AreCutAlike marks others → AreCutAlike (mark ∷ marks) (mark ∷ others)
 goes-on marks others mark h = record {
   same_items =
       ap (λ l. reverse l ++ items marks) (mark-alike marks others h.same_bytes mark)

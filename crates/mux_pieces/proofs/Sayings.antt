@@ -165,7 +165,7 @@ sayings-are (mark ∷ before) k pos client = by_mark mark (sayings-are before k 
 
     by_mark : (m : Mark) → Recorded (is_sent_by k) (sent_item k) InControl k before → Recorded (is_sent_by k) (sent_item k) InControl k (m ∷ before)
     by_mark (wire.Gets stream bytes) recorded = said-piece before stream bytes k pos client recorded
-    by_mark (wire.Takes stream bytes) recorded = still (wire.Takes stream bytes) (unless-none (is_sent_by k) stream (Took stream (length bytes) ∷ []) refl) refl recorded
+    by_mark (wire.Takes stream bytes accepts) recorded = still (wire.Takes stream bytes accepts) (unless-none (is_sent_by k) stream (Took stream (length bytes) ∷ []) refl) refl recorded
     by_mark (wire.House (HouseSaid bytes)) recorded = house-said before bytes k recorded
     by_mark (wire.House HouseIn) recorded = still (wire.House HouseIn) refl (house-bytes k) recorded
     by_mark (wire.House (HouseTook size)) recorded = still (wire.House (HouseTook size)) refl (house-bytes k) recorded
@@ -186,7 +186,7 @@ heard-are (mark ∷ before) = by_mark mark (heard-are before)
 
     by_mark : (m : Mark) → Recorded is_by_server received_item InProxy 0 before → Recorded is_by_server received_item InProxy 0 (m ∷ before)
     by_mark (wire.Gets stream bytes) recorded = heard-piece before stream bytes recorded
-    by_mark (wire.Takes stream bytes) recorded = still (wire.Takes stream bytes) (unless-none is_by_server stream (Took stream (length bytes) ∷ []) refl) refl recorded
+    by_mark (wire.Takes stream bytes accepts) recorded = still (wire.Takes stream bytes accepts) (unless-none is_by_server stream (Took stream (length bytes) ∷ []) refl) refl recorded
     by_mark (wire.House (HouseSaid bytes)) recorded = still (wire.House (HouseSaid bytes)) (none-pass is_by_server (sent_item HOUSE) (λ s. refl) (new_sends InControl (bytes_of HOUSE before) bytes)) refl recorded
     by_mark (wire.House HouseIn) recorded = still (wire.House HouseIn) refl refl recorded
     by_mark (wire.House (HouseTook size)) recorded = still (wire.House (HouseTook size)) refl refl recorded
@@ -235,7 +235,7 @@ none-said k nobody (mark ∷ before) = by_mark mark (none-said k nobody before)
     by_mark (wire.Ends t) recorded = none-more (is_sent_by k) before (wire.Ends t) (gone-still (is_sent_by k) t (server_end (parse InProxy (bytes_of 0 before)).rest) (end-silent k (parse InProxy (bytes_of 0 before)).rest) (λ j. refl)) recorded
     by_mark (wire.Fails t) recorded = none-more (is_sent_by k) before (wire.Fails t) (gone-still (is_sent_by k) t ServerFailed refl (λ j. refl)) recorded
     by_mark (wire.WriteFails t) recorded = none-more (is_sent_by k) before (wire.WriteFails t) (gone-still (is_sent_by k) t ServerFailed refl (λ j. refl)) recorded
-    by_mark (wire.Takes stream bytes) recorded = none-more (is_sent_by k) before (wire.Takes stream bytes) (unless-none (is_sent_by k) stream (Took stream (length bytes) ∷ []) refl) recorded
+    by_mark (wire.Takes stream bytes accepts) recorded = none-more (is_sent_by k) before (wire.Takes stream bytes accepts) (unless-none (is_sent_by k) stream (Took stream (length bytes) ∷ []) refl) recorded
     by_mark (wire.House (HouseSaid bytes)) recorded = none-more (is_sent_by k) before (wire.House (HouseSaid bytes)) (none-pass (is_sent_by k) (sent_item HOUSE) (λ s. nobody HOUSE refl refl) (new_sends InControl (bytes_of HOUSE before) bytes)) recorded
     by_mark (wire.House HouseIn) recorded = none-more (is_sent_by k) before (wire.House HouseIn) refl recorded
     by_mark (wire.House (HouseTook size)) recorded = none-more (is_sent_by k) before (wire.House (HouseTook size)) refl recorded

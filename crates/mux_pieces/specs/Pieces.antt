@@ -3,6 +3,7 @@ use Rattle.std.specs.Prelude.{◌≡◌, ◌<◌, ◌==◌, ℕ, Bool, true, fal
 use Rattle.mux_outside.specs.declared.house.HouseReply.{HouseReply}
 use Rattle.mux_outside.specs.declared.mark.Mark.{Mark}
 use Rattle.mux_outside.specs.declared.mark.Mark.TheVariants.{Waits, Gets}
+use Rattle.mux_outside.specs.declared.shown.Shown.{Shown}
 use Rattle.mux_outside.specs.declared.turn.Want.{Want}
 use Rattle.ssh_grammar.specs.Said.{Body, heard, said}
 use Rattle.mux_history.specs.Journal.{bytes_of, received_item, is_own_stream, items, log_of_journal, sent_item}
@@ -11,7 +12,7 @@ use Rattle.mux_history.specs.Rows.{BadServer, Heard, Item, Says}
 use Rattle.mux_history.specs.Settings.{by_lists}
 
 -- the same bytes came from each stream, and they completed the same items in the same order
-pub record AreAlike (marks others : List Mark) : Type 0 where
+pub record AreCutAlike (marks others : List Mark) : Type 0 where
   pub same_items : items marks ≡ items others
   pub same_bytes : (t : ℕ) → bytes_of t marks ≡ bytes_of t others
 
@@ -19,15 +20,15 @@ pub record AreAlike (marks others : List Mark) : Type 0 where
 abbrev pub PartsGiveAlike : Type 0
 PartsGiveAlike =
     (before : List Mark) (t : ℕ) (a b : List ℕ)
-    (waiting : List ℕ) (want : Want) (streams : List ℕ) (listens : Bool)
-    → AreAlike (Gets t b ∷ Waits waiting want streams listens ∷ Gets t a ∷ before)
+    (waiting : List ℕ) (want : Want) (streams : List ℕ) (shown : Shown)
+    → AreCutAlike (Gets t b ∷ Waits waiting want streams shown ∷ Gets t a ∷ before)
     (Gets t (a ++ b) ∷ before)
 
 -- the same mark after both
 abbrev pub JournalsGoOnAlike : Type 0
 JournalsGoOnAlike =
-    (marks others : List Mark) (mark : Mark) → AreAlike marks others
-    → AreAlike (mark ∷ marks) (mark ∷ others)
+    (marks others : List Mark) (mark : Mark) → AreCutAlike marks others
+    → AreCutAlike (mark ∷ marks) (mark ∷ others)
 
 -- the same items make the same rows, whatever was picked and replied, as long as it is the same
 abbrev pub ItemsMakeRows : Type 0
@@ -46,7 +47,7 @@ joined_to (Gets s a ∷ before) (Gets t b) = elim (s == t) [
   | true ↦ Gets s (a ++ b) ∷ before
   | false ↦ Gets t b ∷ Gets s a ∷ before
 ]
-joined_to before (Waits waiting want streams listens) = before
+joined_to before (Waits waiting want streams shown) = before
 joined_to before mark = mark ∷ before
 
 -- a journal without its waits, and with no cut between pieces that come one after another

@@ -30,28 +30,28 @@ two_bytes channel =
 -- ---- what happens
 
 -- the master waits, and reads from these streams, of which none holds back
-abbrev pub waits_for : List ℕ → Mark
-waits_for streams = Waits [] Read streams true
+abbrev pub wait_for : List ℕ → Mark
+wait_for streams = Waits [] Read streams (record { listens = true; own = []; listeners = [] })
 
 -- the server and both clients are open
 abbrev pub waits_for_all : Mark
-waits_for_all = waits_for (0 ∷ 1 ∷ 2 ∷ [])
+waits_for_all = wait_for (0 ∷ 1 ∷ 2 ∷ [])
 
 -- a client comes where these streams are open, is greeted, and enters proxy mode
 abbrev pub comes : List ℕ → ℕ → List Mark
 comes streams k =
-    waits_for streams ∷ Accepts k ∷ Takes k hello ∷ waits_for (streams ++ k ∷ [])
+    wait_for streams ∷ Accepts k ∷ Takes k hello true ∷ wait_for (streams ++ k ∷ [])
     ∷ Gets k (hello ++ hex (codes "00000008 1000000f 00000000"))
-    ∷ Takes k (hex (codes "00000008 8000000f 00000000")) ∷ []
+    ∷ Takes k (hex (codes "00000008 8000000f 00000000")) true ∷ []
 
 -- it opens a session as its number 0, which goes up under this number
 abbrev pub opens_session : ℕ → ℕ → List Mark
-opens_session k number = waits_for_all ∷ Gets k (session 0) ∷ Takes 0 (session number) ∷ []
+opens_session k number = waits_for_all ∷ Gets k (session 0) ∷ Takes 0 (session number) true ∷ []
 
 -- the server confirms it, which the client accepts under its own number
 abbrev pub is_confirmed_as : ℕ → ℕ → ℕ → List Mark
 is_confirmed_as k number remote =
-    waits_for_all ∷ Gets 0 (confirmation number remote) ∷ Takes k (confirmation 0 remote) ∷ []
+    waits_for_all ∷ Gets 0 (confirmation number remote) ∷ Takes k (confirmation 0 remote) true ∷ []
 
 -- both have a session; the first writes into the second's, where the server would have called it 6;
 -- the second goes on, and the server answers it
@@ -59,10 +59,10 @@ abbrev pub intrusion : List Mark
 intrusion =
     comes (0 ∷ []) 1 ++ (comes (0 ∷ 1 ∷ []) 2 ++ (opens_session 1 0 ++ (opens_session 2 1
     ++ (is_confirmed_as 1 0 5 ++ (is_confirmed_as 2 1 6
-    ++ (waits_for_all ∷ Gets 1 (two_bytes 6) ∷ Takes 0 (hex (codes "00000006 00 61 00000005"))
-    ∷ waits_for (0 ∷ 2 ∷ []) ∷ Gets 2 (two_bytes 6) ∷ Takes 0 (two_bytes 6)
-    ∷ waits_for (0 ∷ 2 ∷ []) ∷ Gets 0 (two_bytes 1) ∷ Takes 2 (two_bytes 0)
-    ∷ waits_for (0 ∷ 2 ∷ []) ∷ Ends 0 ∷ []))))))
+    ++ (waits_for_all ∷ Gets 1 (two_bytes 6) ∷ Takes 0 (hex (codes "00000006 00 61 00000005")) true
+    ∷ wait_for (0 ∷ 2 ∷ []) ∷ Gets 2 (two_bytes 6) ∷ Takes 0 (two_bytes 6) true
+    ∷ wait_for (0 ∷ 2 ∷ []) ∷ Gets 0 (two_bytes 1) ∷ Takes 2 (two_bytes 0) true
+    ∷ wait_for (0 ∷ 2 ∷ []) ∷ Ends 0 ∷ []))))))
 
 -- ---- the premises
 

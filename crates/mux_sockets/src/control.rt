@@ -1,127 +1,160 @@
 //! The control socket and its name in the file system.
-ghost use Rattle.std.specs.Prelude.{◌≡◌, IfOk};
+ghost use Rattle.std.specs.Prelude.{◌≡◌, ◌≢◌, ◌∷◌, [], IfOk, None, OnErr, OnOk, Some, false, true};
 ghost use Rattle.std.specs.String.{string_bytes};
+ghost use Rattle.mux_sockets.specs.FileSteps.{FailsToListen, IsPrivate, IsUndone, RemovesOwn, added, after, listening_steps, named_steps};
+ghost use Rattle.mux_sockets.specs.FileSteps.FileStep.{Bound, Found, Linked, Listening, Made, Moded, Removed};
 
-use libc::net::listen;
-use mio::net::UnixListener;
-use mux_exchange::owner_only;
+use crate::socket_files::{SocketFile, SocketFiles, SystemFiles};
 use std::alloc::Global;
-use std::fs::Files;
-use std::net::Net;
-use std::os::fd::{AsFd, AsRawFd, OwnedFd};
-use std::os::unix::fs::MetadataExt;
-use std::os::unix::net;
+use std::io;
 use std::os::unix::net::SocketAddr;
-use std::{fs, io};
 
-// How many clients may wait to be accepted.
-const BACKLOG: i32 = 128;
+// Its owner alone may use the socket.
+const OWNER_ONLY: u32 = 0o600;
+
+// The bits of a mode that say who may use a file.
+const WHO: u32 = 0o777;
 
 // How many temporary names are tried, each with a digit of its own.
 const TRIES: u32 = 16;
 
-// A name that is removed when this is dropped.
-struct Temporary<R: Files + Drop> {
-    rt: R,
-    path: String,
+/// Where a control socket stands, and which file it is.
+#[derive(Drop)]
+pub struct Place {
+    pub path: String,
+    pub own: SocketFile,
 }
 
-impl<R: Files + Drop> Drop for Temporary<R> {
+/// The name of a control socket, which is removed when this is dropped, if it still names our
+/// socket.
+pub struct NamedSocket<F: SocketFiles> {
+    files: F,
+    place: Place,
+}
+
+/// The control socket of this machine.
+pub type ControlSocket<R> = NamedSocket<SystemFiles<R>>;
+
+impl<F: SocketFiles> Drop for NamedSocket<F> {
     fn drop(self) {
-        let Temporary { rt, path } = self;
-        let _ = fs::remove_file(&rt, path.as_str());
+        let NamedSocket { mut files, place } = self;
+        remove_own(&mut files, place.path.as_str(), place.own);
     }
 }
 
-/// The name of the control socket, which is removed when this is dropped, if it still names our
-/// socket.
-pub struct ControlSocket<R: Files + Drop> {
-    rt: R,
-    path: String,
-    dev: u64,
-    ino: u64,
+impl<F: SocketFiles> NamedSocket<F> {
+    /// A socket that has its name.
+    pub fn new(files: F, place: Place) -> NamedSocket<F> {
+        NamedSocket { files, place }
+    }
 }
 
-impl<R: Files + Drop> Drop for ControlSocket<R> {
-    fn drop(self) {
-        let ControlSocket { rt, path, dev, ino } = self;
-        if let Ok(found) = fs::symlink_metadata(&rt, path.as_str()) {
-            if found.dev() == dev && found.ino() == ino {
-                let _ = fs::remove_file(&rt, path.as_str());
-            }
+// Removes the file at a path, if it is this one.
+fn remove_own<F: SocketFiles>(files: &mut F, path: &str, own: SocketFile)
+    ensures { RemovesOwn path.now own (F.recorded files.old) (F.recorded files.new) }
+{
+    if let Some(found) = files.find(path) {
+        if found.dev == own.dev && found.ino == own.ino {
+            files.remove(path);
         }
     }
 }
 
-/// A socket that listens, under a temporary name that no process knows yet.
-#[derive(Drop)]
-pub struct Unnamed<R: Files + Drop> {
-    listener: UnixListener,
-    temporary: Temporary<R>,
-    dev: u64,
-    ino: u64,
+/// A socket that listens, under a temporary name that no process knows yet. It goes by `publish` or
+/// by `discard`, so that this name goes in any case.
+pub struct Unnamed<S> {
+    pub socket: S,
+    pub name: String,
+    pub own: SocketFile,
 }
 
 /// Listens under a temporary name beside the path.
-pub fn listen_beside<R: Files + Net + Clone + Drop>(
-    rt: &R,
+pub fn listen_beside<F: SocketFiles>(
+    files: &mut F,
     alloc: Global,
     path: &str,
-) -> io::Result<Unnamed<R>> {
-    refuse_taken(rt, path)?;
-    let (socket, temporary) = bind_beside(rt, alloc, path)?;
-    listen_at(rt, temporary.path.as_str(), &socket)?;
-    unnamed_of(rt, socket, temporary)
+) -> io::Result<Unnamed<F::Socket>>
+    ensures name { IfOk result (λ unnamed. string_bytes unnamed.name ≢ path.now) }
+    ensures private { IfOk result (λ unnamed. IsPrivate unnamed.own) }
+    ensures steps { IfOk result (λ unnamed. F.recorded files.new
+        ≡ added (listening_steps (string_bytes unnamed.name) unnamed.own)
+        (after (Found path.now None) (F.recorded files.old))) }
+    ensures err { OnErr result (IsUndone (F.recorded files.old) (F.recorded files.new)) }
+{
+    let socket = private_socket(files, path)?;
+    let name = bind_beside(files, alloc, &socket, path)?;
+    match listen_at(files, name.as_str(), &socket) {
+        Ok(own) => Ok(Unnamed { socket, name, own }),
+        Err(e) => {
+            files.remove(name.as_str());
+            Err(e)
+        }
+    }
 }
 
 // Refuses a name that is too long or taken, before anything is done. `publish` refuses a taken one
 // too.
-fn refuse_taken<R: Files>(rt: &R, path: &str) -> io::Result<()> {
+fn refuse_taken<F: SocketFiles>(files: &mut F, path: &str) -> io::Result<()>
+    ensures ok { OnOk result
+        (F.recorded files.new ≡ after (Found path.now None) (F.recorded files.old)) }
+    ensures err { OnErr result (IsUndone (F.recorded files.old) (F.recorded files.new)) }
+{
     let _ = SocketAddr::from_pathname(path)?;
-    if fs::symlink_metadata(rt, path).is_ok() {
-        return Err(io::Error::from(io::ErrorKind::AlreadyExists));
+    match files.find(path) {
+        Some(_) => Err(io::Error::from(io::ErrorKind::AlreadyExists)),
+        None => Ok(()),
     }
-    Ok(())
 }
 
-// Has a socket of this name listen. Before it listens, no process can connect: so the mode comes
-// first.
-fn listen_at<R: Files>(rt: &R, name: &str, socket: &OwnedFd) -> io::Result<()> {
-    fs::set_permissions(rt, name, owner_only())?;
-    if listen(socket.as_raw_fd(), BACKLOG) < 0 {
-        return Err(io::Error::from(io::ErrorKind::Other));
-    }
-    Ok(())
+// A socket without a name, of whose file its owner alone may make use, where the path is free.
+fn private_socket<F: SocketFiles>(files: &mut F, path: &str) -> io::Result<F::Socket>
+    ensures ok { OnOk result (F.recorded files.new
+        ≡ added (Moded 0o600 ∷ Made ∷ Found path.now None ∷ []) (F.recorded files.old)) }
+    ensures err { OnErr result (IsUndone (F.recorded files.old) (F.recorded files.new)) }
+{
+    refuse_taken(files, path)?;
+    let socket = files.make()?;
+    files.set_mode(&socket, OWNER_ONLY)?;
+    Ok(socket)
 }
 
-// A socket that listens under a temporary name.
-fn unnamed_of<R: Files + Net + Clone + Drop>(
-    rt: &R,
-    socket: OwnedFd,
-    temporary: Temporary<R>,
-) -> io::Result<Unnamed<R>> {
-    let found = fs::symlink_metadata(rt, temporary.path.as_str())?;
-    let listener = net::UnixListener::from(socket);
-    listener.set_nonblocking(true)?;
-    Ok(Unnamed {
-        listener: UnixListener::from_std(listener),
-        temporary,
-        dev: found.dev(),
-        ino: found.ino(),
-    })
+// Has a socket of this name listen: the file that it is. Its mode is what it was given, whatever
+// the umask.
+fn listen_at<F: SocketFiles>(
+    files: &mut F,
+    name: &str,
+    socket: &F::Socket,
+) -> io::Result<SocketFile>
+    ensures private { IfOk result (λ own. IsPrivate own) }
+    ensures steps { IfOk result (λ own. F.recorded files.new
+        ≡ after (Found name.now (Some own)) (after Listening (F.recorded files.old))) }
+    ensures err { OnErr result
+        (FailsToListen name.now (F.recorded files.old) (F.recorded files.new)) }
+{
+    files.listen(socket)?;
+    match files.find(name) {
+        Some(own) if own.mode & WHO == OWNER_ONLY => Ok(own),
+        _ => Err(io::Error::from(io::ErrorKind::Other)),
+    }
 }
 
 // Binds a socket to the first temporary name beside the path that is free.
-fn bind_beside<R: Files + Net + Clone + Drop>(
-    rt: &R,
+fn bind_beside<F: SocketFiles>(
+    files: &mut F,
     alloc: Global,
+    socket: &F::Socket,
     path: &str,
-) -> io::Result<(OwnedFd, Temporary<R>)> {
+) -> io::Result<String>
+    ensures name { IfOk result (λ name. string_bytes name ≢ path.now) }
+    ensures steps { IfOk result (λ name. F.recorded files.new
+        ≡ after (Bound (string_bytes name)) (F.recorded files.old)) }
+    ensures err { OnErr result (F.recorded files.new ≡ F.recorded files.old) }
+{
     let folder = folder_of(alloc, path)?;
     for number in 0..TRIES {
         let name = temporary_name(alloc, folder.as_str(), number)?;
-        if let Some(bound) = bound_at(rt, name, path)? {
-            return Ok(bound);
+        if name.as_str() != path && is_bound(files, socket, name.as_str())? {
+            return Ok(name);
         }
     }
     Err(io::Error::from(io::ErrorKind::AddrInUse))
@@ -135,31 +168,14 @@ fn folder_of(alloc: Global, path: &str) -> io::Result<String> {
     }
 }
 
-// A socket that is bound to a temporary name, where that is free, and not the path itself.
-fn bound_at<R: Files + Net + Clone + Drop>(
-    rt: &R,
-    name: String,
-    path: &str,
-) -> io::Result<Option<(OwnedFd, Temporary<R>)>> {
-    if name.as_str() == path {
-        return Ok(None);
-    }
-    let owner = rt.clone()?;
-    let socket = rt.unix_socket()?;
-    if !is_bound(rt, &socket, name.as_str())? {
-        return Ok(None);
-    }
-    let temporary = Temporary {
-        rt: owner,
-        path: name,
-    };
-    Ok(Some((socket, temporary)))
-}
-
 // Binds a socket to a name: whether that was free.
-fn is_bound<R: Files + Net>(rt: &R, socket: &OwnedFd, name: &str) -> io::Result<bool> {
-    let address = SocketAddr::from_pathname(name)?;
-    match rt.bind_unix(socket.as_fd(), &address) {
+fn is_bound<F: SocketFiles>(files: &mut F, socket: &F::Socket, name: &str) -> io::Result<bool>
+    ensures bound { IfOk result (λ is. is ≡ true
+        → F.recorded files.new ≡ after (Bound name.now) (F.recorded files.old)) }
+    ensures taken { IfOk result (λ is. is ≡ false → F.recorded files.new ≡ F.recorded files.old) }
+    ensures err { OnErr result (F.recorded files.new ≡ F.recorded files.old) }
+{
+    match files.bind(socket, name) {
         Ok(()) => Ok(true),
         Err(e) if e.kind() == io::ErrorKind::AddrInUse => Ok(false),
         Err(e) => Err(e),
@@ -197,34 +213,61 @@ fn short_name(alloc: Global, folder: &str, number: u32) -> io::Result<String> {
     Ok(format!(in alloc; "{folder}{number:x}")?)
 }
 
-impl<R: Files + Net + Clone + Drop> Unnamed<R> {
-    /// Gives the socket its name, which must be free, and removes the temporary one.
-    pub fn publish(
-        self,
-        rt: &R,
-        alloc: Global,
-        path: &str,
-    ) -> io::Result<(UnixListener, ControlSocket<R>)>
-        ensures listener { IfOk result (λ named. named.0 ≡ self.listener) }
-        ensures path { IfOk result (λ named. string_bytes named.1.path ≡ path.now) }
-        ensures dev { IfOk result (λ named. named.1.dev ≡ self.dev) }
-        ensures ino { IfOk result (λ named. named.1.ino ≡ self.ino) }
+impl<S: Drop> Unnamed<S> {
+    /// Removes the temporary name.
+    pub fn discard<F: SocketFiles>(self, files: &mut F)
+        ensures { F.recorded files.new
+            ≡ after (Removed (string_bytes self.name)) (F.recorded files.old) }
     {
         let Unnamed {
-            listener,
-            temporary,
-            dev,
-            ino,
+            socket,
+            name,
+            own: _,
         } = self;
-        let name = String::from_str(alloc, path)?;
-        let owner = rt.clone()?;
-        fs::hard_link(rt, temporary.path.as_str(), path)?;
-        let control = ControlSocket {
-            rt: owner,
-            path: name,
-            dev,
-            ino,
-        };
-        Ok((listener, control))
+        drop(socket);
+        files.remove(name.as_str());
     }
+
+    /// Gives the socket its name, which must be free, and removes the temporary one in any case.
+    pub fn publish<F: SocketFiles>(
+        self,
+        files: &mut F,
+        alloc: Global,
+        path: &str,
+    ) -> io::Result<(S, Place)>
+        ensures socket { IfOk result (λ named. named.0 ≡ self.socket) }
+        ensures path { IfOk result (λ named. string_bytes named.1.path ≡ path.now) }
+        ensures own { IfOk result (λ named. named.1.own ≡ self.own) }
+        ensures steps { OnOk result (F.recorded files.new
+            ≡ added (named_steps path.now (string_bytes self.name)) (F.recorded files.old)) }
+        ensures err { OnErr result (F.recorded files.new
+            ≡ after (Removed (string_bytes self.name)) (F.recorded files.old)) }
+    {
+        let Unnamed { socket, name, own } = self;
+        let place = place_at(files, alloc, name.as_str(), path, own);
+        files.remove(name.as_str());
+        Ok((socket, place?))
+    }
+}
+
+// Gives the file of a temporary name its name: where it then stands.
+fn place_at<F: SocketFiles>(
+    files: &mut F,
+    alloc: Global,
+    name: &str,
+    path: &str,
+    own: SocketFile,
+) -> io::Result<Place>
+    ensures path { IfOk result (λ place. string_bytes place.path ≡ path.now) }
+    ensures own { IfOk result (λ place. place.own ≡ own) }
+    ensures steps { OnOk result (F.recorded files.new
+        ≡ after (Linked name.now path.now) (F.recorded files.old)) }
+    ensures err { OnErr result (F.recorded files.new ≡ F.recorded files.old) }
+{
+    let place = Place {
+        path: String::from_str(alloc, path)?,
+        own,
+    };
+    files.link(name, path)?;
+    Ok(place)
 }

@@ -1,10 +1,10 @@
 //! The connection to the server.
 ghost use Rattle.std.specs.Prelude.{IfOk, IsErr, IsUtf8};
-ghost use Rattle.mux_edge.specs.Transport.{IsOver, IsOverUnix};
+ghost use Rattle.mux_edge.specs.Transport.{IsOverTransport, IsOverUnix};
 
 use mio::net::TcpStream;
 use mio::{Events, Interest, Poll, Token};
-use mux_edge::Stream;
+use mux_edge::{RealStream, Stream};
 use std::alloc::Global;
 use std::fs::Files;
 use std::net::{Net, SocketAddr};
@@ -16,8 +16,8 @@ use std::{io, str};
 const CONNECT_SECONDS: u32 = 60;
 
 /// Connects to a Unix socket's path where there is a slash, else to a numeric address and port.
-pub fn connect<R: Files + Net>(rt: &R, alloc: Global, transport: &[u8]) -> io::Result<Stream>
-    ensures { IfOk result (λ stream. IsOver stream transport.now) }
+pub fn connect<R: Files + Net>(rt: &R, alloc: Global, transport: &[u8]) -> io::Result<RealStream>
+    ensures { IfOk result (λ stream. IsOverTransport stream transport.now) }
 {
     if transport.contains(&b'/') {
         return connect_unix(rt, transport);
@@ -32,7 +32,7 @@ pub fn connect<R: Files + Net>(rt: &R, alloc: Global, transport: &[u8]) -> io::R
 }
 
 /// Connects to a Unix socket's path.
-pub fn connect_unix<R: Files + Net>(rt: &R, path: &[u8]) -> io::Result<Stream>
+pub fn connect_unix<R: Files + Net>(rt: &R, path: &[u8]) -> io::Result<RealStream>
     ensures over { IfOk result (λ stream. IsOverUnix stream) }
     ensures not_text { ¬ (IsUtf8 path.now) → IsErr result }
 {

@@ -8,19 +8,17 @@ ghost use Rattle.mux_outside.specs.Wire.{IsNewOwn, JoinFaults, MakeFaults, MayWa
 ghost use Rattle.mux_outside.specs.WireState.{nothing_called, opens_stream, seeing, state_opened, state_waited, state_written, untelling};
 ghost use Rattle.mux_outside.specs.declared.turn.Turn.TheVariants.{NoMemory};
 ghost use Rattle.mux_outside.specs.declared.turn.Want.{Want as TheWant};
-ghost use Rattle.mux_edge.specs.Entries.{HasEntry, IsFinished, IsPaused};
-ghost use Rattle.mux_edge.specs.Sockets.{Records};
+ghost use Rattle.mux_edge.specs.Entries.{HasEntry, HasFewOwn, IsFinished, IsPaused};
+ghost use Rattle.mux_edge.specs.Sockets.{StayFew, TouchesAlone, TurnRecords};
 
 use crate::control::ControlSocket;
 use crate::opening::{Fault, join, open};
 use crate::workers::Workers;
 use mux_edge::opened::{
-    connect, drop_socket, finish, found_next, listen, pause, resume, stop_listening, unlisten,
-    write,
+    connect, drop_socket, finish, listen, next_turn, pause, resume, stop_listening, unlisten, write,
 };
 use mux_edge::{
-    Sockets, StreamTable, count_made, keep_listener, keep_stream, next_number, numbers_to_give,
-    turn_of,
+    RealSockets, RealTable, Sockets, count_made, keep_listener, keep_stream, next_number,
 };
 use mux_outside::{
     FaultCounts, FileError, HouseMark, Piece, Streams, Tally, Turn, Want, Whose, Wire, WireState,
@@ -37,8 +35,8 @@ use std::time::Clock;
 /// A wire over the system's sockets: a Unix socket for the clients, and a Unix socket or TCP for
 /// the server. A client that fails, resets or takes its bytes slowly is that client's matter alone;
 /// while the system has no descriptors left, clients wait. The master's own listeners and streams
-/// are over TCP. They listen at numeric addresses, and connect to these or to names, which
-/// `getent ahosts` looks up.
+/// are over TCP, and at most 512 such streams are open at a time. They listen at numeric addresses,
+/// and connect to these or to names, which `getent ahosts` looks up.
 #[derive(Drop)]
 pub struct RealWire<R: Files + Net + Processes + Clock + Clone + Drop> {
     rt: R,
@@ -46,7 +44,7 @@ pub struct RealWire<R: Files + Net + Processes + Clock + Clone + Drop> {
     // it stands before the sockets, so that the name goes before its listener: as long as that
     // stands, no other file has the same number
     control: Option<ControlSocket<R>>,
-    sockets: Option<Sockets<Workers<R>>>,
+    sockets: Option<RealSockets<Workers<R>>>,
     state: WireState,
     faults: FaultCounts,
 }
@@ -76,13 +74,10 @@ impl<R: Files + Net + Processes + Clock + Clone + Drop> RealWire<R> {
     }
 
     // Takes in what was opened or joined.
-    fn take_in(
-        &mut self,
-        control: Option<ControlSocket<R>>,
-        table: StreamTable,
-        workers: Workers<R>,
-    )
+    fn take_in(&mut self, control: Option<ControlSocket<R>>, table: RealTable, workers: Workers<R>)
         ensures control { self.new.control ≡ control }
+        ensures few { HasFewOwn table.entries
+            → IfSome self.new.sockets (λ sockets. HasFewOwn sockets.table.entries) }
         ensures listens { IsSome table.listener
             → IsSomeAnd self.new.sockets (λ sockets. IsSome sockets.table.listener) }
         ensures deaf { IsNone table.listener
@@ -98,6 +93,7 @@ impl<R: Files + Net + Processes + Clock + Clone + Drop> RealWire<R> {
     // Opens the sockets, and keeps them.
     fn open_sockets(&mut self, control: &[u8], transport: &[u8]) -> Result<(), FileError>
         ensures not_text { ¬ (IsUtf8 control.now) → IsErr result }
+        ensures few { StayFew self.old.sockets self.new.sockets }
         ensures named { OnOk result (IsSome self.new.control) }
         ensures listens { OnOk result
             (IsSomeAnd self.new.sockets (λ sockets. IsSome sockets.table.listener)) }
@@ -121,6 +117,7 @@ impl<R: Files + Net + Processes + Clock + Clone + Drop> RealWire<R> {
     // Joins another master, and keeps the socket to it.
     fn join_sockets(&mut self, control: &[u8]) -> Result<(), FileError>
         ensures not_text { ¬ (IsUtf8 control.now) → IsErr result }
+        ensures few { StayFew self.old.sockets self.new.sockets }
         ensures unnamed { OnOk result (IsNone self.new.control) }
         ensures deaf { OnOk result
             (IsSomeAnd self.new.sockets (λ sockets. IsNone sockets.table.listener)) }
@@ -178,10 +175,13 @@ impl<R: Files + Net + Processes + Clock + Clone + Drop> RealWire<R> {
             → TurnFits turn want self.old.state.seen bytes
             → TurnFits result want self.old.state.seen bytes }
         ensures own_turn { OwnFits result self.old.state.seen }
-        ensures recorded { Records turn result }
+        ensures recorded { TurnRecords turn result }
         ensures room { result ≡ NoMemory → (opens_stream turn ≡ true) ⊎ (turn ≡ NoMemory) }
         ensures named { self.new.control ≡ self.old.control }
+        ensures few { StayFew self.old.sockets self.new.sockets }
         ensures sockets { result ≢ NoMemory → self.new.sockets ≡ self.old.sockets }
+        ensures listener { option_map (λ s. s.table.listener) self.new.sockets
+            ≡ option_map (λ s. s.table.listener) self.old.sockets }
         ensures state { self.new.state ≡ state_waited result self.old.state }
         ensures cause { TurnFaults result self.old.faults self.new.faults }
     {
@@ -198,6 +198,7 @@ impl<R: Files + Net + Processes + Clock + Clone + Drop> RealWire<R> {
     // Listens at an address with the next number.
     fn listen_at(&mut self, host: &[u8], port: u32) -> Result<u64, FileError>
         ensures named { self.new.control ≡ self.old.control }
+        ensures few { StayFew self.old.sockets self.new.sockets }
         ensures fits { NumberFits result self.old.state.seen.last_own }
         ensures state { self.new.state ≡ seeing (moved_by_listen result) self.old.state }
         ensures faults { self.new.faults ≡ self.old.faults }
@@ -214,6 +215,7 @@ impl<R: Files + Net + Processes + Clock + Clone + Drop> RealWire<R> {
     // Begins to connect with the next number.
     fn connect_to(&mut self, host: &[u8], port: u32) -> Result<u64, FileError>
         ensures named { self.new.control ≡ self.old.control }
+        ensures few { StayFew self.old.sockets self.new.sockets }
         ensures fits { NumberFits result self.old.state.seen.last_own }
         ensures state { self.new.state ≡ seeing (moved_by_connect result) self.old.state }
         ensures faults { self.new.faults ≡ self.old.faults }
@@ -235,6 +237,7 @@ impl<R: Files + Net + Processes + Clock + Clone + Drop> Wire for RealWire<R> {
 
     fn open(&mut self, control: &[u8], transport: &[u8]) -> Result<(), FileError>
         ensures not_text { ¬ (IsUtf8 control.now) → IsErr result }
+        ensures few { StayFew self.old.sockets self.new.sockets }
         ensures named { OnOk result (IsSome self.new.control) }
         ensures listens { OnOk result
             (IsSomeAnd self.new.sockets (λ sockets. IsSome sockets.table.listener)) }
@@ -256,6 +259,7 @@ impl<R: Files + Net + Processes + Clock + Clone + Drop> Wire for RealWire<R> {
 
     fn join(&mut self, control: &[u8]) -> Result<(), FileError>
         ensures not_text { ¬ (IsUtf8 control.now) → IsErr result }
+        ensures few { StayFew self.old.sockets self.new.sockets }
         ensures unnamed { OnOk result (IsNone self.new.control) }
         ensures deaf { OnOk result
             (IsSomeAnd self.new.sockets (λ sockets. IsNone sockets.table.listener)) }
@@ -278,15 +282,17 @@ impl<R: Files + Net + Processes + Clock + Clone + Drop> Wire for RealWire<R> {
     fn wait(&mut self, waiting: &Streams, want: Want, into: &mut Piece) -> Turn
         requires may { MayWait waiting.now want self.old.state.seen }
         ensures named { self.new.control ≡ self.old.control }
+        ensures few { StayFew self.old.sockets self.new.sockets }
         ensures turn { TurnFits result want self.old.state.seen into.new }
         ensures own_turn { OwnFits result self.old.state.seen }
         ensures state { self.new.state ≡ state_waited result self.old.state }
         ensures cause { TurnFaults result self.old.faults self.new.faults }
         ensures kept { result ≡ NoMemory → into.new ≡ into.old }
+        ensures listener { option_map (λ s. s.table.listener) self.new.sockets
+            ≡ option_map (λ s. s.table.listener) self.old.sockets }
     {
-        let numbers = numbers_to_give(&self.state, want);
-        let found = found_next(&mut self.sockets, &self.rt, waiting, want, numbers, into);
-        let turn = turn_of(&self.state, found, want, numbers);
+        let sockets = &mut self.sockets;
+        let turn = next_turn(sockets, &self.rt, &self.state, waiting, want, into);
         self.keep(turn)
     }
 
@@ -296,6 +302,7 @@ impl<R: Files + Net + Processes + Clock + Clone + Drop> Wire for RealWire<R> {
         ensures wrote { WroteFits result (length bytes.now) }
         ensures state { self.new.state ≡ state_written result stream self.old.state }
         ensures cause { WroteFaults result stream self.old.faults self.new.faults }
+        ensures rest { TouchesAlone stream self.old.sockets self.new.sockets }
     {
         // The room for a stream that blocks comes before the write, which can't be taken back.
         if self.state.hold(stream).is_err() {
@@ -309,6 +316,7 @@ impl<R: Files + Net + Processes + Clock + Clone + Drop> Wire for RealWire<R> {
 
     fn stop_listening(&mut self)
         ensures unnamed { IsNone self.new.control }
+        ensures few { StayFew self.old.sockets self.new.sockets }
         ensures deaf { IfSome self.new.sockets (λ sockets. IsNone sockets.table.listener) }
         ensures state { self.new.state ≡ seeing seen_after_silence self.old.state }
         ensures faults { self.new.faults ≡ self.old.faults }
@@ -322,6 +330,7 @@ impl<R: Files + Net + Processes + Clock + Clone + Drop> Wire for RealWire<R> {
         ensures named { self.new.control ≡ self.old.control }
         ensures state { self.new.state ≡ seeing (seen_after_close stream) self.old.state }
         ensures faults { self.new.faults ≡ self.old.faults }
+        ensures rest { TouchesAlone stream self.old.sockets self.new.sockets }
     {
         self.state.close(stream);
         drop_socket(&mut self.sockets, stream);
@@ -331,8 +340,13 @@ impl<R: Files + Net + Processes + Clock + Clone + Drop> Wire for RealWire<R> {
         Ok(())
     }
 
+    fn note_said(&mut self, _piece: &[u8]) -> Result<(), OutOfMemory> {
+        Ok(())
+    }
+
     fn listen(&mut self, host: &[u8], port: u32) -> Result<u64, FileError>
         ensures named { self.new.control ≡ self.old.control }
+        ensures few { StayFew self.old.sockets self.new.sockets }
         ensures fits { NumberFits result self.old.state.seen.last_own }
         ensures state { self.new.state ≡ seeing (moved_by_listen result) self.old.state }
         ensures cause { MakeFaults result self.old.faults self.new.faults }
@@ -344,6 +358,7 @@ impl<R: Files + Net + Processes + Clock + Clone + Drop> Wire for RealWire<R> {
 
     fn connect(&mut self, host: &[u8], port: u32) -> Result<u64, FileError>
         ensures named { self.new.control ≡ self.old.control }
+        ensures few { StayFew self.old.sockets self.new.sockets }
         ensures fits { NumberFits result self.old.state.seen.last_own }
         ensures state { self.new.state ≡ seeing (moved_by_connect result) self.old.state }
         ensures cause { MakeFaults result self.old.faults self.new.faults }
@@ -355,6 +370,7 @@ impl<R: Files + Net + Processes + Clock + Clone + Drop> Wire for RealWire<R> {
 
     fn unlisten(&mut self, listener: u64)
         ensures named { self.new.control ≡ self.old.control }
+        ensures few { StayFew self.old.sockets self.new.sockets }
         ensures state { self.new.state ≡ seeing (seen_after_unlisten listener) self.old.state }
         ensures faults { self.new.faults ≡ self.old.faults }
     {
@@ -369,6 +385,7 @@ impl<R: Files + Net + Processes + Clock + Clone + Drop> Wire for RealWire<R> {
             → IsSomeAnd self.new.sockets (λ new. IsPaused true stream new.table.entries)) }
         ensures state { self.new.state ≡ seeing (seen_after_pause true stream) self.old.state }
         ensures faults { self.new.faults ≡ self.old.faults }
+        ensures rest { TouchesAlone stream self.old.sockets self.new.sockets }
     {
         self.state.set_paused(stream, true);
         pause(&mut self.sockets, stream);
@@ -381,6 +398,7 @@ impl<R: Files + Net + Processes + Clock + Clone + Drop> Wire for RealWire<R> {
             → IsSomeAnd self.new.sockets (λ new. IsPaused false stream new.table.entries)) }
         ensures state { self.new.state ≡ seeing (seen_after_pause false stream) self.old.state }
         ensures faults { self.new.faults ≡ self.old.faults }
+        ensures rest { TouchesAlone stream self.old.sockets self.new.sockets }
     {
         self.state.set_paused(stream, false);
         resume(&mut self.sockets, stream);
@@ -393,6 +411,7 @@ impl<R: Files + Net + Processes + Clock + Clone + Drop> Wire for RealWire<R> {
             → IsSomeAnd self.new.sockets (λ new. IsFinished stream new.table.entries)) }
         ensures state { self.new.state ≡ seeing (seen_after_finish stream) self.old.state }
         ensures faults { self.new.faults ≡ self.old.faults }
+        ensures rest { TouchesAlone stream self.old.sockets self.new.sockets }
     {
         self.state.finish(stream);
         finish(&mut self.sockets, stream);

@@ -1,9 +1,12 @@
 //! The children that look up names: `getent ahosts NAME` for each.
-ghost use Rattle.std.specs.Prelude.{◌≡◌, ◌∷◌, [], ◌<◌, ◌≤◌, ◌+◌, ◌↔◌, IfOk, IsTrue, OnOk, codes, length, true};
+ghost use Rattle.std.specs.Prelude.{◌≡◌, ◌∷◌, [], ◌<◌, ◌≤◌, ◌+◌, ◌↔◌, IfOk, IsTrue, OnErr, OnOk, codes, length, true};
 ghost use Rattle.std.specs.Process.{command_args, command_program};
 ghost use Rattle.indexmap.specs.IndexMap.{index_map_len};
 ghost use Rattle.mux_edge.specs.Names.{is_name};
+ghost use Rattle.mux_sockets.specs.ProgramSteps.{after_step, starts_lookup};
+ghost use Rattle.mux_sockets.specs.ProgramSteps.ProgramStep.{Started};
 
+use crate::programs::{Programs, SystemPrograms};
 use indexmap::IndexMap;
 use mux_edge::Children;
 use std::alloc::{AllocError, Global};
@@ -45,7 +48,7 @@ impl<P: Processes> Worker<P> {
 /// The children that look up names, and those that were killed, until they are gone.
 #[derive(Drop)]
 pub struct Workers<P: Processes + Drop> {
-    rt: P,
+    programs: SystemPrograms<P>,
     alloc: Global,
     running: IndexMap<u64, Worker<P>>,
     leaving: Vec<Worker<P>>,
@@ -58,7 +61,7 @@ impl<P: Processes + Drop> Workers<P> {
         ensures leaving { length result.leaving.items ≡ 0 }
     {
         Workers {
-            rt,
+            programs: SystemPrograms::new(rt),
             alloc,
             running: IndexMap::new(alloc),
             leaving: Vec::new(alloc),
@@ -89,7 +92,8 @@ impl<P: Processes + Drop> Children for Workers<P> {
         if self.running.len().saturating_add(self.leaving.len()) >= MOST_CHILDREN {
             return Err(io::Error::from(ErrorKind::Other));
         }
-        let worker = spawn(&self.rt, self.alloc, name, output)?;
+        let child = spawn(&mut self.programs, self.alloc, name, output)?;
+        let worker = Worker { child };
         self.running.insert(number, worker).map_err(|_| AllocError)?;
         Ok(())
     }
@@ -104,29 +108,36 @@ impl<P: Processes + Drop> Children for Workers<P> {
 }
 
 // Has a child write the addresses of a name.
-fn spawn<P: Processes>(
-    rt: &P,
+fn spawn<P: Programs>(
+    programs: &mut P,
     alloc: Global,
     name: &[u8],
     output: net::UnixStream,
-) -> io::Result<Worker<P>>
+) -> io::Result<P::Running>
     requires { is_name name.now ≡ true }
+    ensures ok { OnOk result (P.recorded programs.new
+        ≡ after_step (starts_lookup name.now) (P.recorded programs.old)) }
+    ensures err { OnErr result (P.recorded programs.new ≡ P.recorded programs.old) }
 {
     let mut getent = getent_of(alloc, name)?;
-    let child = started(rt, &mut getent, output)?;
-    Ok(Worker { child })
+    started(programs, &mut getent, output)
 }
 
 // The child of a command, which writes to this.
-fn started<P: Processes>(
-    rt: &P,
+fn started<P: Programs>(
+    programs: &mut P,
     command: &mut Command,
     output: net::UnixStream,
-) -> io::Result<Child<P::Started>> {
+) -> io::Result<P::Running>
+    ensures ok { OnOk result (P.recorded programs.new
+        ≡ after_step (Started (command_program command.old) (command_args command.old))
+        (P.recorded programs.old)) }
+    ensures err { OnErr result (P.recorded programs.new ≡ P.recorded programs.old) }
+{
     command.stdin(Stdio::null());
     command.stdout(Stdio::from(OwnedFd::from(output)));
     command.stderr(Stdio::null());
-    command.spawn(rt)
+    programs.start(command)
 }
 
 // The command for a name that is still bytes.

@@ -15,7 +15,7 @@ use Rattle.mux_peers.specs.Among.{is_present}
 use Rattle.mux_peers.specs.State.{ClientState}
 use Rattle.mux_peers.proofs.Stood.{out_is, out_row, or_true, own_row, puts_out}
 use Rattle.mux_state.specs.State.{State, closed_by, is_here, waiting_clients, waiting_in, without_client}
-use Rattle.mux_state.specs.Stands.{BytesFit, Closes, EachReads, IsFirst, IsStrange, RowsFit, is_accepted, log, not_closed}
+use Rattle.mux_state.specs.Stands.{BytesFit, Closes, EachReads, IsFirstLost, IsStrange, RowsFit, is_accepted, log, not_closed}
 use Rattle.mux_state.proofs.Lists.{apart_less, each_less, gone_less, lost_less, present_less, test_other, true_false, waiting_less, among-gone, among-less, among-was}
 
 -- ---- who is out
@@ -26,7 +26,7 @@ other_row k j row rows e ne = let t : (row.client == j) ≡ false = ap (λ c. c 
 abbrev pub in_losses : ℕ → List (ℕ × Option Why) → Bool
 in_losses k ls = list_any (λ l. l.0 == k) ls
 
-pub first_in : (k : ℕ) (ls : List (ℕ × Option Why)) → IsFirst k ls → in_losses k ls ≡ true
+pub first_in : (k : ℕ) (ls : List (ℕ × Option Why)) → IsFirstLost k ls → in_losses k ls ≡ true
 first_in k [] f = absurd f
 first_in k (l ∷ ls) f = ap (λ b. b || in_losses k ls) (eq-eqb l.0 k f)
 
@@ -184,10 +184,10 @@ bytes_closed s k marks closed rows out nz absent st = record {
 }
 
 -- the client that is closed is out
-first_out : (taken : ℕ) (dn : List Asked) (s : State) (k : ℕ) (closed : List ℕ) (rows : List Row) → IsFirst k s.leaving → RowsFit taken dn s closed rows → is_out (rows_of k rows) ≡ true
+first_out : (taken : ℕ) (dn : List Asked) (s : State) (k : ℕ) (closed : List ℕ) (rows : List Row) → IsFirstLost k s.leaving → RowsFit taken dn s closed rows → is_out (rows_of k rows) ≡ true
 first_out taken dn s k closed rows first st = loss_is_out k rows (unfiltered k (not_closed closed) (losses rows) (subst (λ ls. in_losses k ls ≡ true) st.leaving_are (first_in k s.leaving first)))
 
-pub closes : (s : State) (k : ℕ) → IsFirst k s.leaving → Closes s (closed_by s k) k
+pub closes : (s : State) (k : ℕ) → IsFirstLost k s.leaving → Closes s (closed_by s k) k
 closes s k first picked given marks closed st = record {
   asks = st.asks;
   each = st.each;

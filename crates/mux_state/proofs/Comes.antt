@@ -16,18 +16,18 @@ use Rattle.mux_history.specs.Rows.{Row, rows_of, any_of, is_admit, is_out, is_en
 use Rattle.mux_history.specs.Choices.{numbers_taken, replies_given}
 use Rattle.mux_history.specs.Right.{AreFresh}
 use Rattle.mux_history.specs.Settings.{by_lists}
-use Rattle.mux_history.specs.Solo.{end_of}
+use Rattle.mux_history.specs.Solo.{run_end_of}
 use Rattle.mux_history.specs.Log.{entered as came, next_row}
 use Rattle.mux_history.specs.Journal.{bytes_of, is_accepted, log_of_journal}
 use Rattle.mux_core.specs.State.{CoreState}
 use Rattle.mux_peers.specs.State.{ClientState}
 use Rattle.mux_peers.specs.Among.{AllFit, is_present}
-use Rattle.mux_peers.specs.Asked.{asked_of}
-use Rattle.mux_peers.specs.Entering.{Enters, EntersBy, new_client}
-use Rattle.mux_peers.proofs.Enters.{let-in, present-end, present-last, refused, row-let-in, row-refused}
+use Rattle.mux_peers.specs.Asked.{asks_of_rows}
+use Rattle.mux_peers.specs.Entering.{PeerEnters, EntersBy, new_client}
+use Rattle.mux_peers.proofs.PeerEnters.{let-in, present-end, present-last, refused, row-let-in, row-refused}
 use Rattle.mux_peers.proofs.Stood.{own_row}
 use Rattle.mux_state.specs.State.{State, entered, is_here, numbers, waiting_in}
-use Rattle.mux_state.specs.Stands.{BytesFit, ClientReads, EachReads, GoesAlone, IsAllowed, IsKnown, IsStrange, RowsFit, ServerReads, Stands, Represents, log, not_closed, refusal}
+use Rattle.mux_state.specs.Stands.{BytesFit, ClientReads, EachReads, GoesAlone, IsAllowed, IsKnown, IsStrange, RowsFit, ServerReads, Stands, EngineRepresents, log, not_closed, refusal}
 use Rattle.mux_state.proofs.Closes.{other_row, out_more}
 use Rattle.mux_state.proofs.Grows.{filter-append, served-more}
 use Rattle.mux_state.proofs.Lists.{test_other, true_false}
@@ -95,15 +95,15 @@ replies-new : (k : ℕ) (b : Bool) (rows : List Row) → replies_given (new_row 
 replies-new k true rows = refl
 replies-new k false rows = refl
 
-asked-new : (k : ℕ) (b : Bool) (rows : List Row) → asked_of (new_row k b ∷ rows) ≡ asked_of rows
-asked-new k true rows = append-nil (asked_of rows)
-asked-new k false rows = append-nil (asked_of rows)
+asked-new : (k : ℕ) (b : Bool) (rows : List Row) → asks_of_rows (new_row k b ∷ rows) ≡ asks_of_rows rows
+asked-new k true rows = append-nil (asks_of_rows rows)
+asked-new k false rows = append-nil (asks_of_rows rows)
 
 fresh-new : (k : ℕ) (b : Bool) (rows : List Row) → AreFresh rows → AreFresh (new_row k b ∷ rows)
 fresh-new k true rows f = (tt, f)
 fresh-new k false rows f = (tt, f)
 
-end-new : (k : ℕ) (b : Bool) (rows : List Row) → end_of (new_row k b ∷ rows) ≡ end_of rows
+end-new : (k : ℕ) (b : Bool) (rows : List Row) → run_end_of (new_row k b ∷ rows) ≡ run_end_of rows
 end-new k true rows = refl
 end-new k false rows = refl
 
@@ -260,12 +260,12 @@ row-by policy pid picks given k false rows new e = row-refused policy pid picks 
 roomy : (rows : List Row) (c : CoreState) (cs : List ClientState) (up up' : QueueState) → up'.waiting ≡ up.waiting → AllFit rows c cs up → AllFit rows c cs up'
 roomy rows c cs up up' e f = record { core = f.core; each = f.each; apart = f.apart; up = e ∙ f.up }
 
-pub goes-in : (s : State) (core' : CoreState) (up' : QueueState) (k : ℕ) (b : Bool) → s.ended ≡ None → core'.policy ≡ s.core.policy → up'.waiting ≡ s.up.waiting → Enters k s.core core' s.clients (entered s core' up' k b).clients b → GoesAlone s (entered s core' up' k b) (Accepts k)
+pub goes-in : (s : State) (core' : CoreState) (up' : QueueState) (k : ℕ) (b : Bool) → s.ended ≡ None → core'.policy ≡ s.core.policy → up'.waiting ≡ s.up.waiting → PeerEnters k s.core core' s.clients (entered s core' up' k b).clients b → GoesAlone s (entered s core' up' k b) (Accepts k)
 goes-in s core' up' k b live pol waits enters picked given marks closed st al = record {
   asks = st.asks;
   each = st.each;
   at = λ picks replies.
-      let v : Represents (picked ++ picks) (given ++ replies) (length picked) st.asks s marks closed = st.at picks replies in
+      let v : EngineRepresents (picked ++ picks) (given ++ replies) (length picked) st.asks s marks closed = st.at picks replies in
       let rows : List Row = log s (picked ++ picks) (given ++ replies) marks in
       let on : is_ended rows ≡ false = sym (some-end rows) ∙ ap is_some (sym v.rows.ended_is ∙ live) in
       let strange : IsStrange s marks closed k = v.bytes.strange k al.1 in

@@ -57,10 +57,10 @@ allowed-fed s b marks (Gets k bytes) al = al
 allowed-fed s b marks (Ends k) al = al
 allowed-fed s b marks (Fails k) al = al
 allowed-fed s b marks (WriteFails k) al = al
-allowed-fed s b marks (Takes k bytes) al = al
+allowed-fed s b marks (Takes k bytes accepts) al = al
 allowed-fed s b marks (Frees k) al = al
 allowed-fed s b marks (Holds k) al = al
-allowed-fed s b marks (Waits waiting want streams listens) al = al
+allowed-fed s b marks (Waits waiting want streams shown) al = al
 allowed-fed s b marks (House mark) al = al
 allowed-fed s b marks (Joins listener stream) al = al
 

@@ -11,7 +11,7 @@ use Rattle.mux_outside.specs.declared.mark.Mark.TheVariants.{Gets}
 use Rattle.mux_history.specs.declared.ended.Ended.{Ended}
 use Rattle.mux_history.specs.Rows.{Row, rows_of, is_out, is_ended}
 use Rattle.mux_history.specs.Settings.{by_lists}
-use Rattle.mux_history.specs.Solo.{end_of}
+use Rattle.mux_history.specs.Solo.{run_end_of}
 use Rattle.mux_history.specs.Promises.{listens}
 use Rattle.mux_history.specs.Log.{more_all}
 use Rattle.mux_history.specs.Journal.{bytes_of, is_own_stream, log_of_journal, new_received, new_sayings, unless_own}
@@ -19,14 +19,14 @@ use Rattle.mux_peers.specs.declared.run_change.RunChange.{RunChange}
 use Rattle.mux_peers.specs.State.{ClientState}
 use Rattle.mux_peers.specs.Stands.{is_lost, is_read, standing_of}
 use Rattle.mux_peers.specs.Among.{ChangesOne, EachFits, InFits, MovesTo, is_present}
-use Rattle.mux_peers.specs.Asked.{asked_of}
+use Rattle.mux_peers.specs.Asked.{asks_of_rows}
 use Rattle.mux_peers.specs.Laws.{AllMoved, IsReadTo, rows_given}
 use Rattle.mux_peers.specs.Pieces.{Receiving, ReceivesPiece, RunsTo, ended_then}
 use Rattle.mux_peers.proofs.Journaled.{pieces-of-a-client}
 use Rattle.mux_peers.proofs.Ones.{one-moves-all}
 use Rattle.mux_state.specs.Moves.{GainsAt}
 use Rattle.mux_state.specs.State.{State, loss_between, numbers, waiting_in}
-use Rattle.mux_state.specs.Stands.{BytesFit, ClientReads, EachReads, GoesOn, IsAllowed, IsStrange, RowsFit, ServerReads, Represents, log, setting}
+use Rattle.mux_state.specs.Stands.{BytesFit, ClientReads, EachReads, GoesOn, IsAllowed, IsStrange, RowsFit, ServerReads, EngineRepresents, log, setting}
 use Rattle.mux_state.proofs.Lists.{test_other, true_false}
 use Rattle.mux_state.proofs.Moved.{here-same, moved}
 use Rattle.mux_state.proofs.OneClient.{apart-here, numbers-one, open-here, reads-one, unclosed-one}
@@ -107,8 +107,8 @@ rows-gain May before recorded taken dn given s new bytes old x y heard picked us
       server_in = ap is_out (w.to.adds.others 0 (other 0 nz)) ∙ st.server_in;
     }
   where
-    none-ended : (rows : List Row) → is_ended rows ≡ false → end_of rows ≡ None
-    none-ended rows e = none-of (end_of rows) (some-end rows ∙ e)
+    none-ended : (rows : List Row) → is_ended rows ≡ false → run_end_of rows ≡ None
+    none-ended rows e = none-of (run_end_of rows) (some-end rows ∙ e)
       where
         none-of : (o : Option Ended) → is_some o ≡ false → o ≡ None
         none-of None e = refl
@@ -125,14 +125,14 @@ reads-now old bytes picked used asks rows rows' core up y heard k live r = recor
   rest_is = λ e. (r.reads e).rest;
 }
   where
-    unread : (s : _) → is_read s ≡ false → is_lost s ≡ false → Rattle.mux_peers.specs.Stands.mode_of s ≡ Stopped
+    unread : (s : _) → is_read s ≡ false → is_lost s ≡ false → Rattle.mux_peers.specs.Stands.parse_mode_of s ≡ Stopped
     unread Rattle.mux_peers.specs.declared.standing.Standing.TheVariants.Awaited e l = true_false e
     unread Rattle.mux_peers.specs.declared.standing.Standing.TheVariants.Greeted e l = true_false e
     unread Rattle.mux_peers.specs.declared.standing.Standing.TheVariants.Proxied e l = true_false e
     unread Rattle.mux_peers.specs.declared.standing.Standing.TheVariants.Unread e l = refl
     unread (Rattle.mux_peers.specs.declared.standing.Standing.TheVariants.Lost why) e l = refl
 
-    by_read : (b : Bool) → is_read y.peer.standing ≡ b → is_lost y.peer.standing ≡ false → (parse InControl (old ++ bytes)).mode ≡ Rattle.mux_peers.specs.Stands.mode_of y.peer.standing
+    by_read : (b : Bool) → is_read y.peer.standing ≡ b → is_lost y.peer.standing ≡ false → (parse InControl (old ++ bytes)).mode ≡ Rattle.mux_peers.specs.Stands.parse_mode_of y.peer.standing
     by_read true e l = (r.reads e).mode
     by_read false e l = r.stopped e l live ∙ sym (unread y.peer.standing e l)
 
@@ -171,7 +171,7 @@ piece-rows-of : (May : HouseReply → Type 0) (before recorded : Option (List As
 piece-rows-of May before recorded s new bytes x y heard c picks replies taken dn marks closed rows live fx fit st reads come next =
     let k : ℕ = x.peer.number in
     let h = c.piece.receiving in
-    let runs : RunsTo s.core.policy s.pid picks replies k (Rattle.mux_peers.specs.Stands.mode_of x.peer.standing) (x.rest ++ bytes) h.picked h.used h.asks rows new.core new.up y heard =
+    let runs : RunsTo s.core.policy s.pid picks replies k (Rattle.mux_peers.specs.Stands.parse_mode_of x.peer.standing) (x.rest ++ bytes) h.picked h.used h.asks rows new.core new.up y heard =
     h.goes picks replies rows record { core = fit.fit.core; peer = fx.peer; up = fit.fit.up } live come next in
     record {
       on = says-on s.core.policy s.pid picks replies k (drop (length (said (bytes_of k marks))) (said (bytes_of k marks ++ bytes))) rows;
@@ -206,11 +206,11 @@ goes-piece May before recorded s new bytes x y heard none here nz fits reads c p
 
     -- for choices that go on so
     for-all : (picks : List ℕ) (replies : List HouseReply) → (let p : List ℕ = picked ++ (h.picked ++ picks) in let r : List HouseReply = given ++ (h.used ++ replies) in
-        Represents p r (length (picked ++ h.picked)) (st.asks ++ h.asks) new (Gets k bytes ∷ marks) closed × (asked_of (log new p r (Gets k bytes ∷ marks)) ≡ asked_of (log s p r marks) ++ h.asks))
+        EngineRepresents p r (length (picked ++ h.picked)) (st.asks ++ h.asks) new (Gets k bytes ∷ marks) closed × (asks_of_rows (log new p r (Gets k bytes ∷ marks)) ≡ asks_of_rows (log s p r marks) ++ h.asks))
     for-all picks replies =
         let p : List ℕ = picked ++ (h.picked ++ picks) in
         let r : List HouseReply = given ++ (h.used ++ replies) in
-        let v : Represents p r (length picked) st.asks s marks closed = st.at (h.picked ++ picks) (h.used ++ replies) in
+        let v : EngineRepresents p r (length picked) st.asks s marks closed = st.at (h.picked ++ picks) (h.used ++ replies) in
         let rows : List Row = log s p r marks in
         let live : is_ended rows ≡ false = sym (some-end rows) ∙ ap is_some (sym v.rows.ended_is ∙ none) in
         let fx : InFits rows x = fits rows v.rows.fit.each in
@@ -225,18 +225,18 @@ goes-piece May before recorded s new bytes x y heard none here nz fits reads c p
                 (rows-gain May before recorded (length picked) st.asks given s new bytes (bytes_of k marks) x y heard h.picked h.used h.asks closed rows rows' (v.bytes.are_bytes k) al.1 h.each here nz fx c w v.rows));
             bytes = subst (BytesFit new (Gets k bytes ∷ marks) closed) (sym is) (bytes-gain May before recorded (length picked) st.asks s new bytes x y heard h.picked h.used h.asks marks closed rows rows' here nz al c w v.rows v.bytes);
           },
-          ap asked_of is ∙ w.to.asked,
+          ap asks_of_rows is ∙ w.to.asked,
         )
 
-    stands-at : (picks : List ℕ) (replies : List HouseReply) → Represents ((picked ++ h.picked) ++ picks) ((given ++ h.used) ++ replies) (length (picked ++ h.picked)) (st.asks ++ h.asks) new (Gets k bytes ∷ marks) closed
+    stands-at : (picks : List ℕ) (replies : List HouseReply) → EngineRepresents ((picked ++ h.picked) ++ picks) ((given ++ h.used) ++ replies) (length (picked ++ h.picked)) (st.asks ++ h.asks) new (Gets k bytes ∷ marks) closed
     stands-at picks replies =
-        subst (λ p. Represents p ((given ++ h.used) ++ replies) (length (picked ++ h.picked)) (st.asks ++ h.asks) new (Gets k bytes ∷ marks) closed) (sym (append_assoc picked h.picked picks))
-        (subst (λ r. Represents (picked ++ (h.picked ++ picks)) r (length (picked ++ h.picked)) (st.asks ++ h.asks) new (Gets k bytes ∷ marks) closed) (sym (append_assoc given h.used replies)) (for-all picks replies).0)
+        subst (λ p. EngineRepresents p ((given ++ h.used) ++ replies) (length (picked ++ h.picked)) (st.asks ++ h.asks) new (Gets k bytes ∷ marks) closed) (sym (append_assoc picked h.picked picks))
+        (subst (λ r. EngineRepresents (picked ++ (h.picked ++ picks)) r (length (picked ++ h.picked)) (st.asks ++ h.asks) new (Gets k bytes ∷ marks) closed) (sym (append_assoc given h.used replies)) (for-all picks replies).0)
 
-    asked-at : (picks : List ℕ) (replies : List HouseReply) → asked_of (log new ((picked ++ h.picked) ++ picks) ((given ++ h.used) ++ replies) (Gets k bytes ∷ marks)) ≡ asked_of (log s ((picked ++ h.picked) ++ picks) ((given ++ h.used) ++ replies) marks) ++ h.asks
+    asked-at : (picks : List ℕ) (replies : List HouseReply) → asks_of_rows (log new ((picked ++ h.picked) ++ picks) ((given ++ h.used) ++ replies) (Gets k bytes ∷ marks)) ≡ asks_of_rows (log s ((picked ++ h.picked) ++ picks) ((given ++ h.used) ++ replies) marks) ++ h.asks
     asked-at picks replies =
-        subst (λ p. asked_of (log new p ((given ++ h.used) ++ replies) (Gets k bytes ∷ marks)) ≡ asked_of (log s p ((given ++ h.used) ++ replies) marks) ++ h.asks) (sym (append_assoc picked h.picked picks))
-        (subst (λ r. asked_of (log new (picked ++ (h.picked ++ picks)) r (Gets k bytes ∷ marks)) ≡ asked_of (log s (picked ++ (h.picked ++ picks)) r marks) ++ h.asks) (sym (append_assoc given h.used replies)) (for-all picks replies).1)
+        subst (λ p. asks_of_rows (log new p ((given ++ h.used) ++ replies) (Gets k bytes ∷ marks)) ≡ asks_of_rows (log s p ((given ++ h.used) ++ replies) marks) ++ h.asks) (sym (append_assoc picked h.picked picks))
+        (subst (λ r. asks_of_rows (log new (picked ++ (h.picked ++ picks)) r (Gets k bytes ∷ marks)) ≡ asks_of_rows (log s (picked ++ (h.picked ++ picks)) r marks) ++ h.asks) (sym (append_assoc given h.used replies)) (for-all picks replies).1)
 
 -- ---- among all
 

@@ -16,7 +16,7 @@ use Rattle.mux_peers.specs.Losing.{Loses, loss_between}
 use Rattle.mux_peers.specs.Pieces.{ReceivesPiece}
 use Rattle.mux_state.specs.declared.event.Event.{Event}
 use Rattle.mux_state.specs.declared.event.Event.TheVariants as event
-use Rattle.mux_state.specs.Events.{Arrives, Keeps, LetsIn, MayEnd, Refuses, SameStreams}
+use Rattle.mux_state.specs.Events.{Arrives, EngineKeeps, LetsClientIn, MayEnd, Refuses, SameStreams}
 use Rattle.mux_state.specs.Moves.{GainsAt, LosesAt}
 use Rattle.mux_state.specs.State.{State, SameClient, entered, in_client, numbers, over, server_cause}
 use Rattle.mux_state.specs.Steps.{EntersAt, is_received, is_served}
@@ -142,7 +142,7 @@ look-last k j (c ∷ cs) ne = ap (λ o. cond (c.peer.number == j) (Some c) o) (l
 -- who is here then
 pub record Comes (k : ℕ) (s new : State) : Type 0 where
   pub others : (j : ℕ) → k ≢ j → SameClient j s.clients new.clients
-  pub arrives : LetsIn k s new ⊎ Refuses k s new
+  pub arrives : LetsClientIn k s new ⊎ Refuses k s new
   pub ended_is : new.ended ≡ s.ended
   pub more_leaving : List (ℕ × Option Why)
   pub leaving : new.leaving ≡ s.leaving ++ more_leaving
@@ -192,8 +192,8 @@ server-permitted s index = by_rest s.server.rest
     by_rest [] e = cc
     by_rest (b ∷ more) e = cc
 
-over-keeps : (s new : State) (e : Event) (cause : Ended) → s.ended ≡ None → new ≡ over s cause → Rattle.mux_state.specs.Events.LeavesOthers e s (over s cause) → Arrives e s (over s cause) → Keeps e s new
-over-keeps s new e cause live is others arrives = subst (λ (t : State). Keeps e s t) (sym is) record {
+over-keeps : (s new : State) (e : Event) (cause : Ended) → s.ended ≡ None → new ≡ over s cause → Rattle.mux_state.specs.Events.LeavesOthers e s (over s cause) → Arrives e s (over s cause) → EngineKeeps e s new
+over-keeps s new e cause live is others arrives = subst (λ (t : State). EngineKeeps e s t) (sym is) record {
   pid = refl;
   policy = refl;
   others = others;
@@ -203,7 +203,7 @@ over-keeps s new e cause live is others arrives = subst (λ (t : State). Keeps e
   over = not-over s (over s cause) live;
 }
 
-client-keeps : (k : ℕ) (s new : State) (e : Event) → s.ended ≡ None → SameRun s new → KeepsOthers k s new → (KeepsOthers k s new → Rattle.mux_state.specs.Events.LeavesOthers e s new) → (SameStreams s new → Arrives e s new) → Keeps e s new
+client-keeps : (k : ℕ) (s new : State) (e : Event) → s.ended ≡ None → SameRun s new → KeepsOthers k s new → (KeepsOthers k s new → Rattle.mux_state.specs.Events.LeavesOthers e s new) → (SameStreams s new → Arrives e s new) → EngineKeeps e s new
 client-keeps k s new e live same h others arrives = record {
   pid = same.pid;
   policy = same.policy;
@@ -214,7 +214,7 @@ client-keeps k s new e live same h others arrives = record {
   over = not-over s new live;
 }
 
-pub did-keeps : (s new : State) (e : Event) → s.ended ≡ None → DidAlone s new e → Keeps e s new
+pub did-keeps : (s new : State) (e : Event) → s.ended ≡ None → DidAlone s new e → EngineKeeps e s new
 did-keeps s new (event.Accepted k) live d = let c : Comes k s new = comes k s new d in record {
   pid = (same-run s new (event.Accepted k) d).pid;
   policy = d.policy;
@@ -255,7 +255,7 @@ did-ends s new event.ServerEnd live d server = (
 )
 did-ends s new event.ServerFailed live d server = ap (λ (t : State). t.ended) d
 
-pub asking-keeps : (May : HouseReply → Type 0) (before recorded : Option (List Asked)) (s new : State) (e : Event) → s.ended ≡ None → DidAsking May before recorded s new e → Keeps e s new
+pub asking-keeps : (May : HouseReply → Type 0) (before recorded : Option (List Asked)) (s new : State) (e : Event) → s.ended ≡ None → DidAsking May before recorded s new e → EngineKeeps e s new
 asking-keeps May before recorded s new (event.FromClient k bytes) live d =
     client-keeps k s new (event.FromClient k bytes) live record { pid = gained-pid May before recorded s new k bytes.now d; policy = d.policy } (gained-others May before recorded s new k bytes.now d) (λ o. o.others) (λ o. o)
 asking-keeps May before recorded s new e live d = absurd d

@@ -8,7 +8,7 @@ use Rattle.mux_history.specs.Rows.{Row}
 use Rattle.mux_history.specs.Promises.{is_empty}
 use Rattle.mux_peers.specs.State.{ClientState}
 use Rattle.mux_peers.specs.Stands.{is_lost}
-use Rattle.mux_peers.specs.Among.{AreApart, EachFits, InFits, is_present}
+use Rattle.mux_peers.specs.Among.{ArePeersApart, EachFits, InFits, is_present}
 use Rattle.mux_state.specs.State.{served_in, waiting_clients, without_client}
 
 -- the head of a list is there, or else one after it
@@ -56,11 +56,11 @@ still_gone k j cs h = elim (eqb_tells k j) [
   | inr q ↦ present_less k j cs q.1 ∙ h
 ]
 
-pub apart_less : (k : ℕ) (cs : List ClientState) → AreApart cs → AreApart (without_client k cs)
+pub apart_less : (k : ℕ) (cs : List ClientState) → ArePeersApart cs → ArePeersApart (without_client k cs)
 apart_less k [] a = tt
 apart_less k (c ∷ cs) a = by_test (not (c.peer.number == k)) (still_gone k c.peer.number cs a.0) (apart_less k cs a.1)
   where
-    by_test : (b : Bool) → is_present (without_client k cs) c.peer.number ≡ false → AreApart (without_client k cs) → AreApart (cond b (c ∷ without_client k cs) (without_client k cs))
+    by_test : (b : Bool) → is_present (without_client k cs) c.peer.number ≡ false → ArePeersApart (without_client k cs) → ArePeersApart (cond b (c ∷ without_client k cs) (without_client k cs))
     by_test true p h = (p, h)
     by_test false p h = h
 

@@ -4,7 +4,7 @@ use Rattle.std.specs.Prelude.{◌==◌, MatchBool}
 use Rattle.std.proofs.lemmas.Bool.{eqb-true}
 use Rattle.mux_peers.specs.declared.standing.Standing.{Standing}
 use Rattle.mux_peers.specs.State.{ClientState}
-use Rattle.mux_peers.specs.Among.{AreApart, ChangesOne, is_present}
+use Rattle.mux_peers.specs.Among.{ArePeersApart, ChangesOne, is_present}
 use Rattle.mux_state.specs.Moves.{NoneStands}
 use Rattle.mux_state.specs.State.{in_client}
 use Rattle.mux_state.proofs.Lists.{either, not_here, true_false}
@@ -26,7 +26,7 @@ none-absent test k [] gone = tt
 none-absent test k (c ∷ cs) gone = let q : (c.peer.number ≢ k) × (is_present cs k ≡ false) = not_here k c cs gone in (λ e. absurd (q.0 (eqb-true c.peer.number k e)), none-absent test k cs q.1)
 
 -- where it doesn't stand so no client of the number does
-pub none-so : (test : Standing → Bool) (k : ℕ) (cs : List ClientState) → AreApart cs → stands_so test cs k ≡ false → NoneStands test k cs
+pub none-so : (test : Standing → Bool) (k : ℕ) (cs : List ClientState) → ArePeersApart cs → stands_so test cs k ≡ false → NoneStands test k cs
 none-so test k [] apart e = tt
 none-so test k (c ∷ cs) apart e = by_head (c.peer.number == k) refl e (none-so test k cs apart.1)
   where

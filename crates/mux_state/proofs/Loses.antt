@@ -13,9 +13,9 @@ use Rattle.mux_history.specs.Log.{Setting, more_of, next_row}
 use Rattle.mux_history.specs.Journal.{bytes_in, bytes_of, is_accepted, is_own_stream, log_of_journal, unless_own}
 use Rattle.mux_peers.specs.declared.standing.Standing.TheVariants.{Lost}
 use Rattle.mux_peers.specs.State.{ClientState, part}
-use Rattle.mux_peers.specs.Stands.{Fits, is_lost, is_read}
+use Rattle.mux_peers.specs.Stands.{PartFits, is_lost, is_read}
 use Rattle.mux_peers.specs.Among.{AllFit, ChangesOne, InFits, MovesTo, is_present}
-use Rattle.mux_peers.specs.Asked.{asked_of}
+use Rattle.mux_peers.specs.Asked.{asks_of_rows}
 use Rattle.mux_peers.specs.Laws.{AllMoved}
 use Rattle.mux_peers.specs.Losing.{Loses}
 use Rattle.mux_peers.proofs.Adds.{losses-add-for-one}
@@ -25,7 +25,7 @@ use Rattle.mux_peers.proofs.RowForms.{made}
 use Rattle.mux_peers.proofs.Stood.{out_is}
 use Rattle.mux_state.specs.Moves.{IsEvent, IsGone, LosesAt}
 use Rattle.mux_state.specs.State.{State, numbers}
-use Rattle.mux_state.specs.Stands.{BytesFit, ClientReads, EachReads, GoesAlone, IsAllowed, IsStrange, RowsFit, ServerReads, Stands, Represents, log, setting}
+use Rattle.mux_state.specs.Stands.{BytesFit, ClientReads, EachReads, GoesAlone, IsAllowed, IsStrange, RowsFit, ServerReads, Stands, EngineRepresents, log, setting}
 use Rattle.mux_state.proofs.Closes.{other_row}
 use Rattle.mux_state.proofs.Grows.{grows-row}
 use Rattle.mux_state.proofs.Lists.{true_false}
@@ -76,13 +76,13 @@ no-gone s rows k live out = ap (λ b. elim b as (λ _. List Row) [ false ↦ row
 
 -- where nothing more makes a row, the engine stands as it was
 pub still-gone : (s new : State) (k : ℕ) (mark : Mark) → k ≢ 0 → IsGone mark k → s.ended ≡ None → new ≡ s
-    → ((picks : List ℕ) (replies : List HouseReply) (taken : ℕ) (dn : List Asked) (marks : List Mark) (closed : List ℕ) → Represents picks replies taken dn s marks closed → IsAllowed s marks mark → is_ended (log s picks replies marks) ≡ false → is_out (rows_of k (log s picks replies marks)) ≡ true)
+    → ((picks : List ℕ) (replies : List HouseReply) (taken : ℕ) (dn : List Asked) (marks : List Mark) (closed : List ℕ) → EngineRepresents picks replies taken dn s marks closed → IsAllowed s marks mark → is_ended (log s picks replies marks) ≡ false → is_out (rows_of k (log s picks replies marks)) ≡ true)
     → GoesAlone s new mark
 still-gone s new k mark nz g live same out picked given marks closed st al = subst (λ t. Stands picked given t (mark ∷ marks) closed) (sym same) record {
   asks = st.asks;
   each = st.each;
   at = λ picks replies.
-      let v : Represents (picked ++ picks) (given ++ replies) (length picked) st.asks s marks closed = st.at picks replies in
+      let v : EngineRepresents (picked ++ picks) (given ++ replies) (length picked) st.asks s marks closed = st.at picks replies in
       let rows : List Row = log s (picked ++ picks) (given ++ replies) marks in
       let on : is_ended rows ≡ false = sym (some-end rows) ∙ ap is_some (sym v.rows.ended_is ∙ live) in
       let is : log s (picked ++ picks) (given ++ replies) (mark ∷ marks) ≡ rows = gone-log s (picked ++ picks) (given ++ replies) mark marks k nz g (gone-client s marks mark k g al) ∙ no-gone (setting s (picked ++ picks) (given ++ replies)) rows k on (out (picked ++ picks) (given ++ replies) (length picked) st.asks marks closed v al on) in
@@ -124,8 +124,8 @@ moves-to : (s new : State) (k : ℕ) (picks : List ℕ) (replies : List HouseRep
     → MovesTo (lost_row k rows ∷ rows) new.core new.up x y
 moves-to s new k picks replies rows live fit x y e f h = record {
   number = h.1.number;
-  fits = subst (λ r. Fits (r ∷ rows) (part new.core y.peer new.up)) (gone-row s.core.policy s.pid picks replies k rows)
-      (subst (λ j. Fits (next_row (by_lists s.core.policy s.pid picks replies) rows (Gone j) ∷ rows) (part new.core y.peer new.up)) e (h.1.goes s.core.policy s.pid picks replies rows record { core = fit.core; peer = f.peer; up = fit.up } live h.0));
+  fits = subst (λ r. PartFits (r ∷ rows) (part new.core y.peer new.up)) (gone-row s.core.policy s.pid picks replies k rows)
+      (subst (λ j. PartFits (next_row (by_lists s.core.policy s.pid picks replies) rows (Gone j) ∷ rows) (part new.core y.peer new.up)) e (h.1.goes s.core.policy s.pid picks replies rows record { core = fit.core; peer = f.peer; up = fit.up } live h.0));
 }
 
 all-moved : (s new : State) (k : ℕ) (picks : List ℕ) (replies : List HouseReply) (rows : List Row) → LosesAt s new k → is_ended rows ≡ false → is_present s.clients k ≡ true → AllFit rows s.core s.clients s.up → AllMoved rows (lost_row k rows ∷ rows) new.core s.clients new.clients new.up
@@ -143,7 +143,7 @@ rows-lost taken dn s new k picks replies closed rows nz c live here st =
       refused_is = c.refused;
       taken_is = st.taken_is;
       drawn_is = st.drawn_is;
-      asked_is = append-nil (asked_of rows) ∙ st.asked_is;
+      asked_is = append-nil (asks_of_rows rows) ∙ st.asked_is;
       fresh = (tt, st.fresh);
       fit = (all-moved s new k picks replies rows c live here st.fit).fit;
       ended_is = c.ended ∙ st.ended_is;
@@ -177,7 +177,7 @@ goes-lost s new k mark nz g live here c picked given marks closed st al = record
   asks = st.asks;
   each = st.each;
   at = λ picks replies.
-      let v : Represents (picked ++ picks) (given ++ replies) (length picked) st.asks s marks closed = st.at picks replies in
+      let v : EngineRepresents (picked ++ picks) (given ++ replies) (length picked) st.asks s marks closed = st.at picks replies in
       let rows : List Row = log s (picked ++ picks) (given ++ replies) marks in
       let on : is_ended rows ≡ false = sym (some-end rows) ∙ ap is_some (sym v.rows.ended_is ∙ live) in
       let in' : is_out (rows_of k rows) ≡ false = found k (λ x y. (is_lost x.peer.standing ≡ false) × Loses (part s.core x.peer s.up) (part new.core y.peer new.up)) rows s.clients new.clients (λ x y h. h.0) (all-fit rows s.clients v.rows.fit.each) here c.changes in

@@ -13,22 +13,22 @@ use Rattle.mux_history.specs.Requests.{replies, wanted}
 use Rattle.mux_history.proofs.Finds.{filter-no, filter-yes, find-no, find-yes}
 use Rattle.mux_history.proofs.ForwardsLocal.{for_of, forwardings-local}
 use Rattle.mux_history.proofs.Local as local
-use Rattle.mux_isolation.specs.View.{Waiting, left_of}
+use Rattle.mux_isolation.specs.LogView.{Waiting, waiting_left_of}
 use Rattle.window_ledger.specs.declared.ledger.State.{State as Account}
 use Rattle.window_ledger.specs.declared.ledger.State.TheVariants.{Opened, Confirmed}
 use Rattle.window_ledger.specs.Stands.{IsStateOf, account_of}
 use Rattle.channel_table.specs.declared.channel.Channel.{Channel}
-use Rattle.channel_table.specs.Entries.{Entry, is_of}
-use Rattle.channel_table.specs.Stands.{ChannelsFit, Fits}
+use Rattle.channel_table.specs.Entries.{TableEntry, is_of}
+use Rattle.channel_table.specs.Stands.{ChannelsFit, EntryFits}
 use Rattle.forward_rules.specs.State.{Forward}
 use Rattle.forward_rules.specs.Stands as forwards
-use Rattle.forward_rules.specs.Stands.{AreListed, places_of}
+use Rattle.forward_rules.specs.Stands.{AreForwardsListed, places_of}
 use Rattle.mux_core.specs.State.{CoreState}
 use Rattle.mux_core.specs.State as core
 use Rattle.mux_core.specs.Stands.{ClientFits, Look, Stands, look, unreplied_in}
 use Rattle.mux_core.proofs.Found.{filters-turn, held-local}
 use Rattle.mux_peers.proofs.Steps.{served-of}
-use Rattle.mux_state.specs.Others.{HeldChannel, HeldForward, Matters, held_channel, held_forward, matters_of}
+use Rattle.mux_state.specs.Others.{HeldChannel, HeldForward, Matters, held_channel, held_forward, matters_of_core}
 use Rattle.mux_state.proofs.Lists.{true_false}
 
 -- ---- channels
@@ -57,7 +57,7 @@ account-is (Confirmed up down) x h =
     ∙ (ap (Confirmed (account_of Up x)) h.downward
     ∙ sym (ap (λ b. elim b as (λ _. Account) [ true ↦ Confirmed (account_of Up x) (account_of Down x) | false ↦ Opened x.by x.window x.maximum ]) h.answered))
 
-held-is : (e : Entry) (x : history.Channel) → Fits e x → held_channel e ≡ held-of x
+held-is : (e : TableEntry) (x : history.Channel) → EntryFits e x → held_channel e ≡ held-of x
 held-is e x h =
     ap (λ n. held-with e.channel n e.ledger.state) h.number
     ∙ (ap (held-with e.channel x.number) (account-is e.ledger.state x h.ledger)
@@ -67,7 +67,7 @@ held-is e x h =
     ∙ ap (λ b. held-with (channel-with x.client x.own x.remote b) x.number (account-of x)) h.by))))
 
 -- those of a client, one by one
-channels-are : (k : ℕ) (es : List Entry) (xs : List history.Channel) → ChannelsFit es xs → map held_channel (filter (is_of k) es) ≡ map held-of (filter (local.is_of k) xs)
+channels-are : (k : ℕ) (es : List TableEntry) (xs : List history.Channel) → ChannelsFit es xs → map held_channel (filter (is_of k) es) ≡ map held-of (filter (local.is_of k) xs)
 channels-are k [] [] fit = refl
 channels-are k [] (x ∷ xs) fit = absurd fit
 channels-are k (e ∷ es) [] fit = absurd fit
@@ -92,7 +92,7 @@ forward-with key live leaves = record { key = key; live = live; leaves = leaves 
 abbrev forward-of : Forwarding → HeldForward
 forward-of g = forward-with (unwrap_or g.live g.key) (is_some g.live) (is_some g.cancel)
 
-forward-is : (f : Forward) (g : Forwarding) → forwards.Fits f g → held_forward f ≡ forward-of g
+forward-is : (f : Forward) (g : Forwarding) → forwards.ForwardingFits f g → held_forward f ≡ forward-of g
 forward-is f g h =
     ap (λ key. forward-with key f.live (is_some f.cancel)) h.key
     ∙ (ap (λ b. forward-with (unwrap_or g.live g.key) b (is_some f.cancel)) h.live
@@ -101,7 +101,7 @@ forward-is f g h =
 abbrev of_client : ℕ → Forward → Bool
 of_client k f = f.client == k
 
-forwards-are : (k : ℕ) (fs : List Forward) (gs : List Forwarding) → AreListed fs gs → map held_forward (filter (of_client k) fs) ≡ map forward-of (filter (for_of k) gs)
+forwards-are : (k : ℕ) (fs : List Forward) (gs : List Forwarding) → AreForwardsListed fs gs → map held_forward (filter (of_client k) fs) ≡ map forward-of (filter (for_of k) gs)
 forwards-are k [] [] fit = refl
 forwards-are k [] (g ∷ gs) fit = absurd fit
 forwards-are k (f ∷ fs) [] fit = absurd fit
@@ -134,7 +134,7 @@ client-with number lost waiting = record { number = number; lost = lost; waiting
 
 -- a client of these rows that was admitted and isn't lost
 abbrev answers-of : ℕ → List Row → Option core.MemberState
-answers-of k own = elim (any_of is_admit own && not (is_lost own)) [ true ↦ Some (client-with k false (left_of (wanted own) (replies own)).requests) | false ↦ None ]
+answers-of k own = elim (any_of is_admit own && not (is_lost own)) [ true ↦ Some (client-with k false (waiting_left_of (wanted own) (replies own)).requests) | false ↦ None ]
 
 -- the first that passes is one of them
 abbrev FoundOne : Look → (core.MemberState → Bool) → Option core.MemberState → Type 0
@@ -173,7 +173,7 @@ answers-are s k rows st = by_found (find (is-mine k) s.clients) refl (found-one 
     own = rows_of k rows
 
     here : Bool → Option core.MemberState
-    here b = elim b as (λ _. Option core.MemberState) [ true ↦ Some (client-with k false (left_of (wanted own) (replies own)).requests) | false ↦ None ]
+    here b = elim b as (λ _. Option core.MemberState) [ true ↦ Some (client-with k false (waiting_left_of (wanted own) (replies own)).requests) | false ↦ None ]
 
     by_here : (a b : Bool) → any_of is_admit own ≡ a → is_lost own ≡ b → find (is-mine k) s.clients ≡ None → None ≡ here (a && not b)
     by_here true true e f n = refl
@@ -203,7 +203,7 @@ matters-with channels requests forwards answers = record { channels = channels; 
 pub matters-by : ℕ → List Row → Matters
 matters-by k own = matters-with (map held-of (held_of own)) (unreplied_in (places_of own)) (map forward-of (current own)) (answers-of k own)
 
-pub matters-are : (s : CoreState) (k : ℕ) (rows : List Row) → Stands s rows → matters_of k s ≡ matters-by k (rows_of k rows)
+pub matters-are : (s : CoreState) (k : ℕ) (rows : List Row) → Stands s rows → matters_of_core k s ≡ matters-by k (rows_of k rows)
 unfolding matters-by
 matters-are s k rows st =
     let own : List Row = rows_of k rows in

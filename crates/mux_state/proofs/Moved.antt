@@ -7,11 +7,11 @@ use Rattle.mux_history.specs.declared.why.Why.{Why}
 use Rattle.mux_history.specs.Rows.{Row, rows_of, is_out, is_ended, losses}
 use Rattle.mux_history.specs.Choices.{numbers_taken, replies_given}
 use Rattle.mux_history.specs.Right.{AreFresh}
-use Rattle.mux_history.specs.Solo.{end_of}
+use Rattle.mux_history.specs.Solo.{run_end_of}
 use Rattle.mux_history.specs.Promises.{listens}
 use Rattle.mux_peers.specs.State.{ClientState}
 use Rattle.mux_peers.specs.Among.{AllFit, is_present}
-use Rattle.mux_peers.specs.Asked.{asked_of}
+use Rattle.mux_peers.specs.Asked.{asks_of_rows}
 use Rattle.mux_state.specs.State.{State, is_here, numbers, waiting_in}
 use Rattle.mux_state.specs.Stands.{RowsFit, not_closed, place, refusal}
 use Rattle.mux_state.proofs.Grows.{Grows, filter-append, served-grows}
@@ -36,10 +36,10 @@ pub record Moves (taken : ℕ) (drawn : List Asked) (loss : List (ℕ × Option 
   pub refused_is : new.refused ≡ old.refused
   pub taken_is : numbers_taken rows' ≡ taken
   pub drawn_is : replies_given rows' ≡ length drawn
-  pub asked_is : asked_of rows' ≡ drawn
+  pub asked_is : asks_of_rows rows' ≡ drawn
   pub fresh : AreFresh rows'
   pub fit : AllFit rows' new.core new.clients new.up
-  pub ended_is : new.ended ≡ end_of rows'
+  pub ended_is : new.ended ≡ run_end_of rows'
   pub listening_is : new.listening ≡ listens rows'
   pub waiting_is : new.waiting ≡ waiting_in new
   pub leaving_are : new.leaving ≡ old.leaving ++ loss

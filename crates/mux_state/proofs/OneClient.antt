@@ -59,7 +59,7 @@ same-one k j R (c ∷ cs) cs' ne f h = by_head (c.peer.number == k) refl h (λ d
 -- ---- the bytes
 
 pub reads-one : (k : ℕ) (R : ClientState → ClientState → Type 0) (mark : Mark) (marks : List Mark) (cs cs' : List ClientState) → ((j : ℕ) → k ≢ j → bytes_in j mark ≡ []) → ((x y : ClientState) → x.peer.number ≡ k → ClientReads (bytes_of k marks) x → R x y → (y.peer.number ≡ k) × ClientReads (bytes_of k (mark ∷ marks)) y)
-    → is_present cs k ≡ true → (is_present cs k ≡ true → EachReads marks cs) → Rattle.mux_peers.specs.Among.AreApart cs → ChangesOne k R cs cs' → EachReads (mark ∷ marks) cs'
+    → is_present cs k ≡ true → (is_present cs k ≡ true → EachReads marks cs) → Rattle.mux_peers.specs.Among.ArePeersApart cs → ChangesOne k R cs cs' → EachReads (mark ∷ marks) cs'
 reads-one k R mark marks [] cs' quiet f p e apart h = absurd (cc)
 reads-one k R mark marks (c ∷ cs) cs' quiet f p e apart h = by_head (c.peer.number == k) refl p h (e p) (λ ds q w. reads-one k R mark marks cs ds quiet f q (λ x. (e p).1) apart.1 w)
   where

@@ -9,7 +9,7 @@ use Rattle.mux_history.specs.declared.ended.Ended.{Ended}
 use Rattle.mux_history.specs.Pending.{pending_down}
 use Rattle.mux_history.specs.Rows.{Row, rows_of, is_ended}
 use Rattle.mux_history.specs.Settings.{by_lists}
-use Rattle.mux_history.specs.Solo.{end_of}
+use Rattle.mux_history.specs.Solo.{run_end_of}
 use Rattle.mux_history.specs.Journal.{log_of_journal}
 use Rattle.mux_peers.specs.declared.standing.Standing.{Standing}
 use Rattle.mux_peers.specs.State.{ClientState, PeerState}
@@ -75,7 +75,7 @@ same-served k (c ∷ cs) (d ∷ ds) h e s = by_head (c.peer.number == k) (d.peer
     by_head false true t e s ih = true_false t
 
 -- the run goes on
-live : (rows : List Row) (now : Option Ended) → now ≡ None → now ≡ end_of rows → is_ended rows ≡ false
+live : (rows : List Row) (now : Option Ended) → now ≡ None → now ≡ run_end_of rows → is_ended rows ≡ false
 live rows now on is = sym (some-end rows) ∙ ap is_some (sym is ∙ on)
 
 -- ---- a client whose rows are those of before

@@ -16,16 +16,16 @@ use Rattle.mux_history.specs.declared.broke.Break.TheVariants as broke
 use Rattle.mux_history.specs.Rows.{Row, is_ended, Item, Gone, ServerEnd, ServerCut, ServerFailed, Fate, Goes, Refused, Drop, End}
 use Rattle.mux_history.specs.Heard.{finishes}
 use Rattle.mux_history.specs.Pending.{pending_up}
-use Rattle.mux_history.specs.Solo.{end_of}
+use Rattle.mux_history.specs.Solo.{run_end_of}
 use Rattle.mux_history.specs.Log.{Setting, bare, is_took, makes_next, makes_row, more_all, more_of, next_row}
 use Rattle.mux_history.specs.Journal.{bytes_in, bytes_of, received_item, is_accepted, is_own_stream, unless_own, items_in, new_received, new_sayings, sent_item, server_end}
 use Rattle.mux_peers.specs.State.{ClientState}
 use Rattle.mux_peers.specs.Among.{EachFits}
-use Rattle.mux_peers.specs.Asked.{asked_of}
+use Rattle.mux_peers.specs.Asked.{asks_of_rows}
 use Rattle.mux_peers.proofs.Ones.{other-fits}
 use Rattle.mux_state.specs.Moves.{IsEvent}
 use Rattle.mux_state.specs.State.{State, over, server_cause}
-use Rattle.mux_state.specs.Stands.{BytesFit, GoesAlone, IsAllowed, IsStrange, RowsFit, ServerReads, Represents, log, place, setting}
+use Rattle.mux_state.specs.Stands.{BytesFit, GoesAlone, IsAllowed, IsStrange, RowsFit, ServerReads, EngineRepresents, log, place, setting}
 use Rattle.mux_state.proofs.Closes.{other_row}
 use Rattle.mux_state.proofs.Grows.{NotAdmit, grows-row}
 use Rattle.mux_state.proofs.Refused.{refused-client}
@@ -35,13 +35,13 @@ use Rattle.mux_state.proofs.Takes.{more-yes}
 
 -- ---- after the end nothing more makes a row
 
-end-is : (f : Fate) (row : Row) (rows : List Row) → row.fate ≡ f → is_some (end_of rows) ≡ is_ended rows → is_some (end_of (row ∷ rows)) ≡ is_ended (row ∷ rows)
+end-is : (f : Fate) (row : Row) (rows : List Row) → row.fate ≡ f → is_some (run_end_of rows) ≡ is_ended rows → is_some (run_end_of (row ∷ rows)) ≡ is_ended (row ∷ rows)
 end-is Goes row rows e ih = rw e ih
 end-is Refused row rows e ih = rw e ih
 end-is (Drop why) row rows e ih = rw e ih
 end-is (End cause) row rows e ih = rw e refl
 
-pub some-end : (rows : List Row) → is_some (end_of rows) ≡ is_ended rows
+pub some-end : (rows : List Row) → is_some (run_end_of rows) ≡ is_ended rows
 some-end [] = refl
 some-end (row ∷ rows) = end-is row.fate row rows refl (some-end rows)
 
@@ -166,7 +166,7 @@ goes-over s mark cause h over picked given marks closed st al = record {
   asks = st.asks;
   each = st.each;
   at = λ picks replies.
-      let v : Represents (picked ++ picks) (given ++ replies) (length picked) st.asks s marks closed = st.at picks replies in
+      let v : EngineRepresents (picked ++ picks) (given ++ replies) (length picked) st.asks s marks closed = st.at picks replies in
       let rows : List Row = log s (picked ++ picks) (given ++ replies) marks in
       let e : is_ended rows ≡ true = sym (some-end rows) ∙ ap is_some (sym v.rows.ended_is ∙ over) in
       let is : log s (picked ++ picks) (given ++ replies) (mark ∷ marks) ≡ rows = over-all (setting s (picked ++ picks) (given ++ replies)) (items_in marks mark) rows e (none-taken marks mark h) in
@@ -200,7 +200,7 @@ rows-of-end item taken dn s cause closed rows st numbers replies asks took admit
   refused_is = refl;
   taken_is = numbers ∙ st.taken_is;
   drawn_is = replies ∙ st.drawn_is;
-  asked_is = ap (λ l. asked_of rows ++ l) asks ∙ (append-nil (asked_of rows) ∙ st.asked_is);
+  asked_is = ap (λ l. asks_of_rows rows ++ l) asks ∙ (append-nil (asks_of_rows rows) ∙ st.asked_is);
   fresh = (tt, st.fresh);
   fit = record {
     core = λ l. true_false l;
@@ -236,14 +236,14 @@ bytes-end s item cause mark marks closed rows h al st = record {
 
 -- what the server's stream does, while the run goes on
 pub ends-by : (s : State) (mark : Mark) (cause : Ended) → IsEvent mark
-    → ((picks : List ℕ) (replies : List HouseReply) (taken : ℕ) (dn : List Asked) (marks : List Mark) (closed : List ℕ) → Represents picks replies taken dn s marks closed → is_ended (log s picks replies marks) ≡ false
+    → ((picks : List ℕ) (replies : List HouseReply) (taken : ℕ) (dn : List Asked) (marks : List Mark) (closed : List ℕ) → EngineRepresents picks replies taken dn s marks closed → is_ended (log s picks replies marks) ≡ false
     → (item : Item) × (IsEndItem item × (log s picks replies (mark ∷ marks) ≡ end_row item cause ∷ log s picks replies marks)))
     → s.ended ≡ None → GoesAlone s (over s cause) mark
 ends-by s mark cause h makes live picked given marks closed st al = record {
   asks = st.asks;
   each = st.each;
   at = λ picks replies.
-      let v : Represents (picked ++ picks) (given ++ replies) (length picked) st.asks s marks closed = st.at picks replies in
+      let v : EngineRepresents (picked ++ picks) (given ++ replies) (length picked) st.asks s marks closed = st.at picks replies in
       let rows : List Row = log s (picked ++ picks) (given ++ replies) marks in
       let e : is_ended rows ≡ false = sym (some-end rows) ∙ ap is_some (sym v.rows.ended_is ∙ live) in
       let m = makes (picked ++ picks) (given ++ replies) (length picked) st.asks marks closed v e in

@@ -9,7 +9,7 @@ use Rattle.mux_history.specs.Rows.{Row, rows_of}
 use Rattle.mux_history.specs.Pending.{pending, pending_down, pending_up}
 use Rattle.mux_history.specs.Promises.{has_output, is_empty}
 use Rattle.mux_peers.specs.State.{ClientState}
-use Rattle.mux_peers.specs.Among.{AreApart, EachFits, is_present}
+use Rattle.mux_peers.specs.Among.{ArePeersApart, EachFits, is_present}
 use Rattle.mux_state.specs.State.{State, queue_in, waiting_clients, waiting_in}
 use Rattle.mux_state.specs.Stands.{RowsFit}
 use Rattle.mux_state.proofs.Lists.{either, not_here, test_other}
@@ -66,7 +66,7 @@ waits-head k c cs false true t e none ih = ih
 waits-head k c cs false false t e none ih = ap (λ b. b || among k (waiting_clients cs)) t ∙ ih
 
 -- a client waits where something waits for it
-client-waits : (k : ℕ) (cs : List ClientState) → AreApart cs → among k (waiting_clients cs) ≡ not (is_empty (queue_at cs k))
+client-waits : (k : ℕ) (cs : List ClientState) → ArePeersApart cs → among k (waiting_clients cs) ≡ not (is_empty (queue_at cs k))
 client-waits k [] apart = refl
 client-waits k (c ∷ cs) apart = waits-head k c cs (c.peer.number == k) (is_empty c.peer.queue) refl refl (λ t. none-waits k cs (ap (is_present cs) (sym (eqb-true c.peer.number k t)) ∙ apart.0)) (client-waits k cs apart.1)
 
@@ -75,7 +75,7 @@ no-server rows [] e = refl
 no-server rows (c ∷ cs) e = ap (λ b. either b (is_present cs 0)) e.0.nonzero ∙ no-server rows cs e.1
 
 -- a stream waits where something waits for it
-stream-waits : (rows : List Row) (s : State) (k : ℕ) → EachFits rows s.clients → AreApart s.clients → among k (waiting_in s) ≡ not (is_empty (queue_in s k))
+stream-waits : (rows : List Row) (s : State) (k : ℕ) → EachFits rows s.clients → ArePeersApart s.clients → among k (waiting_in s) ≡ not (is_empty (queue_in s k))
 stream-waits rows s k each apart = elim (eqb_tells k 0) [
   | inl q ↦ by_up (is_empty s.up.waiting) q.1 ∙ sym (ap (λ b. not (is_empty (cond b s.up.waiting (queue_at s.clients k)))) q.0)
   | inr q ↦ others (is_empty s.up.waiting) q.1 ∙ (client-waits k s.clients apart ∙ sym (ap (λ b. not (is_empty (cond b s.up.waiting (queue_at s.clients k)))) q.0))

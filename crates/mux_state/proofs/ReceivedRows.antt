@@ -6,7 +6,7 @@ use Rattle.ssh_grammar.specs.declared.fault.Bad.{Bad}
 use Rattle.ssh_grammar.specs.Said.{Outgoing, Body, Payload, BadFraming}
 use Rattle.mux_history.specs.declared.why.Why.{Why}
 use Rattle.mux_outside.specs.declared.house.HouseReply.{HouseReply}
-use Rattle.mux_history.specs.Channels.{Channel, channels_of, is_held, is_number}
+use Rattle.mux_history.specs.Channels.{Channel, channels_of, is_channel_held, is_number}
 use Rattle.mux_history.specs.Forwardings.{live_at}
 use Rattle.mux_history.specs.Summary.{Confirmation, Summary, Open, Refuses, Requests, Succeeds, Transport, Within, read_summary}
 use Rattle.mux_history.specs.Heard.{Breaks, Dest, Disconnects, ToClient, ToMaster, dest, dest_summary, for_master, received_for, received_master}
@@ -20,7 +20,7 @@ use Rattle.mux_history.proofs.Askers.{asks-local, asks_for, get-filter}
 use Rattle.mux_history.proofs.Dests.{Asked, Offered, Reached, dest-err, dest-ok, offered, reached, refuses-asked, succeeds-asked}
 use Rattle.mux_history.proofs.ForwardsLocal.{find-part, live-local}
 use Rattle.mux_history.proofs.Local.{channels-local, is_of}
-use Rattle.mux_peers.specs.Asked.{asked_of}
+use Rattle.mux_peers.specs.Asked.{asks_of_rows}
 use Rattle.mux_peers.proofs.Receivings.{heard-goes}
 use Rattle.mux_peers.proofs.Mores.{parts-of}
 use Rattle.mux_peers.proofs.Ones.{unrefused-row}
@@ -54,8 +54,8 @@ never-asked rows k none a =
 
 never-reached : (rows : List Row) (n k : ℕ) → IsIdle (rows_of k rows) → Reached rows n k → ⊥
 never-reached rows n k none there =
-    let found = find-part is_held (is_of k) (λ (x : Channel). is_number x.number n) there.channel (channels_of rows) there.is (ap (λ c. c == k) there.client ∙ eq-eqb k k refl) in
-    let nobody = ap (λ xs. find (λ (x : Channel). is_number x.number n) (filter is_held xs)) (channels-local k rows ∙ none.channels_none) in
+    let found = find-part is_channel_held (is_of k) (λ (x : Channel). is_number x.number n) there.channel (channels_of rows) there.is (ap (λ c. c == k) there.client ∙ eq-eqb k k refl) in
+    let nobody = ap (λ xs. find (λ (x : Channel). is_number x.number n) (filter is_channel_held xs)) (channels-local k rows ∙ none.channels_none) in
     let bad : None ≡ Some there.channel = sym nobody ∙ found in absurd (let h = bad in cc)
 
 never-offered : (rows : List Row) (k s : ℕ) (what : _) → IsIdle (rows_of k rows) → Offered rows s what k → ⊥
@@ -138,14 +138,14 @@ outgoing-is policy pid picks given (BadFraming fault) rows = record { item = Bad
 pub record ReceivedOn (rows rows' : List Row) : Type 0 where
   pub loss : List (ℕ × Option Why)
   pub grows : Grows rows rows' loss
-  pub asked : asked_of rows' ≡ asked_of rows
+  pub asked : asks_of_rows rows' ≡ asks_of_rows rows
   pub idle : (j : ℕ) → j ≢ 0 → IsIdle (rows_of j rows) → rows_of j rows' ≡ rows_of j rows
 
 heard-row : (rows : List Row) (row : Row) → IsReceived rows row → ReceivedOn rows (row ∷ rows)
 heard-row rows row h = record {
   loss = loss_by row;
   grows = grows-row h.item row rows h.is h.admits h.unrefused;
-  asked = ap (λ l. asked_of rows ++ l) h.asks_none ∙ append-nil (asked_of rows);
+  asked = ap (λ l. asks_of_rows rows ++ l) h.asks_none ∙ append-nil (asks_of_rows rows);
   idle = λ j nz none. other_row row.client j row rows refl (h.apart j nz none);
 }
 

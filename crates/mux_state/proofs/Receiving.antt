@@ -15,10 +15,10 @@ use Rattle.mux_history.specs.declared.why.Why.{Why}
 use Rattle.mux_history.specs.declared.ended.Ended.{Ended}
 use Rattle.mux_history.specs.Rows.{Row, rows_of, any_of, is_admit, is_out, is_ended, is_refusal, loses, losses, loss_by, Item, Gone, Fate, Goes, Refused, Drop, End}
 use Rattle.mux_history.specs.Settings.{by_lists}
-use Rattle.mux_history.specs.Solo.{end_of}
+use Rattle.mux_history.specs.Solo.{run_end_of}
 use Rattle.mux_history.specs.Journal.{bytes_in, bytes_of, log_of_journal}
 use Rattle.mux_peers.specs.State.{ClientState}
-use Rattle.mux_peers.specs.Stands.{is_lost as lost, is_read, mode_of}
+use Rattle.mux_peers.specs.Stands.{is_lost as lost, is_read, parse_mode_of}
 use Rattle.mux_peers.specs.Among.{EachFits, KeepReading, is_present}
 use Rattle.mux_peers.specs.Receivings.{AreHere}
 use Rattle.mux_peers.specs.Laws.{IsReceivedTo, rows_recorded}
@@ -26,7 +26,7 @@ use Rattle.mux_peers.specs.Server.{ReceivedTo}
 use Rattle.mux_peers.proofs.ServerJournaled.{pieces-of-the-server}
 use Rattle.mux_state.specs.Moves.{ReceivedAt}
 use Rattle.mux_state.specs.State.{State, numbers}
-use Rattle.mux_state.specs.Stands.{BytesFit, ClientReads, EachReads, GoesAlone, IsAllowed, IsStrange, RowsFit, Represents, log, not_closed}
+use Rattle.mux_state.specs.Stands.{BytesFit, ClientReads, EachReads, GoesAlone, IsAllowed, IsStrange, RowsFit, EngineRepresents, log, not_closed}
 use Rattle.mux_state.proofs.Closes.{in_losses, loss_is_out, other_row}
 use Rattle.mux_state.proofs.ReceivedRows.{ReceivedOn, heard-on, idle-none, idle-refused}
 use Rattle.mux_state.proofs.Lists.{either, test_other, true_false}
@@ -158,8 +158,8 @@ rows-heard taken dn s new bytes old closed rows rows' c same all w st =
       server_in = server-stays rows rows' s.clients noted st.fit.each all w.to.lost st.server_in;
     }
   where
-    none-ended : (rows : List Row) → is_ended rows ≡ false → end_of rows ≡ None
-    none-ended rows e = none-of (end_of rows) (some-end rows ∙ e)
+    none-ended : (rows : List Row) → is_ended rows ≡ false → run_end_of rows ≡ None
+    none-ended rows e = none-of (run_end_of rows) (some-end rows ∙ e)
       where
         none-of : (o : Option Ended) → is_some o ≡ false → o ≡ None
         none-of None e = refl
@@ -192,7 +192,7 @@ reads-kept marks (c ∷ cs) (d ∷ ds) h e = (one (bytes_of d.peer.number marks)
   where
     one : (bytes : List ℕ) → ClientReads bytes c → ClientReads bytes d
     one bytes r = record {
-      mode_is = λ l. let w = h.0.1 l in r.mode_is (ap lost (sym w.0) ∙ l) ∙ ap mode_of (sym w.0);
+      mode_is = λ l. let w = h.0.1 l in r.mode_is (ap lost (sym w.0) ∙ l) ∙ ap parse_mode_of (sym w.0);
       rest_is = λ x. let w = h.0.1 (read-here d.peer.standing x) in r.rest_is (ap is_read (sym w.0) ∙ x) ∙ sym w.1;
     }
 
@@ -209,8 +209,8 @@ bytes-heard taken dn s new bytes marks closed rows rows' c kept al w fit st =
       strange = λ j a. let v : IsStrange s (mark ∷ marks) closed j = strange-on s marks closed mark j tt al st.strange a in record { not_here = here-same s new j same c.refused ∙ v.not_here; not_closed_yet = v.not_closed_yet; no_bytes = v.no_bytes };
     }
   where
-    none-ended : (rows : List Row) → is_ended rows ≡ false → end_of rows ≡ None
-    none-ended rows e = none-of (end_of rows) (some-end rows ∙ e)
+    none-ended : (rows : List Row) → is_ended rows ≡ false → run_end_of rows ≡ None
+    none-ended rows e = none-of (run_end_of rows) (some-end rows ∙ e)
       where
         none-of : (o : Option Ended) → is_some o ≡ false → o ≡ None
         none-of None e = refl
@@ -226,7 +226,7 @@ goes-heard-so s new bytes none c kept all picked given marks closed st al = reco
   at = λ picks replies.
       let p : List ℕ = picked ++ picks in
       let r : List HouseReply = given ++ replies in
-      let v : Represents p r (length picked) st.asks s marks closed = st.at picks replies in
+      let v : EngineRepresents p r (length picked) st.asks s marks closed = st.at picks replies in
       let rows : List Row = log s p r marks in
       let live : is_ended rows ≡ false = sym (some-end rows) ∙ ap is_some (sym v.rows.ended_is ∙ none) in
       let rows' : List Row = rows_recorded s.core.policy s.pid p r (bytes_of 0 marks) bytes rows in

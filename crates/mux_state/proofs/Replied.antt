@@ -9,7 +9,7 @@ use Rattle.mux_outside.specs.declared.mark.Mark.TheVariants.{House}
 use Rattle.mux_history.specs.declared.ended.Ended.{Ended}
 use Rattle.mux_history.specs.declared.limits.TheConstants.{NUMBERS_END}
 use Rattle.mux_history.specs.Rows.{Row, rows_of, is_end, is_ended, is_out, loss_by, HouseSays, Item, Says, Fate, Goes, Refused, Drop, End}
-use Rattle.mux_history.specs.Channels.{own_of, holder}
+use Rattle.mux_history.specs.Channels.{own_number_of, holder}
 use Rattle.mux_history.specs.Choices.{has_reply, numbers_taken, replies_given, takes_number}
 use Rattle.mux_history.specs.Controls.{body_stops, greeted}
 use Rattle.mux_history.specs.Heard.{is_received, next_index}
@@ -17,7 +17,7 @@ use Rattle.mux_history.specs.Promises.{listens}
 use Rattle.mux_history.specs.Requests.{is_sent}
 use Rattle.mux_history.specs.Right.{AreFresh, carried_number}
 use Rattle.mux_history.specs.Settings.{by_lists}
-use Rattle.mux_history.specs.Solo.{end_of}
+use Rattle.mux_history.specs.Solo.{run_end_of}
 use Rattle.mux_history.specs.Treat.{goes}
 use Rattle.mux_history.specs.Log.{more_of, next_row}
 use Rattle.mux_history.specs.Journal.{bytes_of, log_of_journal}
@@ -25,14 +25,14 @@ use Rattle.mux_peers.specs.State.{ClientState, part}
 use Rattle.mux_peers.specs.Stands.{is_lost, standing_of}
 use Rattle.mux_peers.specs.Among.{ChangesOne, EachFits, InFits, KeepReading, MovesTo, is_present}
 use Rattle.mux_peers.specs.Answering.{AnswersNoting, IsAnswered}
-use Rattle.mux_peers.specs.Asked.{asked_of, item_asks}
+use Rattle.mux_peers.specs.Asked.{asks_of_rows, item_asks}
 use Rattle.mux_peers.specs.Laws.{AllMoved}
 use Rattle.mux_peers.proofs.Adds.{house-adds}
 use Rattle.mux_peers.proofs.Ones.{one-moves-all}
 use Rattle.mux_peers.proofs.Stood.{out_is, own_row}
 use Rattle.mux_state.specs.Moves.{AnsweredAt, NoneStands, not_lost}
 use Rattle.mux_state.specs.State.{State, loss_between, loss_in, numbers, waiting_in}
-use Rattle.mux_state.specs.Stands.{BytesFit, ClientReads, EachReads, GoesAlone, IsAllowed, IsStrange, RowsFit, ServerReads, Represents, log, setting}
+use Rattle.mux_state.specs.Stands.{BytesFit, ClientReads, EachReads, GoesAlone, IsAllowed, IsStrange, RowsFit, ServerReads, EngineRepresents, log, setting}
 use Rattle.mux_state.proofs.Closes.{other_row}
 use Rattle.mux_state.proofs.Grows.{Grows, grows-row}
 use Rattle.mux_state.proofs.Receiving.{reads-kept}
@@ -51,7 +51,7 @@ and-false true = refl
 and-false false = refl
 
 untaken : (k id : ℕ) (given : HouseReply) (row : Row) → row.item ≡ HouseSays k id given → takes_number row ≡ false
-untaken k id given row is = ap (λ (i : Item). is_sent row && is_some (own_of i)) is ∙ and-false (is_sent row)
+untaken k id given row is = ap (λ (i : Item). is_sent row && is_some (own_number_of i)) is ∙ and-false (is_sent row)
 
 same-taken : (row : Row) (rows : List Row) → takes_number row ≡ false → numbers_taken (row ∷ rows) ≡ numbers_taken rows
 same-taken row rows e = ap (λ b. elim b as (λ _. ℕ) [ true ↦ numbers_taken rows + 1 | false ↦ numbers_taken rows ]) e
@@ -62,13 +62,13 @@ same-fresh row rows e fresh = (subst (λ b. MatchBool b ((carried_number row.up 
 same-given : (k id : ℕ) (given : HouseReply) (row : Row) (rows : List Row) → row.item ≡ HouseSays k id given → replies_given (row ∷ rows) ≡ replies_given rows
 same-given k id given row rows is = ap (λ (i : Item). elim (has_reply i) as (λ _. ℕ) [ true ↦ replies_given rows + 1 | false ↦ replies_given rows ]) is
 
-same-asked : (k id : ℕ) (given : HouseReply) (row : Row) (rows : List Row) → row.item ≡ HouseSays k id given → asked_of (row ∷ rows) ≡ asked_of rows
-same-asked k id given row rows is = ap (λ (i : Item). asked_of rows ++ item_asks i) is ∙ append-nil (asked_of rows)
+same-asked : (k id : ℕ) (given : HouseReply) (row : Row) (rows : List Row) → row.item ≡ HouseSays k id given → asks_of_rows (row ∷ rows) ≡ asks_of_rows rows
+same-asked k id given row rows is = ap (λ (i : Item). asks_of_rows rows ++ item_asks i) is ∙ append-nil (asks_of_rows rows)
 
-same-end : (row : Row) (rows : List Row) (f : Fate) → row.fate ≡ f → is_end f ≡ false → end_of (row ∷ rows) ≡ end_of rows
-same-end row rows Goes e n = ap (λ (f : Fate). elim f as (λ _. Option Ended) [ End cause ↦ Some cause | _ ↦ end_of rows ]) e
-same-end row rows Refused e n = ap (λ (f : Fate). elim f as (λ _. Option Ended) [ End cause ↦ Some cause | _ ↦ end_of rows ]) e
-same-end row rows (Drop why) e n = ap (λ (f : Fate). elim f as (λ _. Option Ended) [ End cause ↦ Some cause | _ ↦ end_of rows ]) e
+same-end : (row : Row) (rows : List Row) (f : Fate) → row.fate ≡ f → is_end f ≡ false → run_end_of (row ∷ rows) ≡ run_end_of rows
+same-end row rows Goes e n = ap (λ (f : Fate). elim f as (λ _. Option Ended) [ End cause ↦ Some cause | _ ↦ run_end_of rows ]) e
+same-end row rows Refused e n = ap (λ (f : Fate). elim f as (λ _. Option Ended) [ End cause ↦ Some cause | _ ↦ run_end_of rows ]) e
+same-end row rows (Drop why) e n = ap (λ (f : Fate). elim f as (λ _. Option Ended) [ End cause ↦ Some cause | _ ↦ run_end_of rows ]) e
 same-end row rows (End cause) e n = true_false n
 
 same-listens : (k id : ℕ) (given : HouseReply) (row : Row) (rows : List Row) → row.item ≡ HouseSays k id given → listens (row ∷ rows) ≡ listens rows
@@ -164,7 +164,7 @@ goes-replied-by s new id given x y none here nz fits c picked given_before marks
   at = λ picks replies.
       let k : ℕ = x.peer.number in
       let mark : Mark = House (HouseAnswer k id given) in
-      let v : Represents (picked ++ picks) (given_before ++ replies) (length picked) st.asks s marks closed = st.at picks replies in
+      let v : EngineRepresents (picked ++ picks) (given_before ++ replies) (length picked) st.asks s marks closed = st.at picks replies in
       let rows : List Row = log s (picked ++ picks) (given_before ++ replies) marks in
       let live : is_ended rows ≡ false = sym (some-end rows) ∙ ap is_some (sym v.rows.ended_is ∙ none) in
       let fx : InFits rows x = fits rows v.rows.fit.each in
@@ -212,7 +212,7 @@ goes-unreplied s k id given none unserved picked used marks closed st al = recor
   each = st.each;
   at = λ picks replies.
       let mark : Mark = House (HouseAnswer k id given) in
-      let v : Represents (picked ++ picks) (used ++ replies) (length picked) st.asks s marks closed = st.at picks replies in
+      let v : EngineRepresents (picked ++ picks) (used ++ replies) (length picked) st.asks s marks closed = st.at picks replies in
       let rows : List Row = log s (picked ++ picks) (used ++ replies) marks in
       let live : is_ended rows ≡ false = sym (some-end rows) ∙ ap is_some (sym v.rows.ended_is ∙ none) in
       let quiet : (j : ℕ) → bytes_of j (mark ∷ marks) ≡ bytes_of j marks = λ j. ap (λ b. bytes_of j marks ++ b) (none-said-by j) ∙ append-nil (bytes_of j marks) in

@@ -10,7 +10,7 @@ use Rattle.mux_bounds.proofs.Lengths.{rest-few}
 use Rattle.mux_peers.specs.declared.standing.Standing.{Standing}
 use Rattle.mux_peers.specs.declared.standing.Standing.TheVariants.{Awaited, Greeted, Proxied, Unread, Lost}
 use Rattle.mux_peers.specs.State.{ClientState}
-use Rattle.mux_peers.specs.Stands.{is_lost, is_read, mode_of}
+use Rattle.mux_peers.specs.Stands.{is_lost, is_read, parse_mode_of}
 use Rattle.mux_state.specs.State.{State, in_client}
 use Rattle.mux_state.specs.Stands.{ClientReads, EachReads, Stands, log}
 use Rattle.mux_state.specs.Steps.{is_received}
@@ -18,7 +18,7 @@ use Rattle.mux_state.proofs.Lists.{true_false}
 use Rattle.mux_state.proofs.Looked.{stands_so}
 use Rattle.mux_state.proofs.Over.{some-end}
 
-read-mode : (s : Standing) → is_read s ≡ true → (is_lost s ≡ false) × (mode_of s ≢ Stopped)
+read-mode : (s : Standing) → is_read s ≡ true → (is_lost s ≡ false) × (parse_mode_of s ≢ Stopped)
 read-mode Awaited e = (refl, λ m. cc)
 read-mode Greeted e = (refl, λ m. cc)
 read-mode Proxied e = (refl, λ m. cc)

@@ -3,13 +3,13 @@ use Rattle.std.proofs.Common.{◌≡◌, ◌≤◌, ℕ, Bool, true, false, not,
 use Rattle.std.specs.Prelude.{◌==◌, filter}
 use Rattle.std.proofs.lemmas.Bool.{eq-eqb}
 use Rattle.std.proofs.lemmas.Bool.Decides.{eqb_tells}
-use Rattle.proxy_frames.specs.Queued.{without_first}
+use Rattle.proxy_frames.specs.Queued.{without_first_bytes}
 use Rattle.mux_outside.specs.Streams.{among, without}
 use Rattle.mux_history.specs.declared.why.Why.{Why}
 use Rattle.mux_peers.specs.State.{ClientState}
 use Rattle.mux_peers.specs.Stands.{is_lost}
 use Rattle.mux_peers.specs.Room.{HasRoom, served_in}
-use Rattle.mux_state.specs.Ready.{AreListed, IsReady, IsSound}
+use Rattle.mux_state.specs.Ready.{AreListed, IsEngineReady, IsEngineSound}
 use Rattle.mux_state.specs.State.{State, at_client, client_took, closed_by, taken, without_client}
 use Rattle.mux_state.proofs.Lists.{among-gone, among-less, among-was, true_false}
 use Rattle.mux_state.proofs.Takes.{Same, taken-same}
@@ -35,7 +35,7 @@ listed-closed k ks ls h j a = elim (eqb_tells k j) [
 ]
 
 -- where no client is to be closed none was refused
-pub none-refused : (s : State) → IsSound s → s.leaving ≡ [] → s.refused ≡ []
+pub none-refused : (s : State) → IsEngineSound s → s.leaving ≡ [] → s.refused ≡ []
 none-refused s h e = by_list s.refused s.leaving h.refused e
   where
     by_list : (ks : List ℕ) (ls : List (ℕ × Option Why)) → AreListed ks ls → ls ≡ [] → ks ≡ []
@@ -74,24 +74,24 @@ served-took t n (c ∷ cs) = by_head (c.peer.number == t) (served-took t n cs)
 room-taken : (s : State) (t n : ℕ) → HasRoom s.clients s.up → HasRoom (taken s t n).clients (taken s t n).up
 room-taken s t n room = by_server (t == 0)
   where
-    by_server : (b : Bool) → (let s' : State = cond b (record s { up = without_first n s.up }) (record s { clients = at_client t (client_took n) s.clients }) in HasRoom s'.clients s'.up)
+    by_server : (b : Bool) → (let s' : State = cond b (record s { up = without_first_bytes n s.up }) (record s { clients = at_client t (client_took n) s.clients }) in HasRoom s'.clients s'.up)
     by_server true = room
     by_server false = omega (arith, ap length (served-took t n s.clients), room)
 
 -- ---- an engine
 
-pub sound-closed : (s : State) (k : ℕ) → IsSound s → IsSound (closed_by s k)
+pub sound-closed : (s : State) (k : ℕ) → IsEngineSound s → IsEngineSound (closed_by s k)
 sound-closed s k h = record {
-  ready = λ fed on. let r : IsReady s = h.ready fed on in record { room = omega (arith, served-less k s.clients, r.room); cuts = r.cuts; well = r.well };
+  ready = λ fed on. let r : IsEngineReady s = h.ready fed on in record { room = omega (arith, served-less k s.clients, r.room); cuts = r.cuts; well = r.well };
   refused = listed-closed k s.refused s.leaving h.refused;
 }
 
-pub sound-taken : (s : State) (t n : ℕ) → IsSound s → IsSound (taken s t n)
+pub sound-taken : (s : State) (t n : ℕ) → IsEngineSound s → IsEngineSound (taken s t n)
 sound-taken s t n h =
     let same : Same s (taken s t n) = taken-same s t n in
     record {
       ready = λ fed on.
-          let r : IsReady s = h.ready (sym same.starved ∙ fed) (sym same.ended ∙ on) in
+          let r : IsEngineReady s = h.ready (sym same.starved ∙ fed) (sym same.ended ∙ on) in
           record { room = room-taken s t n r.room; cuts = ap (λ (v : _). v.framing) same.server ∙ r.cuts; well = ap (λ (v : _). v.fault) same.server ∙ r.well };
       refused = λ k a. ap (λ ls. among k (listed ls)) same.leaving ∙ h.refused k (ap (among k) (sym same.refused) ∙ a);
     }

@@ -3,7 +3,7 @@ use Rattle.std.proofs.Common.{◌≡◌, ℕ, true, false, ◌||◌, [], ◌∷�
 use Rattle.mux_outside.specs.Streams.{among}
 use Rattle.mux_history.specs.Promises.{is_empty}
 use Rattle.mux_core.specs.Stands as core
-use Rattle.mux_peers.specs.Among.{AreApart, EachFits, is_present}
+use Rattle.mux_peers.specs.Among.{ArePeersApart, EachFits, is_present}
 use Rattle.mux_peers.specs.Server.{ServerState, new_server}
 use Rattle.mux_state.specs.State.{HasNobody, State, is_here, served_in, waiting_clients, waiting_in}
 use Rattle.mux_state.specs.Stands.{BytesFit, EachReads, RowsFit, ServerReads, Stands}
@@ -28,7 +28,7 @@ rows-started s h = record {
   drawn_is = refl;
   asked_is = refl;
   fresh = tt;
-  fit = record { core = λ l. h.core_stands; each = subst (EachFits []) (sym h.nobody.clients) tt; apart = subst AreApart (sym h.nobody.clients) tt; up = h.nobody.silent };
+  fit = record { core = λ l. h.core_stands; each = subst (EachFits []) (sym h.nobody.clients) tt; apart = subst ArePeersApart (sym h.nobody.clients) tt; up = h.nobody.silent };
   ended_is = h.goes;
   listening_is = h.listens_yet;
   waiting_is = h.nobody.waiting ∙ sym (no-waiting s h);

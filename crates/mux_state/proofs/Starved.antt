@@ -14,21 +14,21 @@ use Rattle.mux_history.specs.Log.{more_all}
 use Rattle.mux_core.specs.State.{CoreState}
 use Rattle.mux_peers.specs.declared.run_change.RunChange.{RunChange}
 use Rattle.mux_peers.specs.State.{ClientState, ClientsState}
-use Rattle.mux_peers.specs.Stands.{is_read, mode_of}
+use Rattle.mux_peers.specs.Stands.{is_read, parse_mode_of}
 use Rattle.mux_peers.specs.Among.{ChangesOne, EachFits, InFits, Noting, NotesOne, is_present}
-use Rattle.mux_peers.specs.Asked.{Applies, asked_of}
+use Rattle.mux_peers.specs.Asked.{Applies, asks_of_rows}
 use Rattle.mux_peers.specs.Pieces.{ReceivesIn, ReplyNext, rows_sent}
 use Rattle.mux_peers.specs.Says.{ComeNext}
-use Rattle.mux_peers.specs.Starved.{BeginsWith, ReceivesSome, OneIs}
+use Rattle.mux_peers.specs.Starved.{BeginsWithAsked, ReceivesSome, OneIs}
 use Rattle.mux_peers.proofs.Found.{receives-of}
 use Rattle.mux_peers.proofs.Heeding.{records_none}
 use Rattle.mux_peers.proofs.Journaled.{says-new}
 use Rattle.mux_peers.proofs.Starved.{all-begin, receives-all}
 use Rattle.mux_state.specs.declared.event.Event.{Event}
 use Rattle.mux_state.specs.declared.event.Event.TheVariants as event
-use Rattle.mux_state.specs.Events.{Records}
+use Rattle.mux_state.specs.Events.{MarkRecords}
 use Rattle.mux_state.specs.State.{State}
-use Rattle.mux_state.specs.Stands.{ClientReads, CutsShort, EachReads, Represents, log, setting}
+use Rattle.mux_state.specs.Stands.{ClientReads, CutsShort, EachReads, EngineRepresents, log, setting}
 use Rattle.mux_state.specs.Steps.{is_received}
 use Rattle.mux_state.proofs.Fed.{allowed-fed, fed, stands-fed}
 use Rattle.mux_state.proofs.Gains.{drop-front, gets-log, read-in}
@@ -110,22 +110,22 @@ cut-piece May before recorded s bytes x none nz fits reads h picked given marks 
     k = x.peer.number
 
     Begins : List ℕ → List HouseReply → Type 0
-    Begins p r = BeginsWith (asked_of (log s p r marks)) h.asks (asked_of (log s p r (Gets k bytes ∷ marks)))
+    Begins p r = BeginsWithAsked (asks_of_rows (log s p r marks)) h.asks (asks_of_rows (log s p r (Gets k bytes ∷ marks)))
 
     for-all : (picks : List ℕ) (replies : List HouseReply) → Begins (picked ++ (h.picked ++ picks)) (given ++ (h.used ++ replies))
     for-all picks replies =
         let p : List ℕ = picked ++ (h.picked ++ picks) in
         let r : List HouseReply = given ++ (h.used ++ replies) in
-        let v : Represents p r (length picked) st.asks s marks closed = st.at (h.picked ++ picks) (h.used ++ replies) in
+        let v : EngineRepresents p r (length picked) st.asks s marks closed = st.at (h.picked ++ picks) (h.used ++ replies) in
         let rows : List Row = log s p r marks in
         let live : is_ended rows ≡ false = sym (some-end rows) ∙ ap is_some (sym v.rows.ended_is ∙ none) in
         let fx : InFits rows x = fits rows v.rows.fit.each in
         let come : ComeNext h.picked rows p = (picks, ap (λ n. drop n p) v.rows.taken_is ∙ drop-front picked (h.picked ++ picks)) in
         let next : ReplyNext h.used rows r = (replies, ap (λ n. drop n r) (v.rows.drawn_is ∙ st.each) ∙ drop-front given (h.used ++ replies)) in
         let cut : ClientReads (bytes_of k marks) x = reads marks (v.bytes.clients live) in
-        let is : log s p r (Gets k bytes ∷ marks) ≡ rows_sent s.core.policy s.pid p r k rows (parse (mode_of x.peer.standing) (x.rest ++ bytes)).says =
-        gets-log s p r k bytes marks nz al.2 ∙ ap (λ xs. more_all (setting s p r) rows (map (sent_item k) xs)) (says-new (bytes_of k marks) bytes (mode_of x.peer.standing) x.rest (cut.mode_is (read-in x.peer.standing h.read)) (cut.rest_is h.read)) in
-        subst (λ (l : List Row). BeginsWith (asked_of rows) h.asks (asked_of l)) (sym is)
+        let is : log s p r (Gets k bytes ∷ marks) ≡ rows_sent s.core.policy s.pid p r k rows (parse (parse_mode_of x.peer.standing) (x.rest ++ bytes)).says =
+        gets-log s p r k bytes marks nz al.2 ∙ ap (λ xs. more_all (setting s p r) rows (map (sent_item k) xs)) (says-new (bytes_of k marks) bytes (parse_mode_of x.peer.standing) x.rest (cut.mode_is (read-in x.peer.standing h.read)) (cut.rest_is h.read)) in
+        subst (λ (l : List Row). BeginsWithAsked (asks_of_rows rows) h.asks (asks_of_rows l)) (sym is)
         (h.begins p r rows (record { core = v.rows.fit.core; peer = fx.peer; up = v.rows.fit.up }) live come next)
 
 cut-gained : (May : HouseReply → Type 0) (before recorded : Option (List Asked)) (s : State) (k : ℕ) (bytes : List ℕ) → s.ended ≡ None → k ≢ 0 → OneIs k (ReceivesSome May before recorded s.pid bytes s.core s.up) s.clients → CutsShort May before recorded s (Gets k bytes)
@@ -140,7 +140,7 @@ abbrev pub CutsOne : (HouseReply → Type 0) → Option (List Asked) → Option 
 CutsOne May before recorded s (event.FromClient k bytes) = OneIs k (ReceivesSome May before recorded s.pid bytes.now s.core s.up) s.clients
 CutsOne May before recorded s e = ⊥
 
-pub cut-asking : (May : HouseReply → Type 0) (before recorded : Option (List Asked)) (s : State) (e : Event) → s.ended ≡ None → CutsOne May before recorded s e → (mark : Mark) → Records e mark → CutsShort May before recorded s mark
+pub cut-asking : (May : HouseReply → Type 0) (before recorded : Option (List Asked)) (s : State) (e : Event) → s.ended ≡ None → CutsOne May before recorded s e → (mark : Mark) → MarkRecords e mark → CutsShort May before recorded s mark
 cut-asking May before recorded s (event.FromClient k bytes) live one mark t = subst (λ (m : Mark). CutsShort May before recorded s m) (sym t.1) (cut-gained May before recorded s k bytes.now live t.0 one)
 cut-asking May before recorded s e live one mark t = absurd one
 

@@ -12,7 +12,7 @@ use Rattle.mux_peers.specs.Stands.{is_read}
 use Rattle.mux_peers.specs.Server.{stream_end}
 use Rattle.mux_state.specs.declared.event.Event.{Event}
 use Rattle.mux_state.specs.declared.event.Event.TheVariants as event
-use Rattle.mux_state.specs.Events.{Records}
+use Rattle.mux_state.specs.Events.{MarkRecords}
 use Rattle.mux_state.specs.Moves.{AnsweredAt, GainsAt, ReceivedAt, IsEvent, IsGone, LosesAt, not_lost}
 use Rattle.mux_state.specs.State.{State, entered, numbers, over, server_cause}
 use Rattle.mux_state.specs.Stands.{GoesAlone, GoesOn}
@@ -69,7 +69,7 @@ enters-goes : (s new : State) (k : ℕ) → s.ended ≡ None → EntersAt s new 
 enters-goes s new k live h =
     subst (λ (t : State). GoesAlone s t (Accepts k)) (sym h.new_is)
     (goes-in s new.core new.up k h.let_in live h.policy h.waiting
-    (subst (λ (t : State). Rattle.mux_peers.specs.Entering.Enters k s.core new.core s.clients t.clients h.let_in) h.new_is h.enters))
+    (subst (λ (t : State). Rattle.mux_peers.specs.Entering.PeerEnters k s.core new.core s.clients t.clients h.let_in) h.new_is h.enters))
 
 entered-pid : (s new : State) (k : ℕ) → EntersAt s new k → new.pid ≡ s.pid
 entered-pid s new k h = ap (λ (t : State). t.pid) h.new_is ∙ by_let_in h.let_in
@@ -131,7 +131,7 @@ gained-goes May before recorded s new k bytes nz live h = by_received (is_receiv
 over-goes : (s new : State) (cause : Ended) (mark : Mark) → new ≡ over s cause → GoesAlone s (over s cause) mark → GoesAlone s new mark
 over-goes s new cause mark is h = subst (λ (t : State). GoesAlone s t mark) (sym is) h
 
-alone : (s new : State) (e : Event) (mark : Mark) → s.ended ≡ None → DidAlone s new e → Records e mark → GoesAlone s new mark
+alone : (s new : State) (e : Event) (mark : Mark) → s.ended ≡ None → DidAlone s new e → MarkRecords e mark → GoesAlone s new mark
 alone s new (event.Accepted k) mark live d t = subst (GoesAlone s new) (sym t) (enters-goes s new k live d)
 alone s new (event.FromClient k bytes) mark live d t = absurd d
 alone s new (event.ClientEnd k) mark live d t = subst (GoesAlone s new) (sym t.1) (lost-goes s new k (Ends k) t.0 refl live d)
@@ -162,10 +162,10 @@ same-run s new (event.FromServer bytes) d = record { pid = d.pid; policy = d.pie
 same-run s new event.ServerEnd d = record { pid = ap (λ (t : State). t.pid) d; policy = ap (λ (t : State). t.core.policy) d }
 same-run s new event.ServerFailed d = record { pid = ap (λ (t : State). t.pid) d; policy = ap (λ (t : State). t.core.policy) d }
 
-pub did-goes : (May : HouseReply → Type 0) (recorded : Option (List Asked)) (s new : State) (e : Event) (mark : Mark) → s.ended ≡ None → DidAlone s new e → Records e mark → GoesOn May recorded recorded s new mark
+pub did-goes : (May : HouseReply → Type 0) (recorded : Option (List Asked)) (s new : State) (e : Event) (mark : Mark) → s.ended ≡ None → DidAlone s new e → MarkRecords e mark → GoesOn May recorded recorded s new mark
 did-goes May recorded s new e mark live d t = let same : SameRun s new = same-run s new e d in alone-goes May recorded s new mark same.pid same.policy (alone s new e mark live d t)
 
-pub asking-goes : (May : HouseReply → Type 0) (before recorded : Option (List Asked)) (s new : State) (e : Event) (mark : Mark) → s.ended ≡ None → DidAsking May before recorded s new e → Records e mark → GoesOn May before recorded s new mark
+pub asking-goes : (May : HouseReply → Type 0) (before recorded : Option (List Asked)) (s new : State) (e : Event) (mark : Mark) → s.ended ≡ None → DidAsking May before recorded s new e → MarkRecords e mark → GoesOn May before recorded s new mark
 asking-goes May before recorded s new (event.FromClient k bytes) mark live d t = subst (λ (m : Mark). GoesOn May before recorded s new m) (sym t.1) (gained-goes May before recorded s new k bytes.now t.0 live d)
 asking-goes May before recorded s new e mark live d t = absurd d
 
@@ -192,7 +192,7 @@ cause-as s = by_rest s.server.rest
 
 -- ---- an event after the end of the run
 
-records-event : (e : Event) (mark : Mark) → Records e mark → IsEvent mark
+records-event : (e : Event) (mark : Mark) → MarkRecords e mark → IsEvent mark
 records-event (event.Accepted k) mark t = subst IsEvent (sym t) tt
 records-event (event.FromClient k bytes) mark t = subst IsEvent (sym t.1) tt
 records-event (event.ClientEnd k) mark t = subst IsEvent (sym t.1) tt
@@ -202,5 +202,5 @@ records-event (event.FromServer bytes) mark t = subst IsEvent (sym t) tt
 records-event event.ServerEnd mark t = subst IsEvent (sym t) tt
 records-event event.ServerFailed mark t = elim t [ inl m ↦ subst IsEvent (sym m) tt | inr m ↦ subst IsEvent (sym m) tt ]
 
-pub over-stays : (May : HouseReply → Type 0) (recorded : Option (List Asked)) (s : State) (e : Event) (mark : Mark) (cause : Ended) → s.ended ≡ Some cause → Records e mark → GoesOn May recorded recorded s s mark
+pub over-stays : (May : HouseReply → Type 0) (recorded : Option (List Asked)) (s : State) (e : Event) (mark : Mark) (cause : Ended) → s.ended ≡ Some cause → MarkRecords e mark → GoesOn May recorded recorded s s mark
 over-stays May recorded s e mark cause over t = alone-goes May recorded s s mark refl refl (goes-over s mark cause (records-event e mark t) over)

@@ -15,14 +15,14 @@ use Rattle.mux_history.specs.Journal.{bytes_of, is_accepted, new_sayings, sent_i
 use Rattle.mux_peers.specs.declared.standing.Standing.{Standing}
 use Rattle.mux_peers.specs.declared.standing.Standing.TheVariants.{Awaited, Greeted, Proxied, Unread, Lost}
 use Rattle.mux_peers.specs.State.{ClientState}
-use Rattle.mux_peers.specs.Stands.{is_lost, is_read, mode_of}
+use Rattle.mux_peers.specs.Stands.{is_lost, is_read, parse_mode_of}
 use Rattle.mux_peers.specs.Among.{EachFits, is_present}
-use Rattle.mux_peers.specs.Asked.{asked_of}
+use Rattle.mux_peers.specs.Asked.{asks_of_rows}
 use Rattle.mux_peers.proofs.Heeding.{records_none}
 use Rattle.mux_peers.proofs.Stood.{out_is}
 use Rattle.mux_state.specs.Moves.{IsGone, NoneStands, not_lost}
 use Rattle.mux_state.specs.State.{State}
-use Rattle.mux_state.specs.Stands.{BytesFit, ClientReads, EachReads, GoesAlone, GoesOn, IsAllowed, RowsFit, ServerReads, Stands, Represents, log, setting}
+use Rattle.mux_state.specs.Stands.{BytesFit, ClientReads, EachReads, GoesAlone, GoesOn, IsAllowed, RowsFit, ServerReads, Stands, EngineRepresents, log, setting}
 use Rattle.mux_state.proofs.Gains.{gets-log, gets-own, gets-quiet}
 use Rattle.mux_state.proofs.Lists.{either, true_false}
 use Rattle.mux_state.proofs.Loses.{still-gone}
@@ -59,7 +59,7 @@ stopped-mode : (a b : List ℕ) → (parse InControl a).mode ≡ Stopped → (pa
 stopped-mode a b e = ap (λ (p : Parsed). p.mode) (parse-append InControl a b) ∙ (ap (λ m. (parse m ((parse InControl a).rest ++ b)).mode) e ∙ (stopped-parse ((parse InControl a).rest ++ b)).1)
 
 -- a client that isn't out and isn't read has stopped for good
-unread-mode : (s : Standing) → is_lost s ≡ false → is_read s ≡ false → mode_of s ≡ Stopped
+unread-mode : (s : Standing) → is_lost s ≡ false → is_read s ≡ false → parse_mode_of s ≡ Stopped
 unread-mode Awaited l e = true_false e
 unread-mode Greeted l e = true_false e
 unread-mode Proxied l e = true_false e
@@ -154,10 +154,10 @@ goes-unheard May recorded s k bytes nz none unread picked given marks closed st 
   may = tt;
   stands = subst (λ p. Stands p (given ++ []) s (Gets k bytes ∷ marks) closed) (sym (append-nil picked)) (subst (λ r. Stands picked r s (Gets k bytes ∷ marks) closed) (sym (append-nil given)) stands);
   recorded = records_none recorded;
-  asked = λ picks replies. ap asked_of (at ((picked ++ []) ++ picks) ((given ++ []) ++ replies) picks replies (ap (λ l. l ++ picks) (append-nil picked), ap (λ l. l ++ replies) (append-nil given))) ∙ sym (append-nil (asked_of (log s ((picked ++ []) ++ picks) ((given ++ []) ++ replies) marks)));
+  asked = λ picks replies. ap asks_of_rows (at ((picked ++ []) ++ picks) ((given ++ []) ++ replies) picks replies (ap (λ l. l ++ picks) (append-nil picked), ap (λ l. l ++ replies) (append-nil given))) ∙ sym (append-nil (asks_of_rows (log s ((picked ++ []) ++ picks) ((given ++ []) ++ replies) marks)));
 }
   where
-    stood : (picks : List ℕ) (replies : List HouseReply) → Represents (picked ++ picks) (given ++ replies) (length picked) st.asks s marks closed
+    stood : (picks : List ℕ) (replies : List HouseReply) → EngineRepresents (picked ++ picks) (given ++ replies) (length picked) st.asks s marks closed
     stood picks replies = st.at picks replies
 
     at : (p : List ℕ) (r : List HouseReply) (picks : List ℕ) (replies : List HouseReply) → (p ≡ picked ++ picks) × (r ≡ given ++ replies) → log s p r (Gets k bytes ∷ marks) ≡ log s p r marks

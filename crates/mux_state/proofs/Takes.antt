@@ -8,7 +8,7 @@ use Rattle.mux_outside.specs.Streams.{among}
 use Rattle.mux_outside.specs.declared.house.HouseReply.{HouseReply}
 use Rattle.mux_outside.specs.declared.mark.Mark.{Mark}
 use Rattle.mux_outside.specs.declared.mark.Mark.TheVariants.{Takes}
-use Rattle.proxy_frames.specs.Queued.{without_first}
+use Rattle.proxy_frames.specs.Queued.{without_first_bytes}
 use Rattle.mux_history.specs.Rows.{Row, rows_of, is_out, is_ended, Item, Took}
 use Rattle.mux_history.specs.Pending.{pending_down, pending_up}
 use Rattle.mux_history.specs.Said.{silent}
@@ -18,12 +18,12 @@ use Rattle.mux_history.specs.Journal.{bytes_of, is_own_stream}
 use Rattle.mux_core.specs.Stands as core
 use Rattle.mux_core.proofs.Idle.{idle-stays}
 use Rattle.mux_peers.specs.State.{ClientState}
-use Rattle.mux_peers.specs.Among.{AllFit, AreApart, EachFits, InFits, is_present}
+use Rattle.mux_peers.specs.Among.{AllFit, ArePeersApart, EachFits, InFits, is_present}
 use Rattle.mux_peers.specs.Stands.{PeerFits}
 use Rattle.mux_peers.proofs.Stood.{own_row}
 use Rattle.mux_peers.proofs.Ones.{other-fits}
 use Rattle.mux_state.specs.State.{State, at_client, client_took, is_here, numbers, taken}
-use Rattle.mux_state.specs.Stands.{BytesFit, ClientReads, EachReads, GoesAlone, IsStrange, RowsFit, Stands, Represents, log, refusal, setting}
+use Rattle.mux_state.specs.Stands.{BytesFit, ClientReads, EachReads, GoesAlone, IsStrange, RowsFit, Stands, EngineRepresents, log, refusal, setting}
 use Rattle.mux_state.proofs.Closes.{other_row}
 use Rattle.mux_state.proofs.Grows.{grows-row}
 use Rattle.mux_state.proofs.Lists.{either, not_here, test_other, true_false}
@@ -39,8 +39,8 @@ took_row t n = bare (Took t n) t silent
 pub more-yes : (s : Setting) (rows : List Row) (item : Item) → makes_next rows item ≡ true → more_of s rows item ≡ next_row s rows item ∷ rows
 more-yes s rows item e = ap (λ b. elim b as (λ _. List Row) [ false ↦ rows | true ↦ next_row s rows item ∷ rows ]) e
 
-took-log : (s : State) (picks : List ℕ) (replies : List HouseReply) (t : ℕ) (bytes : List ℕ) (marks : List Mark) → is_own_stream t ≡ false → log s picks replies (Takes t bytes ∷ marks) ≡ took_row t (length bytes) ∷ log s picks replies marks
-took-log s picks replies t bytes marks own = ap (λ b. Rattle.mux_history.specs.Log.more_all (setting s picks replies) (log s picks replies marks) (elim b as (λ _. List Rattle.mux_history.specs.Rows.Item) [ true ↦ [] | false ↦ Took t (length bytes) ∷ [] ])) own ∙ more-yes (setting s picks replies) (log s picks replies marks) (Took t (length bytes)) (by_end (is_ended (log s picks replies marks)))
+took-log : (s : State) (picks : List ℕ) (replies : List HouseReply) (t : ℕ) (bytes : List ℕ) (accepts : Bool) (marks : List Mark) → is_own_stream t ≡ false → log s picks replies (Takes t bytes accepts ∷ marks) ≡ took_row t (length bytes) ∷ log s picks replies marks
+took-log s picks replies t bytes accepts marks own = ap (λ b. Rattle.mux_history.specs.Log.more_all (setting s picks replies) (log s picks replies marks) (elim b as (λ _. List Rattle.mux_history.specs.Rows.Item) [ true ↦ [] | false ↦ Took t (length bytes) ∷ [] ])) own ∙ more-yes (setting s picks replies) (log s picks replies marks) (Took t (length bytes)) (by_end (is_ended (log s picks replies marks)))
   where
     by_end : (b : Bool) → (elim b as (λ _. Bool) [ true ↦ true | false ↦ true ]) ≡ true
     by_end true = refl
@@ -67,7 +67,7 @@ others-took t n rows [] p each = tt
 others-took t n rows (c ∷ cs) p each = let q : (c.peer.number ≢ t) × (is_present cs t ≡ false) = not_here t c cs p in
     (other-fits t (took_row t n) rows c refl (test_other c.peer.number t q.0) each.0, others-took t n rows cs q.1 each.1)
 
-each-took : (t n : ℕ) (rows : List Row) (cs : List ClientState) → AreApart cs → EachFits rows cs → EachFits (took_row t n ∷ rows) (at_client t (client_took n) cs)
+each-took : (t n : ℕ) (rows : List Row) (cs : List ClientState) → ArePeersApart cs → EachFits rows cs → EachFits (took_row t n ∷ rows) (at_client t (client_took n) cs)
 each-took t n rows [] apart each = tt
 each-took t n rows (c ∷ cs) apart each = by_head (c.peer.number == t) refl (each-took t n rows cs apart.1 each.1)
   where
@@ -91,29 +91,29 @@ numbers-took t n (c ∷ cs) = by_head (c.peer.number == t) (numbers-took t n cs)
     by_head true ih = refl
     by_head false ih = ap (λ l. c.peer.number ∷ l) ih
 
-apart-took : (t n : ℕ) (cs : List ClientState) → AreApart cs → AreApart (at_client t (client_took n) cs)
+apart-took : (t n : ℕ) (cs : List ClientState) → ArePeersApart cs → ArePeersApart (at_client t (client_took n) cs)
 apart-took t n [] a = tt
 apart-took t n (c ∷ cs) a = by_head (c.peer.number == t) (present-took t n c.peer.number cs ∙ a.0) (apart-took t n cs a.1)
   where
-    by_head : (b : Bool) → is_present (at_client t (client_took n) cs) c.peer.number ≡ false → AreApart (at_client t (client_took n) cs) → AreApart (cond b (client_took n c ∷ cs) (c ∷ at_client t (client_took n) cs))
+    by_head : (b : Bool) → is_present (at_client t (client_took n) cs) c.peer.number ≡ false → ArePeersApart (at_client t (client_took n) cs) → ArePeersApart (cond b (client_took n c ∷ cs) (c ∷ at_client t (client_took n) cs))
     by_head true p ih = a
     by_head false p ih = (p, ih)
 
-reads-took : (t n : ℕ) (bytes : List ℕ) (marks : List Mark) (cs : List ClientState) → EachReads marks cs → EachReads (Takes t bytes ∷ marks) (at_client t (client_took n) cs)
-reads-took t n bytes marks [] each = tt
-reads-took t n bytes marks (c ∷ cs) each = by_head (c.peer.number == t) (reads-took t n bytes marks cs each.1)
+reads-took : (t n : ℕ) (bytes : List ℕ) (accepts : Bool) (marks : List Mark) (cs : List ClientState) → EachReads marks cs → EachReads (Takes t bytes accepts ∷ marks) (at_client t (client_took n) cs)
+reads-took t n bytes accepts marks [] each = tt
+reads-took t n bytes accepts marks (c ∷ cs) each = by_head (c.peer.number == t) (reads-took t n bytes accepts marks cs each.1)
   where
-    same : (k : ℕ) → bytes_of k (Takes t bytes ∷ marks) ≡ bytes_of k marks
+    same : (k : ℕ) → bytes_of k (Takes t bytes accepts ∷ marks) ≡ bytes_of k marks
     same k = append-nil (bytes_of k marks)
 
-    one : (n : ℕ) → ClientReads (bytes_of c.peer.number (Takes t bytes ∷ marks)) (client_took n c)
+    one : (n : ℕ) → ClientReads (bytes_of c.peer.number (Takes t bytes accepts ∷ marks)) (client_took n c)
     one n = subst (λ b. ClientReads b (client_took n c)) (sym (same c.peer.number)) record { mode_is = each.0.mode_is; rest_is = each.0.rest_is }
 
-    rest : (cs : List ClientState) → EachReads marks cs → EachReads (Takes t bytes ∷ marks) cs
+    rest : (cs : List ClientState) → EachReads marks cs → EachReads (Takes t bytes accepts ∷ marks) cs
     rest [] e = tt
     rest (d ∷ ds) e = (subst (λ b. ClientReads b d) (sym (same d.peer.number)) e.0, rest ds e.1)
 
-    by_head : (b : Bool) → EachReads (Takes t bytes ∷ marks) (at_client t (client_took n) cs) → EachReads (Takes t bytes ∷ marks) (cond b (client_took n c ∷ cs) (c ∷ at_client t (client_took n) cs))
+    by_head : (b : Bool) → EachReads (Takes t bytes accepts ∷ marks) (at_client t (client_took n) cs) → EachReads (Takes t bytes accepts ∷ marks) (cond b (client_took n c ∷ cs) (c ∷ at_client t (client_took n) cs))
     by_head true ih = (one n, rest cs each.1)
     by_head false ih = (subst (λ b. ClientReads b c) (sym (same c.peer.number)) each.0, ih)
 
@@ -134,7 +134,7 @@ fit-took : (s : State) (t n : ℕ) (rows : List Row) → (t ≢ 0 → is_present
 fit-took s t n rows here f = elim (eqb_tells t 0) [ inl q ↦ server (t == 0) q.0 q.1 | inr q ↦ client (t == 0) q.0 q.0 ]
   where
     after : Bool → State
-    after b = cond b (record s { up = without_first n s.up }) (record s { clients = at_client t (client_took n) s.clients })
+    after b = cond b (record s { up = without_first_bytes n s.up }) (record s { clients = at_client t (client_took n) s.clients })
 
     absent : t ≡ 0 → (cs : List ClientState) → EachFits rows cs → is_present cs t ≡ false
     absent z [] each = refl
@@ -152,7 +152,7 @@ fit-took s t n rows here f = elim (eqb_tells t 0) [ inl q ↦ server (t == 0) q.
 numbers-taken-as : (s : State) (t n : ℕ) → numbers (taken s t n).clients ≡ numbers s.clients
 numbers-taken-as s t n = by_server (t == 0)
   where
-    by_server : (b : Bool) → numbers (cond b (record s { up = without_first n s.up }) (record s { clients = at_client t (client_took n) s.clients })).clients ≡ numbers s.clients
+    by_server : (b : Bool) → numbers (cond b (record s { up = without_first_bytes n s.up }) (record s { clients = at_client t (client_took n) s.clients })).clients ≡ numbers s.clients
     by_server true = refl
     by_server false = numbers-took t n s.clients
 
@@ -169,7 +169,7 @@ pub record Same (s new : State) : Type 0 where
 pub taken-same : (s : State) (t n : ℕ) → Same s (taken s t n)
 taken-same s t n = by_server (t == 0)
   where
-    by_server : (b : Bool) → (let s' : State = cond b (record s { up = without_first n s.up }) (record s { clients = at_client t (client_took n) s.clients }) in Same s (record s' { waiting = (taken s t n).waiting }))
+    by_server : (b : Bool) → (let s' : State = cond b (record s { up = without_first_bytes n s.up }) (record s { clients = at_client t (client_took n) s.clients }) in Same s (record s' { waiting = (taken s t n).waiting }))
     by_server true = record { pid = refl; core = refl; server = refl; refused = refl; leaving = refl; listening = refl; ended = refl; starved = refl }
     by_server false = record { pid = refl; core = refl; server = refl; refused = refl; leaving = refl; listening = refl; ended = refl; starved = refl }
 
@@ -191,7 +191,7 @@ rows-took taken' dn s t n closed rows here st =
       refused_is = same.refused;
       taken_is = st.taken_is;
       drawn_is = st.drawn_is;
-      asked_is = append-nil (Rattle.mux_peers.specs.Asked.asked_of rows) ∙ st.asked_is;
+      asked_is = append-nil (Rattle.mux_peers.specs.Asked.asks_of_rows rows) ∙ st.asked_is;
       fresh = (tt, st.fresh);
       fit = fit-took s t n rows here st.fit;
       ended_is = same.ended ∙ st.ended_is;
@@ -208,8 +208,8 @@ rows-took taken' dn s t n closed rows here st =
     refused-apart : (k : ℕ) → rows_of k rows ≡ refusal k ∷ [] → t ≢ k
     refused-apart k q e = apart-refused rows s.clients t k st.fit.each (here (λ z. refused-client rows k st.server_in q (sym e ∙ z))) q e
 
-bytes-took : (s : State) (t n : ℕ) (bytes : List ℕ) (marks : List Mark) (closed : List ℕ) (rows : List Row) → BytesFit s marks closed rows → BytesFit (taken s t n) (Takes t bytes ∷ marks) closed (took_row t n ∷ rows)
-bytes-took s t n bytes marks closed rows st = record {
+bytes-took : (s : State) (t n : ℕ) (bytes : List ℕ) (accepts : Bool) (marks : List Mark) (closed : List ℕ) (rows : List Row) → BytesFit s marks closed rows → BytesFit (taken s t n) (Takes t bytes accepts ∷ marks) closed (took_row t n ∷ rows)
+bytes-took s t n bytes accepts marks closed rows st = record {
   are_bytes = λ k. subst Rattle.ssh_fields.specs.Fields.AreBytes (sym (append-nil (bytes_of k marks))) (st.are_bytes k);
   clients = λ l. reads (t == 0) (st.clients l);
   server = λ l. subst (λ v. Rattle.mux_state.specs.Stands.ServerReads (bytes_of 0 marks ++ []) v) (sym (taken-same s t n).server) (subst (λ b. Rattle.mux_state.specs.Stands.ServerReads b s.server) (sym (append-nil (bytes_of 0 marks))) (st.server l));
@@ -221,27 +221,27 @@ bytes-took s t n bytes marks closed rows st = record {
   };
 }
   where
-    quiet : (cs : List ClientState) → EachReads marks cs → EachReads (Takes t bytes ∷ marks) cs
+    quiet : (cs : List ClientState) → EachReads marks cs → EachReads (Takes t bytes accepts ∷ marks) cs
     quiet [] e = tt
     quiet (d ∷ ds) e = (subst (λ b. ClientReads b d) (sym (append-nil (bytes_of d.peer.number marks))) e.0, quiet ds e.1)
 
-    reads : (b : Bool) → EachReads marks s.clients → EachReads (Takes t bytes ∷ marks) (cond b (record s { up = without_first n s.up }) (record s { clients = at_client t (client_took n) s.clients })).clients
+    reads : (b : Bool) → EachReads marks s.clients → EachReads (Takes t bytes accepts ∷ marks) (cond b (record s { up = without_first_bytes n s.up }) (record s { clients = at_client t (client_took n) s.clients })).clients
     reads true e = quiet s.clients e
-    reads false e = reads-took t n bytes marks s.clients e
+    reads false e = reads-took t n bytes accepts marks s.clients e
 
-pub goes-took : (s : State) (t n : ℕ) (bytes : List ℕ) → length bytes ≡ n → GoesAlone s (taken s t n) (Takes t bytes)
-goes-took s t n bytes e picked given marks closed st here = record {
+pub goes-took : (s : State) (t n : ℕ) (bytes : List ℕ) (accepts : Bool) → length bytes ≡ n → GoesAlone s (taken s t n) (Takes t bytes accepts)
+goes-took s t n bytes accepts e picked given marks closed st here = record {
   asks = st.asks;
   each = st.each;
   at = λ picks replies.
-      let v : Represents (picked ++ picks) (given ++ replies) (length picked) st.asks s marks closed = st.at picks replies in
+      let v : EngineRepresents (picked ++ picks) (given ++ replies) (length picked) st.asks s marks closed = st.at picks replies in
       let same : Same s (taken s t n) = taken-same s t n in
       let rows : List Row = log s (picked ++ picks) (given ++ replies) marks in
-      let is : log (taken s t n) (picked ++ picks) (given ++ replies) (Takes t bytes ∷ marks) ≡ took_row t n ∷ rows =
-      log-same s (taken s t n) same (picked ++ picks) (given ++ replies) (Takes t bytes ∷ marks) ∙ (took-log s (picked ++ picks) (given ++ replies) t bytes marks here.1 ∙ ap (λ m. took_row t m ∷ rows) e) in
+      let is : log (taken s t n) (picked ++ picks) (given ++ replies) (Takes t bytes accepts ∷ marks) ≡ took_row t n ∷ rows =
+      log-same s (taken s t n) same (picked ++ picks) (given ++ replies) (Takes t bytes accepts ∷ marks) ∙ (took-log s (picked ++ picks) (given ++ replies) t bytes accepts marks here.1 ∙ ap (λ m. took_row t m ∷ rows) e) in
       record {
         rows = subst (RowsFit (length picked) st.asks (taken s t n) closed) (sym is) (rows-took (length picked) st.asks s t n closed rows here.0 v.rows);
-        bytes = subst (BytesFit (taken s t n) (Takes t bytes ∷ marks) closed) (sym is) (bytes-took s t n bytes marks closed rows v.bytes);
+        bytes = subst (BytesFit (taken s t n) (Takes t bytes accepts ∷ marks) closed) (sym is) (bytes-took s t n bytes accepts marks closed rows v.bytes);
       };
 }
   where

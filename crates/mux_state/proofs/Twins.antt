@@ -10,15 +10,15 @@ use Rattle.mux_history.specs.Log.{more_all}
 use Rattle.mux_history.specs.Journal.{bytes_of, is_own_stream, log_of_journal, unless_own}
 use Rattle.mux_peers.specs.State.{ClientState}
 use Rattle.mux_state.specs.State.{State}
-use Rattle.mux_state.specs.Stands.{BytesFit, ClientReads, EachReads, IsStrange, RowsFit, ServerReads, Represents, log}
+use Rattle.mux_state.specs.Stands.{BytesFit, ClientReads, EachReads, IsStrange, RowsFit, ServerReads, EngineRepresents, log}
 use Rattle.mux_state.proofs.Lists.{test_other}
-use Rattle.mux_state.specs.Twins.{AreAlike, HouseIsClient, OwnIsSilent, StandsAlike}
+use Rattle.mux_state.specs.Twins.{AreTwins, HouseIsClient, OwnIsSilent, StandsAlike}
 
-reads-alike : (a b : List Mark) (cs : List ClientState) → AreAlike a b → EachReads a cs → EachReads b cs
+reads-alike : (a b : List Mark) (cs : List ClientState) → AreTwins a b → EachReads a cs → EachReads b cs
 reads-alike a b [] h each = tt
 reads-alike a b (c ∷ cs) h each = (subst (λ x. ClientReads x c) (h.bytes c.peer.number) each.0, reads-alike a b cs h each.1)
 
-bytes-alike : (s : State) (a b : List Mark) (closed : List ℕ) (rows : List Row) → AreAlike a b → BytesFit s a closed rows → BytesFit s b closed rows
+bytes-alike : (s : State) (a b : List Mark) (closed : List ℕ) (rows : List Row) → AreTwins a b → BytesFit s a closed rows → BytesFit s b closed rows
 bytes-alike s a b closed rows h f = record {
   are_bytes = λ t. subst AreBytes (h.bytes t) (f.are_bytes t);
   clients = λ live. reads-alike a b s.clients h (f.clients live);
@@ -33,7 +33,7 @@ stands-alike a b picked given s closed h st = record {
   asks = st.asks;
   each = st.each;
   at = λ picks replies.
-      let v : Represents (picked ++ picks) (given ++ replies) (length picked) st.asks s a closed = st.at picks replies in
+      let v : EngineRepresents (picked ++ picks) (given ++ replies) (length picked) st.asks s a closed = st.at picks replies in
       let is : log s (picked ++ picks) (given ++ replies) a ≡ log s (picked ++ picks) (given ++ replies) b = h.log (by_lists s.core.policy s.pid (picked ++ picks) (given ++ replies)) in
       record {
         rows = subst (λ (rows : List Row). RowsFit (length picked) st.asks s closed rows) is v.rows;
@@ -57,7 +57,7 @@ pub house-client : HouseIsClient
 house-client = record {
   let_in = λ marks. record { log = λ s. refl; bytes = λ t. no-more t marks; accepted = λ k. refl };
   says = λ marks bytes. record { log = λ s. refl; bytes = λ t. refl; accepted = λ k. refl };
-  takes = λ marks bytes n e. record {
+  takes = λ marks bytes accepts n e. record {
     log = λ s. ap (λ (x : ℕ). more_all s (log_of_journal s marks) (Took HOUSE x ∷ [])) e;
     bytes = λ t. no-more t marks;
     accepted = λ k. refl;
@@ -93,7 +93,7 @@ own-silent = record {
     bytes = λ j. sym (append-nil (bytes_of j marks));
     accepted = λ k. refl;
   };
-  takes = λ marks t bytes own. record {
+  takes = λ marks t bytes accepts own. record {
     log = λ s. ap (λ (b : Bool). more_all s (log_of_journal s marks) (elim b as (λ _. List Item) [ true ↦ [] | false ↦ Took t (length bytes) ∷ [] ])) (sym own);
     bytes = λ j. sym (append-nil (bytes_of j marks));
     accepted = λ k. refl;

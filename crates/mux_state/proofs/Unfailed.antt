@@ -1,4 +1,4 @@
--- What a client or the server says never ends the run as a failure of the server's stream, nor as
+-- What a client or the server sends never ends the run as a failure of the server's stream, nor as
 -- one whose turns are spent.
 use Rattle.std.proofs.Common.{◌≡◌, ◌≢◌, ℕ, Bool, true, false, ◌&&◌, List, [], ◌∷◌, length, map, Option, Some, None, Result, Ok, Err, sym, subst}
 use Rattle.std.specs.Prelude.{◌==◌, nat_lt}
@@ -28,7 +28,7 @@ use Rattle.mux_history.specs.Policy.{Policy, may_open}
 use Rattle.mux_history.specs.Rows.{Row, rows_of, loses, Item, Heard, Says, Fate, Goes, Refused, Drop, End}
 use Rattle.mux_history.specs.Said.{Outcome, confirmed_at, drops, fails_open, is_failing, is_full_of_asks, on_breach, on_confirmed, on_unused, on_waiting, sent_summary, sent_open, sent_payload, sent_request, sends, sends_as, sends_if, sends_open, silent, waiting_at, reason_for, text_for}
 use Rattle.mux_history.specs.Settings.{by_lists}
-use Rattle.mux_history.specs.Solo.{end_of}
+use Rattle.mux_history.specs.Solo.{run_end_of}
 use Rattle.mux_history.specs.Journal.{received_item, sent_item}
 use Rattle.mux_history.specs.Log.{all_recorded, bare, fate_with, received_row, makes_next, more_all, more_of, next_row, overflow, queued, row_of, sent_by_client, treat}
 use Rattle.mux_history.specs.Pending.{waiting_down}
@@ -174,7 +174,7 @@ fine-body pid k given has_greeted body = by_read (read_control body) has_greeted
     by_read (Ok c) false = fine-first c
     by_read (Err fault) false = fine-unread fault
 
--- ---- what is said
+-- ---- what is sent
 
 fine-outgoing : (policy : Policy) (pid k : ℕ) (own : List Row) (pick : ℕ) (x : Outgoing) (given : Option HouseReply) → IsFine (sent_by_client policy pid k own pick x given)
 fine-outgoing policy pid k own pick (Body body) given = fine-body pid k given (greeted own) body
@@ -238,20 +238,20 @@ fate-unfailed before Goes h n = n
 fate-unfailed before Refused h n = n
 fate-unfailed before (Drop cause) h n = n
 
-one-unfailed : (policy : Policy) (pid : ℕ) (picks : List ℕ) (given : List HouseReply) (item : Item) (rows : List Row) → IsUnfailed (next_row (by_lists policy pid picks given) rows item).fate → NotFailed (end_of rows) → NotFailed (end_of (more_of (by_lists policy pid picks given) rows item))
+one-unfailed : (policy : Policy) (pid : ℕ) (picks : List ℕ) (given : List HouseReply) (item : Item) (rows : List Row) → IsUnfailed (next_row (by_lists policy pid picks given) rows item).fate → NotFailed (run_end_of rows) → NotFailed (run_end_of (more_of (by_lists policy pid picks given) rows item))
 one-unfailed policy pid picks given item rows h n = by_makes (makes_next rows item)
   where
     row : Row
     row = next_row (by_lists policy pid picks given) rows item
 
-    by_makes : (b : Bool) → NotFailed (end_of (elim b as (λ _. List Row) [ false ↦ rows | true ↦ row ∷ rows ]))
-    by_makes true = fate-unfailed (end_of rows) row.fate h n
+    by_makes : (b : Bool) → NotFailed (run_end_of (elim b as (λ _. List Row) [ false ↦ rows | true ↦ row ∷ rows ]))
+    by_makes true = fate-unfailed (run_end_of rows) row.fate h n
     by_makes false = n
 
-pub says-unfailed : (policy : Policy) (pid : ℕ) (picks : List ℕ) (given : List HouseReply) (k : ℕ) (xs : List Outgoing) (rows : List Row) → NotFailed (end_of rows) → NotFailed (end_of (more_all (by_lists policy pid picks given) rows (map (sent_item k) xs)))
+pub says-unfailed : (policy : Policy) (pid : ℕ) (picks : List ℕ) (given : List HouseReply) (k : ℕ) (xs : List Outgoing) (rows : List Row) → NotFailed (run_end_of rows) → NotFailed (run_end_of (more_all (by_lists policy pid picks given) rows (map (sent_item k) xs)))
 says-unfailed policy pid picks given k [] rows n = n
 says-unfailed policy pid picks given k (x ∷ xs) rows n = says-unfailed policy pid picks given k xs (more_of (by_lists policy pid picks given) rows (sent_item k x)) (one-unfailed policy pid picks given (sent_item k x) rows (said-unfailed policy pid picks given k x rows) n)
 
-pub receives-unfailed : (policy : Policy) (pid : ℕ) (picks : List ℕ) (given : List HouseReply) (xs : List Outgoing) (rows : List Row) → NotFailed (end_of rows) → NotFailed (end_of (more_all (by_lists policy pid picks given) rows (map received_item xs)))
+pub receives-unfailed : (policy : Policy) (pid : ℕ) (picks : List ℕ) (given : List HouseReply) (xs : List Outgoing) (rows : List Row) → NotFailed (run_end_of rows) → NotFailed (run_end_of (more_all (by_lists policy pid picks given) rows (map received_item xs)))
 receives-unfailed policy pid picks given [] rows n = n
 receives-unfailed policy pid picks given (x ∷ xs) rows n = receives-unfailed policy pid picks given xs (more_of (by_lists policy pid picks given) rows (received_item x)) (one-unfailed policy pid picks given (received_item x) rows (heard-unfailed policy pid picks given x rows) n)

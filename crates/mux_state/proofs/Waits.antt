@@ -8,7 +8,7 @@ use Rattle.mux_outside.specs.Streams.{without}
 use Rattle.mux_history.specs.Rows.{Row}
 use Rattle.mux_history.specs.Promises.{is_empty}
 use Rattle.mux_peers.specs.State.{ClientState}
-use Rattle.mux_peers.specs.Among.{AreApart, EachFits, is_present}
+use Rattle.mux_peers.specs.Among.{ArePeersApart, EachFits, is_present}
 use Rattle.mux_state.specs.State.{State, at_client, client_took, in_client, taken, waiting_clients, waiting_in}
 use Rattle.mux_state.proofs.Lists.{either, not_here, test_other, without_head}
 
@@ -59,7 +59,7 @@ took_head false k n c cs ds e a ih =
     ∙ ap (λ (b : Bool). cond (is_empty (cond b c.peer.queue (queue_at ds k))) (without k (waiting_clients (c ∷ cs))) (waiting_clients (c ∷ cs))) (sym e)
 
 -- after bytes were accepted by a stream it waits as long as some are left
-pub waiting_took : (k n : ℕ) (cs : List ClientState) → AreApart cs → is_present cs k ≡ true → waiting_clients (at_client k (client_took n) cs) ≡ cond (is_empty (queue_at (at_client k (client_took n) cs) k)) (without k (waiting_clients cs)) (waiting_clients cs)
+pub waiting_took : (k n : ℕ) (cs : List ClientState) → ArePeersApart cs → is_present cs k ≡ true → waiting_clients (at_client k (client_took n) cs) ≡ cond (is_empty (queue_at (at_client k (client_took n) cs) k)) (without k (waiting_clients cs)) (waiting_clients cs)
 waiting_took k n [] apart p = absurd (cc)
 waiting_took k n (c ∷ cs) apart p =
     took_head (c.peer.number == k) k n c cs (at_client k (client_took n) cs) refl
@@ -92,14 +92,14 @@ down-took k true false ws nz = without_head k 0 ws false (test_other 0 k (λ e. 
 down-took k false true ws nz = refl
 down-took k false false ws nz = refl
 
-pub waiting-taken : (rows : List Row) (s : State) (t n : ℕ) → EachFits rows s.clients → AreApart s.clients → (t ≢ 0 → is_present s.clients t ≡ true) → s.waiting ≡ waiting_in s → (taken s t n).waiting ≡ waiting_in (taken s t n)
+pub waiting-taken : (rows : List Row) (s : State) (t n : ℕ) → EachFits rows s.clients → ArePeersApart s.clients → (t ≢ 0 → is_present s.clients t ≡ true) → s.waiting ≡ waiting_in s → (taken s t n).waiting ≡ waiting_in (taken s t n)
 waiting-taken rows s t n each apart here was = elim (eqb_tells t 0) [
   | inl q ↦ server (t == 0) q.0 q.1
   | inr q ↦ client (t == 0) q.0 q.1
 ]
   where
     after : Bool → State
-    after b = cond b (record s { up = Rattle.proxy_frames.specs.Queued.without_first n s.up }) (record s { clients = at_client t (client_took n) s.clients })
+    after b = cond b (record s { up = Rattle.proxy_frames.specs.Queued.without_first_bytes n s.up }) (record s { clients = at_client t (client_took n) s.clients })
 
     queue_of : Bool → Bool → List ℕ
     queue_of b z = cond z (after b).up.waiting (queue_at (after b).clients t)

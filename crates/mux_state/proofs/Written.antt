@@ -22,7 +22,7 @@ use Rattle.mux_peers.specs.Server.{ReceivesBytes, ServerState}
 use Rattle.mux_peers.proofs.Found.{receives-of}
 use Rattle.mux_state.specs.Moves.{AnsweredAt, GainsAt, ReceivedAt, LosesAt, not_lost}
 use Rattle.mux_state.specs.State.{State, clients_and_queue_of, entered}
-use Rattle.mux_state.specs.Steps.{EntersAt, ReceivesFrom, is_received, is_served, waiting_of}
+use Rattle.mux_state.specs.Steps.{EntersAt, ReceivesFrom, is_received, is_served, streams_waiting_of}
 use Rattle.mux_state.proofs.Lists.{true_false}
 use Rattle.mux_state.proofs.Looked.{changes-so, so-here}
 use Rattle.mux_state.proofs.OneClient.{changes-to}
@@ -53,7 +53,7 @@ pub record LoseParts (parts : State) (k : ℕ) (cs : ClientsState) (core : CoreS
   pub policy : core.policy ≡ parts.core.policy
   pub loses : is_present parts.clients k ≡ true → ChangesOne k (LosesIn parts.core core parts.up up) parts.clients cs.all
   pub notes : cs.leaving ≡ parts.leaving ++ cond (is_served parts.clients k) ((k, None) ∷ []) []
-  pub waits : ws ≡ waiting_of up.waiting cs.all
+  pub waits : ws ≡ streams_waiting_of up.waiting cs.all
 
 pub lose-written : (s parts new : State) (k : ℕ) (cs : ClientsState) (core : CoreState) (up : QueueState) (ws : List ℕ) → parts ≡ s → new ≡ gone_on parts cs core up ws → LoseParts parts k cs core up ws → LosesAt s new k
 lose-written s parts new k cs core up ws view is p =
@@ -87,7 +87,7 @@ pub record AnswerParts (parts : State) (k id : ℕ) (given : HouseReply) (cs : C
   pub served : is_served parts.clients k ≡ true
   pub policy : core.policy ≡ parts.core.policy
   pub answers : AnswersAt k id given (clients_and_queue_of parts) (clients_and_queue cs core up)
-  pub waits : ws ≡ waiting_of up.waiting cs.all
+  pub waits : ws ≡ streams_waiting_of up.waiting cs.all
 
 pub answer-written : (s parts new : State) (k id : ℕ) (given : HouseReply) (cs : ClientsState) (core : CoreState) (up : QueueState) (ws : List ℕ) → parts ≡ s → new ≡ gone_on parts cs core up ws → AnswerParts parts k id given cs core up ws → AnsweredAt s new k id given
 answer-written s parts new k id given cs core up ws view is p =
@@ -117,7 +117,7 @@ pub record GainParts (May : HouseReply → Type 0) (before recorded : Option (Li
   pub read : is_received parts.clients k ≡ true
   pub receives : NotesOne k (ReceivesIn May before recorded parts.pid bytes parts.core core parts.up up heard) (clients_of parts.clients parts.leaving) cs
   pub listens : listening ≡ (parts.listening && not heard.stops)
-  pub waits : ws ≡ waiting_of up.waiting cs.all
+  pub waits : ws ≡ streams_waiting_of up.waiting cs.all
 
 abbrev pub gain_new : State → ClientsState → CoreState → QueueState → RunChange → List ℕ → Bool → State
 gain_new parts cs core up heard ws listening = record parts { core = core; up = up; clients = cs.all; leaving = cs.leaving; waiting = ws; listening = listening; ended = heard.ended }
@@ -148,7 +148,7 @@ gain-written May before recorded s parts new k bytes cs core up heard ws listeni
 
 pub record ReceiveParts (parts : State) (bytes : List ℕ) (cs : ClientsState) (core : CoreState) (up : QueueState) (server : ServerState) (ws : List ℕ) (ended : Option Ended) : Type 0 where
   pub receives : ReceivesBytes bytes (clients_and_queue_of parts) (clients_and_queue cs core up) parts.server server ended
-  pub waits : ws ≡ waiting_of up.waiting cs.all
+  pub waits : ws ≡ streams_waiting_of up.waiting cs.all
 
 abbrev pub receive_new : State → ClientsState → CoreState → QueueState → ServerState → List ℕ → Option Ended → State
 receive_new parts cs core up server ws ended = record parts { core = core; server = server; up = up; clients = cs.all; leaving = cs.leaving; waiting = ws; ended = ended }
@@ -171,23 +171,23 @@ pub record EnterParts (parts : State) (k : ℕ) (cs : ClientsState) (core : Core
   pub policy : core.policy ≡ parts.core.policy
   pub waiting : up.waiting ≡ parts.up.waiting
   pub takes_in : ReceivesFrom k parts.core core (clients_of parts.clients parts.leaving) cs parts.refused refused
-  pub waits : ws ≡ waiting_of up.waiting cs.all
+  pub waits : ws ≡ streams_waiting_of up.waiting cs.all
 
 abbrev pub enter_new : State → List ClientState → CoreState → QueueState → List ℕ → List (ℕ × Option Why) → List ℕ → State
 enter_new parts cs core up refused ls ws = record parts { core = core; up = up; clients = cs; refused = refused; leaving = ls; waiting = ws }
 
-enters-as : (parts : State) (k : ℕ) (core : CoreState) (up : QueueState) (b : Bool) (cs : List ClientState) (refused : List ℕ) (ls : List (ℕ × Option Why)) (ws : List ℕ) → cs ≡ cond b (parts.clients ++ new_client k ∷ []) parts.clients → refused ≡ cond b parts.refused (parts.refused ++ k ∷ []) → ls ≡ cond b parts.leaving (parts.leaving ++ (k, None) ∷ []) → ws ≡ waiting_of up.waiting cs
+enters-as : (parts : State) (k : ℕ) (core : CoreState) (up : QueueState) (b : Bool) (cs : List ClientState) (refused : List ℕ) (ls : List (ℕ × Option Why)) (ws : List ℕ) → cs ≡ cond b (parts.clients ++ new_client k ∷ []) parts.clients → refused ≡ cond b parts.refused (parts.refused ++ k ∷ []) → ls ≡ cond b parts.leaving (parts.leaving ++ (k, None) ∷ []) → ws ≡ streams_waiting_of up.waiting cs
     → enter_new parts cs core up refused ls ws ≡ entered parts core up k b
 enters-as parts k core up true cs refused ls ws e f g w =
     ap (λ (l : List ClientState). enter_new parts l core up refused ls ws) e
     ∙ (ap (λ (l : List ℕ). enter_new parts (parts.clients ++ new_client k ∷ []) core up l ls ws) f
     ∙ (ap (λ (l : List (ℕ × Option Why)). enter_new parts (parts.clients ++ new_client k ∷ []) core up parts.refused l ws) g
-    ∙ ap (λ (l : List ℕ). enter_new parts (parts.clients ++ new_client k ∷ []) core up parts.refused parts.leaving l) (w ∙ ap (waiting_of up.waiting) e)))
+    ∙ ap (λ (l : List ℕ). enter_new parts (parts.clients ++ new_client k ∷ []) core up parts.refused parts.leaving l) (w ∙ ap (streams_waiting_of up.waiting) e)))
 enters-as parts k core up false cs refused ls ws e f g w =
     ap (λ (l : List ClientState). enter_new parts l core up refused ls ws) e
     ∙ (ap (λ (l : List ℕ). enter_new parts parts.clients core up l ls ws) f
     ∙ (ap (λ (l : List (ℕ × Option Why)). enter_new parts parts.clients core up (parts.refused ++ k ∷ []) l ws) g
-    ∙ ap (λ (l : List ℕ). enter_new parts parts.clients core up (parts.refused ++ k ∷ []) (parts.leaving ++ (k, None) ∷ []) l) (w ∙ ap (waiting_of up.waiting) e)))
+    ∙ ap (λ (l : List ℕ). enter_new parts parts.clients core up (parts.refused ++ k ∷ []) (parts.leaving ++ (k, None) ∷ []) l) (w ∙ ap (streams_waiting_of up.waiting) e)))
 
 pub enter-written : (s parts new : State) (k : ℕ) (cs : ClientsState) (core : CoreState) (up : QueueState) (refused : List ℕ) (ws : List ℕ)
     → parts ≡ s → new ≡ enter_new parts cs.all core up refused cs.leaving ws → EnterParts parts k cs core up refused ws → EntersAt s new k

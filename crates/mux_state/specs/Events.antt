@@ -18,15 +18,15 @@ use Rattle.mux_state.specs.State.{State, SameClient, numbers}
 use Rattle.mux_state.specs.Stands.{GoesOn, IsAllowed, Stands}
 
 -- a mark records this event; a stream fails at a wait or at a write
-abbrev pub Records : Event → Mark → Type 0
-Records (Accepted k) mark = mark ≡ Accepts k
-Records (FromClient k bytes) mark = (k ≢ 0) × (mark ≡ Gets k bytes.now)
-Records (ClientEnd k) mark = (k ≢ 0) × (mark ≡ Ends k)
-Records (ClientFailed k) mark = (k ≢ 0) × ((mark ≡ Fails k) ⊎ (mark ≡ WriteFails k))
-Records (HouseSays k id given) mark = (k ≢ 0) × (mark ≡ House (HouseAnswer k id given))
-Records (FromServer bytes) mark = mark ≡ Gets 0 bytes.now
-Records ServerEnd mark = mark ≡ Ends 0
-Records ServerFailed mark = (mark ≡ Fails 0) ⊎ (mark ≡ WriteFails 0)
+abbrev pub MarkRecords : Event → Mark → Type 0
+MarkRecords (Accepted k) mark = mark ≡ Accepts k
+MarkRecords (FromClient k bytes) mark = (k ≢ 0) × (mark ≡ Gets k bytes.now)
+MarkRecords (ClientEnd k) mark = (k ≢ 0) × (mark ≡ Ends k)
+MarkRecords (ClientFailed k) mark = (k ≢ 0) × ((mark ≡ Fails k) ⊎ (mark ≡ WriteFails k))
+MarkRecords (HouseSays k id given) mark = (k ≢ 0) × (mark ≡ House (HouseAnswer k id given))
+MarkRecords (FromServer bytes) mark = mark ≡ Gets 0 bytes.now
+MarkRecords ServerEnd mark = mark ≡ Ends 0
+MarkRecords ServerFailed mark = (mark ≡ Fails 0) ⊎ (mark ≡ WriteFails 0)
 
 abbrev pub went_of : Option Ended → Went
 went_of None = On
@@ -45,7 +45,7 @@ pub record SameStreams (old new : State) : Type 0 where
   pub refused : new.refused ≡ old.refused
 
 -- a client was admitted
-pub record LetsIn (k : ℕ) (old new : State) : Type 0 where
+pub record LetsClientIn (k : ℕ) (old new : State) : Type 0 where
   pub clients : numbers new.clients ≡ numbers old.clients ++ k ∷ []
   pub refused : new.refused ≡ old.refused
 
@@ -56,7 +56,7 @@ pub record Refuses (k : ℕ) (old new : State) : Type 0 where
 
 -- who is here after an event of a run that goes on
 abbrev pub Arrives : Event → State → State → Type 0
-Arrives (Accepted k) old new = LetsIn k old new ⊎ Refuses k old new
+Arrives (Accepted k) old new = LetsClientIn k old new ⊎ Refuses k old new
 Arrives event old new = SameStreams old new
 
 -- each client but the one that the event is about; the server may send something to each of them
@@ -94,11 +94,11 @@ EndsBy event old new mark =
 -- the clients as they were for which it makes no row, and the run may end so
 pub record TakesIn (May : HouseReply → Type 0) (before now : Option (List Asked)) (event : Event)
     (old new : State) : Type 0 where
-  pub stands : (mark : Mark) → Records event mark → GoesOn May before now old new mark
+  pub stands : (mark : Mark) → MarkRecords event mark → GoesOn May before now old new mark
   pub others : ServerLeavesIdle event old new
-  pub ends : (mark : Mark) → Records event mark → EndsBy event old new mark
+  pub ends : (mark : Mark) → MarkRecords event mark → EndsBy event old new mark
 
-pub record Keeps (event : Event) (old new : State) : Type 0 where
+pub record EngineKeeps (event : Event) (old new : State) : Type 0 where
   pub pid : new.pid ≡ old.pid
   pub policy : new.core.policy ≡ old.core.policy
   pub others : LeavesOthers event old new

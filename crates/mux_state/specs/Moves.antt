@@ -19,13 +19,13 @@ use Rattle.mux_peers.specs.Stands.{is_lost, is_read}
 pub use Rattle.mux_peers.specs.Stands.{not_lost}
 use Rattle.mux_peers.specs.Among.{ChangesOne, KeepReading, is_present}
 use Rattle.mux_peers.specs.Answering.{AnswersNoting}
-use Rattle.mux_peers.specs.Entering.{Enters}
+use Rattle.mux_peers.specs.Entering.{PeerEnters}
 use Rattle.mux_peers.specs.Losing.{Loses}
 use Rattle.mux_peers.specs.Pieces.{ReceivesPiece}
 use Rattle.mux_peers.specs.Server.{ReceivesBytes}
 use Rattle.mux_peers.specs.State as clients
 use Rattle.mux_state.specs.State.{State, closed_by, clients_and_queue_of, entered, loss_between, over, server_cause, taken, waiting_in}
-use Rattle.mux_state.specs.Stands.{Closes, GoesAlone, GoesOn, IsFirst}
+use Rattle.mux_state.specs.Stands.{Closes, GoesAlone, GoesOn, IsFirstLost}
 
 -- ---- marks
 
@@ -109,11 +109,11 @@ pub record ReceivedAt (s new : State) (bytes : List ℕ) : Type 0 where
 
 -- a stream is closed, and bytes are accepted by one
 abbrev pub ClosedGoesOn : Type 0
-ClosedGoesOn = (s : State) (k : ℕ) → IsFirst k s.leaving → Closes s (closed_by s k) k
+ClosedGoesOn = (s : State) (k : ℕ) → IsFirstLost k s.leaving → Closes s (closed_by s k) k
 
 abbrev pub TakenGoesOn : Type 0
-TakenGoesOn = (s : State) (t n : ℕ) (bytes : List ℕ) → length bytes ≡ n
-    → GoesAlone s (taken s t n) (Takes t bytes)
+TakenGoesOn = (s : State) (t n : ℕ) (bytes : List ℕ) (accepts : Bool)
+    → length bytes ≡ n → GoesAlone s (taken s t n) (Takes t bytes accepts)
 
 -- after the end of the run nothing changes
 abbrev pub OverStays : Type 0
@@ -132,7 +132,7 @@ abbrev pub EnteredGoesOn : Type 0
 EnteredGoesOn =
     (s : State) (core' : CoreState) (up' : QueueState) (k : ℕ) (let_in : Bool)
     → s.ended ≡ None → core'.policy ≡ s.core.policy → up'.waiting ≡ s.up.waiting
-    → Enters k s.core core' s.clients (entered s core' up' k let_in).clients let_in
+    → PeerEnters k s.core core' s.clients (entered s core' up' k let_in).clients let_in
     → GoesAlone s (entered s core' up' k let_in) (Accepts k)
 
 -- the stream of a client is gone: of one that wasn't lost, and of none

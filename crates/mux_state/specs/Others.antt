@@ -8,7 +8,7 @@ use Rattle.mux_history.specs.Rows.{rows_of}
 use Rattle.mux_history.specs.Requests.{Ask}
 use Rattle.window_ledger.specs.declared.ledger.Ledger.{Ledger}
 use Rattle.channel_table.specs.declared.channel.Channel.{Channel}
-use Rattle.channel_table.specs.Entries.{Entry, is_of}
+use Rattle.channel_table.specs.Entries.{TableEntry, is_of}
 use Rattle.channel_table.specs.Stands.{shown_number}
 use Rattle.forward_rules.specs.State.{Forward}
 use Rattle.mux_core.specs.State.{CoreState}
@@ -31,7 +31,7 @@ pub record HeldChannel : Type 0 where
   pub number : Option ℕ
   pub ledger : Ledger
 
-abbrev pub held_channel : Entry → HeldChannel
+abbrev pub held_channel : TableEntry → HeldChannel
 held_channel e = record { channel = e.channel; number = shown_number e; ledger = e.ledger }
 
 -- a forwarding: its key, whether it is live, and whether a cancel of it waits for a reply
@@ -51,8 +51,8 @@ pub record Matters : Type 0 where
   pub forwards : List HeldForward
   pub answers : Option core.MemberState
 
-abbrev pub matters_of : ℕ → CoreState → Matters
-matters_of k c = record {
+abbrev pub matters_of_core : ℕ → CoreState → Matters
+matters_of_core k c = record {
   channels = map held_channel (filter (is_of k) c.channels);
   requests = filter (λ a. a.client == k) c.asks;
   forwards = map held_forward (filter (λ f. f.client == k) c.forwards);
@@ -71,7 +71,7 @@ peer_in cs k = in_client None (λ c. Some c.peer) cs k
 pub record StaysAsItWas (k : ℕ) (old new : State) : Type 0 where
   pub peer : peer_in new.clients k ≡ peer_in old.clients k
   pub client : is_served old.clients k ≡ true → SameClient k old.clients new.clients
-  pub matters : new.ended ≡ None → matters_of k new.core ≡ matters_of k old.core
+  pub matters : new.ended ≡ None → matters_of_core k new.core ≡ matters_of_core k old.core
 
 -- the server's piece makes no row for a client: the rows of the client are those of before
 abbrev pub MakesNoRow : ℕ → List ℕ → State → List ℕ → List HouseReply → List Mark → Type 0
@@ -104,7 +104,7 @@ ReceivedLeavesIdle = (s new : State) (bytes : List ℕ) → s.ended ≡ None →
 pub record IsKeptAlike (k : ℕ) (s t : State) : Type 0 where
   pub peer : is_present s.clients k ≡ true → is_present t.clients k ≡ true
       → peer_in t.clients k ≡ peer_in s.clients k
-  pub matters : s.ended ≡ None → t.ended ≡ None → matters_of k t.core ≡ matters_of k s.core
+  pub matters : s.ended ≡ None → t.ended ≡ None → matters_of_core k t.core ≡ matters_of_core k s.core
 
 -- of two engines, or of one at two moments, which represent journals with the same rows of a client
 abbrev pub KeptByOwnRows : Type 0

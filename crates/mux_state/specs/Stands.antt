@@ -17,15 +17,15 @@ use Rattle.mux_history.specs.Right.{AreFresh}
 use Rattle.mux_history.specs.Heard.{next_index}
 use Rattle.mux_history.specs.Settings.{by_lists}
 use Rattle.mux_history.specs.Log.{Setting, bare, served, entered}
-use Rattle.mux_history.specs.Solo.{end_of}
+use Rattle.mux_history.specs.Solo.{run_end_of}
 use Rattle.mux_history.specs.Journal.{bytes_of, is_own_stream, log_of_journal}
 pub use Rattle.mux_history.specs.Journal.{is_accepted}
 use Rattle.mux_history.specs.Promises.{listens, MayGive}
 use Rattle.mux_peers.specs.State.{ClientState}
-use Rattle.mux_peers.specs.Stands.{is_lost, is_read, mode_of}
+use Rattle.mux_peers.specs.Stands.{is_lost, is_read, parse_mode_of}
 use Rattle.mux_peers.specs.Among.{AllFit, is_present}
-use Rattle.mux_peers.specs.Asked.{asked_of, RecordsAsks}
-use Rattle.mux_peers.specs.Starved.{BeginsWith}
+use Rattle.mux_peers.specs.Asked.{asks_of_rows, RecordsAsks}
+use Rattle.mux_peers.specs.Starved.{BeginsWithAsked}
 use Rattle.mux_peers.specs.Server.{ServerState}
 use Rattle.mux_state.specs.State.{State, is_here, served_in, waiting_in}
 
@@ -62,10 +62,10 @@ pub record RowsFit (taken : ℕ) (drawn : List Asked) (s : State) (closed : List
     (rows : List Row) : Type 0 where
   pub taken_is : numbers_taken rows ≡ taken
   pub drawn_is : replies_given rows ≡ length drawn
-  pub asked_is : asked_of rows ≡ drawn
+  pub asked_is : asks_of_rows rows ≡ drawn
   pub fresh : AreFresh rows
   pub fit : AllFit rows s.core s.clients s.up
-  pub ended_is : s.ended ≡ end_of rows
+  pub ended_is : s.ended ≡ run_end_of rows
   pub listening_is : s.listening ≡ listens rows
   pub waiting_is : s.waiting ≡ waiting_in s
   pub leaving_are : s.leaving ≡ filter (not_closed closed) (losses rows)
@@ -86,7 +86,7 @@ pub record RowsFit (taken : ℕ) (drawn : List Asked) (s : State) (closed : List
 -- a client that isn't lost has read its bytes so far
 pub record ClientReads (bytes : List ℕ) (c : ClientState) : Type 0 where
   pub mode_is : is_lost c.peer.standing ≡ false → (parse InControl bytes).mode
-      ≡ mode_of c.peer.standing
+      ≡ parse_mode_of c.peer.standing
   pub rest_is : is_read c.peer.standing ≡ true → (parse InControl bytes).rest ≡ c.rest
 
 abbrev pub EachReads : List Mark → List ClientState → Type 0
@@ -117,7 +117,7 @@ pub record BytesFit (s : State) (marks : List Mark) (closed : List ℕ) (rows : 
 -- ---- for a journal
 
 -- with these picks and replies
-pub record Represents (picks : List ℕ) (replies : List HouseReply) (taken : ℕ) (drawn : List Asked)
+pub record EngineRepresents (picks : List ℕ) (replies : List HouseReply) (taken : ℕ) (drawn : List Asked)
     (s : State) (marks : List Mark) (closed : List ℕ) : Type 0 where
   pub rows : RowsFit taken drawn s closed (log s picks replies marks)
   pub bytes : BytesFit s marks closed (log s picks replies marks)
@@ -129,7 +129,7 @@ pub record Stands (picked : List ℕ) (given : List HouseReply) (s : State) (mar
   pub asks : List Asked
   pub each : length asks ≡ length given
   pub at : (picks : List ℕ) (replies : List HouseReply)
-      → Represents (picked ++ picks) (given ++ replies) (length picked) asks s marks closed
+      → EngineRepresents (picked ++ picks) (given ++ replies) (length picked) asks s marks closed
 
 -- ---- one step more
 
@@ -148,13 +148,13 @@ IsAllowed s marks (Gets k bytes) =
 IsAllowed s marks (Ends k) = (k ≢ 0 → is_accepted k marks ≡ true) × (is_own_stream k ≡ false)
 IsAllowed s marks (Fails k) = (k ≢ 0 → is_accepted k marks ≡ true) × (is_own_stream k ≡ false)
 IsAllowed s marks (WriteFails k) = (k ≢ 0 → is_accepted k marks ≡ true) × (is_own_stream k ≡ false)
-IsAllowed s marks (Takes k bytes) =
+IsAllowed s marks (Takes k bytes accepts) =
     (k ≢ 0 → is_present s.clients k ≡ true) × (is_own_stream k ≡ false)
 IsAllowed s marks (House mark) = HouseAllowed marks mark
 IsAllowed s marks (Joins listener stream) = Unit {0}
 IsAllowed s marks (Frees k) = Unit {0}
 IsAllowed s marks (Holds k) = Unit {0}
-IsAllowed s marks (Waits waiting want streams listens) = Unit {0}
+IsAllowed s marks (Waits waiting want streams shown) = Unit {0}
 
 -- Some numbers more were picked and some replies given, each of which the forwarder may give, and
 -- the engine represents the journal with the mark. To the forwarder, which recorded `before` and
@@ -169,8 +169,8 @@ pub record GoesBy (May : HouseReply → Type 0) (before now : Option (List Asked
   pub stands : Stands (picked ++ picks) (given ++ replies) new (mark ∷ marks) closed
   pub recorded : RecordsAsks before now asks
   pub asked : (p : List ℕ) (r : List HouseReply)
-      → asked_of (log new ((picked ++ picks) ++ p) ((given ++ replies) ++ r) (mark ∷ marks))
-      ≡ asked_of (log old ((picked ++ picks) ++ p) ((given ++ replies) ++ r) marks) ++ asks
+      → asks_of_rows (log new ((picked ++ picks) ++ p) ((given ++ replies) ++ r) (mark ∷ marks))
+      ≡ asks_of_rows (log old ((picked ++ picks) ++ p) ((given ++ replies) ++ r) marks) ++ asks
 
 -- from every journal that the engine represented, it stands afterwards for that journal with the
 -- mark
@@ -193,8 +193,8 @@ pub record AsksFirst (May : HouseReply → Type 0) (before now : Option (List As
   pub may : MayGive May replies
   pub recorded : RecordsAsks before now asks
   pub begins : (p : List ℕ) (r : List HouseReply)
-      → BeginsWith (asked_of (log s ((picked ++ picks) ++ p) ((given ++ replies) ++ r) marks)) asks
-      (asked_of (log s ((picked ++ picks) ++ p) ((given ++ replies) ++ r) (mark ∷ marks)))
+      → BeginsWithAsked (asks_of_rows (log s ((picked ++ picks) ++ p) ((given ++ replies) ++ r) marks)) asks
+      (asks_of_rows (log s ((picked ++ picks) ++ p) ((given ++ replies) ++ r) (mark ∷ marks)))
 
 -- from every journal that the engine represented
 abbrev pub CutsShort : (HouseReply → Type 0) → Option (List Asked) → Option (List Asked) → State
@@ -212,9 +212,9 @@ GoesAlone old new mark =
     → Stands picked given new (mark ∷ marks) closed
 
 -- the client is the first of those that are lost and not closed
-abbrev pub IsFirst : ℕ → List (ℕ × Option Why) → Type 0
-IsFirst k [] = ⊥
-IsFirst k (l ∷ ls) = l.0 ≡ k
+abbrev pub IsFirstLost : ℕ → List (ℕ × Option Why) → Type 0
+IsFirstLost k [] = ⊥
+IsFirstLost k (l ∷ ls) = l.0 ≡ k
 
 -- and from every list of clients that were closed, for that list with the client
 abbrev pub Closes : State → State → ℕ → Type 0

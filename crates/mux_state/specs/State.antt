@@ -1,6 +1,6 @@
 -- What an engine keeps.
 use Rattle.std.specs.Prelude.{◌≡◌, ℕ, Bool, true, false, not, List, [], ◌∷◌, ◌++◌, filter, if◌then◌else◌, ◌==◌, ◌||◌, Option, Some, None, is_some, length}
-use Rattle.proxy_frames.specs.Queued.{without_first}
+use Rattle.proxy_frames.specs.Queued.{without_first_bytes}
 use Rattle.proxy_frames.specs.State.{QueueState}
 use Rattle.mux_history.specs.declared.why.Why.{Why}
 use Rattle.mux_history.specs.declared.broke.Break.TheVariants as broke
@@ -87,7 +87,7 @@ closed_by s k = record s {
 
 -- so many bytes that a stream accepted, and then the streams that wait
 abbrev pub took : State → ℕ → ℕ → State
-took s t n = if is_server t then record s { up = without_first n s.up }
+took s t n = if is_server t then record s { up = without_first_bytes n s.up }
     else record s { clients = at_client t (client_took n) s.clients }
 
 abbrev pub taken : State → ℕ → ℕ → State

@@ -8,14 +8,14 @@ use Rattle.mux_history.specs.Promises.{is_empty}
 use Rattle.mux_core.specs.State.{CoreState}
 use Rattle.mux_peers.specs.State.{ClientState, ClientsState}
 pub use Rattle.mux_peers.specs.Among.{is_received, is_served}
-use Rattle.mux_peers.specs.Entering.{Enters, new_client}
+use Rattle.mux_peers.specs.Entering.{PeerEnters, new_client}
 use Rattle.mux_state.specs.Moves.{GainsAt}
 use Rattle.mux_state.specs.State.{State, entered, in_client, numbers, waiting_clients}
 
 -- the streams with something that waits: the server's, where bytes wait for it, and those of
 -- clients
-abbrev pub waiting_of : List ℕ → List ClientState → List ℕ
-waiting_of up cs = if is_empty up then waiting_clients cs else 0 ∷ waiting_clients cs
+abbrev pub streams_waiting_of : List ℕ → List ClientState → List ℕ
+streams_waiting_of up cs = if is_empty up then waiting_clients cs else 0 ∷ waiting_clients cs
 
 -- what waits for a stream, of which 0 is the server's
 abbrev pub waiting_for : QueueState → List ClientState → ℕ → List ℕ
@@ -25,7 +25,7 @@ waiting_for up cs t = if is_server t then up.waiting else in_client [] (λ c. c.
 pub record ReceivesFrom (k : ℕ) (core core' : CoreState) (cs cs' : ClientsState)
     (refused refused' : List ℕ) : Type 0 where
   pub let_in : Bool
-  pub enters : Enters k core core' cs.all cs'.all let_in
+  pub enters : PeerEnters k core core' cs.all cs'.all let_in
   pub clients_are : cs'.all ≡ (if let_in then cs.all ++ new_client k ∷ [] else cs.all)
   pub refused_are : refused' ≡ (if let_in then refused else refused ++ k ∷ [])
   pub leaving_are : cs'.leaving ≡ (if let_in then cs.leaving else cs.leaving ++ (k, None) ∷ [])
@@ -35,7 +35,7 @@ pub record EntersAt (s new : State) (k : ℕ) : Type 0 where
   pub let_in : Bool
   pub policy : new.core.policy ≡ s.core.policy
   pub waiting : new.up.waiting ≡ s.up.waiting
-  pub enters : Enters k s.core new.core s.clients new.clients let_in
+  pub enters : PeerEnters k s.core new.core s.clients new.clients let_in
   pub new_is : new ≡ entered s new.core new.up k let_in
 
 -- a client's stream gave bytes, which are read where it is

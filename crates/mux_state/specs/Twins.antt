@@ -13,7 +13,7 @@ use Rattle.mux_state.specs.State.{State}
 use Rattle.mux_state.specs.Stands.{Stands}
 
 -- two journals have the same rows, bytes and clients
-pub record AreAlike (a b : List Mark) : Type 0 where
+pub record AreTwins (a b : List Mark) : Type 0 where
   pub log : (setting : Setting) → log_of_journal setting a ≡ log_of_journal setting b
   pub bytes : (t : ℕ) → bytes_of t a ≡ bytes_of t b
   pub accepted : (k : ℕ) → is_accepted k a ≡ is_accepted k b
@@ -21,28 +21,29 @@ pub record AreAlike (a b : List Mark) : Type 0 where
 -- an engine that represents one represents the other
 abbrev pub StandsAlike : Type 0
 StandsAlike = (a b : List Mark) (picked : List ℕ) (given : List HouseReply) (s : State)
-    (closed : List ℕ) → AreAlike a b → Stands picked given s a closed → Stands picked given s b closed
+    (closed : List ℕ) → AreTwins a b → Stands picked given s a closed → Stands picked given s b closed
 
 -- the forwarder is admitted, sends and accepts as a client does
 pub record HouseIsClient : Type 0 where
-  pub let_in : (marks : List Mark) → AreAlike (Accepts HOUSE ∷ marks) (House HouseIn ∷ marks)
+  pub let_in : (marks : List Mark) → AreTwins (Accepts HOUSE ∷ marks) (House HouseIn ∷ marks)
   pub says : (marks : List Mark) (bytes : List ℕ)
-      → AreAlike (Gets HOUSE bytes ∷ marks) (House (HouseSaid bytes) ∷ marks)
-  pub takes : (marks : List Mark) (bytes : List ℕ) (n : ℕ) → length bytes ≡ n
-      → AreAlike (Takes HOUSE bytes ∷ marks) (House (HouseTook n) ∷ marks)
+      → AreTwins (Gets HOUSE bytes ∷ marks) (House (HouseSaid bytes) ∷ marks)
+  pub takes : (marks : List Mark) (bytes : List ℕ) (accepts : Bool) (n : ℕ) → length bytes ≡ n
+      → AreTwins (Takes HOUSE bytes accepts ∷ marks) (House (HouseTook n) ∷ marks)
 
 -- what it was asked and what it ordered leave all as it was, and so do its listeners, and its streams
 -- where they end, fail or take bytes
 pub record OwnIsSilent : Type 0 where
   pub asked : (marks : List Mark) (client id : ℕ) (opening : Bool) (ask : StartAsk)
-      (reply : HouseReply) → AreAlike marks (House (HouseAsked client id opening ask reply) ∷ marks)
+      (reply : HouseReply) → AreTwins marks (House (HouseAsked client id opening ask reply) ∷ marks)
   pub ordered : (marks : List Mark) (order : Order) (number : Option ℕ)
-      → AreAlike marks (House (HouseOrder order number) ∷ marks)
+      → AreTwins marks (House (HouseOrder order number) ∷ marks)
   pub joins : (marks : List Mark) (listener stream : ℕ)
-      → AreAlike marks (Joins listener stream ∷ marks)
-  pub ends : (marks : List Mark) (t : ℕ) → is_own_stream t ≡ true → AreAlike marks (Ends t ∷ marks)
-  pub fails : (marks : List Mark) (t : ℕ) → is_own_stream t ≡ true → AreAlike marks (Fails t ∷ marks)
+      → AreTwins marks (Joins listener stream ∷ marks)
+  pub ends : (marks : List Mark) (t : ℕ) → is_own_stream t ≡ true → AreTwins marks (Ends t ∷ marks)
+  pub fails : (marks : List Mark) (t : ℕ) → is_own_stream t ≡ true → AreTwins marks (Fails t ∷ marks)
   pub unwritten : (marks : List Mark) (t : ℕ) → is_own_stream t ≡ true
-      → AreAlike marks (WriteFails t ∷ marks)
-  pub takes : (marks : List Mark) (t : ℕ) (bytes : List ℕ) → is_own_stream t ≡ true
-      → AreAlike marks (Takes t bytes ∷ marks)
+      → AreTwins marks (WriteFails t ∷ marks)
+  pub takes : (marks : List Mark) (t : ℕ) (bytes : List ℕ) (accepts : Bool)
+      → is_own_stream t ≡ true
+      → AreTwins marks (Takes t bytes accepts ∷ marks)

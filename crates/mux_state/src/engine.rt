@@ -5,10 +5,10 @@ ghost use Rattle.mux_history.specs.declared.limits.TheConstants.{MAX_CLIENTS as 
 ghost use Rattle.mux_peers.specs.Asked.{Applies};
 ghost use Rattle.mux_peers.specs.Starved.{ReceivesSome, OneIs};
 ghost use Rattle.mux_state.specs.Bounds.{QueuesShort};
-ghost use Rattle.mux_state.specs.Events.{AnswersSo, Keeps, TakesIn, Records, went_of};
+ghost use Rattle.mux_state.specs.Events.{AnswersSo, EngineKeeps, TakesIn, MarkRecords, went_of};
 ghost use Rattle.mux_state.specs.Moves.{AnsweredAt, ReceivedAt, LosesAt};
 ghost use Rattle.mux_state.specs.Others.{LeavesIdle};
-ghost use Rattle.mux_state.specs.Ready.{IsReady};
+ghost use Rattle.mux_state.specs.Ready.{IsEngineReady};
 ghost use Rattle.mux_state.specs.Stands.{CutsShort, Stands};
 ghost use Rattle.mux_state.specs.State.{HasNobody, numbers, over};
 ghost use Rattle.mux_state.specs.Steps.{EntersAt, GainsFrom, is_received, is_served};
@@ -48,7 +48,7 @@ pub struct Engine {
 
 impl Model for Engine {
     ghost use Rattle.mux_state.specs.State.{State};
-    ghost use Rattle.mux_state.specs.Ready.{IsSound};
+    ghost use Rattle.mux_state.specs.Ready.{IsEngineSound};
 
     ghost Value = { State };
 
@@ -56,7 +56,7 @@ impl Model for Engine {
 
     ghost view = { state_of };
 
-    ghost invariant = { λ a. IsSound (state_of a) };
+    ghost invariant = { λ a. IsEngineSound (state_of a) };
 }
 
 fn went_by(ended: Option<Ended>) -> Went
@@ -116,9 +116,9 @@ impl Engine {
         ensures takes { OnOk result (TakesIn H.may (Some asks.old) (Some asks.new) e.entry self.old
             self.new) }
         ensures applies { Applies result asks.old asks.new (H.state house.old) (H.state house.new) }
-        ensures cut { OnErr result ((mark : TheMark) → Records e.entry mark
+        ensures cut { OnErr result ((mark : TheMark) → MarkRecords e.entry mark
             → CutsShort H.may (H.state house.old).recorded (H.state house.new).recorded self.old mark) }
-        ensures keeps { OnOk result (Keeps e.entry self.old self.new) }
+        ensures keeps { OnOk result (EngineKeeps e.entry self.old self.new) }
         ensures bounded { OnOk result (QueuesShort self.new) }
         ensures answers { AnswersSo result self.old self.new }
     {
@@ -147,14 +147,14 @@ impl Engine {
         requires ordering { (H.state house.old).known.ordering ≡ None }
         requires goes { self.old.ended ≡ None }
         requires starved { self.old.starved ≡ true }
-        requires ready { IsReady self.old }
+        requires ready { IsEngineReady self.old }
         ensures takes { OnOk result (TakesIn H.may (Some asks.old) (Some asks.new) e.entry self.old
             self.new) }
         ensures applies { Applies result asks.old asks.new (H.state house.old) (H.state house.new) }
-        ensures cut { OnErr result ((mark : TheMark) → Records e.entry mark
+        ensures cut { OnErr result ((mark : TheMark) → MarkRecords e.entry mark
             → CutsShort H.may (H.state house.old).recorded (H.state house.new).recorded self.old mark) }
-        ensures keeps { OnOk result (Keeps e.entry self.old self.new) }
-        ensures ready { OnOk result (self.new.ended ≡ None → IsReady self.new) }
+        ensures keeps { OnOk result (EngineKeeps e.entry self.old self.new) }
+        ensures ready { OnOk result (self.new.ended ≡ None → IsEngineReady self.new) }
         ensures starved { self.new.starved ≡ true }
     {
         match e {
@@ -179,9 +179,9 @@ impl Engine {
     // A client comes: it is admitted, where fewer than 64 have open matters.
     fn enter(&mut self, client: u64) -> Result<(), OutOfMemory>
         requires starved { self.old.starved ≡ true }
-        requires ready { IsReady self.old }
+        requires ready { IsEngineReady self.old }
         ensures enters { OnOk result (EntersAt self.old self.new client) }
-        ensures ready { OnOk result (IsReady self.new) }
+        ensures ready { OnOk result (IsEngineReady self.new) }
         ensures starved { self.new.starved ≡ true }
     {
         self.clients.reserve_farewells(&mut self.up)?;
@@ -200,7 +200,7 @@ impl Engine {
         requires ordering { (H.state house.old).known.ordering ≡ None }
         requires goes { self.old.ended ≡ None }
         requires starved { self.old.starved ≡ true }
-        requires ready { IsReady self.old }
+        requires ready { IsEngineReady self.old }
         ensures gains { OnOk result (GainsFrom H.may (Some asks.old) (Some asks.new) self.old
             self.new client bytes.now) }
         ensures untold { is_received self.old.clients client ≡ false
@@ -209,7 +209,7 @@ impl Engine {
         ensures cut { OnErr result (OneIs client (ReceivesSome H.may (H.state house.old).recorded
             (H.state house.new).recorded self.old.pid bytes.now self.old.core self.old.up)
             self.old.clients) }
-        ensures ready { OnOk result (IsReady self.new) }
+        ensures ready { OnOk result (IsEngineReady self.new) }
         ensures starved { self.new.starved ≡ true }
     {
         if !self.clients.is_received(client) {
@@ -232,12 +232,12 @@ impl Engine {
     // A client's stream is gone.
     fn lose(&mut self, client: u64) -> Result<(), OutOfMemory>
         requires starved { self.old.starved ≡ true }
-        requires ready { IsReady self.old }
+        requires ready { IsEngineReady self.old }
         ensures loses { OnOk result (is_served self.old.clients client ≡ true
             → LosesAt self.old self.new client) }
         ensures stays { OnOk result (is_served self.old.clients client ≡ false
             → self.new ≡ self.old) }
-        ensures ready { OnOk result (IsReady self.new) }
+        ensures ready { OnOk result (IsEngineReady self.new) }
         ensures starved { self.new.starved ≡ true }
     {
         if !self.clients.is_served(client) {
@@ -250,13 +250,13 @@ impl Engine {
     // The forwarder replies to a client's request later than at once.
     fn answer(&mut self, client: u64, id: u32, reply: HouseReply) -> Result<(), OutOfMemory>
         requires starved { self.old.starved ≡ true }
-        requires ready { IsReady self.old }
+        requires ready { IsEngineReady self.old }
         ensures answers { OnOk result (is_served self.old.clients client ≡ true
             → AnsweredAt self.old self.new client id reply) }
         ensures stays { OnOk result (is_served self.old.clients client ≡ false
             → self.new ≡ self.old) }
         ensures numbers { OnOk result (numbers self.new.clients ≡ numbers self.old.clients) }
-        ensures ready { OnOk result (IsReady self.new) }
+        ensures ready { OnOk result (IsEngineReady self.new) }
         ensures starved { self.new.starved ≡ true }
     {
         if !self.clients.is_served(client) {
@@ -271,10 +271,10 @@ impl Engine {
     fn got_from_server(&mut self, bytes: &[u8]) -> Result<(), OutOfMemory>
         requires goes { self.old.ended ≡ None }
         requires starved { self.old.starved ≡ true }
-        requires ready { IsReady self.old }
+        requires ready { IsEngineReady self.old }
         ensures heard { OnOk result (ReceivedAt self.old self.new bytes.now) }
         ensures others { OnOk result (LeavesIdle bytes.now self.old self.new) }
-        ensures ready { OnOk result (self.new.ended ≡ None → IsReady self.new) }
+        ensures ready { OnOk result (self.new.ended ≡ None → IsEngineReady self.new) }
         ensures starved { self.new.starved ≡ true }
     {
         self.ended = self

@@ -1,13 +1,13 @@
 //! What an engine keeps of its streams: who is refused, and for which something waits.
 
 ghost use Rattle.std.specs.Prelude.{if◌then◌else◌, ◌≡◌, ◌≤◌, length, OnOk};
-ghost use Rattle.proxy_frames.specs.Queued.{without_first};
+ghost use Rattle.proxy_frames.specs.Queued.{without_first_bytes};
 ghost use Rattle.mux_outside.specs.Whose.{is_server};
 ghost use Rattle.mux_history.specs.Promises.{is_empty};
 ghost use Rattle.mux_peers.specs.Losing.{NotesMore};
 ghost use Rattle.mux_state.specs.Ready.{AreListed};
 ghost use Rattle.mux_state.specs.State.{at_client, client_took};
-ghost use Rattle.mux_state.specs.Steps.{ReceivesFrom, waiting_for, waiting_of};
+ghost use Rattle.mux_state.specs.Steps.{ReceivesFrom, waiting_for, streams_waiting_of};
 
 use mux_core::Core;
 use mux_outside::Streams;
@@ -37,7 +37,7 @@ pub fn take_in(
 // So many bytes that wait for a stream were accepted: whether none waits now.
 pub fn take(up: &mut Queue, clients: &mut Clients, stream: u64, n: usize) -> bool
     requires { n ≤ length (waiting_for up.old clients.old.all stream) }
-    ensures up { up.new ≡ (if is_server stream then without_first n up.old else up.old) }
+    ensures up { up.new ≡ (if is_server stream then without_first_bytes n up.old else up.old) }
     ensures clients { clients.new.all ≡ (if is_server stream then clients.old.all
         else at_client stream (client_took n) clients.old.all) }
     ensures leaving { clients.new.leaving ≡ clients.old.leaving }
@@ -53,7 +53,7 @@ pub fn take(up: &mut Queue, clients: &mut Clients, stream: u64, n: usize) -> boo
 
 // The streams with something that waits are listed anew.
 pub fn list_waiting(list: &mut Streams, up: &Queue, clients: &Clients) -> Result<(), OutOfMemory>
-    ensures { OnOk result (list.new ≡ waiting_of up.now.waiting clients.now.all) }
+    ensures { OnOk result (list.new ≡ streams_waiting_of up.now.waiting clients.now.all) }
 {
     list.clear();
     if !up.is_empty() {

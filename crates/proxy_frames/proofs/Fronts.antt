@@ -10,7 +10,7 @@ use Rattle.ssh_grammar.specs.declared.framing.Framing.TheVariants.{Control, Prox
 use Rattle.ssh_grammar.specs.declared.numbers.TheConstants.{LONGEST_FRAME}
 use Rattle.ssh_grammar.specs.Frames.{Front, More, Faulty, cut_content, cut_length, cut_rest, shortest, first_frame}
 use Rattle.proxy_frames.specs.declared.next.Front.{Front as Found}
-use Rattle.proxy_frames.specs.Fronts.{IsFront}
+use Rattle.proxy_frames.specs.Fronts.{IsFrameFront}
 
 -- the bytes after the length field
 pub behind-length : (bytes : List ℕ) (n : ℕ) (rest : List ℕ) → take_u32 bytes ≡ Some (n, rest) → (4 ≤ length bytes) × (rest ≡ drop 4 bytes)
@@ -31,15 +31,15 @@ front-in_range framing bytes n rest e low high =
 
 -- a control message's body stands after its length
 pub front-control : (framing : Framing) (bytes : List ℕ) (n : ℕ) (rest : List ℕ) (p : Found) → take_u32 bytes ≡ Some (n, rest) → framing ≡ Control → shortest framing ≤ n → n ≤ LONGEST_FRAME
-    → IsFront bytes p (cut_content n (drop 4 bytes)) → IsFront bytes p (first_frame framing bytes)
+    → IsFrameFront bytes p (cut_content n (drop 4 bytes)) → IsFrameFront bytes p (first_frame framing bytes)
 front-control framing bytes n rest p e is low high h =
     let front : first_frame framing bytes ≡ cut_content n (drop 4 bytes) =
     front-in_range framing bytes n rest e low high ∙ (ap (λ k. cut_rest k n rest) is ∙ ap (cut_content n) (behind-length bytes n rest e).1) in
-    subst (IsFront bytes p) (sym front) h
+    subst (IsFrameFront bytes p) (sym front) h
 
 -- a payload stands after its length and the padding length
 pub front-proxy : (framing : Framing) (bytes : List ℕ) (n : ℕ) (rest : List ℕ) (b : ℕ) (after : List ℕ) (p : Found) → take_u32 bytes ≡ Some (n, rest) → framing ≡ Proxy → shortest framing ≤ n → n ≤ LONGEST_FRAME
-    → take_u8 rest ≡ Some (b, after) → b ≡ 0 → IsFront bytes p (cut_content (n - 1) (drop 5 bytes)) → IsFront bytes p (first_frame framing bytes)
+    → take_u8 rest ≡ Some (b, after) → b ≡ 0 → IsFrameFront bytes p (cut_content (n - 1) (drop 5 bytes)) → IsFrameFront bytes p (first_frame framing bytes)
 front-proxy framing bytes n [] b after p e is low high u zero_padding h = absurd (cc)
 front-proxy framing bytes n (x ∷ rest) b after p e is low high u zero_padding h =
     let same : (x ≡ b) × (rest ≡ after) = value_and_rest _ _ u in
@@ -48,4 +48,4 @@ front-proxy framing bytes n (x ∷ rest) b after p e is low high u zero_padding 
     let front : first_frame framing bytes ≡ cut_content (n - 1) (drop 5 bytes) =
     front-in_range framing bytes n (x ∷ rest) e low high ∙ (ap (λ k. cut_rest k n (x ∷ rest)) is
     ∙ (ap (λ t. elim t as (λ _. Front) [ true ↦ cut_content (n - 1) rest | false ↦ Faulty (bad.Padding x) ]) no_padding ∙ ap (cut_content (n - 1)) behind)) in
-    subst (IsFront bytes p) (sym front) h
+    subst (IsFrameFront bytes p) (sym front) h

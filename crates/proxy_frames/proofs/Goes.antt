@@ -9,12 +9,12 @@ use Rattle.ssh_grammar.proofs.Frames.{IsFirst, first-is}
 use Rattle.proxy_frames.specs.declared.next.Next.TheVariants as next
 use Rattle.proxy_frames.specs.State.{FramerState}
 use Rattle.proxy_frames.specs.Steps.{pushed, once_recorded, front_of, answer_to, after_front}
-use Rattle.proxy_frames.specs.History.{History, Represents, GoesOn, HasRecorded, and_bytes, and_frame, and_fault, and_next, and_next_in, next_in, next_of, first_of, frame_next, cut_of, to_come}
+use Rattle.proxy_frames.specs.FramerHistory.{FramerHistory, FramerRepresents, FramerGoesOn, HasRecorded, and_bytes, and_frame, and_fault, and_next, and_next_in, next_in, next_of, first_of, frame_next, cut_of, to_come}
 use Rattle.proxy_frames.proofs.Stands.{stands_by, to_come-is, fault-is, valid-and, joined-and}
 
 -- ---- more bytes
 
-pub pushed-stands : (h : History) (f : FramerState) (piece : List ℕ) → Represents h f → Represents (and_bytes piece h) (pushed piece f)
+pub pushed-stands : (h : FramerHistory) (f : FramerState) (piece : List ℕ) → FramerRepresents h f → FramerRepresents (and_bytes piece h) (pushed piece f)
 pushed-stands h f piece st = stands_by (and_bytes piece h) (pushed piece f) st.valid
     (ap (λ b. b ++ piece) st.filled ∙ append_assoc (joined h.framing h.given) f.rest piece) st.fault (by_recorded h.recorded st.recorded)
   where
@@ -25,26 +25,26 @@ pushed-stands h f piece st = stands_by (and_bytes piece h) (pushed piece f) st.v
 -- ---- what comes next
 
 -- what is answered to a front, and what it leaves, is what the history says
-pub record Goes (h : History) (f : FramerState) (front : Front) : Type 0 where
+pub record Goes (h : FramerHistory) (f : FramerState) (front : Front) : Type 0 where
   pub answer : answer_to front ≡ next_of h
   pub current : (after_front front f).current ≡ frame_next h
-  pub stands : Represents (and_next h) (after_front front f)
+  pub stands : FramerRepresents (and_next h) (after_front front f)
 
 -- before a fault was reported the history goes by the frames to come
-goes-on : (h : History) (f : FramerState) (front : Front) (after : History) → h.recorded ≡ None → answer_to front ≡ next_in (to_come h) (cut_of h).fault → (after_front front f).current ≡ first_of (to_come h)
-    → and_next_in (to_come h) (cut_of h).fault h ≡ after → Represents after (after_front front f) → Goes h f front
+goes-on : (h : FramerHistory) (f : FramerState) (front : Front) (after : FramerHistory) → h.recorded ≡ None → answer_to front ≡ next_in (to_come h) (cut_of h).fault → (after_front front f).current ≡ first_of (to_come h)
+    → and_next_in (to_come h) (cut_of h).fault h ≡ after → FramerRepresents after (after_front front f) → Goes h f front
 goes-on h f front after e answer current goes stands = record {
   answer = answer ∙ sym (ap (λ (t : Option BadFrame). once_recorded t next.Bad (next_in (to_come h) (cut_of h).fault)) e);
   current = current ∙ sym (ap (λ (t : Option BadFrame). once_recorded t (λ _. None) (first_of (to_come h))) e);
-  stands = subst (λ (x : History). Represents x (after_front front f)) (sym (ap (λ (t : Option BadFrame). once_recorded t (λ _. h) (and_next_in (to_come h) (cut_of h).fault h)) e ∙ goes)) stands;
+  stands = subst (λ (x : FramerHistory). FramerRepresents x (after_front front f)) (sym (ap (λ (t : Option BadFrame). once_recorded t (λ _. h) (and_next_in (to_come h) (cut_of h).fault h)) e ∙ goes)) stands;
 }
 
 -- a fault that was reported is reported again
-goes-recorded : (h : History) (f : FramerState) (fault : BadFrame) → h.recorded ≡ Some fault → Represents h f → Goes h f (Faulty fault)
+goes-recorded : (h : FramerHistory) (f : FramerState) (fault : BadFrame) → h.recorded ≡ Some fault → FramerRepresents h f → Goes h f (Faulty fault)
 goes-recorded h f fault e st = record {
   answer = sym (ap (λ (t : Option BadFrame). once_recorded t next.Bad (next_in (to_come h) (cut_of h).fault)) e);
   current = sym (ap (λ (t : Option BadFrame). once_recorded t (λ _. None) (first_of (to_come h))) e);
-  stands = subst (λ (x : History). Represents x (after_front (Faulty fault) f)) (sym (ap (λ (t : Option BadFrame). once_recorded t (λ _. h) (and_next_in (to_come h) (cut_of h).fault h)) e))
+  stands = subst (λ (x : FramerHistory). FramerRepresents x (after_front (Faulty fault) f)) (sym (ap (λ (t : Option BadFrame). once_recorded t (λ _. h) (and_next_in (to_come h) (cut_of h).fault h)) e))
       (record {
         valid = st.valid;
         filled = st.filled;
@@ -55,7 +55,7 @@ goes-recorded h f fault e st = record {
 }
 
 -- a frame is given
-goes-frame : (h : History) (f : FramerState) (content rest : List ℕ) → h.recorded ≡ None → Represents h f → f.framing ≡ h.framing → first_frame h.framing f.rest ≡ Frame content rest → IsFirst h.framing f.rest (Frame content rest) → Goes h f (Frame content rest)
+goes-frame : (h : FramerHistory) (f : FramerState) (content rest : List ℕ) → h.recorded ≡ None → FramerRepresents h f → f.framing ≡ h.framing → first_frame h.framing f.rest ≡ Frame content rest → IsFirst h.framing f.rest (Frame content rest) → Goes h f (Frame content rest)
 goes-frame h f content rest e st framing front is =
     let c : cut h.framing f.rest ≡ record { frames = content ∷ (cut h.framing rest).frames; rest = (cut h.framing rest).rest; fault = (cut h.framing rest).fault } = cut-at h.framing f.rest (Frame content rest) front in
     let coming : to_come h ≡ content ∷ (cut h.framing rest).frames = to_come-is h f st ∙ ap (λ (x : Cut). x.frames) c in
@@ -70,7 +70,7 @@ goes-frame h f content rest e st framing front is =
     (subst (λ (t : Option BadFrame). HasRecorded t (and_frame content h) (after_front (Frame content rest) f)) (sym e) framing))
 
 -- nothing whole is there
-goes-more : (h : History) (f : FramerState) → h.recorded ≡ None → Represents h f → f.framing ≡ h.framing → first_frame h.framing f.rest ≡ More → Goes h f More
+goes-more : (h : FramerHistory) (f : FramerState) → h.recorded ≡ None → FramerRepresents h f → f.framing ≡ h.framing → first_frame h.framing f.rest ≡ More → Goes h f More
 goes-more h f e st framing front =
     let c : cut h.framing f.rest ≡ record { frames = []; rest = f.rest; fault = None } = cut-at h.framing f.rest More front in
     let coming : to_come h ≡ [] = to_come-is h f st ∙ ap (λ (x : Cut). x.frames) c in
@@ -82,7 +82,7 @@ goes-more h f e st framing front =
     (stands_by h (after_front More f) st.valid st.filled st.fault (subst (λ (t : Option BadFrame). HasRecorded t h (after_front More f)) (sym e) framing))
 
 -- a fault is reported
-goes-fault : (h : History) (f : FramerState) (bad : BadFrame) → h.recorded ≡ None → Represents h f → first_frame h.framing f.rest ≡ Faulty bad → Goes h f (Faulty bad)
+goes-fault : (h : FramerHistory) (f : FramerState) (bad : BadFrame) → h.recorded ≡ None → FramerRepresents h f → first_frame h.framing f.rest ≡ Faulty bad → Goes h f (Faulty bad)
 goes-fault h f bad e st front =
     let c : cut h.framing f.rest ≡ record { frames = []; rest = f.rest; fault = Some bad } = cut-at h.framing f.rest (Faulty bad) front in
     let coming : to_come h ≡ [] = to_come-is h f st ∙ ap (λ (x : Cut). x.frames) c in
@@ -93,7 +93,7 @@ goes-fault h f bad e st front =
     (ap (λ (l : List (List ℕ)). and_next_in l (cut_of h).fault h) coming ∙ ap (λ (t : Option BadFrame). and_next_in [] t h) fault)
     (stands_by (and_fault bad h) (after_front (Faulty bad) f) st.valid st.filled refl front)
 
-pub next-goes : (h : History) (f : FramerState) → AreBytes f.rest → Represents h f → Goes h f (front_of f)
+pub next-goes : (h : FramerHistory) (f : FramerState) → AreBytes f.rest → FramerRepresents h f → Goes h f (front_of f)
 next-goes h f bytes st = by_recorded h.recorded refl
   where
     by_front : (framing : f.framing ≡ h.framing) (e : h.recorded ≡ None) (front : Front) → first_frame h.framing f.rest ≡ front → IsFirst h.framing f.rest front → Goes h f front
@@ -110,8 +110,8 @@ next-goes h f bytes st = by_recorded h.recorded refl
 
 -- ---- at the calls
 
-pub push-stands : (old new : FramerState) (piece : List ℕ) → new ≡ pushed piece old → GoesOn old new (and_bytes piece)
-push-stands old new piece is h st = subst (Represents (and_bytes piece h)) (sym is) (pushed-stands h old piece st)
+pub push-stands : (old new : FramerState) (piece : List ℕ) → new ≡ pushed piece old → FramerGoesOn old new (and_bytes piece)
+push-stands old new piece is h st = subst (FramerRepresents (and_bytes piece h)) (sym is) (pushed-stands h old piece st)
 
-pub next-stands : (old new : FramerState) → AreBytes old.rest → new ≡ after_front (front_of old) old → GoesOn old new and_next
-next-stands old new bytes is h st = subst (Represents (and_next h)) (sym is) (next-goes h old bytes st).stands
+pub next-stands : (old new : FramerState) → AreBytes old.rest → new ≡ after_front (front_of old) old → FramerGoesOn old new and_next
+next-stands old new bytes is h st = subst (FramerRepresents (and_next h)) (sym is) (next-goes h old bytes st).stands

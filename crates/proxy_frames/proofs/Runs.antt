@@ -8,8 +8,8 @@ use Rattle.ssh_grammar.specs.Laws.{cut_then}
 use Rattle.ssh_grammar.proofs.Cuts.{IsShorter, first-shorter, Extends, first-extends, cut-at, cut-append}
 use Rattle.proxy_frames.specs.State.{FramerState}
 use Rattle.proxy_frames.specs.Steps.{new_framer, pushed, once_recorded, front_of, after_front}
-use Rattle.proxy_frames.specs.Runs.{Taken, taken_front, taken_by, taken, taken_of, stream_of, cut_taken}
-use Rattle.proxy_frames.specs.History.{cut_of, to_come}
+use Rattle.proxy_frames.specs.Runs.{Taken, taken_front, frames_taken_by, taken, taken_of, stream_of_pieces, cut_taken}
+use Rattle.proxy_frames.specs.FramerHistory.{cut_of, to_come}
 use Rattle.proxy_frames.specs.Laws.{PiecesGiveTheCut, AnyPiecesGiveTheSame, AnyTimeGivesTheSame}
 use Rattle.proxy_frames.proofs.Stands.{to_come-is, fault-is}
 
@@ -31,13 +31,13 @@ has_header framing (a ∷ b ∷ c ∷ d ∷ bytes) content rest e = omega arith
 front-untold : (f : FramerState) → f.fault ≡ None → front_of f ≡ first_frame f.framing f.rest
 front-untold f e = ap (λ (t : Option BadFrame). once_recorded t Faulty (first_frame f.framing f.rest)) e
 
-taken-is : (n : ℕ) (f : FramerState) → f.fault ≡ None → length f.rest < n → IsCut f.framing (cut f.framing f.rest) (taken_by n f)
+taken-is : (n : ℕ) (f : FramerState) → f.fault ≡ None → length f.rest < n → IsCut f.framing (cut f.framing f.rest) (frames_taken_by n f)
 taken-is zero f none h = absurd (omega arith)
-taken-is (suc n) f none h = subst (λ (front : Front). IsCut f.framing (cut f.framing f.rest) (taken_front (taken_by n) f front)) (sym (front-untold f none)) (by_front (first_frame f.framing f.rest) refl (first-shorter f.framing f.rest) (λ g e k. taken-is n g e k))
+taken-is (suc n) f none h = subst (λ (front : Front). IsCut f.framing (cut f.framing f.rest) (taken_front (frames_taken_by n) f front)) (sym (front-untold f none)) (by_front (first_frame f.framing f.rest) refl (first-shorter f.framing f.rest) (λ g e k. taken-is n g e k))
   where
-    by_front : (front : Front) → first_frame f.framing f.rest ≡ front → IsShorter (length f.rest - 4) front → ((g : FramerState) → g.fault ≡ None → length g.rest < n → IsCut g.framing (cut g.framing g.rest) (taken_by n g)) → IsCut f.framing (cut f.framing f.rest) (taken_front (taken_by n) f front)
+    by_front : (front : Front) → first_frame f.framing f.rest ≡ front → IsShorter (length f.rest - 4) front → ((g : FramerState) → g.fault ≡ None → length g.rest < n → IsCut g.framing (cut g.framing g.rest) (frames_taken_by n g)) → IsCut f.framing (cut f.framing f.rest) (taken_front (frames_taken_by n) f front)
     by_front (Frame content rest) e s go =
-        let tail : IsCut f.framing (cut f.framing rest) (taken_by n (after_front (Frame content rest) f)) = go (after_front (Frame content rest) f) none (let long : 4 ≤ length f.rest = has_header f.framing f.rest content rest e in omega arith) in
+        let tail : IsCut f.framing (cut f.framing rest) (frames_taken_by n (after_front (Frame content rest) f)) = go (after_front (Frame content rest) f) none (let long : 4 ≤ length f.rest = has_header f.framing f.rest content rest e in omega arith) in
         record { made = ap (with_frame content) tail.made ∙ sym (cut-at f.framing f.rest (Frame content rest) e); cuts = tail.cuts }
     by_front More e s go = record { made = (λ i. record { frames = []; rest = f.rest; fault = none i }) ∙ sym (cut-at f.framing f.rest More e); cuts = refl }
     by_front (Faulty bad) e s go = record { made = sym (cut-at f.framing f.rest (Faulty bad) e); cuts = refl }
@@ -47,7 +47,7 @@ taken-recorded : (f : FramerState) (bad : BadFrame) → f.fault ≡ Some bad →
 taken-recorded f bad e =
     let n : length f.rest + 1 ≡ suc (length f.rest) = omega arith in
     let front : front_of f ≡ Faulty bad = ap (λ (t : Option BadFrame). once_recorded t Faulty (first_frame f.framing f.rest)) e in
-    subst (IsCut f.framing (record { frames = []; rest = f.rest; fault = Some bad })) (sym (ap (λ k. taken_by k f) n ∙ ap (taken_front (taken_by (length f.rest)) f) front)) (record { made = refl; cuts = refl })
+    subst (IsCut f.framing (record { frames = []; rest = f.rest; fault = Some bad })) (sym (ap (λ k. frames_taken_by k f) n ∙ ap (taken_front (frames_taken_by (length f.rest)) f) front)) (record { made = refl; cuts = refl })
 
 -- ---- of each piece
 
@@ -91,7 +91,7 @@ piece-taken framing bytes piece f is = by_fault (cut framing bytes).fault refl
         let all : IsCut f.framing (record { frames = []; rest = f.rest ++ piece; fault = Some bad }) (taken (pushed piece f)) = taken-recorded (pushed piece f) bad (is.fault ∙ e) in
         record { made = all.made ∙ (ap (λ l. record { frames = []; rest = l ++ piece; fault = Some bad }) is.rest ∙ sym (cut-at framing (old ++ piece) (Faulty bad) stays)); cuts = all.cuts ∙ is.cuts }
 
-pieces-taken : (framing : Framing) (bytes : List ℕ) (f : FramerState) (pieces : List (List ℕ)) → Follows framing bytes f → cut_then (cut framing bytes) (cut_taken (taken_of f pieces)) ≡ cut framing (bytes ++ stream_of pieces)
+pieces-taken : (framing : Framing) (bytes : List ℕ) (f : FramerState) (pieces : List (List ℕ)) → Follows framing bytes f → cut_then (cut framing bytes) (cut_taken (taken_of f pieces)) ≡ cut framing (bytes ++ stream_of_pieces pieces)
 pieces-taken framing bytes f [] is =
     (λ i. record { frames = append-nil (cut framing bytes).frames i; rest = is.rest i; fault = is.fault i }) ∙ ap (cut framing) (sym (append-nil bytes))
 pieces-taken framing bytes f (piece ∷ pieces) is =
@@ -99,9 +99,9 @@ pieces-taken framing bytes f (piece ∷ pieces) is =
     let one : IsCut framing (cut framing ((cut framing bytes).rest ++ piece)) t = piece-taken framing bytes piece f is in
     let grown : cut framing (bytes ++ piece) ≡ cut_then (cut framing bytes) (cut_taken t) = cut-append framing bytes piece ∙ ap (cut_then (cut framing bytes)) (sym one.made) in
     let next : Follows framing (bytes ++ piece) t.framer = record { cuts = one.cuts; rest = sym (ap (λ (x : Cut). x.rest) grown); fault = sym (ap (λ (x : Cut). x.fault) grown) } in
-    let all : cut_then (cut framing (bytes ++ piece)) (cut_taken (taken_of t.framer pieces)) ≡ cut framing ((bytes ++ piece) ++ stream_of pieces) = pieces-taken framing (bytes ++ piece) t.framer pieces next in
+    let all : cut_then (cut framing (bytes ++ piece)) (cut_taken (taken_of t.framer pieces)) ≡ cut framing ((bytes ++ piece) ++ stream_of_pieces pieces) = pieces-taken framing (bytes ++ piece) t.framer pieces next in
     ap (λ l. record { frames = l; rest = (taken_of t.framer pieces).framer.rest; fault = (taken_of t.framer pieces).framer.fault }) (sym (append_assoc (cut framing bytes).frames t.frames (taken_of t.framer pieces).frames))
-    ∙ (ap (λ c. cut_then c (cut_taken (taken_of t.framer pieces))) (sym grown) ∙ (all ∙ ap (cut framing) (append_assoc bytes piece (stream_of pieces))))
+    ∙ (ap (λ c. cut_then c (cut_taken (taken_of t.framer pieces))) (sym grown) ∙ (all ∙ ap (cut framing) (append_assoc bytes piece (stream_of_pieces pieces))))
 
 pub pieces-cut : PiecesGiveTheCut
 pieces-cut framing pieces = pieces-taken framing [] (new_framer framing) pieces (record { cuts = refl; rest = refl; fault = refl })

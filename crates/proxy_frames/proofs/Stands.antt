@@ -11,7 +11,7 @@ use Rattle.ssh_grammar.proofs.Frames.{cut-frame}
 use Rattle.ssh_grammar.proofs.Said.{proxy_is_sent}
 use Rattle.proxy_frames.specs.Laws.{NothingIsLost, SwitchedIsSent}
 use Rattle.proxy_frames.specs.State.{FramerState}
-use Rattle.proxy_frames.specs.History.{History, Represents, HasRecorded, behind, cut_of, left, to_come}
+use Rattle.proxy_frames.specs.FramerHistory.{FramerHistory, FramerRepresents, HasRecorded, behind, cut_of, left, to_come}
 
 -- frames that stand before bytes are cut first
 pub cut-joined : (framing : Framing) (given : List (List ℕ)) (rest : List ℕ) → AllByRecursion (IsContent framing) given → cut framing (joined framing given ++ rest) ≡ behind given (cut framing rest)
@@ -21,7 +21,7 @@ cut-joined framing (content ∷ given) rest valid =
     ∙ (cut-frame framing content (joined framing given ++ rest) valid.0 ∙ ap (with_frame content) (cut-joined framing given rest valid.1))
 
 -- what was given and what is left say all
-pub stands_by : (h : History) (f : FramerState) → AllByRecursion (IsContent h.framing) h.given → h.bytes ≡ joined h.framing h.given ++ f.rest → f.fault ≡ h.recorded → HasRecorded h.recorded h f → Represents h f
+pub stands_by : (h : FramerHistory) (f : FramerState) → AllByRecursion (IsContent h.framing) h.given → h.bytes ≡ joined h.framing h.given ++ f.rest → f.fault ≡ h.recorded → HasRecorded h.recorded h f → FramerRepresents h f
 stands_by h f valid filled fault recorded = record {
   valid = valid;
   filled = filled;
@@ -31,15 +31,15 @@ stands_by h f valid filled fault recorded = record {
 }
 
 -- the frames to come are those of the rest
-pub to_come-is : (h : History) (f : FramerState) → Represents h f → to_come h ≡ (cut h.framing f.rest).frames
+pub to_come-is : (h : FramerHistory) (f : FramerState) → FramerRepresents h f → to_come h ≡ (cut h.framing f.rest).frames
 to_come-is h f st = ap (λ (c : Cut). drop (length h.given) c.frames) st.frames ∙ drop_at h.given (cut h.framing f.rest).frames (length h.given) refl
 
 -- and so is the fault
-pub fault-is : (h : History) (f : FramerState) → Represents h f → (cut_of h).fault ≡ (cut h.framing f.rest).fault
+pub fault-is : (h : FramerHistory) (f : FramerState) → FramerRepresents h f → (cut_of h).fault ≡ (cut h.framing f.rest).fault
 fault-is h f st = ap (λ (c : Cut). c.fault) st.frames
 
 -- the bytes that are left are the rest
-pub left-is : (h : History) (f : FramerState) → Represents h f → left h ≡ f.rest
+pub left-is : (h : FramerHistory) (f : FramerState) → FramerRepresents h f → left h ≡ f.rest
 left-is h f st = ap (drop (length (joined h.framing h.given))) st.filled ∙ drop_at (joined h.framing h.given) f.rest (length (joined h.framing h.given)) refl
 
 -- one more frame

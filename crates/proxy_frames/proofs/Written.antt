@@ -4,7 +4,7 @@ use Rattle.std.specs.Prelude.{IsSome, unwrap_or}
 use Rattle.std.proofs.lemmas.List.{take-append-le, take-append-drop, drop_at, drop-drop}
 use Rattle.ssh_grammar.specs.declared.fault.BadFrame.{BadFrame}
 use Rattle.ssh_grammar.specs.declared.framing.Framing.{Framing}
-use Rattle.proxy_frames.specs.State.{kept_state, current_from, IsWithin}
+use Rattle.proxy_frames.specs.State.{kept_state, current_from, IsFrameWithin}
 use Rattle.proxy_frames.specs.Steps.{over, with_written}
 
 -- what is written at a place leaves the bytes before it
@@ -32,7 +32,7 @@ part_len xs s e h k = length-take-le (e - s) (drop s xs) (omega (arith, length-d
 
 -- the state after the write is that of the written bytes
 pub state-written : (framing : Framing) (fault : Option BadFrame) (xs written more : List ℕ) (current : Option ℕ) (start at : ℕ)
-    → IsSome (current_from current at xs) → IsWithin current at → at ≤ length xs → start ≡ unwrap_or current at
+    → IsSome (current_from current at xs) → IsFrameWithin current at → at ≤ length xs → start ≡ unwrap_or current at
     → kept_state framing fault current at (written_at xs start written more) ≡ with_written (kept_state framing fault current at xs) written
 state-written framing fault xs written more None start at some within low is = let no : false ≡ true = some in absurd (cc)
 state-written framing fault xs written more (Some s) start at some within low is =

@@ -68,9 +68,9 @@ HasFault f fault = (f.fault ≡ Some fault) ⊎ ((f.fault ≡ None) × IsFault f
 -- ---- the front, found in place
 
 -- so many bytes of header and so many of content, less than a frame, or a fault
-abbrev pub IsFront : List ℕ → Found → Front → Type 0
-IsFront bytes (found.Frame header n) front =
+abbrev pub IsFrameFront : List ℕ → Found → Front → Type 0
+IsFrameFront bytes (found.Frame header n) front =
     (header + n ≤ length bytes)
     × (front ≡ Frame (take n (drop header bytes)) (drop n (drop header bytes)))
-IsFront bytes found.More front = front ≡ More
-IsFront bytes (found.Bad fault) front = front ≡ Faulty fault
+IsFrameFront bytes found.More front = front ≡ More
+IsFrameFront bytes (found.Bad fault) front = front ≡ Faulty fault

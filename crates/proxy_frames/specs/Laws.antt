@@ -12,8 +12,8 @@ use Rattle.ssh_grammar.specs.Laws.{KeepControl, says}
 use Rattle.proxy_frames.specs.State.{FramerState}
 use Rattle.proxy_frames.specs.Steps.{new_framer, with_written}
 use Rattle.proxy_frames.specs.Fronts.{IsPartial, IsPrefix, IsFault}
-use Rattle.proxy_frames.specs.History.{History, Represents, to_come, left, behind}
-use Rattle.proxy_frames.specs.Runs.{taken_of, cut_taken, stream_of}
+use Rattle.proxy_frames.specs.FramerHistory.{FramerHistory, FramerRepresents, to_come, left, behind}
+use Rattle.proxy_frames.specs.Runs.{taken_of, cut_taken, stream_of_pieces}
 
 -- ---- in any pieces
 
@@ -22,18 +22,18 @@ use Rattle.proxy_frames.specs.Runs.{taken_of, cut_taken, stream_of}
 abbrev pub PiecesGiveTheCut : Type 0
 PiecesGiveTheCut =
     (framing : Framing) (pieces : List (List ℕ))
-    → cut_taken (taken_of (new_framer framing) pieces) ≡ cut framing (stream_of pieces)
+    → cut_taken (taken_of (new_framer framing) pieces) ≡ cut framing (stream_of_pieces pieces)
 
 -- so two cuttings of the same bytes give the same
 abbrev pub AnyPiecesGiveTheSame : Type 0
 AnyPiecesGiveTheSame =
-    (framing : Framing) (pieces others : List (List ℕ)) → stream_of pieces ≡ stream_of others
+    (framing : Framing) (pieces others : List (List ℕ)) → stream_of_pieces pieces ≡ stream_of_pieces others
     → cut_taken (taken_of (new_framer framing) pieces)
     ≡ cut_taken (taken_of (new_framer framing) others)
 
 -- whenever frames are removed: the frames given and those to come, the rest and the fault after
 -- them
-pub record AreAlike (h i : History) (f g : FramerState) : Type 0 where
+pub record AreAlike (h i : FramerHistory) (f g : FramerState) : Type 0 where
   pub frames : h.given ++ to_come h ≡ i.given ++ to_come i
   pub rest : (cut h.framing f.rest).rest ≡ (cut i.framing g.rest).rest
   pub fault : (cut h.framing f.rest).fault ≡ (cut i.framing g.rest).fault
@@ -42,7 +42,7 @@ pub record AreAlike (h i : History) (f g : FramerState) : Type 0 where
 -- whatever frames taken between them, these are the same
 abbrev pub AnyTimeGivesTheSame : Type 0
 AnyTimeGivesTheSame =
-    (h i : History) (f g : FramerState) → Represents h f → Represents i g
+    (h i : FramerHistory) (f g : FramerState) → FramerRepresents h f → FramerRepresents i g
     → h.framing ≡ i.framing → h.bytes ≡ i.bytes → AreAlike h i f g
 
 -- ---- through a switch
@@ -50,13 +50,13 @@ AnyTimeGivesTheSame =
 -- what is left at a switch is all that follows the frames that were given
 abbrev pub NothingIsLost : Type 0
 NothingIsLost =
-    (h : History) (f : FramerState) → Represents h f → h.bytes ≡ joined h.framing h.given ++ left h
+    (h : FramerHistory) (f : FramerState) → FramerRepresents h f → h.bytes ≡ joined h.framing h.given ++ left h
 
 -- where the last control message given begins the proxy, all bytes say the messages given, and then
 -- the payloads and the fault of what is left and of what comes after the switch
 abbrev pub SwitchedIsSent : Type 0
 SwitchedIsSent =
-    (h : History) (f : FramerState) (bodies : List (List ℕ)) (last more : List ℕ) → Represents h f
+    (h : FramerHistory) (f : FramerState) (bodies : List (List ℕ)) (last more : List ℕ) → FramerRepresents h f
     → h.framing ≡ framing.Control → h.given ≡ bodies ++ last ∷ [] → KeepControl bodies
     → after_body last ≡ InProxy
     → said (h.bytes ++ more) ≡ map Body bodies
@@ -109,6 +109,6 @@ WritingChangesTheFrame =
 -- and the framer represents what it represented
 abbrev pub WritingKeepsTheHistory : Type 0
 WritingKeepsTheHistory =
-    (h : History) (f : FramerState) (content written : List ℕ) → f.current ≡ Some content
+    (h : FramerHistory) (f : FramerState) (content written : List ℕ) → f.current ≡ Some content
     → length written ≡ length content
-    → Represents h f → Represents h (with_written f written)
+    → FramerRepresents h f → FramerRepresents h (with_written f written)

@@ -21,5 +21,5 @@ with_reserved payload q =
     record { waiting = q.waiting ++ frame_payload payload; spare = q.spare - frame_length payload }
 
 -- without its first bytes
-abbrev pub without_first : ℕ → QueueState → QueueState
-without_first n q = record q { waiting = drop n q.waiting }
+abbrev pub without_first_bytes : ℕ → QueueState → QueueState
+without_first_bytes n q = record q { waiting = drop n q.waiting }

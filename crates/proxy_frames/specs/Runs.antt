@@ -21,13 +21,13 @@ taken_front go f More = record { frames = []; framer = after_front More f }
 taken_front go f (Faulty fault) = record { frames = []; framer = after_front (Faulty fault) f }
 
 -- the first number bounds how many
-abbrev pub taken_by : ℕ → FramerState → Taken
-taken_by zero f = record { frames = []; framer = f }
-taken_by (suc n) f = taken_front (taken_by n) f (front_of f)
+abbrev pub frames_taken_by : ℕ → FramerState → Taken
+frames_taken_by zero f = record { frames = []; framer = f }
+frames_taken_by (suc n) f = taken_front (frames_taken_by n) f (front_of f)
 
 -- all frames that are there
 abbrev pub taken : FramerState → Taken
-taken f = taken_by (length f.rest + 1) f
+taken f = frames_taken_by (length f.rest + 1) f
 
 -- of each piece, all frames that are there then
 abbrev pub taken_of : FramerState → List (List ℕ) → Taken
@@ -36,9 +36,9 @@ taken_of f (piece ∷ pieces) =
     and_taken (taken (pushed piece f)).frames (taken_of (taken (pushed piece f)).framer pieces)
 
 -- the bytes of all pieces
-abbrev pub stream_of : List (List ℕ) → List ℕ
-stream_of [] = []
-stream_of (piece ∷ pieces) = piece ++ stream_of pieces
+abbrev pub stream_of_pieces : List (List ℕ) → List ℕ
+stream_of_pieces [] = []
+stream_of_pieces (piece ∷ pieces) = piece ++ stream_of_pieces pieces
 
 -- the frames, the rest and the fault
 abbrev pub cut_taken : Taken → Cut

@@ -5,7 +5,7 @@ ghost use Rattle.ssh_grammar.specs.declared.fault.BadFrame.{BadFrame};
 ghost use Rattle.proxy_frames.specs.contracts.framer.Framer.{the_row};
 ghost use Rattle.proxy_frames.specs.Steps.{new_framer, pushed, switched, front_of, answer_to, after_front, with_written};
 ghost use Rattle.proxy_frames.specs.Fronts.{WantsMore, HasFault};
-ghost use Rattle.proxy_frames.specs.History.{Represents, GoesOn, IsNext, new_history, and_bytes, and_switch, and_next};
+ghost use Rattle.proxy_frames.specs.FramerHistory.{FramerRepresents, FramerGoesOn, IsNextFrame, new_history, and_bytes, and_switch, and_next};
 
 use crate::next::{Front, Next, first_frame};
 use ssh_fields::OutOfMemory;
@@ -29,20 +29,20 @@ pub struct Framer {
 
 impl Model for Framer {
     ghost use Rattle.std.specs.Prelude.{◌≤◌, length};
-    ghost use Rattle.proxy_frames.specs.State.{FramerState, kept_state, IsWithin};
+    ghost use Rattle.proxy_frames.specs.State.{FramerState, kept_state, IsFrameWithin};
 
     ghost Value = { FramerState };
 
     ghost view = { λ a. kept_state a.framing a.fault a.current a.at a.bytes.items };
 
-    ghost invariant = { λ a. IsWithin a.current a.at × (a.at ≤ length a.bytes.items) };
+    ghost invariant = { λ a. IsFrameWithin a.current a.at × (a.at ≤ length a.bytes.items) };
 }
 
 impl Framer {
     /// A framer without a byte.
     pub fn new(alloc: Global, kind: Framing) -> Framer
         ensures exact { result ≡ new_framer kind }
-        ensures stands { Represents (new_history kind) result }
+        ensures stands { FramerRepresents (new_history kind) result }
     {
         Framer {
             framing: kind,
@@ -56,7 +56,7 @@ impl Framer {
     /// More bytes of the stream. An `Err` changes nothing.
     pub fn push(&mut self, piece: &[u8]) -> Result<(), OutOfMemory>
         ensures ok { OnOk result (self.new ≡ pushed piece.now self.old) }
-        ensures stands { OnOk result (GoesOn self.old self.new (and_bytes piece.now)) }
+        ensures stands { OnOk result (FramerGoesOn self.old self.new (and_bytes piece.now)) }
         ensures unchanged { OnErr result (self.new ≡ self.old) }
     {
         self.bytes.reserve(piece.len())?;
@@ -83,8 +83,8 @@ impl Framer {
         ensures fault { (fault : BadFrame) → (result ≡ Next.Bad fault) ↔ HasFault self.old fault }
 
         // Over all that came and was given.
-        ensures given { IsNext self.old result self.new }
-        ensures stands { GoesOn self.old self.new and_next }
+        ensures given { IsNextFrame self.old result self.new }
+        ensures stands { FramerGoesOn self.old self.new and_next }
     {
         self.current = None;
         if let Some(fault) = self.fault {
@@ -107,7 +107,7 @@ impl Framer {
     /// From now on cuts so. The bytes that weren't cut yet are kept.
     pub fn switch(&mut self, kind: Framing)
         ensures exact { self.new ≡ switched kind self.old }
-        ensures stands { GoesOn self.old self.new (and_switch kind) }
+        ensures stands { FramerGoesOn self.old self.new (and_switch kind) }
     {
         self.framing = kind;
         self.current = None;

@@ -1,7 +1,7 @@
 ghost use Rattle.std.specs.Prelude.{◌≡◌, ◌≤◌, length, drop};
 ghost use Rattle.ssh_fields.specs.Fields.{AreBytes};
 ghost use Rattle.ssh_grammar.specs.Frames.{first_frame, cut_content, shortest};
-ghost use Rattle.proxy_frames.specs.Fronts.{IsFront};
+ghost use Rattle.proxy_frames.specs.Fronts.{IsFrameFront};
 
 use ssh_fields::Cursor;
 use ssh_grammar::numbers::LONGEST_FRAME;
@@ -46,7 +46,7 @@ fn least(framing: Framing) -> u32
 // So many bytes after a header, as soon as they are there.
 fn content(header: usize, size: usize, bytes: &[u8]) -> Front
     requires { header ≤ length bytes.now }
-    ensures { IsFront bytes.now result (cut_content size (drop header bytes.now)) }
+    ensures { IsFrameFront bytes.now result (cut_content size (drop header bytes.now)) }
 {
     if size <= bytes.len() - header {
         Front::Frame {
@@ -60,7 +60,7 @@ fn content(header: usize, size: usize, bytes: &[u8]) -> Front
 
 /// The front of some bytes, by their length field.
 pub fn first_frame(framing: Framing, bytes: &[u8]) -> Front
-    ensures front { IsFront bytes.now result (first_frame framing bytes.now) }
+    ensures front { IsFrameFront bytes.now result (first_frame framing bytes.now) }
     ensures bytes { AreBytes bytes.now }
 {
     let mut fields = Cursor::new(bytes);

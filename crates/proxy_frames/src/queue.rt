@@ -2,7 +2,7 @@ ghost use Rattle.std.specs.Prelude.{◌≡◌, ◌+◌, ◌≤◌, ◌++◌, ◌
 ghost use Rattle.ssh_grammar.specs.declared.framing.Framing.TheVariants.{Proxy};
 ghost use Rattle.ssh_grammar.specs.Frames.{frame_payload};
 ghost use Rattle.ssh_grammar.specs.IsFrame.{IsContent};
-ghost use Rattle.proxy_frames.specs.Queued.{empty_queue, with_bytes, frame_length, with_reserved, without_first};
+ghost use Rattle.proxy_frames.specs.Queued.{empty_queue, with_bytes, frame_length, with_reserved, without_first_bytes};
 
 use bytes::BytesMut;
 use ssh_fields::OutOfMemory;
@@ -117,7 +117,7 @@ impl Queue {
     /// So many of the first bytes were accepted.
     pub fn took(&mut self, n: usize)
         requires { n ≤ length self.old.waiting }
-        ensures { self.new ≡ without_first n self.old }
+        ensures { self.new ≡ without_first_bytes n self.old }
     {
         self.bytes.advance(n);
     }

@@ -22,15 +22,15 @@ fn mark_line(alloc: Global, mark: &Mark) -> Result<Text, OutOfMemory> {
 // Writes a mark.
 fn record_mark(line: &mut Text, alloc: Global, mark: &Mark) -> Result<(), OutOfMemory> {
     match mark {
-        Mark::Waits(waiting, want, open, listens) => {
-            record_wait(line, alloc, waiting, *want, open, *listens)
+        Mark::Waits(waiting, want, open, shown) => {
+            record_wait(line, alloc, waiting, *want, open, shown.as_shown().listens)
         }
         Mark::Accepts(stream) => record_stream(line, alloc, b"accepts", *stream),
         Mark::Gets(stream, bytes) => record_bytes(line, alloc, b"gets", *stream, bytes),
         Mark::Ends(stream) => record_stream(line, alloc, b"ends", *stream),
         Mark::Frees(stream) => record_stream(line, alloc, b"frees", *stream),
         Mark::Fails(stream) => record_stream(line, alloc, b"fails", *stream),
-        Mark::Takes(stream, bytes) => record_bytes(line, alloc, b"takes", *stream, bytes),
+        Mark::Takes(stream, bytes, _) => record_bytes(line, alloc, b"takes", *stream, bytes),
         Mark::Holds(stream) => record_stream(line, alloc, b"holds", *stream),
         Mark::WriteFails(stream) => record_stream(line, alloc, b"loses", *stream),
         Mark::Joins(listener, stream) => record_join(line, alloc, *listener, *stream),

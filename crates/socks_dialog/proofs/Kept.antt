@@ -6,7 +6,7 @@ use Rattle.std.proofs.lemmas.Bool.Decides.{leb_tells}
 use Rattle.std.proofs.lemmas.List.{append-nil, take-append-le, take-append-drop, length-take-le}
 use Rattle.ssh_fields.specs.Fields.{AreBytes}
 use Rattle.socks_dialog.specs.Socks.{Dialog, socks}
-use Rattle.socks_dialog.specs.State.{dialog_bytes, IsWithin}
+use Rattle.socks_dialog.specs.State.{dialog_bytes, AreBytesWithin}
 use Rattle.socks_dialog.specs.Laws.{followed}
 use Rattle.socks_dialog.specs.declared.outcome.Outcome.{Outcome}
 use Rattle.socks_dialog.specs.declared.outcome.Outcome.TheVariants.{Wants, Connects, Breaks}
@@ -194,13 +194,13 @@ kept_more front piece n least most bytes =
 -- what is kept of a room after a piece was put after what was kept
 pub record Behind (room room' piece : List ℕ) (len result : ℕ) : Type 0 where
   pub exact : take result room' ≡ dialog_bytes (take len room ++ piece)
-  pub kept : IsWithin result (take result room')
+  pub kept : AreBytesWithin result (take result room')
   pub grows : len ≤ result
   pub count : result ≤ len + length piece
   pub front : take result room' ≡ take len room ++ take (result - len) piece
 
 pub behind : (room room' piece : List ℕ) (len last result : ℕ) → length room ≡ 520
-    → IsWithin len (take len room) → last ≡ len + min (length piece) (length room - len)
+    → AreBytesWithin len (take len room) → last ≡ len + min (length piece) (length room - len)
     → take last room' ≡ take len room ++ take (last - len) piece → AreBytes (take last room')
     → result ≡ length (dialog_bytes (take last room')) → Behind room room' piece len result
 behind room room' piece len last result size within is front bytes count =

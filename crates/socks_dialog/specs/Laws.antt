@@ -9,8 +9,8 @@ abbrev pub followed : List ℕ → Dialog → Dialog
 followed more d = record { replies = d.replies; outcome = d.outcome; rest = d.rest ++ more }
 
 -- the outcome of a dialog stays, whatever bytes follow
-abbrev pub OutcomesStay : Type 0
-OutcomesStay = (bytes more : List ℕ) → (socks bytes).outcome ≢ Wants
+abbrev pub DialogOutcomesStay : Type 0
+DialogOutcomesStay = (bytes more : List ℕ) → (socks bytes).outcome ≢ Wants
     → socks (bytes ++ more) ≡ followed more (socks bytes)
 
 -- and the replies stay

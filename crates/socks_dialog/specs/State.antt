@@ -3,8 +3,8 @@ use Rattle.std.specs.Prelude.{◌≡◌, ℕ, ◌+◌, ◌-◌, ◌≤◌, Bool,
 use Rattle.socks_dialog.specs.Socks.{Dialog, socks}
 use Rattle.socks_dialog.specs.declared.outcome.Outcome.{Outcome}
 use Rattle.socks_dialog.specs.declared.outcome.Outcome.TheVariants.{Wants, Connects, Breaks}
-use Rattle.socks_dialog.specs.declared.step.Step.{Step}
-use Rattle.socks_dialog.specs.declared.step.Step.TheVariants as step
+use Rattle.socks_dialog.specs.declared.step.DialogStep.{DialogStep}
+use Rattle.socks_dialog.specs.declared.step.DialogStep.TheVariants as step
 
 -- the bytes of the dialog so far, and how many of its replies were given
 pub record State : Type 0 where
@@ -21,7 +21,7 @@ abbrev pub dialog_bytes : List ℕ → List ℕ
 dialog_bytes bytes = take (length bytes - length (socks bytes).rest) bytes
 
 -- as many bytes are kept as are counted, and none after the dialog
-pub record IsWithin (kept : ℕ) (bytes : List ℕ) : Type 0 where
+pub record AreBytesWithin (kept : ℕ) (bytes : List ℕ) : Type 0 where
   pub most : kept ≤ 520
   pub none : (socks bytes).rest ≡ []
 
@@ -36,13 +36,13 @@ abbrev pub pushed : List ℕ → State → State
 pushed piece d = record d { bytes = dialog_bytes (d.bytes ++ piece) }
 
 -- the outcome as a step
-abbrev pub step_to : Outcome → Step
+abbrev pub step_to : Outcome → DialogStep
 step_to Wants = step.More
 step_to (Connects host port) = step.Connect host port
 step_to (Breaks reply) = step.Bad reply
 
 -- the first reply that wasn't given, and after the last one the outcome
-abbrev pub step_in : List (List ℕ) → Outcome → Step
+abbrev pub step_in : List (List ℕ) → Outcome → DialogStep
 step_in (reply ∷ more) outcome = step.Reply reply
 step_in [] outcome = step_to outcome
 
@@ -55,7 +55,7 @@ gives_in [] = 0
 abbrev pub to_give : ℕ → Dialog → List (List ℕ)
 to_give given d = drop given d.replies
 
-abbrev pub step_of : State → Step
+abbrev pub step_of : State → DialogStep
 step_of d = step_in (to_give d.given (socks d.bytes)) (socks d.bytes).outcome
 
 abbrev pub stepped : State → State
@@ -71,7 +71,7 @@ abbrev pub HasConnect : State → Type 0
 HasConnect d = IsConnect (socks d.bytes).outcome
 
 -- a step gives it
-abbrev pub GivesConnect : Step → Type 0
+abbrev pub GivesConnect : DialogStep → Type 0
 GivesConnect (step.Connect host port) = Unit {0}
 GivesConnect step.More = ⊥
 GivesConnect (step.Reply reply) = ⊥
@@ -84,42 +84,42 @@ version_of d = slice_index d.bytes 0
 -- ---- over all that came
 
 -- all bytes of the client, what follows the dialog too, and the replies that were given
-pub record History : Type 0 where
+pub record DialogHistory : Type 0 where
   pub bytes : List ℕ
   pub given : List (List ℕ)
 
-abbrev pub new_history : History
-new_history = record { bytes = []; given = [] }
+abbrev pub new_dialog_history : DialogHistory
+new_dialog_history = record { bytes = []; given = [] }
 
 -- more bytes came
-abbrev pub and_bytes : List ℕ → History → History
-and_bytes piece h = record h { bytes = h.bytes ++ piece }
+abbrev pub and_dialog_bytes : List ℕ → DialogHistory → DialogHistory
+and_dialog_bytes piece h = record h { bytes = h.bytes ++ piece }
 
 -- what comes next: the first reply that wasn't given, and after the last one the outcome
-abbrev pub next_of : History → Step
+abbrev pub next_of : DialogHistory → DialogStep
 next_of h = step_in (to_give (length h.given) (socks h.bytes)) (socks h.bytes).outcome
 
 -- a reply was given by this step, or none
-abbrev pub and_step : Step → History → History
+abbrev pub and_step : DialogStep → DialogHistory → DialogHistory
 and_step (step.Reply reply) h = record h { given = h.given ++ reply ∷ [] }
 and_step _ h = h
 
 -- the dialog is that of all bytes, and the replies given are its first ones
-pub record Represents (h : History) (d : State) : Type 0 where
+pub record DialogRepresents (h : DialogHistory) (d : State) : Type 0 where
   pub bytes : d.bytes ≡ dialog_bytes h.bytes
   pub given : h.given ≡ take d.given (socks h.bytes).replies
   pub some : d.given ≤ length (socks h.bytes).replies
 
 -- of each history that it represented before a call, it represents afterwards what that became
-abbrev pub GoesOn : State → State → (History → History) → Type 0
-GoesOn old new event = (h : History) → Represents h old → Represents (event h) new
+abbrev pub DialogGoesOn : State → State → (DialogHistory → DialogHistory) → Type 0
+DialogGoesOn old new event = (h : DialogHistory) → DialogRepresents h old → DialogRepresents (event h) new
 
 -- of each history that it represented, this is what comes next
-abbrev pub IsNext : State → Step → Type 0
-IsNext old answer = (h : History) → Represents h old → answer ≡ next_of h
+abbrev pub IsNextStep : State → DialogStep → Type 0
+IsNextStep old answer = (h : DialogHistory) → DialogRepresents h old → answer ≡ next_of h
 
 -- of each history that it represented, what follows the dialog is what followed it, and then these
 -- bytes but for so many
 abbrev pub RestIs : State → List ℕ → ℕ → Type 0
-RestIs old piece taken = (h : History) → Represents h old
+RestIs old piece taken = (h : DialogHistory) → DialogRepresents h old
     → (socks (h.bytes ++ piece)).rest ≡ (socks h.bytes).rest ++ drop taken piece

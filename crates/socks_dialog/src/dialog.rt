@@ -1,12 +1,12 @@
 ghost use Rattle.std.specs.Prelude.{◌≡◌, ◌+◌, ◌-◌, ◌≤◌, ◌++◌, length, min, take};
 ghost use Rattle.ssh_fields.specs.Fields.{AreBytes};
 ghost use Rattle.socks_dialog.specs.Replies.{granted_to, refused_to};
-ghost use Rattle.socks_dialog.specs.State.{dialog_bytes, IsWithin, new_dialog, pushed, step_of, stepped, HasConnect, GivesConnect, version_of, new_history, Represents, GoesOn, and_bytes, and_step, IsNext, RestIs};
+ghost use Rattle.socks_dialog.specs.State.{dialog_bytes, AreBytesWithin, new_dialog, pushed, step_of, stepped, HasConnect, GivesConnect, version_of, new_dialog_history, DialogRepresents, DialogGoesOn, and_dialog_bytes, and_step, IsNextStep, RestIs};
 
 use crate::outcome::Outcome;
 use crate::read::read;
 use crate::replies::{granted_in, method_taken, refused_in};
-use crate::step::Step;
+use crate::step::DialogStep;
 use ssh_fields::Small;
 use std::marker::Model;
 
@@ -25,13 +25,13 @@ pub struct Dialog {
 
 impl Model for Dialog {
     ghost use Rattle.std.specs.Prelude.{◌≤◌, take};
-    ghost use Rattle.socks_dialog.specs.State.{State, count_given, IsWithin};
+    ghost use Rattle.socks_dialog.specs.State.{State, count_given, AreBytesWithin};
 
     ghost Value = { State };
 
     ghost view = { λ d. record { bytes = take d.kept d.bytes; given = count_given d.replied } };
 
-    ghost invariant = { λ d. IsWithin d.kept (take d.kept d.bytes) };
+    ghost invariant = { λ d. AreBytesWithin d.kept (take d.kept d.bytes) };
 }
 
 // Writes as many bytes as there is room for from a place on: where they end.
@@ -57,9 +57,9 @@ fn count_in_dialog(bytes: &[u8]) -> usize
 // Writes more bytes after those of a dialog: how many of all are the dialog's.
 fn put_behind(room: &mut [u8], kept: usize, bytes: &[u8]) -> usize
     requires room { length room.old ≡ LONGEST_DIALOG }
-    requires within { IsWithin kept (take kept room.old) }
+    requires within { AreBytesWithin kept (take kept room.old) }
     ensures exact { take result room.new ≡ dialog_bytes (take kept room.old ++ bytes.now) }
-    ensures within { IsWithin result (take result room.new) }
+    ensures within { AreBytesWithin result (take result room.new) }
     ensures grows { kept ≤ result }
     ensures count { result ≤ kept + length bytes.now }
     ensures front { take result room.new ≡ take kept room.old ++ take (result - kept) bytes.now }
@@ -72,7 +72,7 @@ impl Dialog {
     /// A dialog of which no byte came.
     pub fn new() -> Dialog
         ensures exact { result ≡ new_dialog }
-        ensures stands { Represents new_history result }
+        ensures stands { DialogRepresents new_dialog_history result }
     {
         Dialog {
             bytes: [0; LONGEST_DIALOG],
@@ -98,7 +98,7 @@ impl Dialog {
         ensures exact { self.new ≡ pushed bytes.now self.old }
         ensures front { self.new.bytes ≡ self.old.bytes ++ take result bytes.now }
         ensures within { result ≤ length bytes.now }
-        ensures stands { GoesOn self.old self.new (and_bytes bytes.now) }
+        ensures stands { DialogGoesOn self.old self.new (and_dialog_bytes bytes.now) }
         ensures rest { RestIs self.old bytes.now result }
         ensures connect { HasConnect self.old → HasConnect self.new }
     {
@@ -106,28 +106,28 @@ impl Dialog {
     }
 
     // The next step, by the dialog's bytes.
-    fn next(&mut self) -> Step
+    fn next(&mut self) -> DialogStep
         ensures exact { result ≡ step_of self.old }
         ensures given { self.new ≡ stepped self.old }
     {
         let reading = read(&self.bytes[..self.kept]);
         if reading.chosen && !self.replied {
             self.replied = true;
-            return Step::Reply(method_taken());
+            return DialogStep::Reply(method_taken());
         }
         match reading.outcome {
-            Outcome::Wants => Step::More,
-            Outcome::Connects { host, port } => Step::Connect { host, port },
-            Outcome::Breaks(reply) => Step::Bad(reply),
+            Outcome::Wants => DialogStep::More,
+            Outcome::Connects { host, port } => DialogStep::Connect { host, port },
+            Outcome::Breaks(reply) => DialogStep::Bad(reply),
         }
     }
 
     /// What the dialog does next. Each reply is given once.
-    pub fn step(&mut self) -> Step
+    pub fn step(&mut self) -> DialogStep
         ensures exact { result ≡ step_of self.old }
         ensures given { self.new ≡ stepped self.old }
-        ensures next { IsNext self.old result }
-        ensures stands { GoesOn self.old self.new (and_step result) }
+        ensures next { IsNextStep self.old result }
+        ensures stands { DialogGoesOn self.old self.new (and_step result) }
         ensures connect { GivesConnect result → HasConnect self.new }
     {
         self.next()

@@ -17,4 +17,4 @@ mod text;
 
 pub use dialog::{Dialog, LONGEST_DIALOG};
 pub use replies::{granted_in, refused_in};
-pub use step::Step;
+pub use step::DialogStep;

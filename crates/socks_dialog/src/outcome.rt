@@ -1,6 +1,6 @@
 //! What the bytes of a dialog are read as.
 ghost use Rattle.socks_dialog.specs.Socks.{wants, connects, breaks};
-ghost use Rattle.socks_dialog.specs.Reads.{IsPlain};
+ghost use Rattle.socks_dialog.specs.Reads.{IsPlainDialog};
 
 use ssh_fields::Small;
 
@@ -17,7 +17,7 @@ pub enum Outcome {
 
 /// What the bytes of a dialog are read as.
 #[derive(Drop)]
-pub struct Reading {
+pub struct DialogReading {
     /// Whether the client offered the method that is chosen, which is answered first.
     pub chosen: bool,
     pub outcome: Outcome,
@@ -26,10 +26,10 @@ pub struct Reading {
 }
 
 /// More bytes are wanted.
-pub fn wants_more() -> Reading
-    ensures { IsPlain result wants }
+pub fn wants_more() -> DialogReading
+    ensures { IsPlainDialog result wants }
 {
-    Reading {
+    DialogReading {
         chosen: false,
         outcome: Outcome::Wants,
         rest: 0,
@@ -37,10 +37,10 @@ pub fn wants_more() -> Reading
 }
 
 /// A connection is asked for.
-pub fn asks_for(host: Small, port: u16, rest: &[u8]) -> Reading
-    ensures { IsPlain result (connects host port rest.now) }
+pub fn asks_for(host: Small, port: u16, rest: &[u8]) -> DialogReading
+    ensures { IsPlainDialog result (connects host port rest.now) }
 {
-    Reading {
+    DialogReading {
         chosen: false,
         outcome: Outcome::Connects { host, port },
         rest: rest.len(),
@@ -48,10 +48,10 @@ pub fn asks_for(host: Small, port: u16, rest: &[u8]) -> Reading
 }
 
 /// A fault, which is answered so.
-pub fn ends_with(reply: Small, rest: &[u8]) -> Reading
-    ensures { IsPlain result (breaks reply rest.now) }
+pub fn ends_with(reply: Small, rest: &[u8]) -> DialogReading
+    ensures { IsPlainDialog result (breaks reply rest.now) }
 {
-    Reading {
+    DialogReading {
         chosen: false,
         outcome: Outcome::Breaks(reply),
         rest: rest.len(),

@@ -3,12 +3,12 @@ ghost use Rattle.socks_dialog.specs.Socks.{socks};
 ghost use Rattle.socks_dialog.specs.Reads.{IsReading};
 
 use crate::numbers::{VERSION_4, VERSION_5};
-use crate::outcome::{Reading, ends_with, wants_more};
+use crate::outcome::{DialogReading, ends_with, wants_more};
 use crate::{socks4, socks5};
 use ssh_fields::Small;
 
 /// A dialog, by all bytes of its client.
-pub fn read(bytes: &[u8]) -> Reading
+pub fn read(bytes: &[u8]) -> DialogReading
     ensures { IsReading result (socks bytes.now) }
 {
     match bytes {

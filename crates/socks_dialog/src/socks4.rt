@@ -1,23 +1,23 @@
 //! A request of SOCKS 4 or 4a, from its command on.
 ghost use Rattle.std.specs.Prelude.{◌≡◌, length};
 ghost use Rattle.socks_dialog.specs.Socks.{on, is_for_name, take_text, take_port, name4, user4, address4, socks4};
-ghost use Rattle.socks_dialog.specs.Reads.{IsPlain};
+ghost use Rattle.socks_dialog.specs.Reads.{IsPlainDialog};
 
 use crate::hosts::dotted_decimal;
 use crate::numbers::{CONNECT, REJECTED};
-use crate::outcome::{Reading, asks_for, ends_with, wants_more};
+use crate::outcome::{DialogReading, asks_for, ends_with, wants_more};
 use crate::replies::reply_of_4;
-use crate::text::{Text, text_of};
+use crate::text::{DialogText, text_of};
 use ssh_fields::Small;
 
 // The host's name, which ends the request.
-fn read_name(port: u16, bytes: &[u8]) -> Reading
-    ensures { IsPlain result (on (take_text bytes.now) (name4 port)) }
+fn read_name(port: u16, bytes: &[u8]) -> DialogReading
+    ensures { IsPlainDialog result (on (take_text bytes.now) (name4 port)) }
 {
     match text_of(bytes) {
-        Text::Open => wants_more(),
-        Text::TooLong { rest } => ends_with(reply_of_4(REJECTED), rest),
-        Text::Whole { text, rest } => {
+        DialogText::Open => wants_more(),
+        DialogText::TooLong { rest } => ends_with(reply_of_4(REJECTED), rest),
+        DialogText::Whole { text, rest } => {
             if text.is_empty() {
                 ends_with(reply_of_4(REJECTED), rest)
             } else {
@@ -38,14 +38,14 @@ fn represents_name(address: &[u8]) -> bool
 }
 
 // The user, and then the end of the request or a name.
-fn read_user(port: u16, address: &[u8], bytes: &[u8]) -> Reading
+fn read_user(port: u16, address: &[u8], bytes: &[u8]) -> DialogReading
     requires { length address.now ≡ 4 }
-    ensures { IsPlain result (on (take_text bytes.now) (user4 port address.now)) }
+    ensures { IsPlainDialog result (on (take_text bytes.now) (user4 port address.now)) }
 {
     match text_of(bytes) {
-        Text::Open => wants_more(),
-        Text::TooLong { rest } => ends_with(reply_of_4(REJECTED), rest),
-        Text::Whole { rest, .. } => {
+        DialogText::Open => wants_more(),
+        DialogText::TooLong { rest } => ends_with(reply_of_4(REJECTED), rest),
+        DialogText::Whole { rest, .. } => {
             if represents_name(address) {
                 read_name(port, rest)
             } else {
@@ -56,8 +56,8 @@ fn read_user(port: u16, address: &[u8], bytes: &[u8]) -> Reading
 }
 
 // A port and an address, and what follows them.
-fn read_port(bytes: &[u8]) -> Reading
-    ensures { IsPlain result (on (take_port bytes.now) address4) }
+fn read_port(bytes: &[u8]) -> DialogReading
+    ensures { IsPlainDialog result (on (take_port bytes.now) address4) }
 {
     match bytes {
         [high, low, rest @ ..] => {
@@ -72,8 +72,8 @@ fn read_port(bytes: &[u8]) -> Reading
 }
 
 /// The request, from its command on.
-pub fn read_command(bytes: &[u8]) -> Reading
-    ensures { IsPlain result (socks4 bytes.now) }
+pub fn read_command(bytes: &[u8]) -> DialogReading
+    ensures { IsPlainDialog result (socks4 bytes.now) }
 {
     match bytes {
         [] => wants_more(),

@@ -4,20 +4,20 @@ ghost use Rattle.std.specs.List.{list_any};
 ghost use Rattle.ssh_fields.specs.Fields.{take_u8, split_at};
 ghost use Rattle.socks_dialog.specs.Hosts.{dotted, grouped};
 ghost use Rattle.socks_dialog.specs.Socks.{on, end5, name5, address5, reserved5, command5, request5, methods5, socks5};
-ghost use Rattle.socks_dialog.specs.Reads.{IsReading, IsPlain};
+ghost use Rattle.socks_dialog.specs.Reads.{IsReading, IsPlainDialog};
 
 use crate::hosts::{dotted_decimal, eight_groups};
 use crate::numbers::{
     ADDRESS_TYPE_NOT_SUPPORTED, COMMAND_NOT_SUPPORTED, CONNECT, DOMAIN_NAME, GENERAL_FAILURE, IPV4,
     IPV6, NO_AUTHENTICATION, RESERVED, VERSION_5,
 };
-use crate::outcome::{Reading, asks_for, ends_with, wants_more};
+use crate::outcome::{DialogReading, asks_for, ends_with, wants_more};
 use crate::replies::{no_method_taken, reply_of_5};
 use ssh_fields::Small;
 
 // The port, which ends the request.
-fn read_port(host: Small, bytes: &[u8]) -> Reading
-    ensures { IsPlain result (end5 host bytes.now) }
+fn read_port(host: Small, bytes: &[u8]) -> DialogReading
+    ensures { IsPlainDialog result (end5 host bytes.now) }
 {
     match bytes {
         [high, low, rest @ ..] => asks_for(host, u16::from_be_bytes([*high, *low]), rest),
@@ -26,8 +26,8 @@ fn read_port(host: Small, bytes: &[u8]) -> Reading
 }
 
 // An IPv4 address, and the port.
-fn read_ipv4(bytes: &[u8]) -> Reading
-    ensures { IsPlain result (on (split_at 4 bytes.now) (λ address. end5 (dotted address))) }
+fn read_ipv4(bytes: &[u8]) -> DialogReading
+    ensures { IsPlainDialog result (on (split_at 4 bytes.now) (λ address. end5 (dotted address))) }
 {
     if bytes.len() < 4 {
         return wants_more();
@@ -37,8 +37,8 @@ fn read_ipv4(bytes: &[u8]) -> Reading
 }
 
 // A name, which isn't empty, and the port.
-fn read_name(bytes: &[u8]) -> Reading
-    ensures { IsPlain result (on (take_u8 bytes.now) name5) }
+fn read_name(bytes: &[u8]) -> DialogReading
+    ensures { IsPlainDialog result (on (take_u8 bytes.now) name5) }
 {
     match bytes {
         [] => wants_more(),
@@ -55,8 +55,8 @@ fn read_name(bytes: &[u8]) -> Reading
 }
 
 // An IPv6 address, and the port.
-fn read_ipv6(bytes: &[u8]) -> Reading
-    ensures { IsPlain result (on (split_at 16 bytes.now) (λ address. end5 (grouped address))) }
+fn read_ipv6(bytes: &[u8]) -> DialogReading
+    ensures { IsPlainDialog result (on (split_at 16 bytes.now) (λ address. end5 (grouped address))) }
 {
     if bytes.len() < 16 {
         return wants_more();
@@ -66,8 +66,8 @@ fn read_ipv6(bytes: &[u8]) -> Reading
 }
 
 // The type of the address, and the address.
-fn read_address(bytes: &[u8]) -> Reading
-    ensures { IsPlain result (on (take_u8 bytes.now) address5) }
+fn read_address(bytes: &[u8]) -> DialogReading
+    ensures { IsPlainDialog result (on (take_u8 bytes.now) address5) }
 {
     match bytes {
         [] => wants_more(),
@@ -79,8 +79,8 @@ fn read_address(bytes: &[u8]) -> Reading
 }
 
 // The reserved byte, and the address.
-fn read_reserved(bytes: &[u8]) -> Reading
-    ensures { IsPlain result (on (take_u8 bytes.now) reserved5) }
+fn read_reserved(bytes: &[u8]) -> DialogReading
+    ensures { IsPlainDialog result (on (take_u8 bytes.now) reserved5) }
 {
     match bytes {
         [] => wants_more(),
@@ -90,8 +90,8 @@ fn read_reserved(bytes: &[u8]) -> Reading
 }
 
 // The command, and what follows it.
-fn read_command(bytes: &[u8]) -> Reading
-    ensures { IsPlain result (on (take_u8 bytes.now) command5) }
+fn read_command(bytes: &[u8]) -> DialogReading
+    ensures { IsPlainDialog result (on (take_u8 bytes.now) command5) }
 {
     match bytes {
         [] => wants_more(),
@@ -101,8 +101,8 @@ fn read_command(bytes: &[u8]) -> Reading
 }
 
 // The request.
-fn read_request(bytes: &[u8]) -> Reading
-    ensures { IsPlain result (on (take_u8 bytes.now) request5) }
+fn read_request(bytes: &[u8]) -> DialogReading
+    ensures { IsPlainDialog result (on (take_u8 bytes.now) request5) }
 {
     match bytes {
         [] => wants_more(),
@@ -119,12 +119,12 @@ fn needs_none(methods: &[u8]) -> bool
 }
 
 // The request after these methods, if one of them is chosen.
-fn read_offer(methods: &[u8], rest: &[u8]) -> Reading
+fn read_offer(methods: &[u8], rest: &[u8]) -> DialogReading
     ensures { IsReading result (methods5 methods.now rest.now) }
 {
     if needs_none(methods) {
         let request = read_request(rest);
-        Reading {
+        DialogReading {
             chosen: true,
             outcome: request.outcome,
             rest: request.rest,
@@ -135,7 +135,7 @@ fn read_offer(methods: &[u8], rest: &[u8]) -> Reading
 }
 
 /// The dialog, from the count of methods on.
-pub fn read_methods(bytes: &[u8]) -> Reading
+pub fn read_methods(bytes: &[u8]) -> DialogReading
     ensures { IsReading result (socks5 bytes.now) }
 {
     match bytes {

@@ -2,7 +2,7 @@ use ssh_fields::Small;
 
 /// What a dialog does next.
 #[derive(Drop)]
-pub enum Step {
+pub enum DialogStep {
     /// It waits for more bytes.
     More,
     /// This is to be written, and the dialog goes on.

@@ -8,7 +8,7 @@ const LONGEST_TEXT: usize = 256;
 
 /// A text that ends at a zero byte, as far as its bytes are there.
 #[derive(Clone, Copy)]
-pub enum Text<'a> {
+pub enum DialogText<'a> {
     Whole { text: &'a [u8], rest: &'a [u8] },
     Open,
     TooLong { rest: &'a [u8] },
@@ -22,16 +22,16 @@ fn first_zero(bytes: &[u8]) -> Option<usize>
 }
 
 /// The text at the front of some bytes.
-pub fn text_of(bytes: &[u8]) -> Text<'_>
+pub fn text_of(bytes: &[u8]) -> DialogText<'_>
     ensures { IsText result bytes.now }
 {
     match first_zero(&bytes[..LONGEST_TEXT.min(bytes.len())]) {
-        Some(n) => Text::Whole {
+        Some(n) => DialogText::Whole {
             text: &bytes[..n],
             rest: &bytes[n + 1..],
         },
-        None if bytes.len() < LONGEST_TEXT => Text::Open,
-        None => Text::TooLong {
+        None if bytes.len() < LONGEST_TEXT => DialogText::Open,
+        None => DialogText::TooLong {
             rest: &bytes[LONGEST_TEXT..],
         },
     }

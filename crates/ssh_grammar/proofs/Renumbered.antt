@@ -7,9 +7,9 @@ use Rattle.ssh_fields.proofs.Fields.{of_four-u32}
 use Rattle.ssh_grammar.specs.declared.fault.Bad.{Bad}
 use Rattle.ssh_grammar.specs.Messages.{Transport, GlobalRequest, RequestSuccess, RequestFailure, Open, Confirmation, OpenFailure, Adjust, Data, Extended, Eof, Close, Request, Success, Failure, Message, Plain, To}
 use Rattle.ssh_grammar.specs.ReadMessage.{read_message}
-use Rattle.ssh_grammar.specs.SpellMessage.{spell, spell_with, fields_of, number_of, flag_of, wants, recipient_of, sender_of, recipient_place, sender_place, in_payload, with_number, with_recipient, with_sender, sender_at}
+use Rattle.ssh_grammar.specs.SpellMessage.{spell, spell_with, fields_of, number_of, flag_byte_of, wants, recipient_of, sender_of, recipient_place, sender_place, in_payload, payload_with_number, with_recipient, with_sender, sender_at}
 use Rattle.ssh_grammar.specs.IsMessage.{IsMessage, Spells}
-use Rattle.ssh_grammar.specs.Renumber.{to_recipient, to_sender, Stands}
+use Rattle.ssh_grammar.specs.Renumber.{to_recipient, to_sender, NumberStandsAt}
 use Rattle.ssh_grammar.proofs.MessageReads.{reads_is_spelled}
 use Rattle.ssh_grammar.proofs.MessageSpelled.{spelled_reads}
 
@@ -27,11 +27,11 @@ fits-between front tail n at len = omega (arith, length-append front (u32 n ++ t
 
 -- ---- where the numbers stand
 
-recipient_stands : (m : Message) (flag : ℕ) → IsMessage m → Stands (recipient_of m) (recipient_place m) (spell_with flag m)
+recipient_stands : (m : Message) (flag : ℕ) → IsMessage m → NumberStandsAt (recipient_of m) (recipient_place m) (spell_with flag m)
 recipient_stands (Plain m) flag is = tt
 recipient_stands (To recipient m) flag is = (fits-between (number_of m ∷ []) (fields_of flag m) recipient 1 refl, u32_at-between (number_of m ∷ []) (fields_of flag m) recipient 1 refl is.0)
 
-sender_stands : (m : Message) (flag : ℕ) → IsMessage m → Stands (sender_of m) (sender_place m) (spell_with flag m)
+sender_stands : (m : Message) (flag : ℕ) → IsMessage m → NumberStandsAt (sender_of m) (sender_place m) (spell_with flag m)
 sender_stands (Plain (Transport n rest)) flag is = tt
 sender_stands (Plain (GlobalRequest name want rest what)) flag is = tt
 sender_stands (Plain (RequestSuccess rest)) flag is = tt
@@ -58,13 +58,13 @@ by_spelling Q p h go = by_case (read_message p) refl (reads_is_spelled p h)
     by_case (Ok m) e is = go m e is
     by_case (Err x) e is = tt
 
-pub numbers_stand : (p : List ℕ) → AreBytes p → IfOk (read_message p) (λ m. Stands (recipient_of m) (recipient_place m) p × Stands (sender_of m) (sender_place m) p)
-numbers_stand p h = by_spelling (λ m. Stands (recipient_of m) (recipient_place m) p × Stands (sender_of m) (sender_place m) p) p h (λ m e is.
-    (subst (Stands (recipient_of m) (recipient_place m)) (sym is.spelled) (recipient_stands m is.flag is.is_message), subst (Stands (sender_of m) (sender_place m)) (sym is.spelled) (sender_stands m is.flag is.is_message)))
+pub numbers_stand : (p : List ℕ) → AreBytes p → IfOk (read_message p) (λ m. NumberStandsAt (recipient_of m) (recipient_place m) p × NumberStandsAt (sender_of m) (sender_place m) p)
+numbers_stand p h = by_spelling (λ m. NumberStandsAt (recipient_of m) (recipient_place m) p × NumberStandsAt (sender_of m) (sender_place m) p) p h (λ m e is.
+    (subst (NumberStandsAt (recipient_of m) (recipient_place m)) (sym is.spelled) (recipient_stands m is.flag is.is_message), subst (NumberStandsAt (sender_of m) (sender_place m)) (sym is.spelled) (sender_stands m is.flag is.is_message)))
 
 -- ---- replaced numbers
 
-recipient_spells : (m : Message) (flag n : ℕ) → n < 2 ^ 32 → IsMessage m → is_true flag ≡ wants m → Spells (to_recipient n m) (with_number (spell_with flag m) (recipient_place m) n)
+recipient_spells : (m : Message) (flag n : ℕ) → n < 2 ^ 32 → IsMessage m → is_true flag ≡ wants m → Spells (to_recipient n m) (payload_with_number (spell_with flag m) (recipient_place m) n)
 recipient_spells (Plain m) flag n fits is same = record { is_message = is; flag = flag; boolean = same; spelled = refl }
 recipient_spells (To recipient m) flag n fits is same = record { is_message = (fits, is.1); flag = flag; boolean = same; spelled = with_u32-between (number_of m ∷ []) (fields_of flag m) recipient 1 n refl }
 
@@ -72,7 +72,7 @@ recipient_spells (To recipient m) flag n fits is same = record { is_message = (f
 same_spells : (m : Message) (flag : ℕ) → IsMessage m → is_true flag ≡ wants m → Spells m (spell_with flag m)
 same_spells m flag is same = record { is_message = is; flag = flag; boolean = same; spelled = refl }
 
-sender_spells : (m : Message) (flag n : ℕ) → n < 2 ^ 32 → IsMessage m → is_true flag ≡ wants m → Spells (to_sender n m) (with_number (spell_with flag m) (sender_place m) n)
+sender_spells : (m : Message) (flag n : ℕ) → n < 2 ^ 32 → IsMessage m → is_true flag ≡ wants m → Spells (to_sender n m) (payload_with_number (spell_with flag m) (sender_place m) n)
 sender_spells (Plain (Transport k rest)) flag n fits is same = same_spells (Plain (Transport k rest)) flag is same
 sender_spells (Plain (GlobalRequest name want rest what)) flag n fits is same = same_spells (Plain (GlobalRequest name want rest what)) flag is same
 sender_spells (Plain (RequestSuccess rest)) flag n fits is same = same_spells (Plain (RequestSuccess rest)) flag is same
@@ -105,31 +105,31 @@ place f p m e = ap (λ (r : Result Message Bad). elim r as (λ _. Option ℕ) [ 
 
 pub recipient_is_replaced : (p : List ℕ) (n : ℕ) → AreBytes p → n < 2 ^ 32 → IfOk (read_message p) (λ m. read_message (with_recipient p n) ≡ Ok (to_recipient n m))
 recipient_is_replaced p n h fits = by_spelling (λ m. read_message (with_recipient p n) ≡ Ok (to_recipient n m)) p h (λ m e is.
-    ap (λ at. read_message (with_number p at n)) (place recipient_place p m e)
-    ∙ (ap (λ x. read_message (with_number x (recipient_place m) n)) is.spelled
+    ap (λ at. read_message (payload_with_number p at n)) (place recipient_place p m e)
+    ∙ (ap (λ x. read_message (payload_with_number x (recipient_place m) n)) is.spelled
     ∙ spelled_reads (to_recipient n m) _ (recipient_spells m is.flag n fits is.is_message is.boolean)))
 
 pub sender_is_replaced : (p : List ℕ) (n : ℕ) → AreBytes p → n < 2 ^ 32 → IfOk (read_message p) (λ m. read_message (with_sender p n) ≡ Ok (to_sender n m))
 sender_is_replaced p n h fits = by_spelling (λ m. read_message (with_sender p n) ≡ Ok (to_sender n m)) p h (λ m e is.
-    ap (λ at. read_message (with_number p at n)) (place sender_place p m e)
-    ∙ (ap (λ x. read_message (with_number x (sender_place m) n)) is.spelled
+    ap (λ at. read_message (payload_with_number p at n)) (place sender_place p m e)
+    ∙ (ap (λ x. read_message (payload_with_number x (sender_place m) n)) is.spelled
     ∙ spelled_reads (to_sender n m) _ (sender_spells m is.flag n fits is.is_message is.boolean)))
 
 -- ---- one payload, one message
 
-flag_is : (want : Bool) → is_true (flag_of want) ≡ want
+flag_is : (want : Bool) → is_true (flag_byte_of want) ≡ want
 flag_is true = refl
 flag_is false = refl
 
 pub no_payload_for_two : (a b : Message) → IsMessage a → IsMessage b → spell a ≡ spell b → a ≡ b
 no_payload_for_two a b is_a is_b e =
-    let left : read_message (spell a) ≡ Ok a = spelled_reads a (spell a) (record { is_message = is_a; flag = flag_of (wants a); boolean = flag_is (wants a); spelled = refl }) in
-    let right : read_message (spell a) ≡ Ok b = spelled_reads b (spell a) (record { is_message = is_b; flag = flag_of (wants b); boolean = flag_is (wants b); spelled = e }) in
+    let left : read_message (spell a) ≡ Ok a = spelled_reads a (spell a) (record { is_message = is_a; flag = flag_byte_of (wants a); boolean = flag_is (wants a); spelled = refl }) in
+    let right : read_message (spell a) ≡ Ok b = spelled_reads b (spell a) (record { is_message = is_b; flag = flag_byte_of (wants b); boolean = flag_is (wants b); spelled = e }) in
     let both : Ok a ≡ Ok b = sym left ∙ right in
     cc
 
 -- a place that a payload shows is within it
-within : (n at : Option ℕ) (p : List ℕ) → Stands n at p → IfSome at (λ at. at + 4 ≤ length p)
+within : (n at : Option ℕ) (p : List ℕ) → NumberStandsAt n at p → IfSome at (λ at. at + 4 ≤ length p)
 within None None p is = tt
 within (Some n) (Some at) p is = is.0
 within None (Some at) p is = absurd is

@@ -9,7 +9,7 @@ use Rattle.ssh_grammar.specs.Messages.{Message}
 use Rattle.ssh_grammar.specs.ReadMessage.{read_message}
 use Rattle.ssh_grammar.specs.SpellMessage.{spell, recipient_of, sender_of, recipient_place, sender_place, with_recipient, with_sender}
 use Rattle.ssh_grammar.specs.IsMessage.{IsMessage, Spells}
-use Rattle.ssh_grammar.specs.Renumber.{to_recipient, to_sender, Stands}
+use Rattle.ssh_grammar.specs.Renumber.{to_recipient, to_sender, NumberStandsAt}
 use Rattle.ssh_grammar.specs.Control.{Control, Answer}
 use Rattle.ssh_grammar.specs.ReadControl.{read_control}
 use Rattle.ssh_grammar.specs.SpellControl.{spell_control, spell_answer}
@@ -37,8 +37,8 @@ NoPayloadForTwo = (a b : Message) → IsMessage a → IsMessage b → spell a �
 abbrev pub NumbersStand : Type 0
 NumbersStand =
     (p : List ℕ) → AreBytes p
-    → IfOk (read_message p) (λ m. Stands (recipient_of m) (recipient_place m) p
-    × Stands (sender_of m) (sender_place m) p)
+    → IfOk (read_message p) (λ m. NumberStandsAt (recipient_of m) (recipient_place m) p
+    × NumberStandsAt (sender_of m) (sender_place m) p)
 
 -- with one number replaced in place, a payload reads as the same message but for that number
 abbrev pub RecipientIsReplaced : Type 0

@@ -16,8 +16,8 @@ to_sender n (To recipient (Confirmation sender window maximum rest)) =
 to_sender n m = m
 
 -- the number stands at the place; a message without the number has no place
-abbrev pub Stands : Option ℕ → Option ℕ → List ℕ → Type 0
-Stands None None p = Unit {0}
-Stands (Some n) (Some at) p = (at + 4 ≤ length p) × (u32_at at p ≡ n)
-Stands None (Some at) p = ⊥
-Stands (Some n) None p = ⊥
+abbrev pub NumberStandsAt : Option ℕ → Option ℕ → List ℕ → Type 0
+NumberStandsAt None None p = Unit {0}
+NumberStandsAt (Some n) (Some at) p = (at + 4 ≤ length p) × (u32_at at p ≡ n)
+NumberStandsAt None (Some at) p = ⊥
+NumberStandsAt (Some n) None p = ⊥

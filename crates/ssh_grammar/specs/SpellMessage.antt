@@ -58,13 +58,13 @@ wants (To recipient (Request kind want rest)) = want
 wants _ = false
 
 -- the byte that a writer gives
-abbrev pub flag_of : Bool → ℕ
-flag_of true = 1
-flag_of false = 0
+abbrev pub flag_byte_of : Bool → ℕ
+flag_byte_of true = 1
+flag_byte_of false = 0
 
 -- the payload that a writer gives
 abbrev pub spell : Message → List ℕ
-spell m = spell_with (flag_of (wants m)) m
+spell m = spell_with (flag_byte_of (wants m)) m
 
 -- ---- the channel numbers in a message
 
@@ -104,17 +104,17 @@ abbrev pub sender_at : List ℕ → Option ℕ
 sender_at p = in_payload sender_place p
 
 -- a payload with the number at a place replaced, where there is such a place
-abbrev pub with_number : List ℕ → Option ℕ → ℕ → List ℕ
-with_number p None n = p
-with_number p (Some at) n = with_u32 p at n
+abbrev pub payload_with_number : List ℕ → Option ℕ → ℕ → List ℕ
+payload_with_number p None n = p
+payload_with_number p (Some at) n = with_u32 p at n
 
 -- with another recipient
 abbrev pub with_recipient : List ℕ → ℕ → List ℕ
-with_recipient p n = with_number p (recipient_at p) n
+with_recipient p n = payload_with_number p (recipient_at p) n
 
 -- with another sender
 abbrev pub with_sender : List ℕ → ℕ → List ℕ
-with_sender p n = with_number p (sender_at p) n
+with_sender p n = payload_with_number p (sender_at p) n
 
 -- ---- what the master writes of its own
 

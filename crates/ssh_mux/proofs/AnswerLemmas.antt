@@ -3,7 +3,7 @@ use Rattle.std.proofs.Common.{◌≡◌, ◌⊎◌, ◌&&◌, ◌||◌, inl, inr
 use Rattle.std.specs.Bool.{OnFalse, OnTrue}
 use Rattle.conf_rules.specs.declared.causes.ResolveError.{ResolveError}
 use Rattle.conf_rules.specs.Diagnostics.{Ending}
-use Rattle.conf_rules.specs.Outcome.{Ends, Writes, Opens, Drills, Joins}
+use Rattle.conf_rules.specs.CommandOutcome.{Ends, Writes, Opens, Drills, Joins}
 use Rattle.conf_rules.specs.Texts.{Bytes}
 use Rattle.mux_client.specs.declared.asks.Asks.{Asks}
 use Rattle.mux_client.specs.declared.talked.Talked.{Talked}
@@ -15,8 +15,8 @@ use Rattle.ssh_mux.specs.declared.ending.Ending.{Ending as MeantEnding}
 use Rattle.ssh_mux.specs.declared.ending.Ending.TheVariants as endings
 use Rattle.ssh_mux.specs.declared.status.Status.{Status}
 use Rattle.ssh_mux.specs.declared.status.Status.TheVariants as statuses
-use Rattle.ssh_mux.specs.Answers.{may_ask, may_open, may_show, may_write, reaches}
-use Rattle.ssh_mux.specs.Client.{Answers, AnswersBy, Converses, ConversesBy, ConversesFor, IsAnswered, IsAsked, IsUnasked, JoinsOnce, TalksFor, asks_in, ends_asking, talk_recorded}
+use Rattle.ssh_mux.specs.Answers.{may_have_joined, may_open, may_show, may_write, reaches}
+use Rattle.ssh_mux.specs.Client.{Answers, AnswersBy, Converses, ConversesBy, ConversesFor, IsTalkAnswered, IsTalkAsked, IsUnasked, JoinsOnce, TalksFor, client_asks_in, ends_asking, talk_recorded}
 use Rattle.ssh_mux.specs.Ending.{shown}
 use Rattle.ssh_mux.specs.Err.{Reports}
 use Rattle.ssh_mux.specs.Outcomes.{Known, Certain, Client, Listing, Master, asks, drills, opens}
@@ -47,11 +47,11 @@ joined_after k status ending b n f f' before now r h = carried (λ s. JoinsOnce 
 
 -- ---- counts
 
-pub asked_cause_after : (k : Known) (status : Status) (ending : Ending) (b n : Option (List ℕ)) (f f' : ℕ) (w w' : Faults) → Reports status ending b n f f' → OnTrue (may_ask k (status_of ending)) (WireCause (status_of ending) w w') → OnTrue (may_ask k status) (WireCause status w w')
-asked_cause_after k status ending b n f f' w w' r h = carried (λ x. OnTrue (may_ask k x) (WireCause x w w')) status ending (reported status ending b n f f' r) (on-memory (asks k)) h
+pub asked_cause_after : (k : Known) (status : Status) (ending : Ending) (b n : Option (List ℕ)) (f f' : ℕ) (w w' : Faults) → Reports status ending b n f f' → OnTrue (may_have_joined k (status_of ending)) (WireCause (status_of ending) w w') → OnTrue (may_have_joined k status) (WireCause status w w')
+asked_cause_after k status ending b n f f' w w' r h = carried (λ x. OnTrue (may_have_joined k x) (WireCause x w w')) status ending (reported status ending b n f f' r) (on-memory (asks k)) h
 
-pub asked_waits_after : (k : Known) (turns : ℕ) (status : Status) (ending : Ending) (b n : Option (List ℕ)) (f f' : ℕ) (old calls : CallCounts) → Reports status ending b n f f' → OnTrue (may_ask k (status_of ending)) (TalksFor turns (status_of ending) old calls) → OnTrue (may_ask k status) (TalksFor turns status old calls)
-asked_waits_after k turns status ending b n f f' old calls r h = carried (λ x. OnTrue (may_ask k x) (TalksFor turns x old calls)) status ending (reported status ending b n f f' r) (on-memory (asks k)) h
+pub asked_waits_after : (k : Known) (turns : ℕ) (status : Status) (ending : Ending) (b n : Option (List ℕ)) (f f' : ℕ) (old calls : CallCounts) → Reports status ending b n f f' → OnTrue (may_have_joined k (status_of ending)) (TalksFor turns (status_of ending) old calls) → OnTrue (may_have_joined k status) (TalksFor turns status old calls)
+asked_waits_after k turns status ending b n f f' old calls r h = carried (λ x. OnTrue (may_have_joined k x) (TalksFor turns x old calls)) status ending (reported status ending b n f f' r) (on-memory (asks k)) h
 
 -- ---- the talk
 
@@ -73,7 +73,7 @@ closed statuses.BadMaster e = absurd cc
 
 module _ (start recorded : Option (List Mark)) (out out' : Option (List ℕ)) (b n : Option (List ℕ)) (f f' : ℕ) where
   -- an end with the line that was handed over
-  with-line : (what : Asks) (meant : MeantEnding) (status : Status) → IsAsked what start recorded out out' (Err meant) → Reports status (shown meant) b n f f' → IsAnswered what start recorded out out' status b n f f'
+  with-line : (what : Asks) (meant : MeantEnding) (status : Status) → IsTalkAsked what start recorded out out' (Err meant) → Reports status (shown meant) b n f f' → IsTalkAnswered what start recorded out out' status b n f f'
   with-line what meant status h r = record { answer = h.answer; talks = h.talks; shows = h.shows; line = subst (λ x. RecordsEnd x status b n f f') h.is_recorded r }
 
   memory-answers : (what : Asks) (meant : MeantEnding) → Converses what start recorded out out' (Err meant) → Reports statuses.Memory (shown meant) b n f f' → Answers what start recorded out out' statuses.Memory b n f f'
@@ -83,7 +83,7 @@ module _ (start recorded : Option (List Mark)) (out out' : Option (List ℕ)) (b
   memory-answers what meant h r = inr (with-line what meant statuses.Memory h r)
 
   -- no talk ends as words and configurations do, nor as a master
-  none-ends : (what : Asks) (meant : MeantEnding) → ends_asking meant ≡ false → IsAsked what start recorded out out' (Err meant) → ⊥
+  none-ends : (what : Asks) (meant : MeantEnding) → ends_asking meant ≡ false → IsTalkAsked what start recorded out out' (Err meant) → ⊥
   none-ends what meant e h = by_end h.answer h.is_recorded
     where
       by_end : (x : Talked) → Err meant ≡ talk_recorded x → ⊥
@@ -127,7 +127,7 @@ module _ (start recorded : Option (List Mark)) (out out' : Option (List ℕ)) (b
   untold-by (Some (Ok what)) h = inl h
   untold-by (Some (Err e)) h = h
 
-  -- over a wire that wasn't joined nobody was asked
+  -- over a wire that wasn't joined no client was asked
   memory-asks : (opened touched asking written : Bool) (x : Reading) (meant : MeantEnding) → (opened ≡ false → written ≡ false) → OnTrue (opened && asking) (ConversesBy x start recorded out out' (Err meant)) → OnFalse ((opened && touched) || (opened && asking)) (recorded ≡ start) → OnFalse (written || (opened && asking)) (out' ≡ out) → Reports statuses.Memory (shown meant) b n f f' → OnTrue asking (AnswersBy x start recorded out out' statuses.Memory b n f f')
   memory-asks opened touched false written x meant q h w o r = tt
   memory-asks true touched true written x meant q h w o r = memory-by x meant h r
@@ -138,11 +138,11 @@ module _ (start recorded : Option (List Mark)) (out out' : Option (List ℕ)) (b
   own-asks true x meant h r = own-by x meant h r
 
   abbrev Answered : Known → Status → Type 0
-  Answered k status = OnTrue (may_ask k status) (AnswersBy (asks_in k) start recorded out out' status b n f f')
+  Answered k status = OnTrue (may_have_joined k status) (AnswersBy (client_asks_in k) start recorded out out' status b n f f')
 
   asked-by : (k : Known) (status : Status) (meant : MeantEnding) → (status ≡ statuses.Memory) ⊎ (status ≡ status_of (shown meant)) → Reports status (shown meant) b n f f' → ConversesFor k start recorded out out' (Err meant) → OnFalse (reaches k (status_of (shown meant))) (recorded ≡ start) → OnFalse (may_show k (status_of (shown meant))) (out' ≡ out) → Answered k status
-  asked-by k status meant (inl e) r h w o = subst (λ s. Answered k s) (sym e) (memory-asks (may_open (status_of (shown meant))) (opens k || drills k) (asks k) (may_write (status_of (shown meant))) (asks_in k) meant (closed (status_of (shown meant))) h w o (subst (λ s. Reports s (shown meant) b n f f') e r))
-  asked-by k status meant (inr e) r h w o = subst (λ s. Answered k s) (sym e) (own-asks (may_ask k (status_of (shown meant))) (asks_in k) meant h (subst (λ s. Reports s (shown meant) b n f f') e r))
+  asked-by k status meant (inl e) r h w o = subst (λ s. Answered k s) (sym e) (memory-asks (may_open (status_of (shown meant))) (opens k || drills k) (asks k) (may_write (status_of (shown meant))) (client_asks_in k) meant (closed (status_of (shown meant))) h w o (subst (λ s. Reports s (shown meant) b n f f') e r))
+  asked-by k status meant (inr e) r h w o = subst (λ s. Answered k s) (sym e) (own-asks (may_have_joined k (status_of (shown meant))) (client_asks_in k) meant h (subst (λ s. Reports s (shown meant) b n f f') e r))
 
   pub asked_after : (k : Known) (status : Status) (meant : MeantEnding) → Reports status (shown meant) b n f f' → ConversesFor k start recorded out out' (Err meant) → OnFalse (reaches k (status_of (shown meant))) (recorded ≡ start) → OnFalse (may_show k (status_of (shown meant))) (out' ≡ out) → Answered k status
   asked_after k status meant r h w o = asked-by k status meant (reported status (shown meant) b n f f' r) r h w o
@@ -159,15 +159,15 @@ silent-is status talks.Spent t = absurd cc
 silent-is status talks.OutOfMemory t = absurd cc
 
 module _ (start recorded : Option (List Mark)) (out out' : Option (List ℕ)) (b : Option (List ℕ)) (f : ℕ) where
-  well-answered : (what : Asks) (status : Status) → IsAsked what start recorded out out' (Ok status) → IsAnswered what start recorded out out' status b b f f
+  well-answered : (what : Asks) (status : Status) → IsTalkAsked what start recorded out out' (Ok status) → IsTalkAnswered what start recorded out out' status b b f f
   well-answered what status h = record { answer = h.answer; talks = h.talks; shows = h.shows; line = subst (λ x. RecordsEnd x status b b f f) h.is_recorded (refl, refl) }
 
-  well-answers : (what : Asks) (status : Status) → IsAsked what start recorded out out' (Ok status) → Answers what start recorded out out' status b b f f
+  well-answers : (what : Asks) (status : Status) → IsTalkAsked what start recorded out out' (Ok status) → Answers what start recorded out out' status b b f f
   well-answers what status h = by_status (silent-is status h.answer h.is_recorded)
     where
       by_status : (status ≡ statuses.Done) ⊎ (status ≡ statuses.Write) → Answers what start recorded out out' status b b f f
-      by_status (inl e) = subst (λ s. IsAsked what start recorded out out' (Ok s) → Answers what start recorded out out' s b b f f) (sym e) (λ g. well-answered what statuses.Done g) h
-      by_status (inr e) = subst (λ s. IsAsked what start recorded out out' (Ok s) → Answers what start recorded out out' s b b f f) (sym e) (λ g. well-answered what statuses.Write g) h
+      by_status (inl e) = subst (λ s. IsTalkAsked what start recorded out out' (Ok s) → Answers what start recorded out out' s b b f f) (sym e) (λ g. well-answered what statuses.Done g) h
+      by_status (inr e) = subst (λ s. IsTalkAsked what start recorded out out' (Ok s) → Answers what start recorded out out' s b b f f) (sym e) (λ g. well-answered what statuses.Write g) h
 
   well-by : (x : Option (Result Asks ResolveError)) (status : Status) → ConversesBy x start recorded out out' (Ok status) → AnswersBy x start recorded out out' status b b f f
   well-by None status h = tt
@@ -178,5 +178,5 @@ module _ (start recorded : Option (List Mark)) (out out' : Option (List ℕ)) (b
   well-on false x status h = tt
   well-on true x status h = well-by x status h
 
-  pub asked_well : (k : Known) (status : Status) → ConversesFor k start recorded out out' (Ok status) → OnTrue (may_ask k status) (AnswersBy (asks_in k) start recorded out out' status b b f f)
-  asked_well k status h = well-on (may_ask k status) (asks_in k) status h
+  pub asked_well : (k : Known) (status : Status) → ConversesFor k start recorded out out' (Ok status) → OnTrue (may_have_joined k status) (AnswersBy (client_asks_in k) start recorded out out' status b b f f)
+  asked_well k status h = well-on (may_have_joined k status) (client_asks_in k) status h

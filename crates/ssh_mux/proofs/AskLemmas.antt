@@ -21,7 +21,7 @@ use Rattle.conf_rules.specs.Values.{value_for}
 use Rattle.mux_client.specs.Requests.{HasShortHosts}
 use Rattle.mux_outside.specs.declared.start_ask.StartAsk.{StartAsk}
 use Rattle.ssh_mux.specs.declared.asks.AskedEnd.{AskedEnd}
-use Rattle.ssh_mux.specs.Asks.{forward_key, forward_kind, host_or_empty, end_at, connect_at, both_ends, start_ask, recorded_ask, value_ask, named_ask, line_ask, onto_asks, asks_from}
+use Rattle.ssh_mux.specs.Asks.{forward_key, forward_kind_of_key, host_or_empty, end_at, connect_at, both_ends, start_ask, recorded_ask, value_ask, named_ask, line_ask, onto_asks, asks_from}
 
 -- ---- hosts are short
 
@@ -81,7 +81,7 @@ some-recorded word (Some ask) = tt
 
 short-value : (word : ℕ) (key : Key) (value : Result Value ValueError) → ShortLine (value_ask word key value >>= λ a. Ok (Some a))
 short-value word key (Err e) = tt
-short-value word key (Ok (values.Forward f)) = short-recorded word (start_ask (forward_kind key) f) (short-start (forward_kind key) f)
+short-value word key (Ok (values.Forward f)) = short-recorded word (start_ask (forward_kind_of_key key) f) (short-start (forward_kind_of_key key) f)
 short-value word key (Ok (values.Flag b)) = tt
 short-value word key (Ok (values.Number n)) = tt
 short-value word key (Ok (values.Seconds n)) = tt
@@ -90,7 +90,7 @@ short-value word key (Ok (values.Names texts)) = tt
 
 some-value : (word : ℕ) (key : Key) (value : Result Value ValueError) → SomeLine (value_ask word key value >>= λ a. Ok (Some a))
 some-value word key (Err e) = tt
-some-value word key (Ok (values.Forward f)) = some-recorded word (start_ask (forward_kind key) f)
+some-value word key (Ok (values.Forward f)) = some-recorded word (start_ask (forward_kind_of_key key) f)
 some-value word key (Ok (values.Flag b)) = tt
 some-value word key (Ok (values.Number n)) = tt
 some-value word key (Ok (values.Seconds n)) = tt

@@ -9,7 +9,7 @@ use Rattle.conf_rules.specs.declared.causes.ResolveError.{ResolveError}
 use Rattle.conf_rules.specs.declared.causes.ResolveError.TheVariants.{At, OutOfMemory}
 use Rattle.conf_rules.specs.Diagnostics as ends
 use Rattle.conf_rules.specs.Diagnostics.{Ending}
-use Rattle.conf_rules.specs.Outcome.{Machine, recorded_of, command_execs}
+use Rattle.conf_rules.specs.CommandOutcome.{Machine, recorded_of, command_execs}
 use Rattle.conf_rules.specs.Resolution.{execs}
 use Rattle.conf_rules.specs.Texts.{Bytes}
 use Rattle.conf_fold.specs.Results.{RanUnless, breaks_off}

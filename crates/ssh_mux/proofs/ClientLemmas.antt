@@ -16,10 +16,10 @@ use Rattle.ssh_mux.specs.declared.ending.Ending.{Ending}
 use Rattle.ssh_mux.specs.declared.ending.Ending.TheVariants as endings
 use Rattle.ssh_mux.specs.declared.status.Status.{Status}
 use Rattle.ssh_mux.specs.declared.status.Status.TheVariants as statuses
-use Rattle.ssh_mux.specs.Answers.{Comes, IsAskDue, may_ask, may_open, so_far}
+use Rattle.ssh_mux.specs.Answers.{Comes, IsAskDue, may_have_joined, may_open, so_far}
 use Rattle.ssh_mux.specs.Asks.{FindsAsks, asks_for}
 use Rattle.ssh_mux.specs.Causes.{Caused, OutCause}
-use Rattle.ssh_mux.specs.Client.{ClientLeaves, Converses, ConversesBy, EndsClient, JoinsAt, JoinsOnce, TalkCounts, TalksFor, asks_in}
+use Rattle.ssh_mux.specs.Client.{ClientLeaves, Converses, ConversesBy, EndsClient, JoinsAt, JoinsOnce, TalkCounts, TalksFor, client_asks_in}
 use Rattle.ssh_mux.specs.Ending.{shown}
 use Rattle.ssh_mux.specs.Outcomes.{Known, Certain, Client, asks, joins_at}
 use Rattle.ssh_mux.specs.Places.{Placed}
@@ -147,7 +147,7 @@ asks-for : (k : Known) (asked : Asked) (what : MasterCommand) (path : Bytes) →
 asks-for k asked what path (inl e) = subst (λ x. asks x ≡ true) (sym e) refl
 asks-for k asked what path (inr e) = subst (λ x. asks x ≡ true) (sym e) refl
 
-pub client-asks : (k : Known) (asked : Asked) (what : MasterCommand) (path : Bytes) (result : Result Status Ending) → IsClient k asked what path → EndsClient result → may_ask k (so_far result) ≡ true
+pub client-asks : (k : Known) (asked : Asked) (what : MasterCommand) (path : Bytes) (result : Result Status Ending) → IsClient k asked what path → EndsClient result → may_have_joined k (so_far result) ≡ true
 client-asks k asked what path result i h = rw (client-opens result h) (asks-for k asked what path i)
 
 certain-joined : (asked : Asked) (what : MasterCommand) (path : Bytes) (status : Status) (before now : Option (List Bytes)) → may_open status ≡ true → JoinsAt path status before now → JoinsOnce (Certain (joins_at asked what path)) status before now
@@ -166,19 +166,19 @@ joined-once : (k : Known) (asked : Asked) (what : MasterCommand) (path : Bytes) 
 joined-once k asked what path status before now (inl e) o h = subst (λ x. JoinsOnce x status before now) (sym e) (certain-joined asked what path status before now o h)
 joined-once k asked what path status before now (inr e) o h = subst (λ x. JoinsOnce x status before now) (sym e) (some-joined asked what path status before now o h)
 
-asks-are : (k : Known) (asked : Asked) (what : MasterCommand) (path : Bytes) (due : Asks) → IsClient k asked what path → asks_for asked what ≡ Ok due → asks_in k ≡ Some (Ok due)
-asks-are k asked what path due (inl i) e = subst (λ x. asks_in x ≡ Some (Ok due)) (sym i) (ap Some e)
-asks-are k asked what path due (inr i) e = subst (λ x. asks_in x ≡ Some (Ok due)) (sym i) (ap Some e)
+asks-are : (k : Known) (asked : Asked) (what : MasterCommand) (path : Bytes) (due : Asks) → IsClient k asked what path → asks_for asked what ≡ Ok due → client_asks_in k ≡ Some (Ok due)
+asks-are k asked what path due (inl i) e = subst (λ x. client_asks_in x ≡ Some (Ok due)) (sym i) (ap Some e)
+asks-are k asked what path due (inr i) e = subst (λ x. client_asks_in x ≡ Some (Ok due)) (sym i) (ap Some e)
 
 pub asked-leaves : (k : Known) (asked : Asked) (what : MasterCommand) (path : Bytes) (due : Asks) (turns : ℕ) (result : Result Status Ending) (w w' : WireState) (f f' : Faults) (out out' : OutState) → IsClient k asked what path → asks_for asked what ≡ Ok due → EndsClient result → JoinsAt path (so_far result) w.joinings w'.joinings → Converses due w.seen.recorded w'.seen.recorded out.recorded out'.recorded result → OutCause (so_far result) out.faults out'.faults → TalkCounts turns (so_far result) w w' f f' → ClientLeaves k turns result w w' f f' out out'
 asked-leaves k asked what path due turns result w w' f f' out out' i e ends joined talked cause counts = record {
   joined = joined-once k asked what path (so_far result) w.joinings w'.joinings i (client-opens result ends) joined;
   openings = counts.openings;
   unopened = counts.unopened;
-  talked = on_true (may_ask k (so_far result)) (ConversesBy (asks_in k) w.seen.recorded w'.seen.recorded out.recorded out'.recorded result) (subst (λ x. ConversesBy x w.seen.recorded w'.seen.recorded out.recorded out'.recorded result) (sym (asks-are k asked what path due i e)) talked);
-  wire_cause = on_true (may_ask k (so_far result)) (WireCause (so_far result) f f') counts.cause;
+  talked = on_true (may_have_joined k (so_far result)) (ConversesBy (client_asks_in k) w.seen.recorded w'.seen.recorded out.recorded out'.recorded result) (subst (λ x. ConversesBy x w.seen.recorded w'.seen.recorded out.recorded out'.recorded result) (sym (asks-are k asked what path due i e)) talked);
+  wire_cause = on_true (may_have_joined k (so_far result)) (WireCause (so_far result) f f') counts.cause;
   out_cause = cause;
   calls = counts.calls;
-  waited = on_true (may_ask k (so_far result)) (TalksFor turns (so_far result) w.calls w'.calls) counts.waited;
+  waited = on_true (may_have_joined k (so_far result)) (TalksFor turns (so_far result) w.calls w'.calls) counts.waited;
   idle = counts.idle;
 }

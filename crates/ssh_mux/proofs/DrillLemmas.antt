@@ -1,8 +1,8 @@
--- How a drill goes, from what was served and what was handed over to what the program tells.
+-- How a drill goes, from what was served and what was handed over to what the program records.
 use Rattle.std.proofs.Common.{◌≡◌, ◌⊎◌, ◌&&◌, inl, inr, ℕ, Bool, true, false, List, [], Option, Some, None, Result, Ok, Err, refl, sym, subst, ◌∙◌, arith}
 use Rattle.std.specs.Bool.{OnTrue}
 use Rattle.conf_rules.specs.declared.causes.Cause.TheVariants.{ReadFault, RunFault}
-use Rattle.conf_rules.specs.Outcome.{Ends, Writes, Opens, Drills, Joins}
+use Rattle.conf_rules.specs.CommandOutcome.{Ends, Writes, Opens, Drills, Joins}
 use Rattle.conf_resolve.specs.Faults.{FailedPaths}
 use Rattle.conf_rules.specs.Texts.{Bytes}
 use Rattle.conf_rules.specs.Recorded.{Recorded}
@@ -18,8 +18,9 @@ use Rattle.ssh_mux.specs.declared.ending.Ending.{Ending}
 use Rattle.ssh_mux.specs.declared.ending.Ending.TheVariants as endings
 use Rattle.ssh_mux.specs.declared.status.Status.{Status}
 use Rattle.ssh_mux.specs.declared.status.Status.TheVariants as statuses
-use Rattle.ssh_mux.specs.Answers.{Comes, IsRefused, may_open, so_far, touches}
+use Rattle.ssh_mux.specs.Answers.{Comes, IsRunRefused, may_open, so_far, touches}
 use Rattle.ssh_mux.specs.Causes.{Caused}
+use Rattle.mux_outside.specs.NoHouse.{no_house}
 use Rattle.ssh_mux.specs.Drill.{AnyCalls, DrillGoes, DrillServes, DrillShares, DrillRecords, EndsDrill, IsDrill, IsDrilled, NoneRests, RefusesAll, RunsDrill, SumsUp, drill_text, drill_transport}
 use Rattle.ssh_mux.specs.Ending.{shown}
 use Rattle.ssh_mux.specs.Err.{Reports}
@@ -69,7 +70,7 @@ drill-cause (Err (endings.ServerBroke index why)) f r h = (refl, refl)
 drill-cause (Err endings.TurnsSpent) f r h = (refl, refl)
 drill-cause (Err ending) f r h = absurd cc
 
--- nor is a fault of one told
+-- nor is a fault of one recorded
 pub drilled-placed : (recorded : Option Recorded) (result : Result Status Ending) (ran ran' : Option (List Bytes)) (failed failed' : FailedPaths) → EndsDrill result → Placed recorded result ran ran' failed failed'
 drilled-placed recorded (Ok status) ran ran' failed failed' h = tt
 drilled-placed None (Err ending) ran ran' failed failed' h = tt
@@ -91,10 +92,10 @@ handed-ends text (Err ending) before now h = absurd h
 
 module _ (words : List Bytes) (turns : ℕ) (w w' : WireState) (out out' : Option (List ℕ)) where
   abbrev Shared : Result Status Ending → Type 0
-  Shared result = Shares RefusesAll NoneRests AnyCalls AnyCalls any_policy 0 turns None None w.seen.recorded w'.seen None result
+  Shared result = Shares RefusesAll NoneRests AnyCalls no_house any_policy 0 turns None None w.seen.recorded w'.seen None result
 
   abbrev Ran : Result Status Ending → Type 0
-  Ran result = IsShared RefusesAll NoneRests AnyCalls AnyCalls any_policy 0 turns None None w.seen.recorded w'.seen None result
+  Ran result = IsShared RefusesAll NoneRests AnyCalls no_house any_policy 0 turns None None w.seen.recorded w'.seen None result
 
   -- of a run that ended well
   summed-run : (due : Status) (result : Result Status Ending) → Ran (Ok due) → HandsOver result (drill_text w'.tally) out out' → RunsDrill turns w.seen.recorded w'.seen w'.tally result out out'
@@ -125,16 +126,16 @@ module _ (words : List Bytes) (turns : ℕ) (w w' : WireState) (out : Option (Li
   drilled endings.StartRefused e r = absurd cc
   drilled meant e r = e
 
-  unsummed-run : (meant : Ending) → IsShared RefusesAll NoneRests AnyCalls AnyCalls any_policy 0 turns None None w.seen.recorded w'.seen None (Err meant) → RunsDrill turns w.seen.recorded w'.seen w'.tally (Err meant) out out
+  unsummed-run : (meant : Ending) → IsShared RefusesAll NoneRests AnyCalls no_house any_policy 0 turns None None w.seen.recorded w'.seen None (Err meant) → RunsDrill turns w.seen.recorded w'.seen w'.tally (Err meant) out out
   unsummed-run meant h = record { answer = h.answer; run = h.run; ends = subst (λ e. SumsUp e w'.tally (Err meant) out out) h.is_recorded (refl, refl) }
 
-  unsummed-shared : (meant : Ending) → Shares RefusesAll NoneRests AnyCalls AnyCalls any_policy 0 turns None None w.seen.recorded w'.seen None (Err meant) → DrillShares turns w.seen.recorded w'.seen w'.tally (Err meant) out out
+  unsummed-shared : (meant : Ending) → Shares RefusesAll NoneRests AnyCalls no_house any_policy 0 turns None None w.seen.recorded w'.seen None (Err meant) → DrillShares turns w.seen.recorded w'.seen w'.tally (Err meant) out out
   unsummed-shared endings.NotOpened h = (h, refl)
   unsummed-shared endings.NoMemory (inl h) = inl (h, refl)
   unsummed-shared endings.NoMemory (inr h) = inr (unsummed-run endings.NoMemory h)
   unsummed-shared meant h = unsummed-run meant h
 
-  pub unsummed-goes : (meant : Ending) → EndsMaster (Err meant) → StartCause (status_of (shown meant)) None → OpensAt [] (drill_transport words) (status_of (shown meant)) w.openings w'.openings → Shares RefusesAll NoneRests AnyCalls AnyCalls any_policy 0 turns None None w.seen.recorded w'.seen None (Err meant) → DrillGoes words turns (Err meant) w w' out out
+  pub unsummed-goes : (meant : Ending) → EndsMaster (Err meant) → StartCause (status_of (shown meant)) None → OpensAt [] (drill_transport words) (status_of (shown meant)) w.openings w'.openings → Shares RefusesAll NoneRests AnyCalls no_house any_policy 0 turns None None w.seen.recorded w'.seen None (Err meant) → DrillGoes words turns (Err meant) w w' out out
   unsummed-goes meant e r o h = record { ends = drilled meant e r; opened = o; shared = unsummed-shared meant h }
 
 summed-cause : (text : Bytes) (result : Result Status Ending) (before now : Option (List ℕ)) (w w' : Faults) → HandsOver result text before now → WireCause (so_far result) w w'
@@ -187,7 +188,7 @@ summed-counts turns due text result before now w w' f f' is d h = record {
   idle = λ z. summed-idle due text result before now f f' is d (h.idle z);
 }
 
--- ---- what the output takes
+-- ---- what the output accepts
 
 -- by its end: nothing, but for the summary
 unwritten-end : (tally : Tally) (meant : Ending) (end : Result Status Ending) (out out' : Option (List ℕ)) → SumsUp end tally (Err meant) out out' → out' ≡ out
@@ -213,7 +214,7 @@ drill-takes seed clients messages words turns result w w' out out' h = drill-tak
 
 -- ---- an ending that came before
 
-pub still-drill : (k : Known) (meant : Ending) (words : List Bytes) (turns : ℕ) (w : WireState) (out : Option (List ℕ)) → IsRefused k (shown meant) → OnTrue (drills k) (DrillGoes words turns (Err meant) w w out out)
+pub still-drill : (k : Known) (meant : Ending) (words : List Bytes) (turns : ℕ) (w : WireState) (out : Option (List ℕ)) → IsRunRefused k (shown meant) → OnTrue (drills k) (DrillGoes words turns (Err meant) w w out out)
 still-drill (Certain (Ends due)) meant words turns w out h = tt
 still-drill (Certain (Writes text)) meant words turns w out h = tt
 still-drill (Certain (Opens control transport ps)) meant words turns w out h = tt
@@ -243,7 +244,8 @@ module _ (words : List Bytes) (turns : ℕ) (w w' : WireState) (out out' : Optio
   well-run : (status : Status) (err : Option (List ℕ)) (f : ℕ) → RunsDrill turns w.seen.recorded w'.seen w'.tally (Ok status) out out' → IsDrilled turns w.seen.recorded w'.seen w'.tally status out out' err err f f
   well-run status err f h = record { answer = h.answer; run = h.run; ends = well-recorded status (recorded_as h.answer) err f h.ends }
 
-  -- a status without a line is neither that of want of memory nor that of sockets that aren't open
+  -- a status without a line is neither that of running out of memory nor that of sockets that
+  -- aren't open
   silent-end : (status : Status) (end : Result Status Ending) → SumsUp end w'.tally (Ok status) out out' → (status ≡ statuses.Done) ⊎ (status ≡ statuses.Write)
   silent-end statuses.Done end h = inl refl
   silent-end statuses.Write end h = inr refl

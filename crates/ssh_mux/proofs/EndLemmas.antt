@@ -1,16 +1,20 @@
--- From what a run came to, and the line that was written of it, to how it ended.
+-- From the outcome of a run, and the line that was written of it, to how it ended.
 use Rattle.std.proofs.Common.{◌≡◌, ◌⊎◌, ◌&&◌, ◌||◌, inl, inr, ℕ, Bool, true, false, List, Option, Result, Ok, Err, refl, sym, ap, subst, ◌∙◌}
 use Rattle.std.specs.Bool.{OnFalse, OnTrue}
 use Rattle.conf_rules.specs.Diagnostics.{Ending}
-use Rattle.conf_rules.specs.Outcome.{Ends, Writes, Opens, Drills, Joins}
+use Rattle.conf_rules.specs.CommandOutcome.{Ends, Writes, Opens, Drills, Joins}
 use Rattle.conf_rules.specs.Texts.{Bytes}
 use Rattle.conf_rules.specs.Recorded.{Recorded}
 use Rattle.mux_engine.specs.Sides.{Resting}
+use Rattle.mux_outside.specs.House.{HouseState}
 use Rattle.mux_outside.specs.HouseCalls.{HouseCall}
+use Rattle.mux_outside.specs.declared.file_error.FileError.{FileError}
+use Rattle.mux_outside.specs.declared.file_error.FileError.TheVariants.{Failed, OutOfMemory}
 use Rattle.mux_outside.specs.declared.house.HouseReply.{HouseReply}
 use Rattle.mux_outside.specs.declared.house_mark.HouseMark.{HouseMark}
 use Rattle.mux_outside.specs.declared.mark.Mark.{Mark}
 use Rattle.mux_outside.specs.declared.mark.OpenCall.{OpenCall}
+use Rattle.mux_outside.specs.declared.starts.ListenPermit.{ListenPermit}
 use Rattle.mux_outside.specs.declared.starts.Starts.{Starts}
 use Rattle.mux_history.specs.declared.ended.Ended.TheVariants as answers
 use Rattle.mux_history.specs.Policy.{Policy}
@@ -25,12 +29,12 @@ use Rattle.ssh_mux.specs.Answers.{IsDue, IsWell, is_silent, may_show, may_open, 
 use Rattle.ssh_mux.specs.Causes.{EndCause, FaultCause, OutCause}
 use Rattle.ssh_mux.specs.Commands.{RunsFor}
 use Rattle.ssh_mux.specs.Ending.{shown}
-use Rattle.ssh_mux.specs.Err.{Reports, Ended}
+use Rattle.ssh_mux.specs.Err.{Reports, Ended, status_after}
 use Rattle.ssh_mux.specs.Out.{OutStays, OutTakes}
 use Rattle.ssh_mux.specs.Outcomes.{Known, Certain, Listing, Master, Client, asks, drills, opens}
 use Rattle.ssh_mux.specs.Master.{ends_sharing}
 use Rattle.ssh_mux.specs.Places.{EndPlace}
-use Rattle.ssh_mux.specs.Sharing.{CallsEnd, CameFor, IdleCause, IsServed, IsShared, OpensOnce, Serves, Shares, StartCause, RecordsEnd, WaitsFor, WireCause}
+use Rattle.ssh_mux.specs.Sharing.{CallsEnd, CameFor, IdleCause, IsShareServed, IsShared, OpensOnce, Serves, Shares, StartCause, RecordsEnd, WaitsFor, WireCause}
 use Rattle.ssh_mux.specs.Sharing.{recorded_as}
 use Rattle.ssh_mux.specs.Starts.{BeganWith, Begun, MustsAs}
 use Rattle.ssh_mux.specs.Status.{status_of}
@@ -40,10 +44,15 @@ use Rattle.ssh_mux.proofs.CauseLemmas.{fault-cause, fault-later, runs-starved}
 
 -- ---- the status of a run whose line was handed over
 
--- it is that of want of memory, or that of its ending
+after_answer : (answer : Result (Unit {0}) FileError) (status own : Status) → status ≡ status_after answer own → (status ≡ statuses.Memory) ⊎ (status ≡ own)
+after_answer (Ok x) status own e = inr e
+after_answer (Err Failed) status own e = inr e
+after_answer (Err OutOfMemory) status own e = inl e
+
+-- it is that of running out of memory, or that of its ending
 pub reported : (status : Status) (ending : Ending) (before now : Option (List ℕ)) (f f' : ℕ) → Reports status ending before now f f' → (status ≡ statuses.Memory) ⊎ (status ≡ status_of ending)
-reported statuses.Memory ending before now f f' r = inl refl
-reported status ending before now f f' r = inr r.0
+reported status ending before now f f' (inl p) = after_answer p.answer status (status_of ending) p.has_status
+reported status ending before now f f' (inr q) = elim (after_answer q.1.answer status statuses.Memory q.1.has_status) [ inl e ↦ inl e | inr e ↦ inl e ]
 
 -- what holds of both holds of it
 pub carried : (P : Status → Type 0) (status : Status) (ending : Ending) → (status ≡ statuses.Memory) ⊎ (status ≡ status_of ending) → P statuses.Memory → P (status_of ending) → P status
@@ -52,15 +61,15 @@ carried P status ending (inr e) memory held = subst P (sym e) held
 
 -- ---- how it ended
 
-quiet : (status : Status) (ending : Ending) → is_silent status ≡ true → status ≡ status_of ending → ⊥
-quiet status ending silent e = let k : is_silent (status_of ending) ≡ true = subst (λ (s : Status). is_silent s ≡ true) e silent in let l = loud ending in absurd cc
+quiet : (status : Status) (ending : Ending) → is_silent status ≡ true → (status ≡ statuses.Memory) ⊎ (status ≡ status_of ending) → ⊥
+quiet status ending silent (inl e) = let k : is_silent statuses.Memory ≡ true = subst (λ (s : Status). is_silent s ≡ true) e silent in absurd cc
+quiet status ending silent (inr e) = let k : is_silent (status_of ending) ≡ true = subst (λ (s : Status). is_silent s ≡ true) e silent in let l = loud ending in absurd cc
 
 pub ended : (k : Known) (recorded : Option Recorded) (status : Status) (ending : Ending) (before after : World) → IsDue k ending → EndCause ending before.files.faults after.files.faults before.commands.faults after.commands.faults → EndPlace recorded ending before.commands.ran after.commands.ran before.files.failed after.files.failed → Reports status ending before.err.recorded after.err.recorded before.err.faults after.err.faults
     → Ended k recorded status before after
-ended k recorded statuses.Done ending before after due cause place r = absurd (quiet statuses.Done ending refl r.0)
-ended k recorded statuses.Write ending before after due cause place r = absurd (quiet statuses.Write ending refl r.0)
-ended k recorded statuses.Memory ending before after due cause place r = r
-ended k recorded status ending before after due cause place r = record { ending = ending; is_due = due; has_status = r.0; line = r.1; cause = cause; place = place }
+ended k recorded statuses.Done ending before after due cause place r = absurd (quiet statuses.Done ending refl (reported statuses.Done ending before.err.recorded after.err.recorded before.err.faults after.err.faults r))
+ended k recorded statuses.Write ending before after due cause place r = absurd (quiet statuses.Write ending refl (reported statuses.Write ending before.err.recorded after.err.recorded before.err.faults after.err.faults r))
+ended k recorded status ending before after due cause place r = record { ending = ending; is_due = due; reported = r; cause = cause; place = place }
 
 -- without a line
 pub ended-well : (k : Known) (recorded : Option Recorded) (status : Status) (before after : World) → after.err.recorded ≡ before.err.recorded → IsWell k status → Ended k recorded status before after
@@ -79,7 +88,7 @@ recorded_after P status ending b n f f' r = carried (λ s. OnTrue (is_silent s) 
 
 -- ---- what else holds of it
 
--- what wasn't written stays so for want of memory, and a client's output is another clause's
+-- what wasn't written stays so if memory runs out, and a client's output is another clause's
 unwritten-stays : (status : Status) (k : Known) (before now : Option (List ℕ)) → OutStays status k before now → OutStays statuses.Memory k before now
 unwritten-stays status (Certain (Joins control asked what)) before now t = tt
 unwritten-stays status (Client asked what) before now t = tt
@@ -137,15 +146,15 @@ unopened (Master transport ps) status before now h = inr h
 pub opened_after : (k : Known) (status : Status) (ending : Ending) (b n : Option (List ℕ)) (f f' : ℕ) (before now : Option (List OpenCall)) → Reports status ending b n f f' → OpensOnce k (status_of ending) before now → OpensOnce k status before now
 opened_after k status ending b n f f' before now r h = carried (λ s. OpensOnce k s before now) status ending (reported status ending b n f f' r) (unopened k (status_of ending) before now h) h
 
-module _ (May : HouseReply → Type 0) (Rest : Resting) (stands stands' : List HouseCall → Type 0) (policy : Policy) (pid turns : ℕ) (before now : Option (List HouseMark)) (start : Option (List Mark)) (seen : Seen) (refused : Option ℕ) (b n : Option (List ℕ)) (f f' : ℕ) where
+module _ (May : HouseReply → Type 0) (Rest : Resting) (stands : List HouseCall → Type 0) (last : HouseState) (policy : Policy) (pid turns : ℕ) (before now : Option (List HouseMark)) (start : Option (List Mark)) (seen : Seen) (refused : Option ℕ) (b n : Option (List ℕ)) (f f' : ℕ) where
   abbrev Served : Status → Type 0
-  Served status = Serves May Rest stands stands' policy pid turns before now start seen refused status b n f f'
+  Served status = Serves May Rest stands last policy pid turns before now start seen refused status b n f f'
 
   abbrev Shared : Result Status MeantEnding → Type 0
-  Shared result = Shares May Rest stands stands' policy pid turns before now start seen refused result
+  Shared result = Shares May Rest stands last policy pid turns before now start seen refused result
 
   -- an end with the line that was handed over
-  with-line : (meant : MeantEnding) (status : Status) → IsShared May Rest stands stands' policy pid turns before now start seen refused (Err meant) → Reports status (shown meant) b n f f' → IsServed May Rest stands stands' policy pid turns before now start seen refused status b n f f'
+  with-line : (meant : MeantEnding) (status : Status) → IsShared May Rest stands last policy pid turns before now start seen refused (Err meant) → Reports status (shown meant) b n f f' → IsShareServed May Rest stands last policy pid turns before now start seen refused status b n f f'
   with-line meant status h r = record { answer = h.answer; run = h.run; line = subst (λ x. RecordsEnd x status b n f f') h.is_recorded r }
 
   memory-serves : (meant : MeantEnding) → Shared (Err meant) → Reports statuses.Memory (shown meant) b n f f' → Served statuses.Memory
@@ -155,7 +164,7 @@ module _ (May : HouseReply → Type 0) (Rest : Resting) (stands stands' : List H
   memory-serves meant h r = inr (with-line meant statuses.Memory h r)
 
   -- no run ends as words and configurations do
-  none-ends : (meant : MeantEnding) → ends_sharing meant ≡ false → IsShared May Rest stands stands' policy pid turns before now start seen refused (Err meant) → ⊥
+  none-ends : (meant : MeantEnding) → ends_sharing meant ≡ false → IsShared May Rest stands last policy pid turns before now start seen refused (Err meant) → ⊥
   none-ends meant e h = by_end h.answer h.is_recorded
     where
       by_end : (x : Rattle.mux_history.specs.declared.ended.Ended.Ended) → Err meant ≡ recorded_as x → ⊥
@@ -182,22 +191,22 @@ module _ (May : HouseReply → Type 0) (Rest : Resting) (stands stands' : List H
   own-serves endings.MasterRefused h r = absurd (none-ends endings.MasterRefused refl h)
   own-serves endings.MasterBroke h r = absurd (none-ends endings.MasterBroke refl h)
 
-module _ (May : HouseReply → Type 0) (Rest : Starts → Resting) (stands : List HouseCall → Type 0) (by : Option Recorded) (policy : Policy) (pid turns : ℕ) (before now : Option (List HouseMark)) (start : Option (List Mark)) (seen : Seen) (refused : Option ℕ) (b n : Option (List ℕ)) (f f' : ℕ) where
+module _ (May : HouseReply → Type 0) (Rest : Starts → Resting) (last : HouseState) (here : ListenPermit) (by : Option Recorded) (policy : Policy) (pid turns : ℕ) (before now : Option (List HouseMark)) (start : Option (List Mark)) (seen : Seen) (refused : Option ℕ) (b n : Option (List ℕ)) (f f' : ℕ) where
   abbrev ServedSo : Status → Type 0
-  ServedSo status = Begun by (λ starts. Serves May (Rest starts) (BeganWith starts) stands policy pid turns before now start seen refused status b n f f')
+  ServedSo status = Begun here by (λ starts. Serves May (Rest starts) (BeganWith starts) last policy pid turns before now start seen refused status b n f f')
 
   abbrev SharedSo : Result Status MeantEnding → Type 0
-  SharedSo result = Begun by (λ starts. Shares May (Rest starts) (BeganWith starts) stands policy pid turns before now start seen refused result)
+  SharedSo result = Begun here by (λ starts. Shares May (Rest starts) (BeganWith starts) last policy pid turns before now start seen refused result)
 
-  -- a wire that wasn't touched is served by nobody
+  -- a wire that wasn't touched is served by no client
   memory-by : (opened shares drilled asked : Bool) (meant : MeantEnding) → OnTrue (opened && shares) (SharedSo (Err meant)) → OnFalse ((opened && (shares || drilled)) || (opened && asked)) (seen.recorded ≡ start) → OnFalse (opened && shares) (now ≡ before) → Reports statuses.Memory (shown meant) b n f f' → OnTrue shares (ServedSo statuses.Memory)
   memory-by opened false drilled asked meant h w g r = tt
-  memory-by true true drilled asked meant h w g r = record { starts = h.starts; due = h.due; so = memory-serves May (Rest h.starts) (BeganWith h.starts) stands policy pid turns before now start seen refused b n f f' meant h.so r }
-  memory-by false true drilled asked meant h w g r = some-begun by (λ starts. Serves May (Rest starts) (BeganWith starts) stands policy pid turns before now start seen refused statuses.Memory b n f f') (λ starts. inl (record { same_wire = w; same_house = g }))
+  memory-by true true drilled asked meant h w g r = record { starts = h.starts; permitted = h.permitted; due = h.due; so = memory-serves May (Rest h.starts) (BeganWith h.starts) last policy pid turns before now start seen refused b n f f' meant h.so r }
+  memory-by false true drilled asked meant h w g r = some-begun here by (λ starts. Serves May (Rest starts) (BeganWith starts) last policy pid turns before now start seen refused statuses.Memory b n f f') (λ starts. inl (record { same_wire = w; same_house = g }))
 
   own-by : (b' : Bool) (meant : MeantEnding) → OnTrue b' (SharedSo (Err meant)) → Reports (status_of (shown meant)) (shown meant) b n f f' → OnTrue b' (ServedSo (status_of (shown meant)))
   own-by false meant h r = tt
-  own-by true meant h r = record { starts = h.starts; due = h.due; so = own-serves May (Rest h.starts) (BeganWith h.starts) stands policy pid turns before now start seen refused b n f f' meant h.so r }
+  own-by true meant h r = record { starts = h.starts; permitted = h.permitted; due = h.due; so = own-serves May (Rest h.starts) (BeganWith h.starts) last policy pid turns before now start seen refused b n f f' meant h.so r }
 
   shared-by : (k : Known) (status : Status) (meant : MeantEnding) → (status ≡ statuses.Memory) ⊎ (status ≡ status_of (shown meant)) → Reports status (shown meant) b n f f' → OnTrue (may_share k (status_of (shown meant))) (SharedSo (Err meant)) → OnFalse (reaches k (status_of (shown meant))) (seen.recorded ≡ start) → OnFalse (may_share k (status_of (shown meant))) (now ≡ before) → OnTrue (may_share k status) (ServedSo status)
   shared-by k status meant (inl e) r h w g = subst (λ s. OnTrue (may_share k s) (ServedSo s)) (sym e) (memory-by (may_open (status_of (shown meant))) (opens k) (drills k) (asks k) meant h w g (subst (λ s. Reports s (shown meant) b n f f') e r))
@@ -217,15 +226,15 @@ done-is status (answers.StartRefused index) t = absurd cc
 done-is status answers.Spent t = absurd cc
 done-is status answers.OutOfMemory t = absurd cc
 
-shared-well-now : (May : HouseReply → Type 0) (Rest : Resting) (stands stands' : List HouseCall → Type 0) (policy : Policy) (pid turns : ℕ) (before now : Option (List HouseMark)) (start : Option (List Mark)) (seen : Seen) (refused : Option ℕ) (b : Option (List ℕ)) (f : ℕ) (status : Status) → IsShared May Rest stands stands' policy pid turns before now start seen refused (Ok status) → Serves May Rest stands stands' policy pid turns before now start seen refused status b b f f
-shared-well-now May Rest stands stands' policy pid turns before now start seen refused b f status h =
+shared-well-now : (May : HouseReply → Type 0) (Rest : Resting) (stands : List HouseCall → Type 0) (last : HouseState) (policy : Policy) (pid turns : ℕ) (before now : Option (List HouseMark)) (start : Option (List Mark)) (seen : Seen) (refused : Option ℕ) (b : Option (List ℕ)) (f : ℕ) (status : Status) → IsShared May Rest stands last policy pid turns before now start seen refused (Ok status) → Serves May Rest stands last policy pid turns before now start seen refused status b b f f
+shared-well-now May Rest stands last policy pid turns before now start seen refused b f status h =
     let e : status ≡ statuses.Done = done-is status h.answer h.is_recorded in
-    subst (λ s. Serves May Rest stands stands' policy pid turns before now start seen refused s b b f f) (sym e)
+    subst (λ s. Serves May Rest stands last policy pid turns before now start seen refused s b b f f) (sym e)
     (record { answer = h.answer; run = h.run; line = subst (λ x. RecordsEnd x statuses.Done b b f f) (ap (λ (s : Status). Ok s) (sym e) ∙ h.is_recorded) (refl, refl) })
 
-pub shared_well : (May : HouseReply → Type 0) (Rest : Starts → Resting) (stands : List HouseCall → Type 0) (by : Option Recorded) (policy : Policy) (pid turns : ℕ) (before now : Option (List HouseMark)) (start : Option (List Mark)) (seen : Seen) (refused : Option ℕ) (b : Option (List ℕ)) (f : ℕ) (shares : Bool) (status : Status) → OnTrue shares (Begun by (λ starts. IsShared May (Rest starts) (BeganWith starts) stands policy pid turns before now start seen refused (Ok status))) → OnTrue shares (Begun by (λ starts. Serves May (Rest starts) (BeganWith starts) stands policy pid turns before now start seen refused status b b f f))
-shared_well May Rest stands by policy pid turns before now start seen refused b f false status h = tt
-shared_well May Rest stands by policy pid turns before now start seen refused b f true status h = record { starts = h.starts; due = h.due; so = shared-well-now May (Rest h.starts) (BeganWith h.starts) stands policy pid turns before now start seen refused b f status h.so }
+pub shared_well : (May : HouseReply → Type 0) (Rest : Starts → Resting) (last : HouseState) (here : ListenPermit) (by : Option Recorded) (policy : Policy) (pid turns : ℕ) (before now : Option (List HouseMark)) (start : Option (List Mark)) (seen : Seen) (refused : Option ℕ) (b : Option (List ℕ)) (f : ℕ) (shares : Bool) (status : Status) → OnTrue shares (Begun here by (λ starts. IsShared May (Rest starts) (BeganWith starts) last policy pid turns before now start seen refused (Ok status))) → OnTrue shares (Begun here by (λ starts. Serves May (Rest starts) (BeganWith starts) last policy pid turns before now start seen refused status b b f f))
+shared_well May Rest last here by policy pid turns before now start seen refused b f false status h = tt
+shared_well May Rest last here by policy pid turns before now start seen refused b f true status h = record { starts = h.starts; permitted = h.permitted; due = h.due; so = shared-well-now May (Rest h.starts) (BeganWith h.starts) last policy pid turns before now start seen refused b f status h.so }
 
 pub calls_after : (turns : ℕ) (status : Status) (ending : Ending) (b n : Option (List ℕ)) (f f' : ℕ) (old calls : CallCounts) → Reports status ending b n f f' → CallsEnd turns (status_of ending) old calls → CallsEnd turns status old calls
 calls_after turns status ending b n f f' old calls r h = carried (λ s. CallsEnd turns s old calls) status ending (reported status ending b n f f' r) (record { few = h.few; opens = h.opens; wants = h.wants; starved = λ ne. refl; late = h.late }) h
@@ -274,7 +283,7 @@ unreached false false false P h = h
 pub wire_stays_after : (k : Known) (P : Type 0) (status : Status) (ending : Ending) (b n : Option (List ℕ)) (f f' : ℕ) → Reports status ending b n f f' → OnFalse (reaches k (status_of ending)) P → OnFalse (reaches k status) P
 wire_stays_after k P status ending b n f f' r h = carried (λ s. OnFalse (reaches k s) P) status ending (reported status ending b n f f' r) (unreached (may_open (status_of ending)) (opens k || drills k) (asks k) P h) h
 
--- what is told of what stays
+-- what is recorded of what stays
 pub same_recorded : {X Y : Type 0} (b : Bool) (recorded : X → Y) (before now : X) → OnFalse b (now ≡ before) → OnFalse b (recorded now ≡ recorded before)
 same_recorded true recorded before now h = tt
 same_recorded false recorded before now h = ap recorded h

@@ -1,4 +1,4 @@
--- From a resolution and its control path to what comes of a client.
+-- From a resolution and its control path to the outcome of a client.
 use Rattle.std.proofs.Common.{◌≡◌, ◌⊎◌, inl, inr, ℕ, Bool, ◌&&◌, true, false, List, Option, Some, None, Result, Ok, Err, refl, sym, ap, subst, ◌∙◌}
 use Rattle.std.specs.Bool.{OnFalse}
 use Rattle.conf_rules.specs.declared.asked.Asked.{Asked}
@@ -11,19 +11,19 @@ use Rattle.conf_rules.specs.declared.causes.ResolveError.{ResolveError}
 use Rattle.conf_rules.specs.declared.causes.ResolveError.TheVariants as errors
 use Rattle.conf_rules.specs.Diagnostics.{Ending, BadLine, BadListing, NoControlPath}
 use Rattle.conf_rules.specs.Listing.{listing_over, control_path_at}
-use Rattle.conf_rules.specs.Outcome.{Outcome, Ends, recorded_of, listed_end, opened_end, joined_end, unrefused, Machine}
+use Rattle.conf_rules.specs.CommandOutcome.{CommandOutcome, Ends, recorded_of, listed_end, opened_end, joined_end, unrefused, Machine}
 use Rattle.conf_rules.specs.Resolution.{all_rows, refusal_in, refusal}
-use Rattle.conf_rules.specs.Rows.{Row}
+use Rattle.conf_rules.specs.Rows.{LineRow}
 use Rattle.conf_rules.specs.Texts.{Bytes}
 use Rattle.conf_options.specs.Kept.{Given}
-use Rattle.conf_output.specs.Settled.{HasControlPath}
-use Rattle.conf_resolve.specs.Passes.{Resolved}
+use Rattle.conf_output.specs.SettledListing.{HasControlPath}
+use Rattle.conf_resolve.specs.PassGives.{Resolved}
 use Rattle.mux_outside.specs.declared.facts.Facts.{Facts}
 use Rattle.mux_outside.specs.declared.pairs.Pair.{Pair}
 use Rattle.mux_outside.specs.declared.statuses.CommandStatus.{CommandStatus}
 use Rattle.ssh_mux.specs.declared.status.Status.{Status}
 use Rattle.ssh_mux.specs.declared.status.Status.TheVariants as statuses
-use Rattle.ssh_mux.specs.Answers.{IsRefused, may_ask, may_open}
+use Rattle.ssh_mux.specs.Answers.{IsRunRefused, may_have_joined, may_open}
 use Rattle.ssh_mux.specs.Ending.{shown, refused_as, unlisted_as}
 use Rattle.ssh_mux.specs.Out.{OutTakes}
 use Rattle.ssh_mux.specs.Outcomes.{Certain, Client, machine, machine_of, of_command, joins_at, asks, looks, opens, drills, writes_out}
@@ -64,7 +64,7 @@ client-undrilled (Some m) asked what = undrilled-rows (all_rows (recorded_of m a
 
 -- ---- who asks no running master
 
-unasked-rows : (rows : List Row) (x : Outcome) → asks (Certain x) ≡ false → asks (Certain (unrefused rows x)) ≡ false
+unasked-rows : (rows : List LineRow) (x : CommandOutcome) → asks (Certain x) ≡ false → asks (Certain (unrefused rows x)) ≡ false
 unasked-rows rows x h = on (refusal_in rows) where
   on : (r : Option ResolveError) → asks (Certain (elim r [ Some e ↦ Ends (BadLine e) | None ↦ x ])) ≡ false
   on (Some e) = refl
@@ -89,7 +89,7 @@ unfolding of_command
 master-unasked None asked transport ps = refl
 master-unasked (Some m) asked transport ps = unasked-rows (all_rows (recorded_of m asked)) (opened_end transport ps (control_path_at (recorded_of m asked) (all_rows (recorded_of m asked)))) (unasked-opened transport ps (control_path_at (recorded_of m asked) (all_rows (recorded_of m asked))))
 
--- ---- what its output takes
+-- ---- what its output accepts
 
 -- where the wire may have been joined another clause says it
 ends-taken : (e : Ending) (status : Status) (before now : Option (List ℕ)) → OnFalse (may_open status && false) (now ≡ before) → OutTakes status (Certain (Ends e)) before now
@@ -123,18 +123,18 @@ some-taken asked what statuses.Config before now h = h
 some-taken asked what statuses.Outside before now h = h
 some-taken asked what status before now h = tt
 
-end-taken : (asked : Asked) (what : MasterCommand) (r : Result (Option Bytes) ListError) (status : Status) (before now : Option (List ℕ)) → OnFalse (may_ask (Certain (joined_end asked what r)) status) (now ≡ before) → OutTakes status (Certain (joined_end asked what r)) before now
+end-taken : (asked : Asked) (what : MasterCommand) (r : Result (Option Bytes) ListError) (status : Status) (before now : Option (List ℕ)) → OnFalse (may_have_joined (Certain (joined_end asked what r)) status) (now ≡ before) → OutTakes status (Certain (joined_end asked what r)) before now
 end-taken asked what (Ok (Some path)) status before now h = joins-taken asked what path status before now h
 end-taken asked what (Ok None) status before now h = ends-taken NoControlPath status before now h
 end-taken asked what (Err e) status before now h = ends-taken (BadListing e) status before now h
 
-rows-taken : (rows : List Row) (x : Outcome) (status : Status) (before now : Option (List ℕ)) → (OnFalse (may_ask (Certain x) status) (now ≡ before) → OutTakes status (Certain x) before now) → OnFalse (may_ask (Certain (unrefused rows x)) status) (now ≡ before) → OutTakes status (Certain (unrefused rows x)) before now
+rows-taken : (rows : List LineRow) (x : CommandOutcome) (status : Status) (before now : Option (List ℕ)) → (OnFalse (may_have_joined (Certain x) status) (now ≡ before) → OutTakes status (Certain x) before now) → OnFalse (may_have_joined (Certain (unrefused rows x)) status) (now ≡ before) → OutTakes status (Certain (unrefused rows x)) before now
 rows-taken rows x status before now = on (refusal_in rows) where
-  on : (r : Option ResolveError) → (OnFalse (may_ask (Certain x) status) (now ≡ before) → OutTakes status (Certain x) before now) → OnFalse (may_ask (Certain (elim r [ Some e ↦ Ends (BadLine e) | None ↦ x ])) status) (now ≡ before) → OutTakes status (Certain (elim r [ Some e ↦ Ends (BadLine e) | None ↦ x ])) before now
+  on : (r : Option ResolveError) → (OnFalse (may_have_joined (Certain x) status) (now ≡ before) → OutTakes status (Certain x) before now) → OnFalse (may_have_joined (Certain (elim r [ Some e ↦ Ends (BadLine e) | None ↦ x ])) status) (now ≡ before) → OutTakes status (Certain (elim r [ Some e ↦ Ends (BadLine e) | None ↦ x ])) before now
   on (Some e) f h = ends-taken (BadLine e) status before now h
   on None f h = f h
 
-pub client-taken : (m : Option Machine) (asked : Asked) (what : MasterCommand) (status : Status) (before now : Option (List ℕ)) → OnFalse (may_ask (of_command m (commands.Control asked what)) status) (now ≡ before) → OutTakes status (of_command m (commands.Control asked what)) before now
+pub client-taken : (m : Option Machine) (asked : Asked) (what : MasterCommand) (status : Status) (before now : Option (List ℕ)) → OnFalse (may_have_joined (of_command m (commands.Control asked what)) status) (now ≡ before) → OutTakes status (of_command m (commands.Control asked what)) before now
 unfolding of_command
 client-taken None asked what status before now h = some-taken asked what status before now h
 client-taken (Some m) asked what status before now h =
@@ -155,7 +155,7 @@ writes-joined asked what (Ok (Some path)) = refl
 writes-joined asked what (Ok None) = refl
 writes-joined asked what (Err e) = refl
 
-writes-rows : (rows : List Row) (x : Outcome) → writes_out (Certain x) ≡ asks (Certain x) → writes_out (Certain (unrefused rows x)) ≡ asks (Certain (unrefused rows x))
+writes-rows : (rows : List LineRow) (x : CommandOutcome) → writes_out (Certain x) ≡ asks (Certain x) → writes_out (Certain (unrefused rows x)) ≡ asks (Certain (unrefused rows x))
 writes-rows rows x h = on (refusal_in rows) where
   on : (r : Option ResolveError) → writes_out (Certain (elim r [ Some e ↦ Ends (BadLine e) | None ↦ x ])) ≡ asks (Certain (elim r [ Some e ↦ Ends (BadLine e) | None ↦ x ]))
   on (Some e) = refl
@@ -166,16 +166,16 @@ unfolding of_command
 client-writes None asked what = refl
 client-writes (Some m) asked what = writes-rows (all_rows (recorded_of m asked)) (joined_end asked what (control_path_at (recorded_of m asked) (all_rows (recorded_of m asked)))) (writes-joined asked what (control_path_at (recorded_of m asked) (all_rows (recorded_of m asked))))
 
-pub unlisted-client : (m : Option Machine) (asked : Asked) (what : MasterCommand) (status : Status) (P : Type 0) → OnFalse (may_ask (of_command m (commands.Control asked what)) status) P → OnFalse (writes_out (of_command m (commands.Control asked what))) P
+pub unlisted-client : (m : Option Machine) (asked : Asked) (what : MasterCommand) (status : Status) (P : Type 0) → OnFalse (may_have_joined (of_command m (commands.Control asked what)) status) P → OnFalse (writes_out (of_command m (commands.Control asked what))) P
 unlisted-client m asked what status P h = subst (λ b. OnFalse b P) (sym (client-writes m asked what)) (ends-unlisted (asks (of_command m (commands.Control asked what))) status P h)
 
 -- ---- the control path of a client
 
-refused-client : (asked : Asked) (what : MasterCommand) (e : ResolveError) → IsRefused (Client asked what) (shown (refused_as e))
+refused-client : (asked : Asked) (what : MasterCommand) (e : ResolveError) → IsRunRefused (Client asked what) (shown (refused_as e))
 refused-client asked what errors.OutOfMemory = tt
 refused-client asked what (errors.At file line cause) = by-cause (Client asked what) file line cause refl (λ plain. refl)
 
-pub client-refused : (files : Option (List Pair)) (statuses : Option (List CommandStatus)) (facts : Facts) (asked : Asked) (what : MasterCommand) (e : ResolveError) → Promise files statuses facts asked (λ recorded. Resolved recorded (Err e)) → IsRefused (of_command (machine files statuses facts) (commands.Control asked what)) (shown (refused_as e))
+pub client-refused : (files : Option (List Pair)) (statuses : Option (List CommandStatus)) (facts : Facts) (asked : Asked) (what : MasterCommand) (e : ResolveError) → Promise files statuses facts asked (λ recorded. Resolved recorded (Err e)) → IsRunRefused (of_command (machine files statuses facts) (commands.Control asked what)) (shown (refused_as e))
 unfolding of_command machine
 client-refused None statuses facts asked what e h = refused-client asked what e
 client-refused (Some files) None facts asked what e h = refused-client asked what e
@@ -199,19 +199,19 @@ client-found (Some files) (Some statuses) facts asked what settings path h p =
     let recorded = recorded_of (machine_of files statuses facts) asked in
     inl (ap (λ o. Certain o) (path-is files statuses facts asked what settings (Ok (Some path)) h (p recorded (all_rows recorded) (settled files statuses facts asked settings h))))
 
-pub client-unset : (files : Option (List Pair)) (statuses : Option (List CommandStatus)) (facts : Facts) (asked : Asked) (what : MasterCommand) (settings : List Given) → Promise files statuses facts asked (λ recorded. Resolved recorded (Ok settings)) → HasControlPath (Ok None) settings asked.original facts → IsRefused (of_command (machine files statuses facts) (commands.Control asked what)) NoControlPath
+pub client-unset : (files : Option (List Pair)) (statuses : Option (List CommandStatus)) (facts : Facts) (asked : Asked) (what : MasterCommand) (settings : List Given) → Promise files statuses facts asked (λ recorded. Resolved recorded (Ok settings)) → HasControlPath (Ok None) settings asked.original facts → IsRunRefused (of_command (machine files statuses facts) (commands.Control asked what)) NoControlPath
 unfolding of_command machine
 client-unset None statuses facts asked what settings h p = refl
 client-unset (Some files) None facts asked what settings h p = refl
 client-unset (Some files) (Some statuses) facts asked what settings h p =
     let recorded = recorded_of (machine_of files statuses facts) asked in
-    subst (λ o. IsRefused (Certain o) NoControlPath) (sym (path-is files statuses facts asked what settings (Ok None) h (p recorded (all_rows recorded) (settled files statuses facts asked settings h)))) refl
+    subst (λ o. IsRunRefused (Certain o) NoControlPath) (sym (path-is files statuses facts asked what settings (Ok None) h (p recorded (all_rows recorded) (settled files statuses facts asked settings h)))) refl
 
-pub client-unlisted : (files : Option (List Pair)) (statuses : Option (List CommandStatus)) (facts : Facts) (asked : Asked) (what : MasterCommand) (settings : List Given) (e : ListError) → Promise files statuses facts asked (λ recorded. Resolved recorded (Ok settings)) → HasControlPath (Err e) settings asked.original facts → IsRefused (of_command (machine files statuses facts) (commands.Control asked what)) (shown (unlisted_as e))
+pub client-unlisted : (files : Option (List Pair)) (statuses : Option (List CommandStatus)) (facts : Facts) (asked : Asked) (what : MasterCommand) (settings : List Given) (e : ListError) → Promise files statuses facts asked (λ recorded. Resolved recorded (Ok settings)) → HasControlPath (Err e) settings asked.original facts → IsRunRefused (of_command (machine files statuses facts) (commands.Control asked what)) (shown (unlisted_as e))
 unfolding of_command machine
 client-unlisted files statuses facts asked what settings list_errors.OutOfMemory h p = tt
 client-unlisted None statuses facts asked what settings (list_errors.Token key error) h p = refl
 client-unlisted (Some files) None facts asked what settings (list_errors.Token key error) h p = refl
 client-unlisted (Some files) (Some statuses) facts asked what settings (list_errors.Token key error) h p =
     let recorded = recorded_of (machine_of files statuses facts) asked in
-    subst (λ o. IsRefused (Certain o) (BadListing (list_errors.Token key error))) (sym (path-is files statuses facts asked what settings (Err (list_errors.Token key error)) h (p recorded (all_rows recorded) (settled files statuses facts asked settings h)))) refl
+    subst (λ o. IsRunRefused (Certain o) (BadListing (list_errors.Token key error))) (sym (path-is files statuses facts asked what settings (Err (list_errors.Token key error)) h (p recorded (all_rows recorded) (settled files statuses facts asked settings h)))) refl

@@ -1,12 +1,12 @@
 -- How a talk over a wire that was joined ends.
 use Rattle.std.proofs.Common.{◌≡◌, ◌≤◌, ◌+◌, inl, inr, ℕ, List, Option, Result, Ok, Err, refl, sym, ap, subst, ◌∙◌, arith}
 use Rattle.conf_rules.specs.Texts.{Bytes}
-use Rattle.mux_client.specs.Counted.{SinkFaults, Stops, WireFaults}
+use Rattle.mux_client.specs.Counted.{SinkFaults, TalkStops, WireFaults}
 use Rattle.mux_client.specs.declared.asks.Asks.{Asks}
 use Rattle.mux_client.specs.declared.talked.Talked.{Talked}
 use Rattle.mux_client.specs.declared.talked.Talked.TheVariants as talks
 use Rattle.mux_client.specs.Journal.{ShowsRecorded, TalksRecorded}
-use Rattle.mux_client.specs.Talking.{IsJoined, SameWire}
+use Rattle.mux_client.specs.Talking.{IsTransportJoined, SameWire}
 use Rattle.mux_outside.specs.CallCounts.{CallCounts}
 use Rattle.mux_outside.specs.declared.file_error.FileError.{FileError}
 use Rattle.mux_outside.specs.declared.file_error.FileError.TheVariants as failures
@@ -35,7 +35,7 @@ talked-cause talks.ServerFailed f f' h = h.rose
 talked-cause talks.Spent f f' h = tt
 talked-cause talks.OutOfMemory f f' h = tt
 
-talked-waits : (turns : ℕ) (talked : Talked) (old new : CallCounts) → Stops turns talked old new → TalksFor turns (so_far (talk_recorded talked)) old new
+talked-waits : (turns : ℕ) (talked : Talked) (old new : CallCounts) → TalkStops turns talked old new → TalksFor turns (so_far (talk_recorded talked)) old new
 talked-waits turns talks.Spent old new h = h.spent refl
 talked-waits turns talks.Done old new h = h.ends (λ e. absurd cc) (λ e. absurd cc) (λ e. absurd cc)
 talked-waits turns talks.WriteFault old new h = h.ends (λ e. absurd cc) (λ e. absurd cc) (λ e. absurd cc)
@@ -44,7 +44,7 @@ talked-waits turns (talks.BadMaster at) old new h = h.ends (λ e. absurd cc) (λ
 talked-waits turns talks.ServerFailed old new h = tt
 talked-waits turns talks.OutOfMemory old new h = tt
 
-talked-calls : (turns : ℕ) (talked : Talked) (old new : CallCounts) → Stops turns talked old new → CallsEnd turns (so_far (talk_recorded talked)) old new
+talked-calls : (turns : ℕ) (talked : Talked) (old new : CallCounts) → TalkStops turns talked old new → CallsEnd turns (so_far (talk_recorded talked)) old new
 talked-calls turns talked old new h = record {
   few = h.few;
   opens = subst (λ (n : ℕ). n ≤ old.opens + 1) (sym h.opens) (omega arith);
@@ -53,9 +53,9 @@ talked-calls turns talked old new h = record {
   late = h.late;
 }
 
-pub talk-counts : (turns : ℕ) (talked : Talked) (answer : Result (Unit {0}) FileError) (control : Bytes) (old mid new : WireState) (f f' f'' : Faults) → mid ≡ state_after_join answer control old → f' ≡ f → Stops turns talked mid.calls new.calls → WireFaults talked f' f'' → SameWire mid new → (turns ≡ 0 → f'' ≡ f') → TalkCounts turns (so_far (talk_recorded talked)) old new f f''
+pub talk-counts : (turns : ℕ) (talked : Talked) (answer : Result (Unit {0}) FileError) (control : Bytes) (old mid new : WireState) (f f' f'' : Faults) → mid ≡ state_after_join answer control old → f' ≡ f → TalkStops turns talked mid.calls new.calls → WireFaults talked f' f'' → SameWire mid new → (turns ≡ 0 → f'' ≡ f') → TalkCounts turns (so_far (talk_recorded talked)) old new f f''
 talk-counts turns talked answer control old mid new f f' f'' e same stops cause wire idle =
-    let s : Stops turns talked old.calls new.calls = subst (λ (c : CallCounts). Stops turns talked c new.calls) (ap (λ (w : WireState). w.calls) e) stops in
+    let s : TalkStops turns talked old.calls new.calls = subst (λ (c : CallCounts). TalkStops turns talked c new.calls) (ap (λ (w : WireState). w.calls) e) stops in
     record {
       openings = wire.openings ∙ ap (λ (w : WireState). w.openings) e;
       unopened = s.opens;
@@ -65,8 +65,8 @@ talk-counts turns talked answer control old mid new f f' f'' e same stops cause 
       idle = λ z. same-idle (so_far (talk_recorded talked)) f f'' (idle z ∙ same);
     }
 
-pub is-joined : (x : Unit {0}) (control : Bytes) (old mid : WireState) → mid ≡ state_after_join (Ok x) control old → IsJoined mid.seen
-is-joined x control old mid e = subst (λ (w : WireState). IsJoined w.seen) (sym e) (record { alone = record { streams = refl; listens = refl; listeners = refl; own = refl }; none_blocked = refl })
+pub is-joined : (x : Unit {0}) (control : Bytes) (old mid : WireState) → mid ≡ state_after_join (Ok x) control old → IsTransportJoined mid.seen
+is-joined x control old mid e = subst (λ (w : WireState). IsTransportJoined w.seen) (sym e) (record { alone = record { streams = refl; listens = refl; listeners = refl; own = refl }; none_blocked = refl })
 
 -- where the wire wasn't joined
 module _ (turns : ℕ) (control : Bytes) (old new : WireState) (f f' : Faults) where

@@ -4,7 +4,7 @@ use Rattle.conf_rules.specs.declared.causes.Cause.TheVariants.{ReadFault, RunFau
 use Rattle.conf_rules.specs.declared.causes.ResolveError.TheVariants.{At}
 use Rattle.conf_rules.specs.Diagnostics as ends
 use Rattle.conf_rules.specs.Diagnostics.{Ending}
-use Rattle.conf_rules.specs.Outcome.{Writes}
+use Rattle.conf_rules.specs.CommandOutcome.{Writes}
 use Rattle.conf_rules.specs.Texts.{Bytes}
 use Rattle.ssh_mux.specs.declared.ending.Ending.{Ending as MeantEnding}
 use Rattle.ssh_mux.specs.declared.ending.Ending.TheVariants as endings

@@ -5,12 +5,12 @@ use Rattle.std.specs.Prelude.{IsTrue, option_map}
 use Rattle.conf_options.specs.Kept.{Given}
 use Rattle.conf_rules.specs.declared.asked.Asked.{Asked}
 use Rattle.conf_rules.specs.declared.command.Command.TheVariants as commands
-use Rattle.conf_rules.specs.Outcome.{Machine}
+use Rattle.conf_rules.specs.CommandOutcome.{Machine}
 use Rattle.conf_rules.specs.Texts.{Bytes}
 use Rattle.conf_rules.specs.Recorded.{Recorded}
 use Rattle.mux_engine.specs.Came.{EndedBy}
 use Rattle.mux_engine.specs.Rests.{HasCalled, HasEnded, refusal_after}
-use Rattle.mux_engine.specs.Wires.{IsOpened, KeepsWire, NoFault}
+use Rattle.mux_engine.specs.Wires.{IsWireOpened, KeepsWire, NoFault}
 use Rattle.mux_history.specs.declared.ended.Ended.{Ended}
 use Rattle.mux_history.specs.declared.ended.Ended.TheVariants as ends
 use Rattle.mux_outside.specs.CallCounts.{CallCounts, calls_after_open}
@@ -24,16 +24,17 @@ use Rattle.mux_outside.specs.WireState.{WireState, state_after_open}
 use Rattle.ssh_mux.specs.declared.ending.Ending.{Ending}
 use Rattle.ssh_mux.specs.declared.status.Status.{Status}
 use Rattle.ssh_mux.specs.declared.status.Status.TheVariants as statuses
-use Rattle.ssh_mux.specs.Answers.{IsRefused, may_share, serves_house, so_far}
+use Rattle.ssh_mux.specs.Answers.{IsRunRefused, may_share, serves_house, so_far}
 use Rattle.ssh_mux.specs.Ending.{shown}
+use Rattle.ssh_mux.specs.Here.{here_of}
 use Rattle.ssh_mux.specs.Master.{EndsMaster}
 use Rattle.ssh_mux.specs.Outcomes.{Known, of_command}
-use Rattle.ssh_mux.specs.Sharing.{CameFor, CountsFor, MasterLeaves, OpensAt, SharesWith, StartCause, WireCause, opened, policy_in, policy_of, recorded_as}
+use Rattle.ssh_mux.specs.Sharing.{CameFor, CountsFor, MasterLeaves, OpensAt, SharesWith, StartCause, WireCause, opened, here_in, policy_in, policy_of, recorded_as}
 use Rattle.ssh_mux.specs.Starts.{BeganWith, Begun, BegunRests, MustsAs, SettledFor, must_for, starts_for}
 use Rattle.ssh_mux.specs.Status.{status_of}
 use Rattle.ssh_mux.specs.World.{Sockets}
 use Rattle.ssh_mux.proofs.OwnLemmas.{from-own, kept-own, still-own}
-use Rattle.ssh_mux.proofs.PolicyLemmas.{with-policy}
+use Rattle.ssh_mux.proofs.PolicyLemmas.{with-permissions}
 use Rattle.ssh_mux.proofs.SharingLemmas.{IsMaster, came_end, idle_end, master-came, master-idle, master-opened, master-opens, master-waits, opened_ended, opened_stops, opening_calls, serving_calls, waits_end}
 use Rattle.ssh_mux.proofs.StartLemmas.{musts-recorded, starts-recorded}
 use Rattle.ssh_mux.proofs.StillLemmas.{on_true, still-came, still-calls, still-idle, still-must, still-opened, still-shared, still-start, still-wire, unshared-waits, where_false}
@@ -66,10 +67,10 @@ module _ (housed : Bool) (turns : ℕ) (control transport : Bytes) (old new : Wi
     idle = λ z. where_false housed Unit tt;
   }
 
--- ---- behind the opening
+-- ---- after the opening
 
-pub is-opened : (x : Unit {0}) (control transport : Bytes) (old mid : WireState) → mid ≡ state_after_open (Ok x) control transport mid.tally old → IsOpened mid.seen
-is-opened x control transport old mid e = subst (λ (w : WireState). IsOpened w.seen) (sym e) (record { server_alone = refl; none_blocked = refl; listens = refl; own = refl; listeners = refl })
+pub is-opened : (x : Unit {0}) (control transport : Bytes) (old mid : WireState) → mid ≡ state_after_open (Ok x) control transport mid.tally old → IsWireOpened mid.seen
+is-opened x control transport old mid e = subst (λ (w : WireState). IsWireOpened w.seen) (sym e) (record { server_alone = refl; none_blocked = refl; listens = refl; own = refl; listeners = refl })
 
 -- where it was served
 served-cause : (ended : Ended) (present : Bool) (refused : Option ℕ) (mid new : WireState) (f f' f'' : Faults) → f' ≡ f → HasEnded present refused ended mid new f' f'' → WireCause (so_far (recorded_as ended)) f f''
@@ -106,7 +107,7 @@ opens_end (ends.Broke index why) control transport before now e = e
 opens_end (ends.StartRefused index) control transport before now e = e
 opens_end ends.Spent control transport before now e = e
 
--- where the opening found no memory, nothing more is told of it
+-- where the opening found no memory, nothing more is recorded of it
 pub nothing-more : {A : Type 0} (recorded : Option (List A)) → option_map (λ xs. xs ++ []) recorded ≡ recorded
 nothing-more None = refl
 nothing-more (Some xs) = ap Some (append-nil xs)
@@ -115,11 +116,11 @@ nothing-more (Some xs) = ap Some (append-nil xs)
 
 module _ {T : Type 0} (May : HouseReply → Type 0) (state : T → HouseState) where
   -- of a master that was refused before
-  pub refused-leaves : (known : Known) (by : Option Recorded) (pid turns : ℕ) (meant : Ending) (k : Sockets) → IsRefused known (shown meant) → MasterLeaves May state known by pid turns (Err meant) k k
+  pub refused-leaves : (known : Known) (by : Option Recorded) (pid turns : ℕ) (meant : Ending) (k : Sockets) → IsRunRefused known (shown meant) → MasterLeaves May state known by pid turns (Err meant) k k
   refused-leaves known by pid turns meant k r = record {
     opened = still-opened known (shown meant) k.wire.openings r;
     joinings = refl;
-    served = still-shared known meant May (BegunRests state k.house.known.present) k.house.stands by (policy_in known) pid turns k.house.recorded k.wire.seen (refusal_after k.house k.house) r;
+    served = still-shared known meant May (BegunRests state k.house.known.present) k.house (here_in known) by (policy_in known) pid turns k.house.recorded k.wire.seen (refusal_after k.house k.house) r;
     start = still-start known (shown meant) (refusal_after k.house k.house) r;
     must = λ p. still-must known (shown meant) (must_for by) k.house.must r;
     wire_cause = still-wire known (shown meant) k.faults k.faults r;
@@ -132,8 +133,8 @@ module _ {T : Type 0} (May : HouseReply → Type 0) (state : T → HouseState) w
 
   -- of one whose control path was found
   pub served-leaves : (m : Option Machine) (asked : Asked) (transport : Bytes) (ps : Permissions) (control : Bytes) (by : Option Recorded) (settings : List Given) (pid turns : ℕ) (result : Result Status Ending) (k k' : Sockets) → IsMaster (of_command m (commands.Master asked transport ps)) transport ps control → SettledFor by settings → EndsMaster result → OpensAt control transport (so_far result) k.wire.openings k'.wire.openings
-      → SharesWith May (BegunRests state k.house.known.present (starts_for settings)) (BeganWith (starts_for settings)) (policy_of ps) pid turns k.house k'.house k.wire k'.wire result
-      → StartCause (so_far result) (refusal_after k.house k'.house) → (IsTrue k.house.known.present → MustsAs (so_far result) (Some (starts_for settings).must) k'.house.must) → CountsFor k.house.known.present turns (so_far result) k.wire k'.wire k.faults k'.faults
+      → SharesWith May (BegunRests state k.house.known.present (starts_for (here_of ps.here) settings)) (BeganWith (starts_for (here_of ps.here) settings)) (policy_of ps) pid turns k.house k'.house k.wire k'.wire result
+      → StartCause (so_far result) (refusal_after k.house k'.house) → (IsTrue k.house.known.present → MustsAs (so_far result) (Some (starts_for (here_of ps.here) settings).must) k'.house.must) → CountsFor k.house.known.present turns (so_far result) k.wire k'.wire k.faults k'.faults
       → MasterLeaves May state (of_command m (commands.Master asked transport ps)) by pid turns result k k'
   served-leaves m asked transport ps control by settings pid turns result k k' is settled over once served start must counts =
       let known : Known = of_command m (commands.Master asked transport ps) in
@@ -142,8 +143,8 @@ module _ {T : Type 0} (May : HouseReply → Type 0) (state : T → HouseState) w
       record {
         opened = master-opened known transport ps control status k.wire.openings k'.wire.openings is (master-opens result over) once;
         joinings = counts.joinings;
-        served = with-policy m asked transport ps status (λ p. Begun by (λ (starts : Starts). SharesWith May (BegunRests state present starts) (BeganWith starts) p pid turns k.house k'.house k.wire k'.wire result))
-            (on_true (may_share known status) (Begun by (λ (starts : Starts). SharesWith May (BegunRests state present starts) (BeganWith starts) (policy_of ps) pid turns k.house k'.house k.wire k'.wire result)) (record { starts = starts_for settings; due = starts-recorded by settings settled; so = served }));
+        served = with-permissions m asked transport ps status (λ (p : Permissions). Begun (here_of p.here) by (λ (starts : Starts). SharesWith May (BegunRests state present starts) (BeganWith starts) (policy_of p) pid turns k.house k'.house k.wire k'.wire result))
+            (on_true (may_share known status) (Begun (here_of ps.here) by (λ (starts : Starts). SharesWith May (BegunRests state present starts) (BeganWith starts) (policy_of ps) pid turns k.house k'.house k.wire k'.wire result)) (record { starts = starts_for (here_of ps.here) settings; permitted = refl; due = starts-recorded (here_of ps.here) by settings settled; so = served }));
         start = on_true (may_share known status) (StartCause status (refusal_after k.house k'.house)) start;
         must = λ p. on_true (may_share known status) (MustsAs status (must_for by) k'.house.must) (musts-recorded by settings status k'.house.must settled (must p));
         wire_cause = on_true (may_share known status) (WireCause status k.faults k'.faults) counts.cause;

@@ -6,7 +6,7 @@ use Rattle.conf_rules.specs.declared.command.Command.TheVariants as commands
 use Rattle.conf_rules.specs.declared.usage.UsageError.{UsageError}
 use Rattle.conf_rules.specs.CommandLine.{ReadCommand}
 use Rattle.conf_rules.specs.Diagnostics as ends
-use Rattle.conf_rules.specs.Outcome.{Outcome, Ends, Drills, Machine, command_execs, command_outcome}
+use Rattle.conf_rules.specs.CommandOutcome.{CommandOutcome, Ends, Drills, Machine, command_execs, command_outcome}
 use Rattle.conf_rules.specs.Reading.{reading}
 use Rattle.conf_rules.specs.Texts.{Bytes}
 use Rattle.conf_command.specs.declared.reader.WordsError.{WordsError}
@@ -15,7 +15,7 @@ use Rattle.conf_command.specs.Results.{Fails}
 use Rattle.conf_match.specs.Evaluated.{RanAll, RanSome}
 use Rattle.ssh_mux.specs.declared.status.Status.{Status}
 use Rattle.ssh_mux.specs.declared.status.Status.TheVariants as statuses
-use Rattle.ssh_mux.specs.Answers.{IsRefused}
+use Rattle.ssh_mux.specs.Answers.{IsRunRefused}
 use Rattle.ssh_mux.specs.Causes.{EndCause}
 use Rattle.ssh_mux.specs.Commands.{RunsFor, commands_of, commands_for}
 use Rattle.ssh_mux.specs.Ending.{shown, misread_as}
@@ -25,7 +25,7 @@ use Rattle.ssh_mux.specs.Status.{status_of}
 -- ---- words without a command to obey
 
 -- the outcome of a reading
-abbrev outcome_by : Machine → ReadCommand → Outcome
+abbrev outcome_by : Machine → ReadCommand → CommandOutcome
 outcome_by m r = elim r [ Ok command ↦ command_outcome m command | Err e ↦ Ends (ends.BadWords e) ]
 
 -- the commands that are run for it
@@ -52,9 +52,9 @@ unfolding of_words
 of-drill None words seed clients messages is = ap untold_words is
 of-drill (Some m) words seed clients messages is = ap (λ r. Certain (outcome_by m r)) is
 
-pub misread : (m : Option Machine) (words : List Bytes) (e : WordsError) → Fails e (reading words) → IsRefused (of_words m words) (shown (misread_as e))
+pub misread : (m : Option Machine) (words : List Bytes) (e : WordsError) → Fails e (reading words) → IsRunRefused (of_words m words) (shown (misread_as e))
 misread m words words_errors.OutOfMemory h = tt
-misread m words (words_errors.Refused e) h = subst (λ k. IsRefused k (ends.BadWords e)) (sym (of-refused m words e h)) refl
+misread m words (words_errors.Refused e) h = subst (λ k. IsRunRefused k (ends.BadWords e)) (sym (of-refused m words e h)) refl
 
 -- ---- commands that were run
 

@@ -13,12 +13,11 @@ use Rattle.conf_rules.specs.declared.usage.Usage.TheVariants.{BadEntry, NoForwar
 use Rattle.conf_rules.specs.Results.{◌>>=◌}
 use Rattle.conf_rules.specs.Texts.{Bytes}
 use Rattle.conf_rules.specs.Options.{Mode, Listing, Master, Client, Chooses, Reads, Asks, Connects, Permits, Sessions, Controls, Goes, Fails, Act, Step, Free}
-use Rattle.conf_rules.specs.Permissions.{bad_entry, earlier}
-use Rattle.conf_rules.specs.CommandLine.{ReadCommand, refused, Walk, walk_from, steps_from, walked, not_for_others, first_mode, host_in, transport_in, control_in, command_of, command_with, host_command, master_of, client_of, permitted, permits, asked_of, line_in, is_forwarding, asks_forwarding, is_about_forwardings, permissions_of}
+use Rattle.conf_rules.specs.CommandLine.{ReadCommand, refused, Walk, walk_from, steps_from, walked, not_for_others, first_mode, host_in, transport_in, control_in, command_of, command_with, host_command, master_of, client_of, permitted, bad_permission, asked_of, line_in, is_forwarding, asks_forwarding, is_about_forwardings, permissions_of}
 use Rattle.conf_rules.specs.Reading.{reading, drill_of, drill_number, seed_limit, no_more}
 use Rattle.ssh_mux.specs.Asks.{NamesForwards}
 
--- a forwarding among the lines in front, or among those behind
+-- a forwarding among the lines in front, or among those after
 any-left : (xs ys : List AskedLine) → list_any is_forwarding xs ≡ true → list_any is_forwarding (xs ++ ys) ≡ true
 any-left [] ys h = absurd cc
 any-left (x ∷ xs) ys h = by_case (is_forwarding x) h (any-left xs ys)
@@ -45,7 +44,7 @@ step-line word (Asks line) h = by_case (is_forwarding line) h
 step-line word (Chooses mode) h = absurd cc
 step-line word (Reads from) h = absurd cc
 step-line word (Connects transport) h = absurd cc
-step-line word (Permits listening at entry) h = absurd cc
+step-line word (Permits list at entry) h = absurd cc
 step-line word (Sessions may) h = absurd cc
 step-line word (Controls control) h = absurd cc
 step-line word (Goes to) h = absurd cc
@@ -82,7 +81,7 @@ client-named n host steps control = by_case (is_about_forwardings control) refl 
     by_case false a false s = unasked a
 
 permitted-none : (steps : List Step) (asked : Asked) (transport : Bytes) → OfClient (permitted steps (commands.Master asked transport (permissions_of steps)))
-permitted-none steps asked transport = by_case (earlier (bad_entry (permits false steps)) (bad_entry (permits true steps)))
+permitted-none steps asked transport = by_case (bad_permission steps)
   where
     by_case : (o : Option ℕ) → OfClient (elim o as (λ _. ReadCommand) [ Some word ↦ refused word BadEntry | None ↦ Ok (commands.Master asked transport (permissions_of steps)) ])
     by_case (Some word) = tt
@@ -117,7 +116,7 @@ walked-named n walk = by_word (not_for_others (first_mode walk.sound) walk.sound
     by_word (Some word) = tt
     by_word None = by_fault walk.fault
 
--- behind a reading
+-- after a reading
 then-named : {X : Type 0} (read : Result X UsageError) (next : X → ReadCommand) → ((x : X) → OfClient (next x)) → OfClient (read >>= next)
 then-named (Ok x) next each = each x
 then-named (Err e) next each = tt

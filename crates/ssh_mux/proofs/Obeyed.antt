@@ -1,4 +1,4 @@
--- What words come to before a line is written of it, from what each command does, and to a run.
+-- The outcome of words before a line is written of it, from what each command does, and to a run.
 use Rattle.std.proofs.Common.{◌≡◌, ◌||◌, ℕ, true, false, List, Option, Result, Ok, Err, refl, sym, ap, subst}
 use Rattle.std.specs.Prelude.{IsTrue}
 use Rattle.std.specs.Bool.{OnFalse, OnTrue}
@@ -7,7 +7,7 @@ use Rattle.conf_command.specs.Results.{Fails}
 use Rattle.conf_rules.specs.declared.asked.Asked.{Asked}
 use Rattle.conf_rules.specs.declared.command.Command.TheVariants as commands
 use Rattle.conf_rules.specs.declared.control.MasterCommand.{MasterCommand}
-use Rattle.conf_rules.specs.Outcome.{Drills, Machine}
+use Rattle.conf_rules.specs.CommandOutcome.{Drills, Machine}
 use Rattle.conf_rules.specs.Reading.{reading}
 use Rattle.conf_rules.specs.Texts.{Bytes}
 use Rattle.conf_rules.specs.Recorded.{Recorded}
@@ -21,7 +21,7 @@ use Rattle.mux_outside.specs.House.{HouseState}
 use Rattle.mux_outside.specs.WireState.{WireState}
 use Rattle.ssh_mux.specs.declared.ending.Ending.{Ending}
 use Rattle.ssh_mux.specs.declared.status.Status.{Status}
-use Rattle.ssh_mux.specs.Answers.{Comes, may_ask, may_open, may_share, may_show, may_write, reaches, serves_house, so_far, touches}
+use Rattle.ssh_mux.specs.Answers.{Comes, may_have_joined, may_open, may_share, may_show, may_write, reaches, serves_house, so_far, touches}
 use Rattle.ssh_mux.specs.Causes.{Caused, OutCause}
 use Rattle.ssh_mux.specs.Client.{ClientLeaves, ConversesFor, JoinsOnce, TalksFor}
 use Rattle.ssh_mux.specs.Commands.{RunsFor, commands_for, commands_of}
@@ -33,9 +33,9 @@ use Rattle.ssh_mux.specs.Out.{OutTakes}
 use Rattle.ssh_mux.specs.Outcomes.{Known, Certain, drills, of_words, opens}
 use Rattle.ssh_mux.specs.Places.{Placed, recorded_for, recorded_over}
 use Rattle.ssh_mux.specs.Puts.{PutsOnce, prints}
-use Rattle.ssh_mux.specs.Reads.{ReadsFor}
+use Rattle.ssh_mux.specs.Reads.{RunReadsFor}
 use Rattle.ssh_mux.specs.Runs.{Runs}
-use Rattle.ssh_mux.specs.Sharing.{CallsEnd, CameFor, CountsFor, IdleCause, MasterLeaves, OpensOnce, SharesFor, StartCause, WaitsFor, WireCause, pid_of, policy_in}
+use Rattle.ssh_mux.specs.Sharing.{CallsEnd, CameFor, CountsFor, IdleCause, MasterLeaves, OpensOnce, SharesFor, StartCause, WaitsFor, WireCause, here_in, pid_of, policy_in}
 use Rattle.ssh_mux.specs.Starts.{BegunRests, MustsAs, must_for}
 use Rattle.ssh_mux.specs.World.{OutState, Sockets, Sources, world}
 use Rattle.ssh_mux.proofs.AnswerLemmas.{asked_after, asked_cause_after, asked_waits_after, asked_well, joined_after}
@@ -53,10 +53,10 @@ use Rattle.ssh_mux.proofs.StillLemmas.{else-or, follows, for-master, loud, not_f
 use Rattle.ssh_mux.proofs.TalkLemmas.{none-joined, refused-unjoined, still-asked-cause, still-asked-waits, still-joined, still-talked, unasked}
 use Rattle.conf_rules.specs.declared.command.Permissions.{Permissions}
 
--- ---- what words come to
+-- ---- the outcome of words
 
--- By what is known of them, what is told for them and the commands that are due: from what sources,
--- sockets and the output showed to what they show.
+-- By what is known of them, what is recorded for them and the commands that are due: from what
+-- sources, sockets and the output showed to what they show.
 pub record Obeyed {T : Type 0} (known : Known) (recorded : Option Recorded) (due : Option (List Bytes)) (words : List Bytes) (pid turns : ℕ) (May : HouseReply → Type 0) (state : T → HouseState) (result : Result Status Ending) (s s' : Sources) (k k' : Sockets) (out out' : OutState) : Type 0 where
   pub exact : Comes known result
   pub place : Placed recorded result s.commands.ran s'.commands.ran s.files.failed s'.files.failed
@@ -65,7 +65,7 @@ pub record Obeyed {T : Type 0} (known : Known) (recorded : Option Recorded) (due
   pub out_cause : OutCause (so_far result) out.faults out'.faults
   pub out_once : OnTrue (prints known) (PutsOnce (so_far result) out.puts out'.puts)
   pub ran : RunsFor due (so_far result) s.commands.ran s'.commands.ran
-  pub read : ReadsFor recorded (so_far result) s.files.readings s'.files.readings
+  pub read : RunReadsFor recorded (so_far result) s.files.readings s'.files.readings
   pub opened : OpensOnce known (so_far result) k.wire.openings k'.wire.openings
   pub joined : JoinsOnce known (so_far result) k.wire.joinings k'.wire.joinings
   pub shared : SharesFor May state known recorded pid turns k k' result
@@ -74,8 +74,8 @@ pub record Obeyed {T : Type 0} (known : Known) (recorded : Option Recorded) (due
   pub wire_cause : OnTrue (touches known (so_far result)) (WireCause (so_far result) k.faults k'.faults)
   pub own_faults : OnTrue (opens known || drills known) (OwnCounted k.wire.seen.recorded k'.wire.seen.recorded k.faults.own k'.faults.own)
   pub asked : ConversesFor known k.wire.seen.recorded k'.wire.seen.recorded out.recorded out'.recorded result
-  pub asked_cause : OnTrue (may_ask known (so_far result)) (WireCause (so_far result) k.faults k'.faults)
-  pub asked_waits : OnTrue (may_ask known (so_far result)) (TalksFor turns (so_far result) k.wire.calls k'.wire.calls)
+  pub asked_cause : OnTrue (may_have_joined known (so_far result)) (WireCause (so_far result) k.faults k'.faults)
+  pub asked_waits : OnTrue (may_have_joined known (so_far result)) (TalksFor turns (so_far result) k.wire.calls k'.wire.calls)
   pub calls : CallsEnd turns (so_far result) k.wire.calls k'.wire.calls
   pub unopened : OnFalse (touches known (so_far result)) (k'.wire.calls.opens ≡ k.wire.calls.opens)
   pub came : OnTrue (touches known (so_far result)) (CameFor (so_far result) k.wire.calls k'.wire.calls)
@@ -101,7 +101,7 @@ module _ {T : Type 0} (words : List Bytes) (facts : Facts) (turns : ℕ) (May : 
   -- without a line
   well-runs : (status : Status) (err : OutState) → Obeys (Ok status) → Runs words facts (world k s out err) May state turns status (world k' s' out' err)
   well-runs status err h = record {
-    shared = shared_well May (BegunRests state k.house.known.present) k'.house.stands Recorded_ (policy_in Known_) (pid_of facts.pid) turns k.house.recorded k'.house.recorded k.wire.seen.recorded k'.wire.seen (refusal_after k.house k'.house) err.recorded err.faults (may_share Known_ status) status h.shared;
+    shared = shared_well May (BegunRests state k.house.known.present) k'.house (here_in Known_) Recorded_ (policy_in Known_) (pid_of facts.pid) turns k.house.recorded k'.house.recorded k.wire.seen.recorded k'.wire.seen (refusal_after k.house k'.house) err.recorded err.faults (may_share Known_ status) status h.shared;
     ended = ended-well Known_ Recorded_ status (world k s out err) (world k' s' out' err) refl h.exact;
     err_once = well-puts Known_ status (err.puts ≡ counted err.puts) h.exact;
     fault_cause = well-cause Known_ status s.files.faults s'.files.faults s.commands.faults s'.commands.faults h.exact h.cause;
@@ -130,7 +130,7 @@ module _ {T : Type 0} (words : List Bytes) (facts : Facts) (turns : ℕ) (May : 
   -- with one
   recorded-runs : (meant : Ending) (status : Status) (err err' : OutState) → Obeys (Err meant) → Reports status (shown meant) err.recorded err'.recorded err.faults err'.faults → err'.puts ≡ counted err.puts → Runs words facts (world k s out err) May state turns status (world k' s' out' err')
   recorded-runs meant status err err' h r once = let e : Rattle.conf_rules.specs.Diagnostics.Ending = shown meant in record {
-    shared = shared_after May (BegunRests state k.house.known.present) k'.house.stands Recorded_ (policy_in Known_) (pid_of facts.pid) turns k.house.recorded k'.house.recorded k.wire.seen.recorded k'.wire.seen (refusal_after k.house k'.house) err.recorded err'.recorded err.faults err'.faults Known_ status meant r h.shared h.still_wire h.still_house;
+    shared = shared_after May (BegunRests state k.house.known.present) k'.house (here_in Known_) Recorded_ (policy_in Known_) (pid_of facts.pid) turns k.house.recorded k'.house.recorded k.wire.seen.recorded k'.wire.seen (refusal_after k.house k'.house) err.recorded err'.recorded err.faults err'.faults Known_ status meant r h.shared h.still_wire h.still_house;
     ended = ended Known_ Recorded_ status e (world k s out err) (world k' s' out' err') h.exact h.cause h.place r;
     err_once = loud-puts _ (err'.puts ≡ counted err.puts) once;
     fault_cause = fault_after status e err.recorded err'.recorded err.faults err'.faults _ _ _ _ r h.cause;
@@ -161,7 +161,7 @@ module _ {T : Type 0} (words : List Bytes) (facts : Facts) (turns : ℕ) (May : 
   obeys-runs (Ok due) h status err err' e = subst (λ x. Runs words facts (world k s out err) May state turns x (world k' s' out' err')) (sym e.0) (subst (λ x. Runs words facts (world k s out err) May state turns due (world k' s' out' x)) (sym e.1) (well-runs due err h))
   obeys-runs (Err meant) h status err err' e = recorded-runs meant status err err' h e.0 e.1
 
-  -- where it is so much that is known, told and due
+  -- where it is so much that is known, recorded and due
   pub obeyed-runs : (known : Known) (recorded : Option Recorded) (due : Option (List Bytes)) (result : Result Status Ending) → of_words (machine_of_sources s facts) words ≡ known → recorded_for (machine_of_sources s facts) words ≡ recorded → commands_for (machine_of_sources s facts) words ≡ due → Obeyed known recorded due words (pid_of facts.pid) turns May state result s s' k k' out out' → (status : Status) (err err' : OutState) → IsRecordedBy result status err err' → Runs words facts (world k s out err) May state turns status (world k' s' out' err')
   obeyed-runs known recorded due result a b c h = obeys-runs result (subst (λ x. Obeyed x Recorded_ (commands_for (machine_of_sources s facts) words) words (pid_of facts.pid) turns May state result s s' k k' out out') (sym a) (subst (λ x. Obeyed known x (commands_for (machine_of_sources s facts) words) words (pid_of facts.pid) turns May state result s s' k k' out out') (sym b) (subst (λ x. Obeyed known recorded x words (pid_of facts.pid) turns May state result s s' k k' out out') (sym c) h)))
 
@@ -181,7 +181,7 @@ module _ {T : Type 0} (words : List Bytes) (pid turns : ℕ) (May : HouseReply �
     read = misread-reads m words e _ fails;
     opened = still-opened _ _ _ r;
     joined = still-joined _ _ _ r;
-    shared = still-shared (of_words m words) (misread_as e) May (BegunRests state k.house.known.present) k.house.stands (recorded_for m words) (policy_in (of_words m words)) pid turns k.house.recorded k.wire.seen (refusal_after k.house k.house) r;
+    shared = still-shared (of_words m words) (misread_as e) May (BegunRests state k.house.known.present) k.house (here_in (of_words m words)) (recorded_for m words) (policy_in (of_words m words)) pid turns k.house.recorded k.wire.seen (refusal_after k.house k.house) r;
     start = still-start _ _ _ r;
     must = λ p. still-must _ _ _ _ r;
     wire_cause = still-caused _ _ _ _ r;
@@ -230,7 +230,7 @@ module _ {T : Type 0} (words : List Bytes) (pid turns : ℕ) (May : HouseReply �
     drill = not_true _ _ (list-undrilled m asked);
     still_wire = on_false _ _;
     still_house = on_false _ _;
-    still_out = or-else (may_write (so_far result)) (may_ask known (so_far result)) (out'.recorded ≡ out.recorded) unwritten;
+    still_out = or-else (may_write (so_far result)) (may_have_joined known (so_far result)) (out'.recorded ≡ out.recorded) unwritten;
   }
 
   -- a master
@@ -268,13 +268,13 @@ module _ {T : Type 0} (words : List Bytes) (pid turns : ℕ) (May : HouseReply �
         waited = follows (serves_house k.house.known.present known) (OnTrue (may_share known status) (WaitsFor turns status k.wire.calls k'.wire.calls)) (OnTrue (touches known status) (WaitsFor turns status k.wire.calls k'.wire.calls)) (for-master (may_open status) (opens known) (drills known) (WaitsFor turns status k.wire.calls k'.wire.calls) none) leaves.waited;
         idle = leaves.idle;
         drill = not_true _ _ none;
-        still_wire = or-else (touches known status) (may_ask known status) (k'.wire.seen.recorded ≡ k.wire.seen.recorded) (untouched (may_open status) (opens known) (drills known) (k'.wire.seen.recorded ≡ k.wire.seen.recorded) (follows (may_share known status) ((k'.wire ≡ k.wire) × (k'.house.recorded ≡ k.house.recorded)) (k'.wire.seen.recorded ≡ k.wire.seen.recorded) (λ e. ap (λ (w : WireState). w.seen.recorded) e.0) still));
+        still_wire = or-else (touches known status) (may_have_joined known status) (k'.wire.seen.recorded ≡ k.wire.seen.recorded) (untouched (may_open status) (opens known) (drills known) (k'.wire.seen.recorded ≡ k.wire.seen.recorded) (follows (may_share known status) ((k'.wire ≡ k.wire) × (k'.house.recorded ≡ k.house.recorded)) (k'.wire.seen.recorded ≡ k.wire.seen.recorded) (λ e. ap (λ (w : WireState). w.seen.recorded) e.0) still));
         still_house = follows (may_share known status) ((k'.wire ≡ k.wire) × (k'.house.recorded ≡ k.house.recorded)) (k'.house.recorded ≡ k.house.recorded) (λ e. e.1) still;
         still_out = on_false _ _;
       }
 
   -- a client
-  pub client-obeyed : (facts : Facts) (asked : Asked) (what : MasterCommand) (result : Result Status Ending) (s s' : Sources) (w w' : WireState) (f f' : Faults) (house : HouseState) (out out' : OutState) → Looks facts (commands.Control asked what) asked result s s' → ClientLeaves (coming s facts (commands.Control asked what)) turns result w w' f f' out out' → OnFalse (may_ask (coming s facts (commands.Control asked what)) (so_far result)) ((w' ≡ w) × (out'.recorded ≡ out.recorded))
+  pub client-obeyed : (facts : Facts) (asked : Asked) (what : MasterCommand) (result : Result Status Ending) (s s' : Sources) (w w' : WireState) (f f' : Faults) (house : HouseState) (out out' : OutState) → Looks facts (commands.Control asked what) asked result s s' → ClientLeaves (coming s facts (commands.Control asked what)) turns result w w' f f' out out' → OnFalse (may_have_joined (coming s facts (commands.Control asked what)) (so_far result)) ((w' ≡ w) × (out'.recorded ≡ out.recorded))
       → Obeyed (coming s facts (commands.Control asked what)) (recorded_over (machine_of_sources s facts) asked) (commands_of (machine_of_sources s facts) (commands.Control asked what)) words pid turns May state result s s' (record { wire = w; faults = f; house = house }) (record { wire = w'; faults = f'; house = house }) out out'
   client-obeyed facts asked what result s s' w w' f f' house out out' looks leaves still =
       let m = machine_of_sources s facts in
@@ -282,7 +282,7 @@ module _ {T : Type 0} (words : List Bytes) (pid turns : ℕ) (May : HouseReply �
       let status : Status = so_far result in
       let none = client-undrilled m asked what in
       let closed = client-shut m asked what in
-      let unwritten : OnFalse (may_ask known status) (out'.recorded ≡ out.recorded) = follows (may_ask known status) ((w' ≡ w) × (out'.recorded ≡ out.recorded)) (out'.recorded ≡ out.recorded) (λ e. e.1) still in
+      let unwritten : OnFalse (may_have_joined known status) (out'.recorded ≡ out.recorded) = follows (may_have_joined known status) ((w' ≡ w) × (out'.recorded ≡ out.recorded)) (out'.recorded ≡ out.recorded) (λ e. e.1) still in
       record {
         exact = looks.exact;
         place = looks.place;
@@ -308,9 +308,9 @@ module _ {T : Type 0} (words : List Bytes) (pid turns : ℕ) (May : HouseReply �
         waited = unopened-waits (serves_house house.known.present known) known status turns w.calls w'.calls closed none;
         idle = λ z. where_false _ _ (leaves.idle z);
         drill = not_true _ _ none;
-        still_wire = else-or (touches known status) (may_ask known status) (w'.seen.recorded ≡ w.seen.recorded) (follows (may_ask known status) ((w' ≡ w) × (out'.recorded ≡ out.recorded)) (w'.seen.recorded ≡ w.seen.recorded) (λ e. ap (λ (x : WireState). x.seen.recorded) e.0) still);
+        still_wire = else-or (touches known status) (may_have_joined known status) (w'.seen.recorded ≡ w.seen.recorded) (follows (may_have_joined known status) ((w' ≡ w) × (out'.recorded ≡ out.recorded)) (w'.seen.recorded ≡ w.seen.recorded) (λ e. ap (λ (x : WireState). x.seen.recorded) e.0) still);
         still_house = on_false _ _;
-        still_out = else-or (may_write status) (may_ask known status) (out'.recorded ≡ out.recorded) unwritten;
+        still_out = else-or (may_write status) (may_have_joined known status) (out'.recorded ≡ out.recorded) unwritten;
       }
 
   -- a drill
@@ -345,7 +345,7 @@ module _ {T : Type 0} (words : List Bytes) (pid turns : ℕ) (May : HouseReply �
         waited = where_false _ _ (on_true _ _ counts.waited);
         idle = λ z. where_false _ _ (counts.idle z);
         drill = goes;
-        still_wire = or-else (touches known status) (may_ask known status) (w'.seen.recorded ≡ w.seen.recorded) (not_false (touches known status) (w'.seen.recorded ≡ w.seen.recorded) touched);
+        still_wire = or-else (touches known status) (may_have_joined known status) (w'.seen.recorded ≡ w.seen.recorded) (not_false (touches known status) (w'.seen.recorded ≡ w.seen.recorded) touched);
         still_house = on_false _ _;
-        still_out = or-else (may_write status) (may_ask known status) (out'.recorded ≡ out.recorded) unwritten;
+        still_out = or-else (may_write status) (may_have_joined known status) (out'.recorded ≡ out.recorded) unwritten;
       }

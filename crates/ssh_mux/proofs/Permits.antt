@@ -3,6 +3,7 @@ use Rattle.std.proofs.Common.{◌≡◌, ℕ, ◌+◌, Bool, true, false, List, 
 use Rattle.std.specs.Prelude.{◌||◌, ◌&&◌, not, nat_lt, if◌then◌else◌, bytes_eq, codes, is_some}
 use Rattle.conf_rules.specs.declared.asked.Asked.{Asked}
 use Rattle.conf_rules.specs.declared.command.Command.TheVariants as commands
+use Rattle.conf_rules.specs.declared.permit_list.PermitList.TheVariants.{Open, Listen, Here}
 use Rattle.std.specs.List.{list_any}
 use Rattle.conf_rules.specs.declared.control.MasterCommand.{MasterCommand}
 use Rattle.conf_rules.specs.declared.control.MasterCommand.TheVariants.{Check}
@@ -12,7 +13,7 @@ use Rattle.conf_rules.specs.Results.{◌>>=◌}
 use Rattle.conf_rules.specs.Texts.{Bytes}
 use Rattle.conf_rules.specs.Options.{Mode, Listing, Master, Client, Step, Free}
 use Rattle.conf_rules.specs.Permissions.{PermitWord, is_alone, is_entry, first_not_entry, bad_entry, earlier}
-use Rattle.conf_rules.specs.CommandLine.{ReadCommand, refused, Walk, walk_from, steps_from, walked, not_for_others, first_mode, host_in, transport_in, command_of, command_with, host_command, master_of, client_of, control_in, is_about_forwardings, asks_forwarding, permitted, permits, texts_of, asked_of, permissions_of}
+use Rattle.conf_rules.specs.CommandLine.{ReadCommand, refused, Walk, walk_from, steps_from, walked, not_for_others, first_mode, host_in, transport_in, command_of, command_with, host_command, master_of, client_of, control_in, is_about_forwardings, asks_forwarding, permitted, bad_permission, permits, texts_of, asked_of, permissions_of}
 use Rattle.conf_rules.specs.Reading.{reading, drill_of, drill_number, seed_limit, no_more}
 use Rattle.mux_history.specs.Policy.{Allow, Anything, Entries, Entry, Policy, read_entry, read_entries, read_word, read_list}
 use Rattle.forward_rules.specs.Allows.{read_policy, read_listens}
@@ -94,10 +95,12 @@ policy-read opens listens sessions opened listened = (record { opens = opened.0;
 -- the lists are those of steps, and have no bad text
 record ArePermitted (ps : Permissions) : Type 0 where
   steps : List Step
-  good_opens : bad_entry (permits false steps) ≡ None
-  good_listens : bad_entry (permits true steps) ≡ None
-  are_opens : texts_of (permits false steps) ≡ ps.opens
-  are_listens : texts_of (permits true steps) ≡ ps.listens
+  good_opens : bad_entry (permits Open steps) ≡ None
+  good_listens : bad_entry (permits Listen steps) ≡ None
+  good_here : bad_entry (permits Here steps) ≡ None
+  are_opens : texts_of (permits Open steps) ≡ ps.opens
+  are_listens : texts_of (permits Listen steps) ≡ ps.listens
+  are_here : texts_of (permits Here steps) ≡ ps.here
 
 -- the lists of a master that was read
 abbrev OfMaster : ReadCommand → Type 0
@@ -116,14 +119,15 @@ none-earlier (Some a) (Some b) e = absurd (by_case (nat_lt a b) e)
 
 -- the lists of sound steps
 permitted-master : (steps : List Step) (asked : Asked) (transport : Bytes) → OfMaster (permitted steps (commands.Master asked transport (permissions_of steps)))
-permitted-master steps asked transport = by_case (earlier (bad_entry (permits false steps)) (bad_entry (permits true steps))) refl
+permitted-master steps asked transport = by_case (bad_permission steps) refl
   where
-    by_case : (o : Option ℕ) → earlier (bad_entry (permits false steps)) (bad_entry (permits true steps)) ≡ o
+    by_case : (o : Option ℕ) → bad_permission steps ≡ o
         → OfMaster (elim o as (λ _. ReadCommand) [ Some word ↦ refused word BadEntry | None ↦ Ok (commands.Master asked transport (permissions_of steps)) ])
     by_case (Some word) e = tt
     by_case None e =
-        let good = none-earlier (bad_entry (permits false steps)) (bad_entry (permits true steps)) e in
-        record { steps = steps; good_opens = good.0; good_listens = good.1; are_opens = refl; are_listens = refl }
+        let good = none-earlier (bad_entry (permits Open steps)) (earlier (bad_entry (permits Listen steps)) (bad_entry (permits Here steps))) e in
+        let others = none-earlier (bad_entry (permits Listen steps)) (bad_entry (permits Here steps)) good.1 in
+        record { steps = steps; good_opens = good.0; good_listens = others.0; good_here = others.1; are_opens = refl; are_listens = refl; are_here = refl }
 
 command-master : (n : ℕ) (steps : List Step) → OfMaster (command_of n steps)
 unfolding command_of
@@ -161,7 +165,7 @@ walked-master n walk = by_word (not_for_others (first_mode walk.sound) walk.soun
     by_word (Some word) = tt
     by_word None = by_fault walk.fault
 
--- behind a reading
+-- after a reading
 then-master : {X : Type 0} (read : Result X UsageError) (next : X → ReadCommand) → ((x : X) → OfMaster (next x)) → OfMaster (read >>= next)
 then-master (Ok x) next each = each x
 then-master (Err e) next each = tt
@@ -195,6 +199,13 @@ pub permits-read : (words : List Bytes) (asked : Asked) (transport : Bytes) (ps 
     → (policy : Policy) × (read_policy ps.opens ps.listens ps.sessions ≡ Ok policy)
 permits-read words asked transport ps e =
     let known : ArePermitted ps = subst OfMaster e (reading-master words) in
-    let opened : IsRead ps.opens = subst IsRead known.are_opens (list-read (permits false known.steps) known.good_opens) in
-    let listened : IsRead ps.listens = subst IsRead known.are_listens (list-read (permits true known.steps) known.good_listens) in
+    let opened : IsRead ps.opens = subst IsRead known.are_opens (list-read (permits Open known.steps) known.good_opens) in
+    let listened : IsRead ps.listens = subst IsRead known.are_listens (list-read (permits Listen known.steps) known.good_listens) in
     policy-read ps.opens ps.listens ps.sessions opened listened
+
+-- and one of where the master may listen that is read
+pub here-read : (words : List Bytes) (asked : Asked) (transport : Bytes) (ps : Permissions) → reading words ≡ Ok (commands.Master asked transport ps)
+    → (allow : Allow) × (read_list ps.here ≡ Ok allow)
+here-read words asked transport ps e =
+    let known : ArePermitted ps = subst OfMaster e (reading-master words) in
+    subst IsRead known.are_here (list-read (permits Here known.steps) known.good_here)

@@ -1,4 +1,4 @@
--- Where faults are told, from what a resolution came to.
+-- Where faults are recorded, from the outcome of a resolution.
 use Rattle.std.proofs.Common.{◌≡◌, List, Option, Some, None, Ok, refl, ap}
 use Rattle.conf_command.specs.declared.reader.WordsError.{WordsError}
 use Rattle.conf_command.specs.declared.reader.WordsError.TheVariants as words_errors
@@ -13,7 +13,7 @@ use Rattle.conf_rules.specs.declared.causes.ResolveError.TheVariants as errors
 use Rattle.conf_rules.specs.declared.command.Command.TheVariants as commands
 use Rattle.conf_rules.specs.declared.control.MasterCommand.{MasterCommand}
 use Rattle.conf_rules.specs.Diagnostics.{NoControlPath}
-use Rattle.conf_rules.specs.Outcome.{Machine}
+use Rattle.conf_rules.specs.CommandOutcome.{Machine}
 use Rattle.conf_rules.specs.Reading.{reading}
 use Rattle.conf_rules.specs.Resolution.{all_rows}
 use Rattle.conf_rules.specs.Texts.{Bytes}
@@ -24,7 +24,7 @@ use Rattle.mux_outside.specs.declared.pairs.Pair.{Pair}
 use Rattle.mux_outside.specs.declared.statuses.CommandStatus.{CommandStatus}
 use Rattle.ssh_mux.specs.Ending.{shown, misread_as, refused_as, unlisted_as}
 use Rattle.ssh_mux.specs.Outcomes.{machine}
-use Rattle.ssh_mux.specs.Places.{EndPlace, recorded_over, recorded_by, recorded_for}
+use Rattle.ssh_mux.specs.Places.{EndPlace, recorded_over, recorded_by_words, recorded_for}
 use Rattle.conf_rules.specs.declared.command.Permissions.{Permissions}
 
 -- a resolution that failed
@@ -50,18 +50,18 @@ misread-place None e before now failed failed-now = tt
 misread-place (Some recorded) (words_errors.Refused e) before now failed failed-now = tt
 misread-place (Some recorded) words_errors.OutOfMemory before now failed failed-now = tt
 
--- what is told of words that ask for a listing, for a master or for a client
+-- what is recorded of words that ask for a listing, for a master or for a client
 pub list-recorded : (m : Option Machine) (words : List Bytes) (asked : Asked) → reading words ≡ Ok (commands.List asked) → recorded_for m words ≡ recorded_over m asked
 unfolding recorded_for
-list-recorded m words asked e = ap (recorded_by m) e
+list-recorded m words asked e = ap (recorded_by_words m) e
 
 pub master-recorded : (m : Option Machine) (words : List Bytes) (asked : Asked) (transport : Bytes) (permits : Permissions) → reading words ≡ Ok (commands.Master asked transport permits) → recorded_for m words ≡ recorded_over m asked
 unfolding recorded_for
-master-recorded m words asked transport permits e = ap (recorded_by m) e
+master-recorded m words asked transport permits e = ap (recorded_by_words m) e
 
 pub client-recorded : (m : Option Machine) (words : List Bytes) (asked : Asked) (what : MasterCommand) → reading words ≡ Ok (commands.Control asked what) → recorded_for m words ≡ recorded_over m asked
 unfolding recorded_for
-client-recorded m words asked what e = ap (recorded_by m) e
+client-recorded m words asked what e = ap (recorded_by_words m) e
 
 -- settings without a control path
 pub unset-place : (recorded : Option Recorded) (before now : Option (List Bytes)) (failed failed-now : FailedPaths) → EndPlace recorded NoControlPath before now failed failed-now

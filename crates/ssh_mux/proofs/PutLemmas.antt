@@ -8,9 +8,9 @@ use Rattle.conf_rules.specs.declared.command.Command.TheVariants as commands
 use Rattle.conf_rules.specs.declared.control.MasterCommand.{MasterCommand}
 use Rattle.conf_rules.specs.Diagnostics.{Ending, BadLine}
 use Rattle.conf_rules.specs.Listing.{control_path_at}
-use Rattle.conf_rules.specs.Outcome.{Outcome, Ends, Writes, Opens, Drills, Joins, Machine, joined_end, recorded_of, unrefused}
+use Rattle.conf_rules.specs.CommandOutcome.{CommandOutcome, Ends, Writes, Opens, Drills, Joins, Machine, joined_end, recorded_of, unrefused}
 use Rattle.conf_rules.specs.Resolution.{all_rows, refusal_in}
-use Rattle.conf_rules.specs.Rows.{Row}
+use Rattle.conf_rules.specs.Rows.{LineRow}
 use Rattle.conf_rules.specs.Texts.{Bytes}
 use Rattle.mux_outside.specs.Counts.{counted}
 use Rattle.ssh_mux.specs.declared.ending.Ending.{Ending as MeantEnding}
@@ -41,7 +41,7 @@ handed-puts text (Ok status) before now n m h e = absurd h
 handed-puts text (Err endings.NoMemory) before now n m h e = inr e
 handed-puts text (Err ending) before now n m h e = absurd h
 
--- behind the line
+-- after the line
 puts-starved : (status : Status) (n m : ℕ) → is_silent status ≡ false → PutsOnce status n m → PutsOnce statuses.Memory n m
 puts-starved statuses.Done n m e h = absurd cc
 puts-starved statuses.Write n m e h = absurd cc
@@ -76,7 +76,7 @@ unprinted Listing e = absurd cc
 unprinted (Master transport ps) e = refl
 unprinted (Client asked what) e = refl
 
-unprinted-rows : (rows : List Row) (x : Outcome) → prints (Certain x) ≡ false → prints (Certain (unrefused rows x)) ≡ false
+unprinted-rows : (rows : List LineRow) (x : CommandOutcome) → prints (Certain x) ≡ false → prints (Certain (unrefused rows x)) ≡ false
 unprinted-rows rows x h = on (refusal_in rows) where
   on : (r : Option ResolveError) → prints (Certain (elim r [ Some e ↦ Ends (BadLine e) | None ↦ x ])) ≡ false
   on (Some e) = refl

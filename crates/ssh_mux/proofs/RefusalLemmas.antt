@@ -1,4 +1,4 @@
--- From a resolution and what is listed of it to what comes of a command.
+-- From a resolution and what is listed of it to the outcome of a command.
 use Rattle.std.proofs.Common.{◌≡◌, ◌⊎◌, inl, inr, ℕ, true, false, List, Option, Some, None, Result, Ok, Err, refl, sym, ap, subst, ◌∙◌}
 use Rattle.std.specs.Prelude.{IsTrue}
 use Rattle.conf_rules.specs.declared.asked.Asked.{Asked}
@@ -12,21 +12,21 @@ use Rattle.conf_rules.specs.declared.causes.ResolveError.{ResolveError}
 use Rattle.conf_rules.specs.declared.causes.ResolveError.TheVariants as errors
 use Rattle.conf_rules.specs.Diagnostics.{Ending, BadLine, BadListing, NoControlPath, is_fault}
 use Rattle.conf_rules.specs.Listing.{listing_over, control_path_at}
-use Rattle.conf_rules.specs.Outcome.{Outcome, Ends, Writes, Opens, Drills, Joins, recorded_of, listed_end, opened_end, unrefused, Machine}
+use Rattle.conf_rules.specs.CommandOutcome.{CommandOutcome, Ends, Writes, Opens, Drills, Joins, recorded_of, listed_end, opened_end, unrefused, Machine}
 use Rattle.conf_rules.specs.Resolution.{all_rows, refusal_in, refusal}
-use Rattle.conf_rules.specs.Rows.{Row}
+use Rattle.conf_rules.specs.Rows.{LineRow}
 use Rattle.conf_rules.specs.Texts.{Bytes}
 use Rattle.conf_rules.specs.Recorded.{Recorded}
 use Rattle.conf_match.specs.Evaluated.{RecordsStatus}
 use Rattle.conf_options.specs.Kept.{Given}
-use Rattle.conf_output.specs.Settled.{Settled, Lists, HasControlPath}
+use Rattle.conf_output.specs.SettledListing.{SettledListing, ListsSettings, HasControlPath}
 use Rattle.conf_reader.specs.Known.{RecordsFiles}
-use Rattle.conf_resolve.specs.Passes.{Resolved}
+use Rattle.conf_resolve.specs.PassGives.{Resolved}
 use Rattle.conf_tokens.specs.Known.{known}
 use Rattle.mux_outside.specs.declared.facts.Facts.{Facts}
 use Rattle.mux_outside.specs.declared.pairs.Pair.{Pair}
 use Rattle.mux_outside.specs.declared.statuses.CommandStatus.{CommandStatus}
-use Rattle.ssh_mux.specs.Answers.{IsRefused, is_refusal, refuses_master}
+use Rattle.ssh_mux.specs.Answers.{IsRunRefused, is_refusal_ending, refuses_master}
 use Rattle.ssh_mux.specs.Ending.{shown, refused_as, unlisted_as}
 use Rattle.ssh_mux.specs.Outcomes.{Known, Certain, Listing, Master, Client, machine, machine_of, of_command, opens_at, looks, writes_out, opens, drills}
 use Rattle.conf_rules.specs.declared.command.Permissions.{Permissions}
@@ -34,28 +34,28 @@ use Rattle.conf_rules.specs.declared.command.Permissions.{Permissions}
 -- ---- outcomes of rows
 
 -- an outcome of rows for whose command files are read
-pub looks-rows : (rows : List Row) (x : Outcome) → looks (Certain x) ≡ true → looks (Certain (unrefused rows x)) ≡ true
+pub looks-rows : (rows : List LineRow) (x : CommandOutcome) → looks (Certain x) ≡ true → looks (Certain (unrefused rows x)) ≡ true
 looks-rows rows x h = on (refusal_in rows) where
   on : (r : Option ResolveError) → looks (Certain (elim r [ Some e ↦ Ends (BadLine e) | None ↦ x ])) ≡ true
   on (Some e) = refl
   on None = h
 
 -- one that opens no wire
-pub shut-rows : (rows : List Row) (x : Outcome) → opens (Certain x) ≡ false → opens (Certain (unrefused rows x)) ≡ false
+pub shut-rows : (rows : List LineRow) (x : CommandOutcome) → opens (Certain x) ≡ false → opens (Certain (unrefused rows x)) ≡ false
 shut-rows rows x h = on (refusal_in rows) where
   on : (r : Option ResolveError) → opens (Certain (elim r [ Some e ↦ Ends (BadLine e) | None ↦ x ])) ≡ false
   on (Some e) = refl
   on None = h
 
 -- one that writes nothing
-quiet-rows : (rows : List Row) (x : Outcome) → writes_out (Certain x) ≡ false → writes_out (Certain (unrefused rows x)) ≡ false
+quiet-rows : (rows : List LineRow) (x : CommandOutcome) → writes_out (Certain x) ≡ false → writes_out (Certain (unrefused rows x)) ≡ false
 quiet-rows rows x h = on (refusal_in rows) where
   on : (r : Option ResolveError) → writes_out (Certain (elim r [ Some e ↦ Ends (BadLine e) | None ↦ x ])) ≡ false
   on (Some e) = refl
   on None = h
 
 -- one that is no drill
-pub undrilled-rows : (rows : List Row) (x : Outcome) → drills (Certain x) ≡ false → drills (Certain (unrefused rows x)) ≡ false
+pub undrilled-rows : (rows : List LineRow) (x : CommandOutcome) → drills (Certain x) ≡ false → drills (Certain (unrefused rows x)) ≡ false
 undrilled-rows rows x h = on (refusal_in rows) where
   on : (r : Option ResolveError) → drills (Certain (elim r [ Some e ↦ Ends (BadLine e) | None ↦ x ])) ≡ false
   on (Some e) = refl
@@ -122,15 +122,15 @@ master-undrilled (Some m) asked transport ps = undrilled-rows (all_rows (recorde
 
 -- ---- a configuration that is refused
 
--- an ending that is due, faults and want of memory aside
+-- an ending that is due, faults and running out of memory aside
 abbrev Plain : Known → Ending → Type 0
 Plain (Certain (Ends due)) ending = ending ≡ due
 Plain (Certain other) ending = ⊥
-Plain Listing ending = IsTrue (is_refusal ending)
+Plain Listing ending = IsTrue (is_refusal_ending ending)
 Plain (Master transport ps) ending = IsTrue (refuses_master ending)
 Plain (Client asked what) ending = IsTrue (refuses_master ending)
 
-pub by-cause : (k : Known) (file : Bytes) (line : ℕ) (cause : Cause) → looks k ≡ true → (is_fault cause ≡ false → Plain k (BadLine (errors.At file line cause))) → IsRefused k (BadLine (errors.At file line cause))
+pub by-cause : (k : Known) (file : Bytes) (line : ℕ) (cause : Cause) → looks k ≡ true → (is_fault cause ≡ false → Plain k (BadLine (errors.At file line cause))) → IsRunRefused k (BadLine (errors.At file line cause))
 by-cause k file line ReadFault l h = l
 by-cause k file line RunFault l h = l
 by-cause (Certain (Ends due)) file line cause l h = h refl
@@ -142,10 +142,10 @@ by-cause Listing file line cause l h = h refl
 by-cause (Master transport ps) file line cause l h = h refl
 by-cause (Client asked what) file line cause l h = h refl
 
-plain-rows : (rows : List Row) (x : Outcome) (e : ResolveError) → refusal_in rows ≡ Some e → Plain (Certain (unrefused rows x)) (BadLine e)
+plain-rows : (rows : List LineRow) (x : CommandOutcome) (e : ResolveError) → refusal_in rows ≡ Some e → Plain (Certain (unrefused rows x)) (BadLine e)
 plain-rows rows x e h = subst (λ o. Plain (Certain o) (BadLine e)) (sym (ap (λ (r : Option ResolveError). elim r [ Some e ↦ Ends (BadLine e) | None ↦ x ]) h)) refl
 
--- what files, commands and facts that tell promise of a resolution
+-- what files, commands and facts that record promise of a resolution
 abbrev pub Promise : Option (List Pair) → Option (List CommandStatus) → Facts → Asked → (Recorded → Type 0) → Type 0
 Promise files statuses facts asked P = (recorded : Recorded) → recorded.asked ≡ asked → recorded.facts ≡ known facts → RecordsFiles files recorded → RecordsStatus statuses recorded.status → P recorded
 
@@ -153,19 +153,19 @@ Promise files statuses facts asked P = (recorded : Recorded) → recorded.asked 
 pub kept : (files : List Pair) (statuses : List CommandStatus) (facts : Facts) (asked : Asked) (P : Recorded → Type 0) → Promise (Some files) (Some statuses) facts asked P → P (recorded_of (machine_of files statuses facts) asked)
 kept files statuses facts asked P h = h (recorded_of (machine_of files statuses facts) asked) refl refl (refl, refl) refl
 
-pub refused-rows : (recorded : Recorded) (x : Outcome) (e : ResolveError) → looks (Certain x) ≡ true → Resolved recorded (Err e) → IsRefused (Certain (unrefused (all_rows recorded) x)) (shown (refused_as e))
+pub refused-rows : (recorded : Recorded) (x : CommandOutcome) (e : ResolveError) → looks (Certain x) ≡ true → Resolved recorded (Err e) → IsRunRefused (Certain (unrefused (all_rows recorded) x)) (shown (refused_as e))
 refused-rows recorded x errors.OutOfMemory l h = tt
 refused-rows recorded x (errors.At file line cause) l h = by-cause (Certain (unrefused (all_rows recorded) x)) file line cause (looks-rows (all_rows recorded) x l) (λ plain. plain-rows (all_rows recorded) x (errors.At file line cause) (h plain))
 
-refused-listing : (e : ResolveError) → IsRefused Listing (shown (refused_as e))
+refused-listing : (e : ResolveError) → IsRunRefused Listing (shown (refused_as e))
 refused-listing errors.OutOfMemory = tt
 refused-listing (errors.At file line cause) = by-cause Listing file line cause refl (λ plain. refl)
 
-refused-master : (transport : Bytes) (ps : Permissions) (e : ResolveError) → IsRefused (Master transport ps) (shown (refused_as e))
+refused-master : (transport : Bytes) (ps : Permissions) (e : ResolveError) → IsRunRefused (Master transport ps) (shown (refused_as e))
 refused-master transport ps errors.OutOfMemory = tt
 refused-master transport ps (errors.At file line cause) = by-cause (Master transport ps) file line cause refl (λ plain. refl)
 
-pub list-refused : (files : Option (List Pair)) (statuses : Option (List CommandStatus)) (facts : Facts) (asked : Asked) (e : ResolveError) → Promise files statuses facts asked (λ recorded. Resolved recorded (Err e)) → IsRefused (of_command (machine files statuses facts) (commands.List asked)) (shown (refused_as e))
+pub list-refused : (files : Option (List Pair)) (statuses : Option (List CommandStatus)) (facts : Facts) (asked : Asked) (e : ResolveError) → Promise files statuses facts asked (λ recorded. Resolved recorded (Err e)) → IsRunRefused (of_command (machine files statuses facts) (commands.List asked)) (shown (refused_as e))
 unfolding of_command machine
 list-refused None statuses facts asked e h = refused-listing e
 list-refused (Some files) None facts asked e h = refused-listing e
@@ -174,7 +174,7 @@ list-refused (Some files) (Some statuses) facts asked e h =
     let listed = listing_over LISTING_ORDER recorded (all_rows recorded) in
     refused-rows recorded (listed_end listed) e (looks-listed listed) (kept files statuses facts asked (λ t. Resolved t (Err e)) h)
 
-pub master-refused : (files : Option (List Pair)) (statuses : Option (List CommandStatus)) (facts : Facts) (asked : Asked) (transport : Bytes) (ps : Permissions) (e : ResolveError) → Promise files statuses facts asked (λ recorded. Resolved recorded (Err e)) → IsRefused (of_command (machine files statuses facts) (commands.Master asked transport ps)) (shown (refused_as e))
+pub master-refused : (files : Option (List Pair)) (statuses : Option (List CommandStatus)) (facts : Facts) (asked : Asked) (transport : Bytes) (ps : Permissions) (e : ResolveError) → Promise files statuses facts asked (λ recorded. Resolved recorded (Err e)) → IsRunRefused (of_command (machine files statuses facts) (commands.Master asked transport ps)) (shown (refused_as e))
 unfolding of_command machine
 master-refused None statuses facts asked transport ps e h = refused-master transport ps e
 master-refused (Some files) None facts asked transport ps e h = refused-master transport ps e
@@ -185,14 +185,14 @@ master-refused (Some files) (Some statuses) facts asked transport ps e h =
 
 -- ---- settings
 
-pub settled : (files : List Pair) (statuses : List CommandStatus) (facts : Facts) (asked : Asked) (settings : List Given) → Promise (Some files) (Some statuses) facts asked (λ recorded. Resolved recorded (Ok settings)) → Settled (recorded_of (machine_of files statuses facts) asked) (all_rows (recorded_of (machine_of files statuses facts) asked)) settings asked.original facts
+pub settled : (files : List Pair) (statuses : List CommandStatus) (facts : Facts) (asked : Asked) (settings : List Given) → Promise (Some files) (Some statuses) facts asked (λ recorded. Resolved recorded (Ok settings)) → SettledListing (recorded_of (machine_of files statuses facts) asked) (all_rows (recorded_of (machine_of files statuses facts) asked)) settings asked.original facts
 settled files statuses facts asked settings h =
     record { name = refl; facts = refl; keeps = (kept files statuses facts asked (λ t. Resolved t (Ok settings)) h).1 }
 
-pub unrefused-rows : (rows : List Row) (x : Outcome) → refusal_in rows ≡ None → unrefused rows x ≡ x
+pub unrefused-rows : (rows : List LineRow) (x : CommandOutcome) → refusal_in rows ≡ None → unrefused rows x ≡ x
 unrefused-rows rows x h = ap (λ (r : Option ResolveError). elim r [ Some e ↦ Ends (BadLine e) | None ↦ x ]) h
 
-pub list-found : (files : Option (List Pair)) (statuses : Option (List CommandStatus)) (facts : Facts) (asked : Asked) (settings : List Given) (text : Bytes) → Promise files statuses facts asked (λ recorded. Resolved recorded (Ok settings)) → Lists (Ok text) settings asked.original facts → (of_command (machine files statuses facts) (commands.List asked) ≡ Certain (Writes text)) ⊎ (of_command (machine files statuses facts) (commands.List asked) ≡ Listing)
+pub list-found : (files : Option (List Pair)) (statuses : Option (List CommandStatus)) (facts : Facts) (asked : Asked) (settings : List Given) (text : Bytes) → Promise files statuses facts asked (λ recorded. Resolved recorded (Ok settings)) → ListsSettings (Ok text) settings asked.original facts → (of_command (machine files statuses facts) (commands.List asked) ≡ Certain (Writes text)) ⊎ (of_command (machine files statuses facts) (commands.List asked) ≡ Listing)
 unfolding of_command machine
 list-found None statuses facts asked settings text h l = inr refl
 list-found (Some files) None facts asked settings text h l = inr refl
@@ -202,7 +202,7 @@ list-found (Some files) (Some statuses) facts asked settings text h l =
     let lists : listing_over LISTING_ORDER recorded (all_rows recorded) ≡ Ok text = l recorded (all_rows recorded) (settled files statuses facts asked settings h) in
     inl (ap (λ o. Certain o) (unrefused-rows (all_rows recorded) (listed_end (listing_over LISTING_ORDER recorded (all_rows recorded))) none ∙ ap listed_end lists))
 
-pub list-unlisted : (files : Option (List Pair)) (statuses : Option (List CommandStatus)) (facts : Facts) (asked : Asked) (settings : List Given) (e : ListError) → Promise files statuses facts asked (λ recorded. Resolved recorded (Ok settings)) → Lists (Err e) settings asked.original facts → IsRefused (of_command (machine files statuses facts) (commands.List asked)) (shown (unlisted_as e))
+pub list-unlisted : (files : Option (List Pair)) (statuses : Option (List CommandStatus)) (facts : Facts) (asked : Asked) (settings : List Given) (e : ListError) → Promise files statuses facts asked (λ recorded. Resolved recorded (Ok settings)) → ListsSettings (Err e) settings asked.original facts → IsRunRefused (of_command (machine files statuses facts) (commands.List asked)) (shown (unlisted_as e))
 unfolding of_command machine
 list-unlisted files statuses facts asked settings list_errors.OutOfMemory h l = tt
 list-unlisted None statuses facts asked settings (list_errors.Token key error) h l = refl
@@ -212,10 +212,10 @@ list-unlisted (Some files) (Some statuses) facts asked settings (list_errors.Tok
     let none : refusal recorded ≡ None = (kept files statuses facts asked (λ t. Resolved t (Ok settings)) h).0 in
     let lists : listing_over LISTING_ORDER recorded (all_rows recorded) ≡ Err (list_errors.Token key error) = l recorded (all_rows recorded) (settled files statuses facts asked settings h) in
     let is = unrefused-rows (all_rows recorded) (listed_end (listing_over LISTING_ORDER recorded (all_rows recorded))) none ∙ ap listed_end lists in
-    subst (λ o. IsRefused (Certain o) (BadListing (list_errors.Token key error))) (sym is) refl
+    subst (λ o. IsRunRefused (Certain o) (BadListing (list_errors.Token key error))) (sym is) refl
 
 -- the outcome of a control path
-abbrev Path : Recorded → Bytes → Permissions → Outcome
+abbrev Path : Recorded → Bytes → Permissions → CommandOutcome
 Path recorded transport ps = unrefused (all_rows recorded) (opened_end transport ps (control_path_at recorded (all_rows recorded)))
 
 path-is : (files : List Pair) (statuses : List CommandStatus) (facts : Facts) (asked : Asked) (transport : Bytes) (ps : Permissions) (settings : List Given) (r : Result (Option Bytes) ListError) → Promise (Some files) (Some statuses) facts asked (λ recorded. Resolved recorded (Ok settings)) → control_path_at (recorded_of (machine_of files statuses facts) asked) (all_rows (recorded_of (machine_of files statuses facts) asked)) ≡ r → Path (recorded_of (machine_of files statuses facts) asked) transport ps ≡ opened_end transport ps r
@@ -232,19 +232,19 @@ path-found (Some files) (Some statuses) facts asked transport ps settings path h
     let recorded = recorded_of (machine_of files statuses facts) asked in
     inl (ap (λ o. Certain o) (path-is files statuses facts asked transport ps settings (Ok (Some path)) h (p recorded (all_rows recorded) (settled files statuses facts asked settings h))))
 
-pub path-unset : (files : Option (List Pair)) (statuses : Option (List CommandStatus)) (facts : Facts) (asked : Asked) (transport : Bytes) (ps : Permissions) (settings : List Given) → Promise files statuses facts asked (λ recorded. Resolved recorded (Ok settings)) → HasControlPath (Ok None) settings asked.original facts → IsRefused (of_command (machine files statuses facts) (commands.Master asked transport ps)) NoControlPath
+pub path-unset : (files : Option (List Pair)) (statuses : Option (List CommandStatus)) (facts : Facts) (asked : Asked) (transport : Bytes) (ps : Permissions) (settings : List Given) → Promise files statuses facts asked (λ recorded. Resolved recorded (Ok settings)) → HasControlPath (Ok None) settings asked.original facts → IsRunRefused (of_command (machine files statuses facts) (commands.Master asked transport ps)) NoControlPath
 unfolding of_command machine
 path-unset None statuses facts asked transport ps settings h p = refl
 path-unset (Some files) None facts asked transport ps settings h p = refl
 path-unset (Some files) (Some statuses) facts asked transport ps settings h p =
     let recorded = recorded_of (machine_of files statuses facts) asked in
-    subst (λ o. IsRefused (Certain o) NoControlPath) (sym (path-is files statuses facts asked transport ps settings (Ok None) h (p recorded (all_rows recorded) (settled files statuses facts asked settings h)))) refl
+    subst (λ o. IsRunRefused (Certain o) NoControlPath) (sym (path-is files statuses facts asked transport ps settings (Ok None) h (p recorded (all_rows recorded) (settled files statuses facts asked settings h)))) refl
 
-pub path-unlisted : (files : Option (List Pair)) (statuses : Option (List CommandStatus)) (facts : Facts) (asked : Asked) (transport : Bytes) (ps : Permissions) (settings : List Given) (e : ListError) → Promise files statuses facts asked (λ recorded. Resolved recorded (Ok settings)) → HasControlPath (Err e) settings asked.original facts → IsRefused (of_command (machine files statuses facts) (commands.Master asked transport ps)) (shown (unlisted_as e))
+pub path-unlisted : (files : Option (List Pair)) (statuses : Option (List CommandStatus)) (facts : Facts) (asked : Asked) (transport : Bytes) (ps : Permissions) (settings : List Given) (e : ListError) → Promise files statuses facts asked (λ recorded. Resolved recorded (Ok settings)) → HasControlPath (Err e) settings asked.original facts → IsRunRefused (of_command (machine files statuses facts) (commands.Master asked transport ps)) (shown (unlisted_as e))
 unfolding of_command machine
 path-unlisted files statuses facts asked transport ps settings list_errors.OutOfMemory h p = tt
 path-unlisted None statuses facts asked transport ps settings (list_errors.Token key error) h p = refl
 path-unlisted (Some files) None facts asked transport ps settings (list_errors.Token key error) h p = refl
 path-unlisted (Some files) (Some statuses) facts asked transport ps settings (list_errors.Token key error) h p =
     let recorded = recorded_of (machine_of files statuses facts) asked in
-    subst (λ o. IsRefused (Certain o) (BadListing (list_errors.Token key error))) (sym (path-is files statuses facts asked transport ps settings (Err (list_errors.Token key error)) h (p recorded (all_rows recorded) (settled files statuses facts asked settings h)))) refl
+    subst (λ o. IsRunRefused (Certain o) (BadListing (list_errors.Token key error))) (sym (path-is files statuses facts asked transport ps settings (Err (list_errors.Token key error)) h (p recorded (all_rows recorded) (settled files statuses facts asked settings h)))) refl

@@ -1,10 +1,10 @@
--- What a master leaves behind that was opened, and what others leave.
+-- What a master that was opened leaves, and what others leave.
 use Rattle.std.proofs.Common.{◌≡◌, ◌⊎◌, ◌≤◌, ◌+◌, inl, inr, ap, arith, ℕ, Bool, true, false, List, Option, Some, None, unwrap_or, IsSome, Result, Ok, Err, refl, sym, subst, ◌∙◌}
 use Rattle.std.specs.Bool.{OnFalse, OnTrue}
-use Rattle.conf_rules.specs.Outcome.{Ends, Writes, Drills, Opens, Joins}
+use Rattle.conf_rules.specs.CommandOutcome.{Ends, Writes, Drills, Opens, Joins}
 use Rattle.conf_rules.specs.Texts.{Bytes}
 use Rattle.mux_engine.specs.Came.{BrokenBy, Came, EndedBy, WentUp}
-use Rattle.mux_engine.specs.Counted.{Stops}
+use Rattle.mux_engine.specs.Counted.{RunStops}
 use Rattle.mux_engine.specs.Run.{IsRun}
 use Rattle.mux_engine.specs.Sides.{Resting}
 use Rattle.mux_history.specs.declared.broke.Break.{Break}
@@ -13,6 +13,7 @@ use Rattle.mux_history.specs.declared.ended.Ended.{Ended}
 use Rattle.mux_history.specs.declared.ended.Ended.TheVariants as ends
 use Rattle.mux_history.specs.Policy.{Policy}
 use Rattle.mux_outside.specs.Calls.{calls_after}
+use Rattle.mux_outside.specs.House.{HouseState}
 use Rattle.mux_outside.specs.HouseCalls.{HouseCall}
 use Rattle.mux_outside.specs.Seen.{Seen}
 use Rattle.mux_outside.specs.Faults.{Faults}
@@ -61,9 +62,9 @@ broken_end (broke.Channel n breach) old new h = inl h
 
 -- ---- how a run that was served ends
 
-pub shares_end : (May : HouseReply → Type 0) (Rest : Resting) (stands stands' : List HouseCall → Type 0) (policy : Policy) (pid turns : ℕ) (before now : Option (List HouseMark)) (start : Option (List Mark)) (seen : Seen) (refused : Option ℕ) (result : Result Status Ending) (ended : Ended) → result ≡ recorded_as ended → IsRun May Rest.rests stands stands' Rest.present policy pid turns before now start seen refused ended → Shares May Rest stands stands' policy pid turns before now start seen refused result
-shares_end May Rest stands stands' policy pid turns before now start seen refused result ended e run = subst (λ r. Shares May Rest stands stands' policy pid turns before now start seen refused r) (sym e) (by_end ended run) where
-  by_end : (x : Ended) → IsRun May Rest.rests stands stands' Rest.present policy pid turns before now start seen refused x → Shares May Rest stands stands' policy pid turns before now start seen refused (recorded_as x)
+pub shares_end : (May : HouseReply → Type 0) (Rest : Resting) (stands : List HouseCall → Type 0) (last : HouseState) (policy : Policy) (pid turns : ℕ) (before now : Option (List HouseMark)) (start : Option (List Mark)) (seen : Seen) (refused : Option ℕ) (result : Result Status Ending) (ended : Ended) → result ≡ recorded_as ended → IsRun May Rest.rests stands last Rest.present policy pid turns before now start seen refused ended → Shares May Rest stands last policy pid turns before now start seen refused result
+shares_end May Rest stands last policy pid turns before now start seen refused result ended e run = subst (λ r. Shares May Rest stands last policy pid turns before now start seen refused r) (sym e) (by_end ended run) where
+  by_end : (x : Ended) → IsRun May Rest.rests stands last Rest.present policy pid turns before now start seen refused x → Shares May Rest stands last policy pid turns before now start seen refused (recorded_as x)
   by_end ends.OutOfMemory run = inr (record { answer = ends.OutOfMemory; is_recorded = refl; run = run })
   by_end ends.ServerEnd run = record { answer = ends.ServerEnd; is_recorded = refl; run = run }
   by_end ends.Disconnected run = record { answer = ends.Disconnected; is_recorded = refl; run = run }
@@ -73,8 +74,8 @@ shares_end May Rest stands stands' policy pid turns before now start seen refuse
   by_end (ends.StartRefused index) run = record { answer = ends.StartRefused index; is_recorded = refl; run = run }
   by_end ends.Spent run = record { answer = ends.Spent; is_recorded = refl; run = run }
 
--- a house, where one is present, may wait in place of the wire
-pub waits_end : (present : Bool) (turns : ℕ) (ended : Ended) (old new : CallCounts) → Stops present turns ended old new → OnFalse present (WaitsFor turns (so_far (recorded_as ended)) old new)
+-- a forwarder, where one is present, may wait in place of the wire
+pub waits_end : (present : Bool) (turns : ℕ) (ended : Ended) (old new : CallCounts) → RunStops present turns ended old new → OnFalse present (WaitsFor turns (so_far (recorded_as ended)) old new)
 waits_end true turns ended old new h = tt
 waits_end false turns ends.Spent old new h = h.spent refl refl
 waits_end false turns ends.OutOfMemory old new h = tt
@@ -97,9 +98,9 @@ came_end ends.Spent old new h = tt
 came_end ends.OutOfMemory old new h = tt
 
 -- an opening before it leaves all that these count but itself
-pub opened_stops : (answer : Result (Unit {0}) FileError) (present : Bool) (turns : ℕ) (ended : Ended) (old mid new : CallCounts) → mid ≡ calls_after_open answer old → Stops present turns ended mid new → Stops present turns ended old new
+pub opened_stops : (answer : Result (Unit {0}) FileError) (present : Bool) (turns : ℕ) (ended : Ended) (old mid new : CallCounts) → mid ≡ calls_after_open answer old → RunStops present turns ended mid new → RunStops present turns ended old new
 opened_stops answer present turns ended old mid new e stops =
-    let s : Stops present turns ended (calls_after_open answer old) new = subst (λ (x : CallCounts). Stops present turns ended x new) e stops in
+    let s : RunStops present turns ended (calls_after_open answer old) new = subst (λ (x : CallCounts). RunStops present turns ended x new) e stops in
     record { few = s.few; spent = s.spent; ends = s.ends; wants = s.wants; starved = s.starved; late = s.late }
 
 opened_broken : (answer : Result (Unit {0}) FileError) (why : Break) (old new : CallCounts) → BrokenBy why (calls_after_open answer old) new → BrokenBy why old new
@@ -130,10 +131,10 @@ opened_ended answer ended old mid new e h = opened_by answer ended old new (subs
 pub opening_calls : (answer : Result (Unit {0}) FileError) (turns : ℕ) (status : Status) (old new : CallCounts) → new ≡ calls_after_open answer old → CallsEnd turns status old new
 opening_calls answer turns status old new e = subst (CallsEnd turns status old) (sym e) (record { few = omega arith; opens = opens-most answer old.opens; wants = omega arith; starved = λ ne. absurd (ne refl); late = λ z. refl })
 
--- behind it the wire was served
-pub serving_calls : (answer : Result (Unit {0}) FileError) (present : Bool) (turns : ℕ) (ended : Ended) (old mid new : CallCounts) → mid ≡ calls_after_open answer old → Stops present turns ended mid new → Came mid new → CallsEnd turns (so_far (recorded_as ended)) old new
+-- after it the wire was served
+pub serving_calls : (answer : Result (Unit {0}) FileError) (present : Bool) (turns : ℕ) (ended : Ended) (old mid new : CallCounts) → mid ≡ calls_after_open answer old → RunStops present turns ended mid new → Came mid new → CallsEnd turns (so_far (recorded_as ended)) old new
 serving_calls answer present turns ended old mid new e stops came =
-    let s : Stops present turns ended (calls_after_open answer old) new = subst (λ (x : CallCounts). Stops present turns ended x new) e stops in
+    let s : RunStops present turns ended (calls_after_open answer old) new = subst (λ (x : CallCounts). RunStops present turns ended x new) e stops in
     let c : Came (calls_after_open answer old) new = subst (λ (x : CallCounts). Came x new) e came in
     record { few = s.few; opens = subst (λ (n : ℕ). n ≤ old.opens + 1) (sym c.opens) (opens-most answer old.opens); wants = s.wants; starved = λ ne. ap (λ (x : Ended). so_far (recorded_as x)) (s.starved ne); late = s.late }
 

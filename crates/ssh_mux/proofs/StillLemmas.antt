@@ -6,11 +6,12 @@ use Rattle.conf_rules.specs.declared.causes.ListError.TheVariants as list_errors
 use Rattle.conf_rules.specs.declared.causes.ResolveError.TheVariants.{At, OutOfMemory}
 use Rattle.conf_rules.specs.Diagnostics as ends
 use Rattle.conf_rules.specs.Diagnostics.{Ending}
-use Rattle.conf_rules.specs.Outcome.{Ends, Writes, Opens, Drills, Joins}
+use Rattle.conf_rules.specs.CommandOutcome.{Ends, Writes, Opens, Drills, Joins}
 use Rattle.conf_rules.specs.Resolution.{all_rows}
 use Rattle.conf_rules.specs.Recorded.{Recorded}
 use Rattle.mux_engine.specs.Sides.{Resting}
 use Rattle.mux_history.specs.Policy.{Policy}
+use Rattle.mux_outside.specs.House.{HouseState}
 use Rattle.mux_outside.specs.HouseCalls.{HouseCall}
 use Rattle.mux_outside.specs.Seen.{Seen}
 use Rattle.mux_outside.specs.Faults.{Faults}
@@ -18,12 +19,13 @@ use Rattle.mux_outside.specs.CallCounts.{CallCounts}
 use Rattle.mux_outside.specs.declared.house.HouseReply.{HouseReply}
 use Rattle.mux_outside.specs.declared.house_mark.HouseMark.{HouseMark}
 use Rattle.mux_outside.specs.declared.mark.OpenCall.{OpenCall}
+use Rattle.mux_outside.specs.declared.starts.ListenPermit.{ListenPermit}
 use Rattle.mux_outside.specs.declared.starts.Starts.{Starts}
 use Rattle.ssh_mux.specs.declared.ending.Ending.{Ending as MeantEnding}
 use Rattle.ssh_mux.specs.declared.ending.Ending.TheVariants as endings
 use Rattle.ssh_mux.specs.declared.status.Status.{Status}
 use Rattle.ssh_mux.specs.declared.status.Status.TheVariants as statuses
-use Rattle.ssh_mux.specs.Answers.{IsDue, IsRefused, is_silent, may_open, may_share, touches, refuses_master, ends_client, ends_master}
+use Rattle.ssh_mux.specs.Answers.{IsDue, IsRunRefused, is_silent, may_open, may_share, touches, refuses_master, ends_client, ends_master}
 use Rattle.ssh_mux.specs.Causes.{OutCause}
 use Rattle.ssh_mux.specs.Ending.{shown}
 use Rattle.ssh_mux.specs.Out.{OutStays, OutTakes}
@@ -76,7 +78,7 @@ pub follows : (b : Bool) (P Q : Type 0) → (P → Q) → OnFalse b P → OnFals
 follows true P Q f h = tt
 follows false P Q f h = f h
 
--- a house that a master serves, where something opens
+-- a forwarder that a master serves, where something opens
 pub served-house : (present shares : Bool) (P : Type 0) → shares ≡ true → OnFalse present P → OnFalse (present && shares) P
 served-house true true P e h = tt
 served-house true false P e h = absurd cc
@@ -139,7 +141,7 @@ loud ends.NoMemory = refl
 
 -- ---- what it leaves
 
-pub still-due : (k : Known) (ending : Ending) → IsRefused k ending → IsDue k ending
+pub still-due : (k : Known) (ending : Ending) → IsRunRefused k ending → IsDue k ending
 still-due k ends.NoMemory h = tt
 still-due k (ends.BadLine (At file line ReadFault)) h = h
 still-due k (ends.BadLine (At file line RunFault)) h = h
@@ -152,7 +154,7 @@ still-due (Certain (Joins control asked what)) ending h = absurd h
 still-due (Master transport ps) ending h = or-left (refuses_master ending) (ends_master ending) h
 still-due (Client asked what) ending h = or-left (refuses_master ending) (ends_client ending) h
 
--- nothing more was taken
+-- nothing more was accepted
 pub out-stays : (status : Status) (k : Known) (before : Option (List ℕ)) → OutStays status k before before
 out-stays status (Certain (Joins control asked what)) before = on_false (may_open status) before
 out-stays status (Client asked what) before = on_false (may_open status) before
@@ -172,7 +174,7 @@ pub quiet-count : (status : Status) (count : ℕ) → is_silent status ≡ false
 quiet-count statuses.Write count e = absurd cc
 quiet-count status count e = refl
 
-pub still-opened : (k : Known) (ending : Ending) (before : Option (List OpenCall)) → IsRefused k ending → OpensOnce k (status_of ending) before before
+pub still-opened : (k : Known) (ending : Ending) (before : Option (List OpenCall)) → IsRunRefused k ending → OpensOnce k (status_of ending) before before
 still-opened (Certain (Ends due)) ending before h = refl
 still-opened (Certain (Writes text)) ending before h = refl
 still-opened (Certain (Drills seed clients messages)) ending before h = tt
@@ -193,11 +195,11 @@ still-opened (Master transport ps) (ends.BadListing list_errors.OutOfMemory) bef
 still-opened (Master transport ps) ends.NoControlPath before h = refl
 still-opened (Master transport ps) ending before h = absurd cc
 
--- no wire is opened by it, but maybe for want of memory
+-- no wire is opened by it, but maybe if memory runs out
 abbrev Unshared : Known → Ending → Type 0
 Unshared k ending = (may_share k (status_of ending) ≡ false) ⊎ (status_of ending ≡ statuses.Memory)
 
-unshared : (k : Known) (ending : Ending) → IsRefused k ending → Unshared k ending
+unshared : (k : Known) (ending : Ending) → IsRunRefused k ending → Unshared k ending
 unshared (Certain (Ends due)) ending h = inl (shut (Certain (Ends due)) (status_of ending) refl)
 unshared (Certain (Writes text)) ending h = inl (shut (Certain (Writes text)) (status_of ending) refl)
 unshared (Certain (Drills seed clients messages)) ending h = inl (shut (Certain (Drills seed clients messages)) (status_of ending) refl)
@@ -218,7 +220,7 @@ unshared (Master transport ps) (ends.BadListing list_errors.OutOfMemory) h = inr
 unshared (Master transport ps) ends.NoControlPath h = inl refl
 unshared (Master transport ps) ending h = absurd cc
 
--- only want of memory has its status
+-- only running out of memory has its status
 pub only-memory : (meant : MeantEnding) → status_of (shown meant) ≡ statuses.Memory → meant ≡ endings.NoMemory
 only-memory endings.NoMemory e = refl
 only-memory (endings.BadWords e) h = absurd cc
@@ -236,19 +238,19 @@ only-memory endings.MasterRefused h = absurd cc
 only-memory endings.MasterBroke h = absurd cc
 
 -- a house begins somehow, as is due
-pub some-begun : (by : Option Recorded) (So : Starts → Type 0) → ((starts : Starts) → So starts) → Begun by So
-some-begun None So h = let none : Starts = record { asks = []; gateway = false; must = false } in record { starts = none; due = tt; so = h none }
-some-begun (Some recorded) So h = record { starts = starts_due (all_rows recorded); due = refl; so = h (starts_due (all_rows recorded)) }
+pub some-begun : (here : ListenPermit) (by : Option Recorded) (So : Starts → Type 0) → ((starts : Starts) → So starts) → Begun here by So
+some-begun here None So h = let none : Starts = record { asks = []; gateway = false; must = false; here = here } in record { starts = none; permitted = refl; due = tt; so = h none }
+some-begun here (Some recorded) So h = record { starts = starts_due here (all_rows recorded); permitted = refl; due = refl; so = h (starts_due here (all_rows recorded)) }
 
-pub still-shared : (k : Known) (meant : MeantEnding) (May : HouseReply → Type 0) (Rest : Starts → Resting) (stands : List HouseCall → Type 0) (by : Option Recorded) (policy : Policy) (pid turns : ℕ) (recorded : Option (List HouseMark)) (seen : Seen) (refused : Option ℕ) → IsRefused k (shown meant) → OnTrue (may_share k (status_of (shown meant))) (Begun by (λ starts. Shares May (Rest starts) (BeganWith starts) stands policy pid turns recorded recorded seen.recorded seen refused (Err meant)))
-still-shared k meant May Rest stands by policy pid turns recorded seen refused h = on (unshared k (shown meant) h) where
-  on : Unshared k (shown meant) → OnTrue (may_share k (status_of (shown meant))) (Begun by (λ starts. Shares May (Rest starts) (BeganWith starts) stands policy pid turns recorded recorded seen.recorded seen refused (Err meant)))
-  on (inl e) = not_true (may_share k (status_of (shown meant))) (Begun by (λ starts. Shares May (Rest starts) (BeganWith starts) stands policy pid turns recorded recorded seen.recorded seen refused (Err meant))) e
-  on (inr e) = on_true (may_share k (status_of (shown meant))) (Begun by (λ starts. Shares May (Rest starts) (BeganWith starts) stands policy pid turns recorded recorded seen.recorded seen refused (Err meant)))
-      (subst (λ m. Begun by (λ starts. Shares May (Rest starts) (BeganWith starts) stands policy pid turns recorded recorded seen.recorded seen refused (Err m))) (sym (only-memory meant e)) (some-begun by (λ starts. Shares May (Rest starts) (BeganWith starts) stands policy pid turns recorded recorded seen.recorded seen refused (Err endings.NoMemory)) (λ starts. inl (record { same_wire = refl; same_house = refl }))))
+pub still-shared : (k : Known) (meant : MeantEnding) (May : HouseReply → Type 0) (Rest : Starts → Resting) (last : HouseState) (here : ListenPermit) (by : Option Recorded) (policy : Policy) (pid turns : ℕ) (recorded : Option (List HouseMark)) (seen : Seen) (refused : Option ℕ) → IsRunRefused k (shown meant) → OnTrue (may_share k (status_of (shown meant))) (Begun here by (λ starts. Shares May (Rest starts) (BeganWith starts) last policy pid turns recorded recorded seen.recorded seen refused (Err meant)))
+still-shared k meant May Rest last here by policy pid turns recorded seen refused h = on (unshared k (shown meant) h) where
+  on : Unshared k (shown meant) → OnTrue (may_share k (status_of (shown meant))) (Begun here by (λ starts. Shares May (Rest starts) (BeganWith starts) last policy pid turns recorded recorded seen.recorded seen refused (Err meant)))
+  on (inl e) = not_true (may_share k (status_of (shown meant))) (Begun here by (λ starts. Shares May (Rest starts) (BeganWith starts) last policy pid turns recorded recorded seen.recorded seen refused (Err meant))) e
+  on (inr e) = on_true (may_share k (status_of (shown meant))) (Begun here by (λ starts. Shares May (Rest starts) (BeganWith starts) last policy pid turns recorded recorded seen.recorded seen refused (Err meant)))
+      (subst (λ m. Begun here by (λ starts. Shares May (Rest starts) (BeganWith starts) last policy pid turns recorded recorded seen.recorded seen refused (Err m))) (sym (only-memory meant e)) (some-begun here by (λ starts. Shares May (Rest starts) (BeganWith starts) last policy pid turns recorded recorded seen.recorded seen refused (Err endings.NoMemory)) (λ starts. inl (record { same_wire = refl; same_house = refl }))))
 
 -- there may be no memory for anything
-pub starved-due : (k : Known) → IsRefused k ends.NoMemory
+pub starved-due : (k : Known) → IsRunRefused k ends.NoMemory
 starved-due (Certain (Ends due)) = tt
 starved-due (Certain (Writes text)) = tt
 starved-due (Certain (Opens control transport ps)) = tt
@@ -262,38 +264,38 @@ starved-due (Master transport ps) = tt
 pub still-calls : (turns : ℕ) (status : Status) (calls : CallCounts) → CallsEnd turns status calls calls
 still-calls turns status calls = record { few = omega arith; opens = omega arith; wants = omega arith; starved = λ ne. absurd (ne refl); late = λ e. refl }
 
-pub still-wire : (k : Known) (ending : Ending) (w w' : Faults) → IsRefused k ending → OnTrue (may_share k (status_of ending)) (WireCause (status_of ending) w w')
+pub still-wire : (k : Known) (ending : Ending) (w w' : Faults) → IsRunRefused k ending → OnTrue (may_share k (status_of ending)) (WireCause (status_of ending) w w')
 still-wire k ending w w' h = on (unshared k ending h) where
   on : Unshared k ending → OnTrue (may_share k (status_of ending)) (WireCause (status_of ending) w w')
   on (inl e) = not_true (may_share k (status_of ending)) (WireCause (status_of ending) w w') e
   on (inr e) = subst (λ x. OnTrue (may_share k x) (WireCause x w w')) (sym e) (on_true (may_share k statuses.Memory) (WireCause statuses.Memory w w') tt)
 
-pub still-came : (k : Known) (ending : Ending) (old new : CallCounts) → IsRefused k ending → OnTrue (may_share k (status_of ending)) (CameFor (status_of ending) old new)
+pub still-came : (k : Known) (ending : Ending) (old new : CallCounts) → IsRunRefused k ending → OnTrue (may_share k (status_of ending)) (CameFor (status_of ending) old new)
 still-came k ending old new h = on (unshared k ending h) where
   on : Unshared k ending → OnTrue (may_share k (status_of ending)) (CameFor (status_of ending) old new)
   on (inl e) = not_true (may_share k (status_of ending)) (CameFor (status_of ending) old new) e
   on (inr e) = subst (λ x. OnTrue (may_share k x) (CameFor x old new)) (sym e) (on_true (may_share k statuses.Memory) (CameFor statuses.Memory old new) tt)
 
-pub still-start : (k : Known) (ending : Ending) (refused : Option ℕ) → IsRefused k ending → OnTrue (may_share k (status_of ending)) (StartCause (status_of ending) refused)
+pub still-start : (k : Known) (ending : Ending) (refused : Option ℕ) → IsRunRefused k ending → OnTrue (may_share k (status_of ending)) (StartCause (status_of ending) refused)
 still-start k ending refused h = on (unshared k ending h) where
   on : Unshared k ending → OnTrue (may_share k (status_of ending)) (StartCause (status_of ending) refused)
   on (inl e) = not_true (may_share k (status_of ending)) (StartCause (status_of ending) refused) e
   on (inr e) = subst (λ x. OnTrue (may_share k x) (StartCause x refused)) (sym e) (on_true (may_share k statuses.Memory) (StartCause statuses.Memory refused) tt)
 
-pub still-must : (k : Known) (ending : Ending) (due : Option Bool) (must : Bool) → IsRefused k ending → OnTrue (may_share k (status_of ending)) (MustsAs (status_of ending) due must)
+pub still-must : (k : Known) (ending : Ending) (due : Option Bool) (must : Bool) → IsRunRefused k ending → OnTrue (may_share k (status_of ending)) (MustsAs (status_of ending) due must)
 still-must k ending due must h = on (unshared k ending h) where
   on : Unshared k ending → OnTrue (may_share k (status_of ending)) (MustsAs (status_of ending) due must)
   on (inl e) = not_true (may_share k (status_of ending)) (MustsAs (status_of ending) due must) e
   on (inr e) = subst (λ x. OnTrue (may_share k x) (MustsAs x due must)) (sym e) (on_true (may_share k statuses.Memory) (MustsAs statuses.Memory due must) tt)
 
-pub still-waits : (k : Known) (ending : Ending) (turns : ℕ) (old new : CallCounts) → IsRefused k ending → OnTrue (may_share k (status_of ending)) (WaitsFor turns (status_of ending) old new)
+pub still-waits : (k : Known) (ending : Ending) (turns : ℕ) (old new : CallCounts) → IsRunRefused k ending → OnTrue (may_share k (status_of ending)) (WaitsFor turns (status_of ending) old new)
 still-waits k ending turns old new h = on (unshared k ending h) where
   on : Unshared k ending → OnTrue (may_share k (status_of ending)) (WaitsFor turns (status_of ending) old new)
   on (inl e) = not_true (may_share k (status_of ending)) (WaitsFor turns (status_of ending) old new) e
   on (inr e) = subst (λ x. OnTrue (may_share k x) (WaitsFor turns x old new)) (sym e) (on_true (may_share k statuses.Memory) (WaitsFor turns statuses.Memory old new) tt)
 
--- where a drill is refused memory is wanting
-drill-starved : (k : Known) (ending : Ending) → IsRefused k ending → drills k ≡ true → status_of ending ≡ statuses.Memory
+-- where a drill is refused memory ran out
+drill-starved : (k : Known) (ending : Ending) → IsRunRefused k ending → drills k ≡ true → status_of ending ≡ statuses.Memory
 drill-starved (Certain (Drills seed clients messages)) ends.NoMemory h d = refl
 drill-starved (Certain (Drills seed clients messages)) (ends.BadLine (At file line ReadFault)) h d = absurd cc
 drill-starved (Certain (Drills seed clients messages)) (ends.BadLine (At file line RunFault)) h d = absurd cc
@@ -313,19 +315,19 @@ for-master true true drilled P e h = h
 for-master true false true P e h = absurd cc
 for-master true false false P e h = h
 
-pub still-waited : (k : Known) (ending : Ending) (turns : ℕ) (old new : CallCounts) → IsRefused k ending → OnTrue (touches k (status_of ending)) (WaitsFor turns (status_of ending) old new)
+pub still-waited : (k : Known) (ending : Ending) (turns : ℕ) (old new : CallCounts) → IsRunRefused k ending → OnTrue (touches k (status_of ending)) (WaitsFor turns (status_of ending) old new)
 still-waited k ending turns old new h = by_drill (drills k) refl where
   by_drill : (d : Bool) → drills k ≡ d → OnTrue (touches k (status_of ending)) (WaitsFor turns (status_of ending) old new)
   by_drill true e = subst (λ x. OnTrue (touches k x) (WaitsFor turns x old new)) (sym (drill-starved k ending h e)) (on_true (touches k statuses.Memory) (WaitsFor turns statuses.Memory old new) tt)
   by_drill false e = for-master (may_open (status_of ending)) (opens k) (drills k) (WaitsFor turns (status_of ending) old new) e (still-waits k ending turns old new h)
 
-pub still-caused : (k : Known) (ending : Ending) (w w' : Faults) → IsRefused k ending → OnTrue (touches k (status_of ending)) (WireCause (status_of ending) w w')
+pub still-caused : (k : Known) (ending : Ending) (w w' : Faults) → IsRunRefused k ending → OnTrue (touches k (status_of ending)) (WireCause (status_of ending) w w')
 still-caused k ending w w' h = by_drill (drills k) refl where
   by_drill : (d : Bool) → drills k ≡ d → OnTrue (touches k (status_of ending)) (WireCause (status_of ending) w w')
   by_drill true e = subst (λ x. OnTrue (touches k x) (WireCause x w w')) (sym (drill-starved k ending h e)) (on_true (touches k statuses.Memory) (WireCause statuses.Memory w w') tt)
   by_drill false e = for-master (may_open (status_of ending)) (opens k) (drills k) (WireCause (status_of ending) w w') e (still-wire k ending w w' h)
 
-pub refused-came : (k : Known) (ending : Ending) (old new : CallCounts) → IsRefused k ending → OnTrue (touches k (status_of ending)) (CameFor (status_of ending) old new)
+pub refused-came : (k : Known) (ending : Ending) (old new : CallCounts) → IsRunRefused k ending → OnTrue (touches k (status_of ending)) (CameFor (status_of ending) old new)
 refused-came k ending old new h = by_drill (drills k) refl where
   by_drill : (d : Bool) → drills k ≡ d → OnTrue (touches k (status_of ending)) (CameFor (status_of ending) old new)
   by_drill true e = subst (λ x. OnTrue (touches k x) (CameFor x old new)) (sym (drill-starved k ending h e)) (on_true (touches k statuses.Memory) (CameFor statuses.Memory old new) tt)
@@ -343,11 +345,11 @@ pub unopened-waits : (b : Bool) (k : Known) (status : Status) (turns : ℕ) (old
 unopened-waits b k status turns old new e d = where_false b (OnTrue (touches k status) (WaitsFor turns status old new)) (not_true (touches k status) (WaitsFor turns status old new) (shut-all k status e d))
 
 -- of one that was refused
-pub refused-waits : (b : Bool) (k : Known) (ending : Ending) (turns : ℕ) (old new : CallCounts) → IsRefused k ending → OnFalse b (OnTrue (touches k (status_of ending)) (WaitsFor turns (status_of ending) old new))
+pub refused-waits : (b : Bool) (k : Known) (ending : Ending) (turns : ℕ) (old new : CallCounts) → IsRunRefused k ending → OnFalse b (OnTrue (touches k (status_of ending)) (WaitsFor turns (status_of ending) old new))
 refused-waits b k ending turns old new h = where_false b (OnTrue (touches k (status_of ending)) (WaitsFor turns (status_of ending) old new)) (still-waited k ending turns old new h)
 
 -- of a master that was refused
-pub unshared-waits : (b : Bool) (k : Known) (ending : Ending) (turns : ℕ) (old new : CallCounts) → IsRefused k ending → OnFalse b (OnTrue (may_share k (status_of ending)) (WaitsFor turns (status_of ending) old new))
+pub unshared-waits : (b : Bool) (k : Known) (ending : Ending) (turns : ℕ) (old new : CallCounts) → IsRunRefused k ending → OnFalse b (OnTrue (may_share k (status_of ending)) (WaitsFor turns (status_of ending) old new))
 unshared-waits b k ending turns old new h = where_false b (OnTrue (may_share k (status_of ending)) (WaitsFor turns (status_of ending) old new)) (still-waits k ending turns old new h)
 
 pub still-idle : (status : Status) (w : Faults) → IdleCause status w w

@@ -7,7 +7,7 @@ use Rattle.conf_rules.specs.declared.causes.ResolveError.TheVariants.{At}
 use Rattle.conf_rules.specs.Diagnostics.{Ending, BadLine, BadListing, NoControlPath}
 use Rattle.conf_rules.specs.Diagnostics.{NotOpened, TransportFailed, ServerBroke, TurnsSpent, StartRefused, NoMemory}
 use Rattle.conf_rules.specs.Diagnostics.{MasterRefused, MasterBroke}
-use Rattle.conf_rules.specs.Outcome.{Outcome, Ends, Writes, Opens, Drills, Joins}
+use Rattle.conf_rules.specs.CommandOutcome.{CommandOutcome, Ends, Writes, Opens, Drills, Joins}
 use Rattle.mux_client.specs.declared.asks.Asks.{Asks}
 use Rattle.ssh_mux.specs.declared.ending.Ending.{Ending as MeantEnding}
 use Rattle.ssh_mux.specs.declared.status.Status.{Status}
@@ -22,15 +22,15 @@ use Rattle.ssh_mux.specs.Status.{status_of}
 -- ---- endings
 
 -- whether a configuration is refused, or what is listed of it
-abbrev pub is_refusal : Ending → Bool
-is_refusal (BadLine e) = true
-is_refusal (BadListing e) = true
-is_refusal other = false
+abbrev pub is_refusal_ending : Ending → Bool
+is_refusal_ending (BadLine e) = true
+is_refusal_ending (BadListing e) = true
+is_refusal_ending other = false
 
 -- whether a master or a client may end so before it opens its sockets
 abbrev pub refuses_master : Ending → Bool
 refuses_master NoControlPath = true
-refuses_master ending = is_refusal ending
+refuses_master ending = is_refusal_ending ending
 
 -- whether a drill may end so: its sockets weren't opened, or it was served
 abbrev pub ends_drill : Ending → Bool
@@ -70,28 +70,28 @@ IsDue (Certain (Writes text)) ending = ⊥
 IsDue (Certain (Opens control transport permits)) ending = IsTrue (ends_master ending)
 IsDue (Certain (Drills seed clients messages)) ending = IsTrue (ends_drill ending)
 IsDue (Certain (Joins control asked what)) ending = IsAskDue (asks_for asked what) ending
-IsDue Listing ending = IsTrue (is_refusal ending)
+IsDue Listing ending = IsTrue (is_refusal_ending ending)
 IsDue (Master transport permits) ending = IsTrue (refuses_master ending || ends_master ending)
 IsDue (Client asked what) ending = IsTrue (refuses_master ending || ends_client ending)
 
 -- the same before a listing is written, a wire is opened or the forwardings of a client are read
-abbrev pub IsRefused : Known → Ending → Type 0
-IsRefused known NoMemory = Unit
-IsRefused known (BadLine (At file line ReadFault)) = IsTrue (looks known)
-IsRefused known (BadLine (At file line RunFault)) = IsTrue (looks known)
-IsRefused (Certain (Ends due)) ending = ending ≡ due
-IsRefused (Certain (Writes text)) ending = ⊥
-IsRefused (Certain (Opens control transport permits)) ending = ⊥
-IsRefused (Certain (Drills seed clients messages)) ending = ⊥
-IsRefused (Certain (Joins control asked what)) ending = ⊥
-IsRefused Listing ending = IsTrue (is_refusal ending)
-IsRefused (Master transport permits) ending = IsTrue (refuses_master ending)
-IsRefused (Client asked what) ending = IsTrue (refuses_master ending)
+abbrev pub IsRunRefused : Known → Ending → Type 0
+IsRunRefused known NoMemory = Unit
+IsRunRefused known (BadLine (At file line ReadFault)) = IsTrue (looks known)
+IsRunRefused known (BadLine (At file line RunFault)) = IsTrue (looks known)
+IsRunRefused (Certain (Ends due)) ending = ending ≡ due
+IsRunRefused (Certain (Writes text)) ending = ⊥
+IsRunRefused (Certain (Opens control transport permits)) ending = ⊥
+IsRunRefused (Certain (Drills seed clients messages)) ending = ⊥
+IsRunRefused (Certain (Joins control asked what)) ending = ⊥
+IsRunRefused Listing ending = IsTrue (is_refusal_ending ending)
+IsRunRefused (Master transport permits) ending = IsTrue (refuses_master ending)
+IsRunRefused (Client asked what) ending = IsTrue (refuses_master ending)
 
 -- what was found is what the outcome shows, or the outcome isn't known; or the ending is due
-abbrev pub Finds : {A : Type 0} → (A → Outcome) → Known → Known → Result A MeantEnding → Type 0
+abbrev pub Finds : {A : Type 0} → (A → CommandOutcome) → Known → Known → Result A MeantEnding → Type 0
 Finds shows unknown known (Ok x) = (known ≡ Certain (shows x)) ⊎ (known ≡ unknown)
-Finds shows unknown known (Err ending) = IsRefused known (shown ending)
+Finds shows unknown known (Err ending) = IsRunRefused known (shown ending)
 
 -- ---- statuses
 
@@ -139,28 +139,28 @@ may_share known status = may_open status && opens known
 abbrev pub touches : Known → Status → Bool
 touches known status = may_open status && (opens known || drills known)
 
--- whether a house is served, where one is present: by a master alone
+-- whether a forwarder is served, where one is present: by a master alone
 abbrev pub serves_house : Bool → Known → Bool
 serves_house present known = present && opens known
 
 -- whether one may have been joined, for a client
-abbrev pub may_ask : Known → Status → Bool
-may_ask known status = may_open status && asks known
+abbrev pub may_have_joined : Known → Status → Bool
+may_have_joined known status = may_open status && asks known
 
 -- whether one may have been used
 abbrev pub reaches : Known → Status → Bool
-reaches known status = touches known status || may_ask known status
+reaches known status = touches known status || may_have_joined known status
 
 -- whether something may have been written: a client shows each answer as it comes
 abbrev pub may_show : Known → Status → Bool
-may_show known status = may_write status || may_ask known status
+may_show known status = may_write status || may_have_joined known status
 
 -- ---- what stays
 
 -- What a run leaves as it was, by facts that say so of what it was handed: what takes the listing,
 -- where nothing is written; files and commands, where no configuration is read; the wire, where it
--- isn't opened or joined; the house, where no master opens it.
-pub record Leaves (known : Known) (status : Status) (Out Files Runner Wire House : Type 0) :
+-- isn't opened or joined; the forwarder, where no master opens it.
+pub record RunLeaves (known : Known) (status : Status) (Out Files Runner Wire House : Type 0) :
     Type 0 where
   pub unwritten : OnFalse (may_show known status) Out
   pub unlisted : OnFalse (writes_out known) Out

@@ -41,10 +41,10 @@ forward_key keyword =
     else (if bytes_eq keyword (codes "dynamicforward") then Some DynamicForward else None))
 
 -- its kind: 1 for a local, 2 for a remote and 3 for a dynamic one
-abbrev pub forward_kind : Key → ℕ
-forward_kind LocalForward = 1
-forward_kind RemoteForward = 2
-forward_kind key = 3
+abbrev pub forward_kind_of_key : Key → ℕ
+forward_kind_of_key LocalForward = 1
+forward_kind_of_key RemoteForward = 2
+forward_kind_of_key key = 3
 
 -- a host that isn't named is empty
 abbrev pub host_or_empty : Option Bytes → Bytes
@@ -52,14 +52,14 @@ host_or_empty None = []
 host_or_empty (Some host) = host
 
 -- a host with its port, unless it is too long
-abbrev pub host_at : Option Bytes → ℕ → Option AskedEnd
-host_at host port = if nat_lt LONGEST_HOST (length (host_or_empty host)) then None
+abbrev pub asked_host_at : Option Bytes → ℕ → Option AskedEnd
+asked_host_at host port = if nat_lt LONGEST_HOST (length (host_or_empty host)) then None
     else Some (record { host = host_or_empty host; port = port })
 
 -- an end; a path is none
 abbrev pub end_at : End → Option AskedEnd
 end_at (Path path) = None
-end_at (Port host port) = host_at host port
+end_at (Port host port) = asked_host_at host port
 
 -- the end that is connected to: where there is none, an empty host and port 0
 abbrev pub connect_at : Option End → Option AskedEnd
@@ -95,7 +95,7 @@ recorded_ask word (Some ask) = Ok ask
 
 -- the forwarding of a value
 abbrev pub value_ask : ℕ → Key → Result Value ValueError → Result StartAsk ResolveError
-value_ask word key (Ok (values.Forward f)) = recorded_ask word (start_ask (forward_kind key) f)
+value_ask word key (Ok (values.Forward f)) = recorded_ask word (start_ask (forward_kind_of_key key) f)
 value_ask word key (Ok value) = refused_line word BadForward
 value_ask word key (Err e) = refused_line word e
 

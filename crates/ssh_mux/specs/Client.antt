@@ -2,7 +2,7 @@
 use Rattle.std.specs.Prelude.{◌≡◌, ◌<◌, ◌≤◌, ◌+◌, ◌-◌, ◌^◌, min, ℕ, ◌⊎◌, Bool, true, false, IsTrue, List, [], ◌∷◌, ◌++◌, Option, Some, None, option_map, Result, Ok, Err}
 use Rattle.std.specs.Bool.{OnTrue}
 use Rattle.conf_rules.specs.declared.causes.ResolveError.{ResolveError}
-use Rattle.conf_rules.specs.Outcome.{Joins}
+use Rattle.conf_rules.specs.CommandOutcome.{Joins}
 use Rattle.conf_rules.specs.Texts.{Bytes}
 use Rattle.mux_client.specs.declared.asks.Asks.{Asks}
 use Rattle.mux_client.specs.declared.talked.Talked.{Talked}
@@ -18,7 +18,7 @@ use Rattle.ssh_mux.specs.declared.ending.Ending.TheVariants as endings
 use Rattle.ssh_mux.specs.declared.status.Status.{Status}
 use Rattle.ssh_mux.specs.declared.status.Status.TheVariants.{Done, Config, Outside, Write}
 use Rattle.ssh_mux.specs.declared.status.Status.TheVariants.{Open, Spent, Memory, Refused, BadMaster}
-use Rattle.ssh_mux.specs.Answers.{is_silent, may_ask, so_far}
+use Rattle.ssh_mux.specs.Answers.{is_silent, may_have_joined, so_far}
 use Rattle.ssh_mux.specs.Asks.{asks_for}
 use Rattle.ssh_mux.specs.Outcomes.{Known, Certain, Client}
 use Rattle.ssh_mux.specs.Causes.{OutCause}
@@ -92,7 +92,7 @@ pub record IsUnasked (start recorded : Option (List Mark)) (out out' : Option (L
 
 -- A talk that keeps its promises, and its very end; `start` and `recorded` are what the wire
 -- records, `out` and `out'` what the output records.
-pub record IsAsked (asks : Asks) (start recorded : Option (List Mark)) (out out' : Option (List ℕ))
+pub record IsTalkAsked (asks : Asks) (start recorded : Option (List Mark)) (out out' : Option (List ℕ))
     (result : Result Status MeantEnding) : Type 0 where
   pub answer : Talked
   pub is_recorded : result ≡ talk_recorded answer
@@ -104,8 +104,8 @@ abbrev pub Converses : Asks → Option (List Mark) → Option (List Mark)
     → Option (List ℕ) → Option (List ℕ) → Result Status MeantEnding → Type 0
 Converses asks start recorded out out' (Err endings.NotOpened) = IsUnasked start recorded out out'
 Converses asks start recorded out out' (Err endings.NoMemory) =
-    IsUnasked start recorded out out' ⊎ IsAsked asks start recorded out out' (Err endings.NoMemory)
-Converses asks start recorded out out' result = IsAsked asks start recorded out out' result
+    IsUnasked start recorded out out' ⊎ IsTalkAsked asks start recorded out out' (Err endings.NoMemory)
+Converses asks start recorded out out' result = IsTalkAsked asks start recorded out out' result
 
 -- the same of what words ask, unless that is refused
 abbrev pub ConversesOn : Result Asks ResolveError → Option (List Mark) → Option (List Mark)
@@ -114,10 +114,10 @@ ConversesOn (Ok asks) start recorded out out' result = Converses asks start reco
 ConversesOn (Err e) start recorded out out' result = IsUnasked start recorded out out'
 
 -- what a client asks: others ask nothing
-abbrev pub asks_in : Known → Option (Result Asks ResolveError)
-asks_in (Certain (Joins control asked what)) = Some (asks_for asked what)
-asks_in (Client asked what) = Some (asks_for asked what)
-asks_in known = None
+abbrev pub client_asks_in : Known → Option (Result Asks ResolveError)
+client_asks_in (Certain (Joins control asked what)) = Some (asks_for asked what)
+client_asks_in (Client asked what) = Some (asks_for asked what)
+client_asks_in known = None
 
 -- the same of the outcome of words: only a client asks
 abbrev pub ConversesBy : Option (Result Asks ResolveError) → Option (List Mark)
@@ -128,12 +128,12 @@ ConversesBy None start recorded out out' result = Unit
 abbrev pub ConversesFor : Known → Option (List Mark) → Option (List Mark)
     → Option (List ℕ) → Option (List ℕ) → Result Status MeantEnding → Type 0
 ConversesFor known start recorded out out' result =
-    OnTrue (may_ask known (so_far result)) (ConversesBy (asks_in known) start recorded out out' result)
+    OnTrue (may_have_joined known (so_far result)) (ConversesBy (client_asks_in known) start recorded out out' result)
 
 -- ---- the talk and its line
 
 -- a talk that keeps its promises, and the line of its very end
-pub record IsAnswered (asks : Asks) (start recorded : Option (List Mark)) (out out' : Option (List ℕ))
+pub record IsTalkAnswered (asks : Asks) (start recorded : Option (List Mark)) (out out' : Option (List ℕ))
     (status : Status) (err err' : Option (List ℕ)) (faults faults' : ℕ) : Type 0 where
   pub answer : Talked
   pub talks : TalksRecorded asks answer start recorded
@@ -146,9 +146,9 @@ abbrev pub Answers : Asks → Option (List Mark) → Option (List Mark) → Opti
 Answers asks start recorded out out' Open err err' faults faults' = IsUnasked start recorded out out'
 Answers asks start recorded out out' Memory err err' faults faults' =
     IsUnasked start recorded out out'
-    ⊎ IsAnswered asks start recorded out out' Memory err err' faults faults'
+    ⊎ IsTalkAnswered asks start recorded out out' Memory err err' faults faults'
 Answers asks start recorded out out' status err err' faults faults' =
-    IsAnswered asks start recorded out out' status err err' faults faults'
+    IsTalkAnswered asks start recorded out out' status err err' faults faults'
 
 -- the same of what words ask
 abbrev pub AnswersBy : Option (Result Asks ResolveError) → Option (List Mark)
@@ -162,7 +162,7 @@ AnswersBy None start recorded out out' status err err' faults faults' = Unit
 
 -- the same of the outcome of words: only a client asks
 abbrev pub AnswersFor : Known → Status → World → World → Type 0
-AnswersFor known status before after = OnTrue (may_ask known status) (AnswersBy (asks_in known)
+AnswersFor known status before after = OnTrue (may_have_joined known status) (AnswersBy (client_asks_in known)
     before.wire.seen.recorded after.wire.seen.recorded before.out.recorded after.out.recorded status
     before.err.recorded after.err.recorded before.err.faults after.err.faults)
 
@@ -203,14 +203,14 @@ pub record ClientLeaves (known : Known) (turns : ℕ) (result : Result Status Me
   -- then a running master was asked
   pub talked : ConversesFor known old.seen.recorded new.seen.recorded out.recorded out'.recorded result
   -- the sockets failed to open, and the connection failed, only where that was counted
-  pub wire_cause : OnTrue (may_ask known (so_far result))
+  pub wire_cause : OnTrue (may_have_joined known (so_far result))
       (WireCause (so_far result) faults faults')
   -- and the output only where that was
   pub out_cause : OutCause (so_far result) out.faults out'.faults
   -- calls were few, and none came after one that ran out of memory
   pub calls : CallsEnd turns (so_far result) old.calls new.calls
   -- it waited once for each turn
-  pub waited : OnTrue (may_ask known (so_far result))
+  pub waited : OnTrue (may_have_joined known (so_far result))
       (TalksFor turns (so_far result) old.calls new.calls)
   -- and without turns nothing failed but the joining
   pub idle : turns ≡ 0 → IdleCause (so_far result) faults faults'

@@ -2,7 +2,7 @@
 use Rattle.std.specs.Prelude.{List, Option, Some, None, Result, Ok, Err}
 use Rattle.conf_match.specs.Evaluated.{RanAll, RanSome}
 use Rattle.conf_rules.specs.declared.command.Command.{Command}
-use Rattle.conf_rules.specs.Outcome.{Machine, command_execs, ran_for}
+use Rattle.conf_rules.specs.CommandOutcome.{Machine, command_execs, ran_for}
 use Rattle.conf_rules.specs.Texts.{Bytes}
 use Rattle.ssh_mux.specs.declared.ending.Ending.{Ending}
 use Rattle.ssh_mux.specs.declared.status.Status.{Status}

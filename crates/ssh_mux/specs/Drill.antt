@@ -1,6 +1,6 @@
 -- What a drill opens, how its run goes, and what it writes.
 use Rattle.std.specs.Prelude.{◌≡◌, ℕ, Bool, false, IsTrue, ◌⊎◌, List, [], ◌∷◌, ◌++◌, codes, Option, None, Result, Ok, Err}
-use Rattle.conf_rules.specs.Diagnostics.{line_of, NoMemory}
+use Rattle.conf_rules.specs.Diagnostics.{NoMemory}
 use Rattle.conf_rules.specs.Numbers.{digits_of}
 use Rattle.conf_rules.specs.Texts.{Bytes}
 use Rattle.mux_engine.specs.Run.{IsRun}
@@ -24,7 +24,7 @@ use Rattle.ssh_mux.specs.declared.status.Status.{Status}
 use Rattle.ssh_mux.specs.declared.status.Status.TheVariants.{Done, Write, Open, Memory}
 use Rattle.ssh_mux.specs.Answers.{is_silent, so_far}
 use Rattle.ssh_mux.specs.Ending.{shown}
-use Rattle.ssh_mux.specs.Err.{Reports, TookSome}
+use Rattle.ssh_mux.specs.Err.{Reports}
 use Rattle.ssh_mux.specs.Master.{ends_sharing}
 use Rattle.ssh_mux.specs.Out.{HandsOver}
 use Rattle.ssh_mux.specs.Sharing.{IsUnserved, OpensAt, recorded_as}
@@ -75,7 +75,7 @@ DrillRecords (Ok due) tally Done out out' err err' faults faults' =
 DrillRecords (Ok due) tally Write out out' err err' faults faults' =
     TakesRecorded (Err Failed) out out' (drill_text tally) × (err' ≡ err)
 DrillRecords (Ok due) tally Memory out out' err err' faults faults' =
-    (out' ≡ out) × TookSome (line_of NoMemory) err err'
+    (out' ≡ out) × Reports Memory NoMemory err err' faults faults'
 DrillRecords (Ok due) tally status out out' err err' faults faults' = ⊥
 DrillRecords (Err ending) tally status out out' err err' faults faults' =
     (out' ≡ out) × Reports status (shown ending) err err' faults faults'
@@ -87,7 +87,7 @@ pub record IsDrilled (turns : ℕ) (start : Option (List Mark)) (seen : Seen) (t
     (status : Status) (out out' err err' : Option (List ℕ)) (faults faults' : ℕ) : Type 0 where
   pub answer : Ended
   pub run :
-      IsRun RefusesAll NoneRests.rests AnyCalls AnyCalls false any_policy 0 turns None None start
+      IsRun RefusesAll NoneRests.rests AnyCalls no_house false any_policy 0 turns None None start
       seen None answer
   pub ends : DrillRecords (recorded_as answer) tally status out out' err err' faults faults'
 
@@ -140,7 +140,7 @@ pub record RunsDrill (turns : ℕ) (start : Option (List Mark)) (seen : Seen) (t
     (result : Result Status MeantEnding) (out out' : Option (List ℕ)) : Type 0 where
   pub answer : Ended
   pub run :
-      IsRun RefusesAll NoneRests.rests AnyCalls AnyCalls false any_policy 0 turns None None start
+      IsRun RefusesAll NoneRests.rests AnyCalls no_house false any_policy 0 turns None None start
       seen None answer
   pub ends : SumsUp (recorded_as answer) tally result out out'
 

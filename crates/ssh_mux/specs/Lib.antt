@@ -14,6 +14,7 @@ pub mod Puts
 pub mod Reads
 pub mod Looks
 pub mod Asks
+pub mod Here
 pub mod Starts
 pub mod Sharing
 pub mod Client

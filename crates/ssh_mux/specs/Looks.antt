@@ -1,7 +1,7 @@
 -- What a command leaves of the files and commands that its settings come from.
 use Rattle.conf_rules.specs.declared.asked.Asked.{Asked}
 use Rattle.conf_rules.specs.declared.command.Command.{Command}
-use Rattle.conf_rules.specs.Outcome.{Machine, Outcome}
+use Rattle.conf_rules.specs.CommandOutcome.{Machine, CommandOutcome}
 use Rattle.conf_rules.specs.Texts.{Bytes}
 use Rattle.mux_outside.specs.declared.facts.Facts.{Facts}
 use Rattle.std.specs.Prelude.{List, Option, Result}
@@ -12,7 +12,7 @@ use Rattle.ssh_mux.specs.Causes.{Caused}
 use Rattle.ssh_mux.specs.Commands.{RunsFor, RunsUnless, commands_of}
 use Rattle.ssh_mux.specs.Outcomes.{Known, machine, of_command, of_words}
 use Rattle.ssh_mux.specs.Places.{Placed, recorded_over}
-use Rattle.ssh_mux.specs.Reads.{ReadsFor, ReadsUnless}
+use Rattle.ssh_mux.specs.Reads.{RunReadsFor, RunReadsUnless}
 use Rattle.ssh_mux.specs.World.{Sources}
 
 -- the machine of these sources, if they record
@@ -35,7 +35,7 @@ pub record Looks (facts : Facts) (command : Command) (asked : Asked) (result : R
   pub exact : Comes (coming old facts command) result
   pub ran : RunsFor (commands_of (machine_of_sources old facts) command) (so_far result)
       old.commands.ran new.commands.ran
-  pub read : ReadsFor (recorded_over (machine_of_sources old facts) asked) (so_far result)
+  pub read : RunReadsFor (recorded_over (machine_of_sources old facts) asked) (so_far result)
       old.files.readings new.files.readings
   pub place : Placed (recorded_over (machine_of_sources old facts) asked) result
       old.commands.ran new.commands.ran old.files.failed new.files.failed
@@ -44,13 +44,13 @@ pub record Looks (facts : Facts) (command : Command) (asked : Asked) (result : R
 
 -- The same of a call that finds something of it: what it found is what the outcome shows, and all
 -- was read and run; or the ending is due.
-pub record FoundFor {A : Type 0} (shows : A → Outcome) (unknown : Known) (facts : Facts)
+pub record FoundFor {A : Type 0} (shows : A → CommandOutcome) (unknown : Known) (facts : Facts)
     (command : Command) (asked : Asked) (result : Result A Ending) (old new : Sources) :
     Type 0 where
   pub exact : Finds shows unknown (coming old facts command) result
   pub ran : RunsUnless (commands_of (machine_of_sources old facts) command) result
       old.commands.ran new.commands.ran
-  pub read : ReadsUnless (recorded_over (machine_of_sources old facts) asked) result
+  pub read : RunReadsUnless (recorded_over (machine_of_sources old facts) asked) result
       old.files.readings new.files.readings
   pub place : Placed (recorded_over (machine_of_sources old facts) asked) result
       old.commands.ran new.commands.ran old.files.failed new.files.failed

@@ -1,7 +1,7 @@
 -- What the standard output has taken.
 use Rattle.std.specs.Prelude.{◌≡◌, ℕ, List, Option, Result, Ok, Err}
 use Rattle.std.specs.Bool.{OnFalse}
-use Rattle.conf_rules.specs.Outcome.{Writes, Drills, Joins}
+use Rattle.conf_rules.specs.CommandOutcome.{Writes, Drills, Joins}
 use Rattle.conf_rules.specs.Texts.{Bytes}
 use Rattle.mux_outside.specs.declared.file_error.FileError.TheVariants.{Failed}
 use Rattle.mux_outside.specs.Sink.{TakesRecorded}

@@ -1,4 +1,4 @@
--- What comes of words, as far as it is known.
+-- The outcome of words, as far as it is known.
 use Rattle.std.specs.Prelude.{Bool, true, false, List, Option, Some, None, Ok, Err}
 use Rattle.conf_rules.specs.declared.asked.Asked.{Asked}
 use Rattle.conf_rules.specs.declared.command.Command.{Command}
@@ -6,22 +6,22 @@ use Rattle.conf_rules.specs.declared.command.Command.TheVariants as commands
 use Rattle.conf_rules.specs.declared.control.MasterCommand.{MasterCommand}
 use Rattle.conf_rules.specs.CommandLine.{ReadCommand}
 use Rattle.conf_rules.specs.Diagnostics.{BadWords}
-use Rattle.conf_rules.specs.Outcome.{Outcome, Ends, Writes, Opens, Drills, Joins, Machine}
-use Rattle.conf_rules.specs.Outcome.{command_outcome, outcome}
+use Rattle.conf_rules.specs.CommandOutcome.{CommandOutcome, Ends, Writes, Opens, Drills, Joins, Machine}
+use Rattle.conf_rules.specs.CommandOutcome.{command_outcome, outcome}
 use Rattle.conf_rules.specs.Reading.{reading}
 use Rattle.conf_rules.specs.Texts.{Bytes}
 use Rattle.conf_tokens.specs.Known.{known}
 use Rattle.mux_outside.specs.declared.facts.Facts.{Facts}
 use Rattle.mux_outside.specs.declared.pairs.Pair.{Pair}
 use Rattle.mux_outside.specs.declared.statuses.CommandStatus.{CommandStatus}
-use Rattle.mux_outside.specs.Files.{content_at, names_in}
-use Rattle.mux_outside.specs.Runner.{status_of}
+use Rattle.mux_outside.specs.Files.{file_content_at, names_in}
+use Rattle.mux_outside.specs.Runner.{runner_status_of}
 use Rattle.conf_rules.specs.declared.command.Permissions.{Permissions}
 
--- what is known: all that comes of words, or only that they ask for a listing, for a master over a
--- transport with these permissions, or for a client that asks a running master
+-- what is known: the whole outcome of words, or only that they ask for a listing, for a master over
+-- a transport with these permissions, or for a client that asks a running master
 pub data Known : Type 0 where
-  Certain : Outcome → Known
+  Certain : CommandOutcome → Known
   Listing : Known
   Master : (transport : Bytes) (permits : Permissions) → Known
   Client : (asked : Asked) (what : MasterCommand) → Known
@@ -32,18 +32,18 @@ pub data Known : Type 0 where
 abbrev pub machine_of : List Pair → List CommandStatus → Facts → Machine
 machine_of files statuses facts =
     record {
-      content = content_at files;
+      content = file_content_at files;
       names = names_in files;
       facts = known facts;
-      status = status_of statuses;
+      status = runner_status_of statuses;
     }
 
--- the machine, where both files and commands are told
+-- the machine, where both files and commands are recorded
 unfoldable pub machine : Option (List Pair) → Option (List CommandStatus) → Facts → Option Machine
 machine (Some files) (Some statuses) facts = Some (machine_of files statuses facts)
 machine files statuses facts = None
 
--- ---- what comes of words
+-- ---- the outcome of words
 
 -- what is known of a command for itself
 abbrev pub untold : Command → Known
@@ -62,17 +62,17 @@ abbrev pub untold_words : ReadCommand → Known
 untold_words (Ok command) = untold command
 untold_words (Err e) = Certain (Ends (BadWords e))
 
--- what is known of words over a machine: where it is told, all
+-- what is known of words over a machine: where it is recorded, all
 unfoldable pub of_words : Option Machine → List Bytes → Known
 of_words (Some m) words = Certain (outcome m words)
 of_words None words = untold_words (reading words)
 
 -- a master with these permissions that opens its control path
-abbrev pub opens_at : Bytes → Permissions → Bytes → Outcome
+abbrev pub opens_at : Bytes → Permissions → Bytes → CommandOutcome
 opens_at transport permits control = Opens control transport permits
 
 -- a client that asks at its control path
-abbrev pub joins_at : Asked → MasterCommand → Bytes → Outcome
+abbrev pub joins_at : Asked → MasterCommand → Bytes → CommandOutcome
 joins_at asked what control = Joins control asked what
 
 -- ---- what it uses

@@ -1,6 +1,6 @@
 -- How often bytes were handed over.
 use Rattle.std.specs.Prelude.{◌≡◌, ◌⊎◌, ℕ, Bool, true, false}
-use Rattle.conf_rules.specs.Outcome.{Writes, Drills}
+use Rattle.conf_rules.specs.CommandOutcome.{Writes, Drills}
 use Rattle.mux_outside.specs.Counts.{counted}
 use Rattle.ssh_mux.specs.declared.status.Status.{Status}
 use Rattle.ssh_mux.specs.declared.status.Status.TheVariants.{Done, Write, Memory}

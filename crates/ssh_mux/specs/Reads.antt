@@ -12,16 +12,16 @@ use Rattle.ssh_mux.specs.Status.{status_of}
 
 -- the files that the lines name were read, in their order and each with its limit; where the
 -- configuration is refused, or a fault or running out of memory broke off, the first of them
-abbrev pub ReadsFor : Option Recorded → Status → Readings → Readings → Type 0
-ReadsFor (Some recorded) Config before now = ReadsSome (all_reads recorded) before now
-ReadsFor (Some recorded) Outside before now = ReadsSome (all_reads recorded) before now
-ReadsFor (Some recorded) Memory before now = ReadsSome (all_reads recorded) before now
-ReadsFor (Some recorded) status before now = ReadsAll (all_reads recorded) before now
-ReadsFor None status before now = Unit
+abbrev pub RunReadsFor : Option Recorded → Status → Readings → Readings → Type 0
+RunReadsFor (Some recorded) Config before now = ReadsSome (all_reads recorded) before now
+RunReadsFor (Some recorded) Outside before now = ReadsSome (all_reads recorded) before now
+RunReadsFor (Some recorded) Memory before now = ReadsSome (all_reads recorded) before now
+RunReadsFor (Some recorded) status before now = ReadsAll (all_reads recorded) before now
+RunReadsFor None status before now = Unit
 
 -- the same of a call that found something
-abbrev pub ReadsUnless : {A : Type 0} → Option Recorded → Result A Ending → Readings → Readings
+abbrev pub RunReadsUnless : {A : Type 0} → Option Recorded → Result A Ending → Readings → Readings
     → Type 0
-ReadsUnless recorded (Err ending) before now = ReadsFor recorded (status_of (shown ending)) before now
-ReadsUnless (Some recorded) (Ok x) before now = ReadsAll (all_reads recorded) before now
-ReadsUnless None (Ok x) before now = Unit
+RunReadsUnless recorded (Err ending) before now = RunReadsFor recorded (status_of (shown ending)) before now
+RunReadsUnless (Some recorded) (Ok x) before now = ReadsAll (all_reads recorded) before now
+RunReadsUnless None (Ok x) before now = Unit

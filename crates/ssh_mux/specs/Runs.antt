@@ -1,7 +1,7 @@
 -- What a run of the program does.
 use Rattle.std.specs.Prelude.{◌≡◌, ◌||◌, ℕ, Bool, IsTrue, List, Option}
 use Rattle.std.specs.Bool.{OnFalse, OnTrue}
-use Rattle.conf_rules.specs.Outcome.{Machine}
+use Rattle.conf_rules.specs.CommandOutcome.{Machine}
 use Rattle.conf_rules.specs.Texts.{Bytes}
 use Rattle.conf_rules.specs.Recorded.{Recorded}
 use Rattle.mux_engine.specs.OwnFaults.{OwnCounted}
@@ -11,7 +11,7 @@ use Rattle.mux_outside.specs.declared.facts.Facts.{Facts}
 use Rattle.mux_outside.specs.declared.house.HouseReply.{HouseReply}
 use Rattle.mux_outside.specs.House.{HouseState}
 use Rattle.ssh_mux.specs.declared.status.Status.{Status}
-use Rattle.ssh_mux.specs.Answers.{is_silent, may_ask, may_share, serves_house, touches}
+use Rattle.ssh_mux.specs.Answers.{is_silent, may_have_joined, may_share, serves_house, touches}
 use Rattle.ssh_mux.specs.Causes.{FaultCause, OutCause}
 use Rattle.ssh_mux.specs.Client.{AnswersFor, JoinsOnce, TalksFor}
 use Rattle.ssh_mux.specs.Commands.{RunsFor, commands_for}
@@ -21,7 +21,7 @@ use Rattle.ssh_mux.specs.Out.{OutTakes}
 use Rattle.ssh_mux.specs.Outcomes.{Known, drills, machine, of_words, opens}
 use Rattle.ssh_mux.specs.Places.{recorded_for}
 use Rattle.ssh_mux.specs.Puts.{PutsOnce, prints}
-use Rattle.ssh_mux.specs.Reads.{ReadsFor}
+use Rattle.ssh_mux.specs.Reads.{RunReadsFor}
 use Rattle.ssh_mux.specs.Sharing.{CallsEnd, CameFor, IdleCause, OpensOnce, ServesFor}
 use Rattle.ssh_mux.specs.Sharing.{StartCause, WaitsFor, WireCause, pid_of}
 use Rattle.ssh_mux.specs.Starts.{MustsAs, must_for}
@@ -29,15 +29,16 @@ use Rattle.ssh_mux.specs.World.{World}
 
 -- by these words and facts, and by what the world showed before
 module _ (words : List Bytes) (facts : Facts) (before : World) where
-  -- the machine, where files and commands tell
+  -- the machine, where files and commands record
   abbrev pub machine_before : Option Machine
   machine_before = machine before.files.recorded before.commands.recorded facts
 
-  -- what is known to come of the words: where the machine is told all, and else what they ask for
+  -- what is known to come of the words: where the machine is recorded all, and else what they ask
+  -- for
   abbrev pub known : Known
   known = of_words machine_before words
 
-  -- what files and commands tell for them
+  -- what files and commands record for them
   abbrev pub recorded : Option Recorded
   recorded = recorded_for machine_before words
 
@@ -45,15 +46,15 @@ module _ (words : List Bytes) (facts : Facts) (before : World) where
   abbrev pub due : Option (List Bytes)
   due = commands_for machine_before words
 
-  -- whether a house is served
+  -- whether a forwarder is served
   abbrev pub housed : Bool
   housed = serves_house before.house.known.present known
 
-  -- a run of so many turns at most, with a house that may give such replies, which ends with this
-  -- status, by what the world shows after
+  -- a run of so many turns at most, with a forwarder that may give such replies, which ends with
+  -- this status, by what the world shows after
   pub record Runs {T : Type 0} (May : HouseReply → Type 0) (state : T → HouseState) (turns : ℕ)
       (status : Status) (after : World) : Type 0 where
-    -- a master shares the connection by all its promises, with a house that begins as is due
+    -- a master shares the connection by all its promises, with a forwarder that begins as is due
     pub shared : ServesFor May state known recorded (pid_of facts.pid) turns before after status
     -- the run ends as is due, with the one line of that end or none
     pub ended : Ended known recorded status before after
@@ -62,7 +63,7 @@ module _ (words : List Bytes) (facts : Facts) (before : World) where
     -- a fault of a file or a command was counted exactly where its status says so
     pub fault_cause : FaultCause status before.files.faults after.files.faults
         before.commands.faults after.commands.faults
-    -- the output took exactly the listing
+    -- the output accepted exactly the listing
     pub out : OutTakes status known before.out.recorded after.out.recorded
     -- it failed only where its status says so
     pub out_cause : OutCause status before.out.faults after.out.faults
@@ -71,20 +72,21 @@ module _ (words : List Bytes) (facts : Facts) (before : World) where
     -- exactly the commands were run that are due
     pub ran : RunsFor due status before.commands.ran after.commands.ran
     -- and exactly the files were read that the lines name
-    pub read : ReadsFor recorded status before.files.readings after.files.readings
-    -- a client says and shows what its talk does, and ends as that came out
+    pub read : RunReadsFor recorded status before.files.readings after.files.readings
+    -- a client sends, shows and waits as its talk does, and ends as that came out
     pub asked : AnswersFor known status before after
     -- it joined the socket of the running master once
     pub joined : JoinsOnce known status before.wire.joinings after.wire.joinings
     -- its sockets failed to open, and the connection failed, only where that was counted
-    pub asked_cause : OnTrue (may_ask known status) (WireCause status before.faults after.faults)
+    pub asked_cause : OnTrue (may_have_joined known status) (WireCause status before.faults after.faults)
     -- it waited once for each turn where these are spent, and before it ended by an answer
-    pub asked_waits : OnTrue (may_ask known status)
+    pub asked_waits : OnTrue (may_have_joined known status)
         (TalksFor turns status before.wire.calls after.wire.calls)
-    -- with a house, a forwarding of the start may be refused unless the settings say that none may
+    -- with a forwarder, a forwarding of the start may be refused unless the settings say that none
+    -- may
     pub must : IsTrue before.house.known.present → OnTrue (may_share known status)
         (MustsAs status (must_for recorded) after.house.must)
-    -- one is told as refused only where one was, and none may be
+    -- one is recorded as refused only where one was, and none may be
     pub start : OnTrue (may_share known status)
         (StartCause status (refusal_after before.house after.house))
     -- a drill serves as a master does, with everything permitted, and sums up what was counted
@@ -99,12 +101,13 @@ module _ (words : List Bytes) (facts : Facts) (before : World) where
     -- each order of a listener or a connection that got no number was counted as an own fault
     pub own_faults : OnTrue (opens known || drills known) (OwnCounted before.wire.seen.recorded
         after.wire.seen.recorded before.faults.own after.faults.own)
-    -- calls of the wire were few, and none came behind one that wanted memory
+    -- calls of the wire were few, and none came after one that wanted memory
     pub calls : CallsEnd turns status before.wire.calls after.wire.calls
     -- the run ended only where that came which ends it so
     pub came : OnTrue (touches known status)
         (CameFor status before.wire.calls after.wire.calls)
-    -- without a house it waited once for each turn where these are spent, and before it ended else
+    -- without a forwarder it waited once for each turn where these are spent, and before it ended
+    -- else
     pub waited : OnFalse housed (OnTrue (touches known status)
         (WaitsFor turns status before.wire.calls after.wire.calls))
     -- and without turns nothing failed but the opening

@@ -1,7 +1,7 @@
 -- What a master opens, and how its run goes.
-use Rattle.std.specs.Prelude.{◌≡◌, ◌≢◌, ◌≤◌, ◌<◌, ◌+◌, ◌-◌, ◌^◌, min, ℕ, Bool, false, ◌⊎◌, List, [], ◌∷◌, ◌++◌, Option, Some, None, option_map, IsSome, IsTrue, Result, Ok, Err}
+use Rattle.std.specs.Prelude.{◌≡◌, ◌≢◌, ◌≤◌, ◌<◌, ◌+◌, ◌-◌, ◌^◌, min, ℕ, Bool, false, ◌⊎◌, List, [], ◌∷◌, ◌++◌, Option, Some, None, option_map, IsSome, IsTrue, Result, Ok, Err, codes}
 use Rattle.std.specs.Bool.{OnFalse, OnTrue}
-use Rattle.conf_rules.specs.Outcome.{Drills, Opens}
+use Rattle.conf_rules.specs.CommandOutcome.{Drills, Opens}
 use Rattle.conf_rules.specs.Texts.{Bytes}
 use Rattle.conf_rules.specs.Recorded.{Recorded}
 use Rattle.forward_rules.specs.Allows.{read_policy}
@@ -21,6 +21,7 @@ use Rattle.mux_outside.specs.declared.house.HouseReply.{HouseReply}
 use Rattle.mux_outside.specs.declared.house_mark.HouseMark.{HouseMark}
 use Rattle.mux_outside.specs.declared.mark.Mark.{Mark}
 use Rattle.mux_outside.specs.declared.mark.OpenCall.{OpenCall}
+use Rattle.mux_outside.specs.declared.starts.ListenPermit.{ListenPermit}
 use Rattle.mux_outside.specs.Seen.{Seen}
 use Rattle.mux_outside.specs.CallCounts.{CallCounts}
 use Rattle.mux_outside.specs.Faults.{Faults, OpeningFault}
@@ -33,6 +34,7 @@ use Rattle.ssh_mux.specs.declared.status.Status.TheVariants.{Open, Transport, Br
 use Rattle.ssh_mux.specs.Answers.{may_share, serves_house, so_far}
 use Rattle.ssh_mux.specs.Ending.{shown}
 use Rattle.ssh_mux.specs.Err.{Reports}
+use Rattle.ssh_mux.specs.Here.{here_of}
 use Rattle.ssh_mux.specs.Outcomes.{Known, Certain, Master}
 use Rattle.ssh_mux.specs.Starts.{BeganWith, Begun, BegunRests, MustsAs, must_for}
 use Rattle.ssh_mux.specs.World.{Sockets, World}
@@ -45,7 +47,7 @@ abbrev pub opened : Bytes → Bytes → Option (List OpenCall) → Option (List 
 opened control transport before =
     option_map (λ os. os ++ record { control = control; transport = transport } ∷ []) before
 
--- the wire was opened once, with this control path and transport, but for want of memory
+-- the wire was opened once, with this control path and transport, unless memory runs out
 abbrev pub OpensAt : Bytes → Bytes → Status → Option (List OpenCall) → Option (List OpenCall) → Type 0
 OpensAt control transport Memory before now =
     (now ≡ before) ⊎ (now ≡ opened control transport before)
@@ -64,8 +66,8 @@ OpensSome transport Outside before now = now ≡ before
 OpensSome transport Memory before now = (now ≡ before) ⊎ OpensBy transport before now
 OpensSome transport status before now = OpensBy transport before now
 
--- the same of what comes of words: but for a drill, of which `IsDrill` says it, only a master opens
--- the wire, and none behind a fault
+-- the same of the outcome of words: but for a drill, of which `IsDrill` says it, only a master
+-- opens the wire, and none after a fault
 abbrev pub OpensOnce : Known → Status → Option (List OpenCall) → Option (List OpenCall) → Type 0
 OpensOnce (Certain (Opens control transport permits)) Outside before now = now ≡ before
 OpensOnce (Certain (Opens control transport permits)) status before now =
@@ -85,13 +87,30 @@ abbrev pub policy_of : Permissions → Policy
 policy_of permits = elim (read_policy permits.opens permits.listens permits.sessions)
     [ Ok policy ↦ policy | Err bad ↦ no_policy ]
 
--- the policy of a master: what is none permits nothing
-abbrev pub policy_in : Known → Policy
-policy_in (Certain (Opens control transport permits)) = policy_of permits
-policy_in (Master transport permits) = policy_of permits
-policy_in known = no_policy
+-- permissions of nothing
+abbrev pub no_permissions : Permissions
+no_permissions = record {
+  opens = codes "none" ∷ [];
+  listens = codes "none" ∷ [];
+  sessions = false;
+  here = codes "none" ∷ [];
+}
 
--- how the end of a run is told
+-- the permissions of a master: what is none permits nothing
+abbrev pub permissions_in : Known → Permissions
+permissions_in (Certain (Opens control transport permits)) = permits
+permissions_in (Master transport permits) = permits
+permissions_in known = no_permissions
+
+-- the policy of a master
+abbrev pub policy_in : Known → Policy
+policy_in known = policy_of (permissions_in known)
+
+-- where the own forwardings of a master may listen on this machine
+abbrev pub here_in : Known → ListenPermit
+here_in known = here_of (permissions_in known).here
+
+-- how the end of a run is recorded
 abbrev pub recorded_as : Ended → Result Status MeantEnding
 recorded_as ends.ServerEnd = Ok Done
 recorded_as ends.Disconnected = Ok Done
@@ -102,55 +121,55 @@ recorded_as (ends.StartRefused index) = Err endings.StartRefused
 recorded_as ends.Spent = Err endings.TurnsSpent
 recorded_as ends.OutOfMemory = Err endings.NoMemory
 
--- nothing is served: the wire and the house tell what they told before
+-- nothing is served: the wire and the forwarder record what they recorded before
 pub record IsUnserved (before now : Option (List HouseMark)) (start : Option (List Mark))
     (seen : Seen) : Type 0 where
   pub same_wire : seen.recorded ≡ start
   pub same_house : now ≡ before
 
 -- a run that keeps its promises, and its very end; `Rest` is whether a house is present, and what
--- is so of it right before a wait; `stands` and `stands'` are the calls that it stands for before
--- and behind the run; `before` and `now` are what the house tells, `start` what the wire did, and
--- `seen` what is seen of it in the end; `refused` is the forwarding of the start that was refused,
--- if none may be
+-- is so of it right before a wait; `stands` are the calls that it represents before the run, and
+-- `last` is what it is after the run; `before` and `now` are what it recorded, `start` what the wire
+-- did, and `seen` what is seen of it in the end; `refused` is the forwarding of the start that was
+-- refused, if none may be
 pub record IsShared (May : HouseReply → Type 0) (Rest : Resting)
-    (stands stands' : List HouseCall → Type 0) (policy : Policy) (pid turns : ℕ)
+    (stands : List HouseCall → Type 0) (last : HouseState) (policy : Policy) (pid turns : ℕ)
     (before now : Option (List HouseMark)) (start : Option (List Mark)) (seen : Seen)
     (refused : Option ℕ) (result : Result Status MeantEnding) : Type 0 where
   pub answer : Ended
   pub is_recorded : result ≡ recorded_as answer
-  pub run : IsRun May Rest.rests stands stands' Rest.present policy pid turns before now start seen
+  pub run : IsRun May Rest.rests stands last Rest.present policy pid turns before now start seen
       refused answer
 
 -- where the sockets weren't opened nothing is served
 abbrev pub Shares : (HouseReply → Type 0) → Resting → (List HouseCall → Type 0)
-    → (List HouseCall → Type 0) → Policy → ℕ → ℕ
+    → HouseState → Policy → ℕ → ℕ
     → Option (List HouseMark) → Option (List HouseMark) → Option (List Mark) → Seen
     → Option ℕ → Result Status MeantEnding → Type 0
-Shares May Rest stands stands' policy pid turns before now start seen refused
+Shares May Rest stands last policy pid turns before now start seen refused
     (Err endings.NotOpened) =
     IsUnserved before now start seen
-Shares May Rest stands stands' policy pid turns before now start seen refused
+Shares May Rest stands last policy pid turns before now start seen refused
     (Err endings.NoMemory) =
     IsUnserved before now start seen
-    ⊎ IsShared May Rest stands stands' policy pid turns before now start seen refused
+    ⊎ IsShared May Rest stands last policy pid turns before now start seen refused
     (Err endings.NoMemory)
-Shares May Rest stands stands' policy pid turns before now start seen refused result =
-    IsShared May Rest stands stands' policy pid turns before now start seen refused result
+Shares May Rest stands last policy pid turns before now start seen refused result =
+    IsShared May Rest stands last policy pid turns before now start seen refused result
 
--- the same of a house and a wire, from what they showed to what they show
+-- the same of a forwarder and a wire, from what they showed to what they show
 abbrev pub SharesWith : (HouseReply → Type 0) → Resting → (List HouseCall → Type 0) → Policy → ℕ → ℕ
     → HouseState → HouseState → WireState → WireState → Result Status MeantEnding → Type 0
 SharesWith May Rest stands policy pid turns house house' wire wire' result =
-    Shares May Rest stands house'.stands policy pid turns house.recorded house'.recorded wire.seen.recorded
+    Shares May Rest stands house' policy pid turns house.recorded house'.recorded wire.seen.recorded
     wire'.seen (refusal_after house house') result
 
 -- the same of what comes of words: only a master serves, with a house that begins as is due by what
--- is told of files and commands
+-- is told of files and commands, and that may listen where its permissions say
 abbrev pub SharesFor : {T : Type 0} → (HouseReply → Type 0) → (T → HouseState) → Known
     → Option Recorded → ℕ → ℕ → Sockets → Sockets → Result Status MeantEnding → Type 0
 SharesFor May state known by pid turns old new result =
-    OnTrue (may_share known (so_far result)) (Begun by (λ starts. SharesWith May
+    OnTrue (may_share known (so_far result)) (Begun (here_in known) by (λ starts. SharesWith May
     (BegunRests state old.house.known.present starts) (BeganWith starts) (policy_in known) pid turns
     old.house new.house old.wire new.wire result))
 
@@ -162,52 +181,52 @@ RecordsEnd (Err ending) status err err' faults faults' =
     Reports status (shown ending) err err' faults faults'
 
 -- a run that keeps its promises, and the line of its very end
-pub record IsServed (May : HouseReply → Type 0) (Rest : Resting)
-    (stands stands' : List HouseCall → Type 0) (policy : Policy) (pid turns : ℕ)
+pub record IsShareServed (May : HouseReply → Type 0) (Rest : Resting)
+    (stands : List HouseCall → Type 0) (last : HouseState) (policy : Policy) (pid turns : ℕ)
     (before now : Option (List HouseMark)) (start : Option (List Mark)) (seen : Seen)
     (refused : Option ℕ) (status : Status) (err err' : Option (List ℕ)) (faults faults' : ℕ) :
     Type 0 where
   pub answer : Ended
-  pub run : IsRun May Rest.rests stands stands' Rest.present policy pid turns before now start seen
+  pub run : IsRun May Rest.rests stands last Rest.present policy pid turns before now start seen
       refused answer
   pub line : RecordsEnd (recorded_as answer) status err err' faults faults'
 
 -- the same of the program: where its sockets weren't opened nothing is served
 abbrev pub Serves : (HouseReply → Type 0) → Resting → (List HouseCall → Type 0)
-    → (List HouseCall → Type 0) → Policy → ℕ → ℕ
+    → HouseState → Policy → ℕ → ℕ
     → Option (List HouseMark) → Option (List HouseMark) → Option (List Mark) → Seen
     → Option ℕ → Status → Option (List ℕ) → Option (List ℕ) → ℕ → ℕ → Type 0
-Serves May Rest stands stands' policy pid turns before now start seen refused Open err err'
+Serves May Rest stands last policy pid turns before now start seen refused Open err err'
     faults faults' =
     IsUnserved before now start seen
-Serves May Rest stands stands' policy pid turns before now start seen refused Memory err err'
+Serves May Rest stands last policy pid turns before now start seen refused Memory err err'
     faults faults' =
     IsUnserved before now start seen
-    ⊎ IsServed May Rest stands stands' policy pid turns before now start seen refused Memory err
+    ⊎ IsShareServed May Rest stands last policy pid turns before now start seen refused Memory err
     err' faults faults'
-Serves May Rest stands stands' policy pid turns before now start seen refused status err err'
+Serves May Rest stands last policy pid turns before now start seen refused status err err'
     faults faults' =
-    IsServed May Rest stands stands' policy pid turns before now start seen refused status err err'
+    IsShareServed May Rest stands last policy pid turns before now start seen refused status err err'
     faults faults'
 
 -- the same from what a world showed to what it shows
 abbrev pub ServesWith : (HouseReply → Type 0) → Resting → (List HouseCall → Type 0) → Policy → ℕ → ℕ
     → World → World → Status → Type 0
 ServesWith May Rest stands policy pid turns before after status =
-    Serves May Rest stands after.house.stands policy pid turns before.house.recorded after.house.recorded
+    Serves May Rest stands after.house policy pid turns before.house.recorded after.house.recorded
     before.wire.seen.recorded after.wire.seen (refusal_after before.house after.house) status
     before.err.recorded after.err.recorded before.err.faults after.err.faults
 
 -- the same of what comes of words: only a master serves, with a house that begins as is due by what
--- is told of files and commands
+-- is told of files and commands, and that may listen where its permissions say
 abbrev pub ServesFor : {T : Type 0} → (HouseReply → Type 0) → (T → HouseState) → Known
     → Option Recorded → ℕ → ℕ → World → World → Status → Type 0
 ServesFor May state known by pid turns before after status =
-    OnTrue (may_share known status) (Begun by (λ starts. ServesWith May
+    OnTrue (may_share known status) (Begun (here_in known) by (λ starts. ServesWith May
     (BegunRests state before.house.known.present starts) (BeganWith starts) (policy_in known) pid
     turns before after status))
 
--- the process id that clients are told: 0 where none is known
+-- the process id that clients are sent: 0 where none is known
 abbrev pub pid_of : Option ℕ → ℕ
 pid_of None = 0
 pid_of (Some pid) = pid
@@ -221,7 +240,7 @@ WireCause Open old new = OpeningFault old new
 WireCause Transport old new = Rose old.server new.server
 WireCause status old new = Unit
 
--- a forwarding is told as refused only where one of the start was, and none may be
+-- a forwarding is recorded as refused only where one of the start was, and none may be
 abbrev pub StartCause : Status → Option ℕ → Type 0
 StartCause StartRefused refused = IsSome refused
 StartCause status refused = Unit
@@ -235,8 +254,8 @@ pub record CallsEnd (turns : ℕ) (status : Status) (old new : CallCounts) : Typ
   pub starved : new.wants ≢ old.wants → status ≡ Memory
   pub late : old.wants ≡ 0 → new.late ≡ old.late
 
--- of a run without a house: where all turns were taken `wait` was called once for each, and with
--- another end but for want of memory it was called at least once; its count stays at the end of its
+-- of a run without a forwarder: where all turns were used `wait` was called once for each, and with
+-- another end unless memory runs out it was called at least once; its count stays at the end of its
 -- type
 abbrev pub WaitsFor : ℕ → Status → CallCounts → CallCounts → Type 0
 WaitsFor turns Spent old new =
@@ -261,8 +280,8 @@ CameFor Done old new = EndsCame old new
 CameFor Write old new = EndsCame old new
 CameFor status old new = Unit
 
--- what a run without turns and without a house leaves of the counts of faults: the server's and the
--- clients', but where the sockets weren't opened or memory was wanting
+-- what a run without turns and without a forwarder leaves of the counts of faults: the server's and
+-- the clients', but where the sockets weren't opened or memory ran out
 abbrev pub IdleCause : Status → Faults → Faults → Type 0
 IdleCause Open old new = Unit
 IdleCause Memory old new = Unit
@@ -271,7 +290,7 @@ IdleCause status old new = NoFault old new
 -- ---- what is left of a wire
 
 -- what a run over a wire that is opened leaves of what is counted there; `housed` is whether there
--- is a house
+-- is a forwarder
 pub record CountsFor (housed : Bool) (turns : ℕ) (status : Status) (old new : WireState)
     (faults faults' : Faults) : Type 0 where
   pub joinings : new.joinings ≡ old.joinings
@@ -290,9 +309,9 @@ pub record MasterLeaves {T : Type 0} (May : HouseReply → Type 0) (state : T �
   pub opened : OpensOnce known (so_far result) old.wire.openings new.wire.openings
   -- and not joined
   pub joinings : new.wire.joinings ≡ old.wire.joinings
-  -- then it was served with a house that had begun
+  -- then it was served with a forwarder that had begun
   pub served : SharesFor May state known by pid turns old new result
-  -- a forwarding is told as refused only where one of the start was, and none may be
+  -- a forwarding is recorded as refused only where one of the start was, and none may be
   pub start : OnTrue (may_share known (so_far result))
       (StartCause (so_far result) (refusal_after old.house new.house))
   -- none may be where the settings say so
@@ -304,12 +323,12 @@ pub record MasterLeaves {T : Type 0} (May : HouseReply → Type 0) (state : T �
   -- each order of a listener or a connection that got no number was counted as an own fault
   pub own_faults : OwnCounted old.wire.seen.recorded new.wire.seen.recorded old.faults.own
       new.faults.own
-  -- calls were few, and none came behind one that wanted memory
+  -- calls were few, and none came after one that wanted memory
   pub calls : CallsEnd turns (so_far result) old.wire.calls new.wire.calls
   -- it ended only where that came which ends it so
   pub came : OnTrue (may_share known (so_far result))
       (CameFor (so_far result) old.wire.calls new.wire.calls)
-  -- without a house it waited once for each turn
+  -- without a forwarder it waited once for each turn
   pub waited : OnFalse (serves_house old.house.known.present known)
       (OnTrue (may_share known (so_far result))
       (WaitsFor turns (so_far result) old.wire.calls new.wire.calls))

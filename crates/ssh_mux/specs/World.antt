@@ -18,7 +18,7 @@ use Rattle.mux_outside.specs.WireState.{WireState}
 
 -- the paths and contents of all files, if they are recorded; which were read, each with its limit;
 -- the paths that failed; and how often one did
-pub record FilesState : Type 0 where
+pub record WorldFiles : Type 0 where
   pub recorded : Option (List Pair)
   pub readings : Readings
   pub failed : FailedPaths
@@ -32,7 +32,7 @@ pub record CommandsState : Type 0 where
 
 -- what the settings come from
 pub record Sources : Type 0 where
-  pub files : FilesState
+  pub files : WorldFiles
   pub commands : CommandsState
 
 -- that of these files, and of commands that this runner runs
@@ -77,7 +77,7 @@ pub record World : Type 1 where
   pub wire : WireState
   pub faults : Faults
   pub house : HouseState
-  pub files : FilesState
+  pub files : WorldFiles
   pub commands : CommandsState
   pub out : OutState
   pub err : OutState

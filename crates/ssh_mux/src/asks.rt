@@ -4,7 +4,7 @@ ghost use Rattle.std.specs.List.{list_any};
 ghost use Rattle.conf_rules.specs.CommandLine.{is_forwarding};
 ghost use Rattle.conf_rules.specs.declared.causes.Cause.TheVariants.{Value as BadValue};
 ghost use Rattle.mux_client.specs.Requests.{MayAsk};
-ghost use Rattle.ssh_mux.specs.Asks.{forward_key, forward_kind, host_at, end_at, connect_at, start_ask};
+ghost use Rattle.ssh_mux.specs.Asks.{forward_key, forward_kind_of_key, asked_host_at, end_at, connect_at, start_ask};
 ghost use Rattle.ssh_mux.specs.Asks.{key_ask, line_ask, asks_from, asks_for, forwards_for};
 ghost use Rattle.ssh_mux.specs.Asks.{FindsAsks, NamesForwards};
 ghost use Rattle.ssh_mux.specs.declared.ending.Ending.TheVariants as endings;
@@ -41,8 +41,8 @@ fn forward_key(keyword: &[u8]) -> Option<Key>
 }
 
 /// The kind of a forwarding: 1 for a local, 2 for a remote and 3 for a dynamic one.
-pub fn forward_kind(key: Key) -> u32
-    ensures { result ≡ forward_kind key }
+pub fn forward_kind_of_key(key: Key) -> u32
+    ensures { result ≡ forward_kind_of_key key }
 {
     match key {
         Key::LocalForward => 1,
@@ -52,8 +52,8 @@ pub fn forward_kind(key: Key) -> u32
 }
 
 // A host with its port, unless it is too long; one that isn't named is empty.
-fn host_at(alloc: Global, host: Option<Text>, port: u16) -> Option<AskedEnd>
-    ensures { result ≡ host_at host port }
+fn asked_host_at(alloc: Global, host: Option<Text>, port: u16) -> Option<AskedEnd>
+    ensures { result ≡ asked_host_at host port }
 {
     let host = match host {
         None => Text::new(alloc),
@@ -74,7 +74,7 @@ fn end_at(alloc: Global, end: End) -> Option<AskedEnd>
 {
     match end {
         End::Path(_) => None,
-        End::Port { host, port } => host_at(alloc, host, port),
+        End::Port { host, port } => asked_host_at(alloc, host, port),
     }
 }
 
@@ -129,7 +129,7 @@ fn key_ask(alloc: Global, word: u64, key: Key, words: &Texts) -> Result<StartAsk
         Err(ValueError::OutOfMemory) => return Err(Ending::NoMemory),
         Err(error) => return Err(refused(alloc, word, error)?),
     };
-    match start_ask(alloc, forward_kind(key), forward) {
+    match start_ask(alloc, forward_kind_of_key(key), forward) {
         Some(ask) => Ok(ask),
         None => Err(refused(alloc, word, ValueError::BadForward)?),
     }

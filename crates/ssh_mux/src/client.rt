@@ -2,7 +2,7 @@ ghost use Rattle.std.specs.Bool.{OnFalse};
 ghost use Rattle.std.specs.Prelude.{◌≡◌};
 ghost use Rattle.conf_rules.specs.declared.command.Command.TheVariants as commands;
 ghost use Rattle.mux_client.specs.Requests.{MayAsk};
-ghost use Rattle.ssh_mux.specs.Answers.{may_ask, so_far};
+ghost use Rattle.ssh_mux.specs.Answers.{may_have_joined, so_far};
 ghost use Rattle.ssh_mux.specs.Asks.{NamesForwards};
 ghost use Rattle.ssh_mux.specs.Causes.{OutCause};
 ghost use Rattle.ssh_mux.specs.Client.{ClientLeaves, Converses, EndsClient, JoinsAt, TalkCounts};
@@ -41,7 +41,7 @@ pub fn ask_master<W: Wire, F: Files, R: Runner, S: Sink>(
     ensures leaves { ClientLeaves (coming (sources F.Files R.Runner files.old runner.old) facts.now
         (commands.Control asked.now control)) turns result (W.state wire.old) (W.state wire.new)
         (W.faults wire.old) (W.faults wire.new) (output S.Sink out.old) (output S.Sink out.new) }
-    ensures untouched { OnFalse (may_ask
+    ensures untouched { OnFalse (may_have_joined
         (coming (sources F.Files R.Runner files.old runner.old) facts.now
         (commands.Control asked.now control)) (so_far result))
         ((wire.new ≡ wire.old) × (out.new ≡ out.old)) }

@@ -3,6 +3,7 @@ ghost use Rattle.std.specs.Prelude.{◌≡◌, ◌++◌, ◌∷◌, [], None, fa
 ghost use Rattle.mux_history.specs.Policy.{any_policy};
 ghost use Rattle.ssh_mux.specs.Answers.{may_write, so_far};
 ghost use Rattle.ssh_mux.specs.Causes.{OutCause};
+ghost use Rattle.mux_outside.specs.NoHouse.{no_house};
 ghost use Rattle.ssh_mux.specs.Drill.{AnyCalls, DrillGoes, NoneRests, RefusesAll, count_line};
 ghost use Rattle.ssh_mux.specs.Drill.{drill_text, drill_transport};
 ghost use Rattle.ssh_mux.specs.Master.{EndsMaster};
@@ -53,7 +54,7 @@ fn serve_drill<W: Wire>(
     ensures ends { EndsMaster result }
     ensures opened { OpensAt [] (drill_transport words.now) (so_far result)
         (W.state wire.old).openings (W.state wire.new).openings }
-    ensures served { Shares RefusesAll NoneRests AnyCalls AnyCalls any_policy 0 turns None None
+    ensures served { Shares RefusesAll NoneRests AnyCalls no_house any_policy 0 turns None None
         (W.state wire.old).seen.recorded (W.state wire.new).seen None result }
     ensures start { StartCause (so_far result) None }
     ensures wire { CountsFor false turns (so_far result) (W.state wire.old) (W.state wire.new)
@@ -62,10 +63,12 @@ fn serve_drill<W: Wire>(
     let transport = transport_of(alloc, words.as_slice())?;
     let opens = Texts::new(alloc);
     let listens = Texts::new(alloc);
+    let here = Texts::new(alloc);
     let permits = Permissions {
         opens,
         listens,
         sessions: true,
+        here,
     };
     let policy = policy_of(alloc, &permits)?;
     let control = Text::new(alloc);

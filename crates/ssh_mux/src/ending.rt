@@ -1,6 +1,7 @@
-ghost use Rattle.std.specs.Prelude.{◌≡◌, ◌++◌, OnOk, IfOk};
+ghost use Rattle.std.specs.Prelude.{◌≡◌, ◌++◌, OnOk, IfOk, IsTrue, MatchOption};
 ghost use Rattle.conf_rules.specs.Diagnostics.{line_of, text_of, located, cause_text};
 ghost use Rattle.ssh_mux.specs.declared.ending.Ending.TheVariants.{NoMemory};
+ghost use Rattle.ssh_mux.specs.Err.{is_built};
 ghost use Rattle.ssh_mux.specs.Ending.{shown, misread_as, refused_as, unlisted_as};
 ghost use Rattle.ssh_mux.specs.Status.{status_of};
 
@@ -12,6 +13,9 @@ use conf_tokens::put_number;
 use mux_history::Break;
 use ssh_fields::{OutOfMemory, Text};
 use std::alloc::Global;
+
+/// The out-of-memory line.
+pub const NO_MEMORY: &[u8] = b"ssh-mux: out of memory\n";
 
 /// How a run ends of which a line is written.
 #[derive(Drop)]
@@ -108,9 +112,32 @@ impl Ending {
         }
     }
 
-    /// The line that is written of it.
+    /// The line that is written of it, where all of its kind have the same: no memory is needed.
+    #[tactic(auto, unfolding(conf_rules::specs::Diagnostics::line_of, conf_rules::specs::Diagnostics::text_of))]
+    pub fn fixed_line(&self) -> Option<&'static [u8]>
+        ensures { MatchOption result (IsTrue (is_built (shown self.now)))
+            (λ line. line.now ≡ line_of (shown self.now)) }
+    {
+        match self {
+            Ending::BadWords(_)
+            | Ending::BadLine { .. }
+            | Ending::BadListing { .. }
+            | Ending::ServerBroke { .. } => None,
+            Ending::NoControlPath => Some(b"ssh-mux: controlpath: not set\n"),
+            Ending::NotOpened => Some(b"ssh-mux: cannot open the sockets\n"),
+            Ending::TransportFailed => Some(b"ssh-mux: the transport failed\n"),
+            Ending::TurnsSpent => Some(b"ssh-mux: turns are spent\n"),
+            Ending::StartRefused => Some(b"ssh-mux: a forwarding was refused\n"),
+            Ending::MasterRefused => Some(b"ssh-mux: the master refused\n"),
+            Ending::MasterBroke => Some(b"ssh-mux: the master broke the protocol\n"),
+            Ending::NoMemory => Some(NO_MEMORY),
+        }
+    }
+
+    /// The line that is written of it, where it is put together.
     #[tactic(auto, unfolding(conf_rules::specs::Diagnostics::line_of))]
-    pub fn line(&self, alloc: Global) -> Result<Text, OutOfMemory>
+    pub fn built_line(&self, alloc: Global) -> Result<Text, OutOfMemory>
+        requires { IsTrue (is_built (shown self.now)) }
         ensures { IfOk result (λ line. line ≡ line_of (shown self.now)) }
     {
         let mut line = Text::copy(alloc, b"ssh-mux: ")?;
@@ -122,6 +149,7 @@ impl Ending {
     // The text of the line.
     #[tactic(auto, unfolding(conf_rules::specs::Diagnostics::text_of))]
     fn put_text(&self, alloc: Global, out: &mut Text) -> Result<(), OutOfMemory>
+        requires { IsTrue (is_built (shown self.now)) }
         ensures { OnOk result (out.new ≡ out.old ++ text_of (shown self.now)) }
     {
         match self {
@@ -139,20 +167,13 @@ impl Ending {
                 out.add(b": ")?;
                 put_token_text(out, error)
             }
-            Ending::NoControlPath => out.add(b"controlpath: not set"),
-            Ending::NotOpened => out.add(b"cannot open the sockets"),
-            Ending::TransportFailed => out.add(b"the transport failed"),
             Ending::ServerBroke { index, why } => {
                 out.add(b"server message ")?;
                 put_number(alloc, out, *index)?;
                 out.add(b": ")?;
                 put_break_text(alloc, out, why)
             }
-            Ending::TurnsSpent => out.add(b"turns are spent"),
-            Ending::StartRefused => out.add(b"a forwarding was refused"),
-            Ending::MasterRefused => out.add(b"the master refused"),
-            Ending::MasterBroke => out.add(b"the master broke the protocol"),
-            Ending::NoMemory => out.add(b"out of memory"),
+            _ => unreachable!(),
         }
     }
 }

@@ -8,6 +8,7 @@ mod client;
 mod diagnostics;
 mod drill;
 mod ending;
+mod here;
 mod listing;
 mod master;
 mod program;

@@ -1,6 +1,6 @@
 ghost use Rattle.std.specs.Bool.{OnFalse};
 ghost use Rattle.std.specs.Prelude.{◌≡◌};
-ghost use Rattle.conf_rules.specs.Outcome.{Writes};
+ghost use Rattle.conf_rules.specs.CommandOutcome.{Writes};
 ghost use Rattle.conf_rules.specs.declared.command.Command.TheVariants as commands;
 ghost use Rattle.mux_outside.specs.Counts.{counted};
 ghost use Rattle.ssh_mux.specs.Answers.{may_write, so_far};

@@ -8,8 +8,10 @@ ghost use Rattle.forward_rules.specs.Allows.{read_policy};
 ghost use Rattle.mux_engine.specs.Called.{HasSentNothing};
 ghost use Rattle.mux_engine.specs.Rests.{refusal_after};
 ghost use Rattle.mux_engine.specs.Sides.{RestsOf};
+ghost use Rattle.mux_history.specs.Policy.{read_list};
 ghost use Rattle.mux_outside.specs.HouseCalls.{Begins};
 ghost use Rattle.ssh_mux.specs.Answers.{may_share, so_far};
+ghost use Rattle.ssh_mux.specs.Here.{here_of as the_here_of};
 ghost use Rattle.ssh_mux.specs.Looks.{FoundFor, Looks, coming, machine_of_sources};
 ghost use Rattle.ssh_mux.specs.Master.{EndsMaster, OnlyStarves};
 ghost use Rattle.ssh_mux.specs.Outcomes.{Client, Master, joins_at, opens_at};
@@ -20,6 +22,7 @@ ghost use Rattle.ssh_mux.specs.Starts.{BeganWith, BegunRests, MustsAs, SettledFo
 ghost use Rattle.ssh_mux.specs.World.{sockets, sources};
 
 use crate::ending::Ending;
+use crate::here::here_of;
 use crate::starts::starts_of;
 use crate::status::Status;
 use conf_options::Settings;
@@ -29,7 +32,7 @@ use conf_rules::{Asked, Permissions};
 use forward_rules::{Policy, PolicyError};
 use mux_engine::serve;
 use mux_history::Ended;
-use mux_outside::{Facts, FileError, Files, House, Runner, Wire};
+use mux_outside::{Facts, FileError, Files, House, ListenPermit, Runner, Wire};
 use ssh_fields::Text;
 use std::alloc::Global;
 
@@ -41,9 +44,17 @@ struct Found {
     control: Text,
 }
 
+/// What permissions give: the policy of clients, and where the master's own forwardings may listen.
+#[derive(Drop)]
+struct Grants {
+    policy: Policy,
+    here: ListenPermit,
+}
+
 /// Shares a connection as the words ask: `-M`. The house begins with the forwardings that their
-/// settings ask for. Then the wire is opened at the control path of these settings, and is served
-/// for so many turns at most, with the permissions of the words, which have no bad entry.
+/// settings ask for, and with where the words permit them to listen. Then the wire is opened at the
+/// control path of these settings, and is served for so many turns at most, with the permissions of
+/// the words, which have no bad entry.
 pub fn share<W: Wire, F: Files, R: Runner, H: House>(
     alloc: Global,
     asked: &Asked,
@@ -57,6 +68,7 @@ pub fn share<W: Wire, F: Files, R: Runner, H: House>(
     turns: u64,
 ) -> Result<Status, Ending>
     requires permitted { IsOk (read_policy permits.now.opens permits.now.listens permits.now.sessions) }
+    requires here { IsOk (read_list permits.now.here) }
     requires fresh { H.fresh house.old }
     ensures looks { Looks facts.now
         (commands.Master asked.now transport.now permits.now) asked.now result
@@ -75,9 +87,9 @@ pub fn share<W: Wire, F: Files, R: Runner, H: House>(
         ((wire.new ≡ wire.old) × (house.new ≡ house.old)) }
 {
     let found = found_of(alloc, asked, facts, files, runner)?;
-    let policy = policy_of(alloc, permits)?;
+    let grants = grants_of(alloc, permits)?;
     let pid = facts.pid.unwrap_or(0);
-    begin_and_serve(alloc, &found, transport, policy, pid, wire, house, turns)
+    begin_and_serve(alloc, &found, transport, grants, pid, wire, house, turns)
 }
 
 // The settings of what the words ask for, and the control path of them: of a master, and of a
@@ -148,31 +160,49 @@ pub fn policy_of(alloc: Global, permits: &Permissions) -> Result<Policy, Ending>
     }
 }
 
-// Begins a house with the forwardings that the settings ask for.
-fn begin<H: House>(alloc: Global, settings: &Settings, house: &mut H) -> Result<(), Ending>
+// What permissions without a bad entry give.
+fn grants_of(alloc: Global, permits: &Permissions) -> Result<Grants, Ending>
+    requires permitted { IsOk (read_policy permits.now.opens permits.now.listens permits.now.sessions) }
+    requires here { IsOk (read_list permits.now.here) }
+    ensures policy { IfOk result (λ grants. grants.policy ≡ the_policy_of permits.now) }
+    ensures here { IfOk result (λ grants. grants.here ≡ the_here_of permits.now.here) }
+    ensures err { OnlyStarves result }
+{
+    let policy = policy_of(alloc, permits)?;
+    let here = here_of(alloc, &permits.here)?;
+    Ok(Grants { policy, here })
+}
+
+// Begins a house with the forwardings that the settings ask for, and with where they may listen.
+fn begin<H: House>(
+    alloc: Global,
+    settings: &Settings,
+    here: ListenPermit,
+    house: &mut H,
+) -> Result<(), Ending>
     requires fresh { H.fresh house.old }
     ensures begun { OnOk result (H.begun house.new) }
     ensures known { OnOk result ((H.state house.new).known ≡ (H.state house.old).known) }
     ensures must { OnOk result (IsTrue (H.state house.old).known.present
-        → (H.state house.new).must ≡ (starts_for settings.now).must) }
+        → (H.state house.new).must ≡ (starts_for here settings.now).must) }
     ensures recorded { (H.state house.new).recorded ≡ (H.state house.old).recorded }
     ensures stands { OnOk result
-        ((H.state house.new).stands (Begins (starts_for settings.now) ∷ [])) }
+        ((H.state house.new).stands (Begins (starts_for here settings.now) ∷ [])) }
     ensures err { OnlyStarves result }
 {
-    // A house that was never called says by this that it stands for no call.
+    // A forwarder that was never called says by this that it represents no call.
     let _fresh = house.present();
-    let starts = starts_of(alloc, settings)?;
+    let starts = starts_of(alloc, here, settings)?;
     house.begin(&starts)?;
     Ok(())
 }
 
-// Begins the house, opens the wire, and serves it with both.
+// Begins the forwarder, opens the wire, and serves it with both.
 fn begin_and_serve<W: Wire, H: House>(
     alloc: Global,
     found: &Found,
     transport: &Text,
-    policy: Policy,
+    grants: Grants,
     pid: u32,
     wire: &mut W,
     house: &mut H,
@@ -183,17 +213,19 @@ fn begin_and_serve<W: Wire, H: House>(
     ensures opened { OpensAt found.now.control transport.now (so_far result)
         (W.state wire.old).openings (W.state wire.new).openings }
     ensures served { SharesWith H.may
-        (BegunRests H.state (H.state house.old).known.present (starts_for found.now.settings))
-        (BeganWith (starts_for found.now.settings)) policy pid turns (H.state house.old)
+        (BegunRests H.state (H.state house.old).known.present
+        (starts_for grants.here found.now.settings))
+        (BeganWith (starts_for grants.here found.now.settings)) grants.policy pid turns (H.state house.old)
         (H.state house.new) (W.state wire.old) (W.state wire.new) result }
     ensures start { StartCause (so_far result)
         (refusal_after (H.state house.old) (H.state house.new)) }
     ensures must { IsTrue (H.state house.old).known.present → MustsAs (so_far result)
-        (Some (starts_for found.now.settings).must) (H.state house.new).must }
+        (Some (starts_for grants.here found.now.settings).must) (H.state house.new).must }
     ensures wire { CountsFor (H.state house.old).known.present turns (so_far result)
         (W.state wire.old) (W.state wire.new) (W.faults wire.old) (W.faults wire.new) }
 {
-    begin(alloc, &found.settings, house)?;
+    let Grants { policy, here } = grants;
+    begin(alloc, &found.settings, here, house)?;
     open_and_serve(
         alloc,
         &found.control,
@@ -206,7 +238,7 @@ fn begin_and_serve<W: Wire, H: House>(
     )
 }
 
-/// Opens the wire, and serves it with a house of which `begin` alone was called.
+/// Opens the wire, and serves it with a forwarder of which `begin` alone was called.
 pub fn open_and_serve<W: Wire, H: House>(
     alloc: Global,
     control: &Text,
@@ -232,7 +264,7 @@ pub fn open_and_serve<W: Wire, H: House>(
     ensures wire { CountsFor (H.state house.old).known.present turns (so_far result)
         (W.state wire.old) (W.state wire.new) (W.faults wire.old) (W.faults wire.new) }
 {
-    // A house that has only begun says by this that nothing is known of it.
+    // A forwarder that has only begun says by this that nothing is known of it.
     let _blank = house.present();
     match wire.open(control.as_bytes(), transport.as_bytes()) {
         Ok(()) => ending_of(serve(alloc, policy, pid, wire, house, turns)),

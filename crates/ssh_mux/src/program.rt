@@ -1,7 +1,7 @@
 ghost use Rattle.std.specs.Bool.{OnTrue};
 ghost use Rattle.std.specs.Prelude.{◌≡◌, Ok};
 ghost use Rattle.conf_rules.specs.Reading.{reading};
-ghost use Rattle.ssh_mux.specs.Answers.{Leaves, is_silent, so_far};
+ghost use Rattle.ssh_mux.specs.Answers.{RunLeaves, is_silent, so_far};
 ghost use Rattle.ssh_mux.specs.Err.{IsRecordedBy};
 ghost use Rattle.ssh_mux.specs.Looks.{coming_of_words};
 ghost use Rattle.ssh_mux.specs.Runs.{Runs};
@@ -21,7 +21,7 @@ use mux_outside::{Facts, Files, House, Runner, Sink, Wire};
 use ssh_fields::Texts;
 use std::alloc::Global;
 
-/// Does what the words ask for, over the outside that is handed in, and tells how it ended.
+/// Does what the words ask for, over the outside that is handed in, and records how it ended.
 ///
 /// `words` are the program's words without its name. What they ask for is resolved over `files`,
 /// whose commands `runner` runs. The listing of `-G` goes to `out` in one `put`, once it is
@@ -31,8 +31,8 @@ use std::alloc::Global;
 /// anything but forwardings of the master's own, and where its run ends well the summary of what
 /// the wire has counted goes to `out` in one `put`. A status other than that of success or of a
 /// failed `out` has its one line, which goes to `err` in one `put`; where there is no memory for it
-/// the status is that of want of memory. `house` is the master's own forwardings, which weren't
-/// called before; `-M` alone calls it.
+/// the status is that of running out of memory. `house` is the master's own forwardings, which
+/// weren't called before; `-M` alone calls it.
 pub fn run<W: Wire, F: Files, R: Runner, S: Sink, H: House>(
     alloc: Global,
     words: &Texts,
@@ -54,7 +54,7 @@ pub fn run<W: Wire, F: Files, R: Runner, S: Sink, H: House>(
         (world (sockets W.Wire H.Asks.own wire.new house.new)
         (sources F.Files R.Runner files.new runner.new)
         (output S.Sink out.new) (output S.Sink err.new)) }
-    ensures leaves { Leaves
+    ensures leaves { RunLeaves
         (coming_of_words (sources F.Files R.Runner files.old runner.old) facts.now words.now)
         result (out.new ≡ out.old) (files.new ≡ files.old) (runner.new ≡ runner.old)
         (wire.new ≡ wire.old) (house.new ≡ house.old) }
@@ -86,7 +86,7 @@ fn obey<W: Wire, F: Files, R: Runner, S: Sink, H: House>(
         H.may H.state turns status
         (world (sockets W.Wire H.Asks.own wire.new house.new)
         (sources F.Files R.Runner files.new runner.new) (output S.Sink out.new) recorded) }
-    ensures leaves { Leaves
+    ensures leaves { RunLeaves
         (coming_of_words (sources F.Files R.Runner files.old runner.old) facts.now words.now)
         (so_far result) (out.new ≡ out.old) (files.new ≡ files.old) (runner.new ≡ runner.old)
         (wire.new ≡ wire.old) (house.new ≡ house.old) }
@@ -121,7 +121,7 @@ fn act<W: Wire, F: Files, R: Runner, S: Sink, H: House>(
         H.may H.state turns status
         (world (sockets W.Wire H.Asks.own wire.new house.new)
         (sources F.Files R.Runner files.new runner.new) (output S.Sink out.new) recorded) }
-    ensures leaves { Leaves
+    ensures leaves { RunLeaves
         (coming_of_words (sources F.Files R.Runner files.old runner.old) facts.now words.now)
         (so_far result) (out.new ≡ out.old) (files.new ≡ files.old) (runner.new ≡ runner.old)
         (wire.new ≡ wire.old) (house.new ≡ house.old) }

@@ -1,11 +1,11 @@
 //! What the master's own forwardings begin with, by the settings.
 ghost use Rattle.std.specs.Prelude.{◌≡◌, ◌++◌, IfOk, OnOk};
-ghost use Rattle.ssh_mux.specs.Starts.{connect_of, connects_path, end_of, is_path, key_starts, no_end};
-ghost use Rattle.ssh_mux.specs.Starts.{start_asks, start_of, starts_for, value_starts};
+ghost use Rattle.ssh_mux.specs.Starts.{connect_of, connects_path, asked_end_of, is_path, key_starts, no_end};
+ghost use Rattle.ssh_mux.specs.Starts.{start_asks, asked_start_of, starts_for, value_starts};
 
-use crate::asks::{AskedEnd, forward_kind};
+use crate::asks::{AskedEnd, forward_kind_of_key};
 use conf_options::{End, Forward, Key, Settings, Value};
-use mux_outside::{StartAsk, StartAsks, Starts};
+use mux_outside::{ListenPermit, StartAsk, StartAsks, Starts};
 use ssh_fields::{OutOfMemory, Text};
 use std::alloc::Global;
 
@@ -20,8 +20,8 @@ fn no_end(alloc: Global) -> AskedEnd
 }
 
 // The host and port of an end; a path has neither, and a host that isn't named is empty.
-fn end_of(alloc: Global, end: &End) -> Result<AskedEnd, OutOfMemory>
-    ensures { IfOk result (λ asked. asked ≡ end_of end.now) }
+fn asked_end_of(alloc: Global, end: &End) -> Result<AskedEnd, OutOfMemory>
+    ensures { IfOk result (λ asked. asked ≡ asked_end_of end.now) }
 {
     match end {
         End::Path(_) => Ok(no_end(alloc)),
@@ -44,7 +44,7 @@ fn connect_of(alloc: Global, connect: &Option<End>) -> Result<AskedEnd, OutOfMem
 {
     match connect {
         None => Ok(no_end(alloc)),
-        Some(end) => end_of(alloc, end),
+        Some(end) => asked_end_of(alloc, end),
     }
 }
 
@@ -66,10 +66,10 @@ fn connects_path(connect: &Option<End>) -> bool
 }
 
 // A forwarding as the settings ask for it.
-fn start_of(alloc: Global, kind: u32, forward: &Forward) -> Result<StartAsk, OutOfMemory>
-    ensures { IfOk result (λ ask. ask ≡ start_of kind forward.now) }
+fn asked_start_of(alloc: Global, kind: u32, forward: &Forward) -> Result<StartAsk, OutOfMemory>
+    ensures { IfOk result (λ ask. ask ≡ asked_start_of kind forward.now) }
 {
-    let listen = end_of(alloc, &forward.listen)?;
+    let listen = asked_end_of(alloc, &forward.listen)?;
     let connect = connect_of(alloc, &forward.connect)?;
     Ok(StartAsk {
         kind,
@@ -92,7 +92,7 @@ fn add_start(
 {
     match value {
         Value::Forward(forward) => {
-            let ask = start_of(alloc, kind, forward)?;
+            let ask = asked_start_of(alloc, kind, forward)?;
             asks.push(ask)
         }
         _ => Ok(()),
@@ -111,7 +111,7 @@ fn add_starts(
     let given = settings.among(key);
     for (other, value) in given {
         if key.place() == other.place() {
-            add_start(alloc, asks, forward_kind(key), value)?;
+            add_start(alloc, asks, forward_kind_of_key(key), value)?;
         }
     }
     Ok(())
@@ -132,14 +132,19 @@ fn start_asks(alloc: Global, settings: &Settings) -> Result<StartAsks, OutOfMemo
     Ok(asks)
 }
 
-/// What the settings ask of the master's own forwardings.
-pub fn starts_of(alloc: Global, settings: &Settings) -> Result<Starts, OutOfMemory>
-    ensures exact { IfOk result (λ starts. starts ≡ starts_for settings.now) }
+/// What the settings ask of the master's own forwardings, and where they may listen.
+pub fn starts_of(
+    alloc: Global,
+    here: ListenPermit,
+    settings: &Settings,
+) -> Result<Starts, OutOfMemory>
+    ensures exact { IfOk result (λ starts. starts ≡ starts_for here settings.now) }
 {
     let asks = start_asks(alloc, settings)?;
     Ok(Starts {
         asks,
         gateway: settings.is_set(Key::GatewayPorts),
         must: settings.is_set(Key::ExitOnForwardFailure),
+        here,
     })
 }

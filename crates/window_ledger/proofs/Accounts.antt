@@ -6,9 +6,9 @@ use Rattle.mux_history.specs.Summary as summary
 use Rattle.mux_history.specs.Channels.{Channel, any_by, is_closes}
 use Rattle.mux_history.specs.Ledger.{answered, asked, carried, first_window, granted, maximum_of, other_side, packet, room, unanswered}
 use Rattle.mux_history.specs.Laws.{IsAccounted, IsWithin, with_act}
-use Rattle.window_ledger.specs.Act.{act_of}
+use Rattle.window_ledger.specs.Act.{summary_act_of}
 use Rattle.window_ledger.specs.Stands.{account_of, speech_of}
-use Rattle.window_ledger.specs.Step.{other_after, own_after}
+use Rattle.window_ledger.specs.Step.{other_after, account_after}
 use Rattle.window_ledger.specs.declared.account.Account.{Account}
 use Rattle.window_ledger.specs.declared.account.Speech.{Speech}
 use Rattle.window_ledger.specs.declared.account.Speech.TheVariants.{Closed, Ended}
@@ -68,7 +68,7 @@ abbrev pub MayEnd : Act → Side → Channel → Type 0
 MayEnd Eof way x = any_by way is_closes x.acts ≡ false
 MayEnd act way x = Unit {0}
 
-own-speech : (way : Side) (act : Act) (x : Channel) → MayEnd act way x → speech_after act (speech_of way x) ≡ speech_of way (with_act way (act_of act) x)
+own-speech : (way : Side) (act : Act) (x : Channel) → MayEnd act way x → speech_after act (speech_of way x) ≡ speech_of way (with_act way (summary_act_of act) x)
 own-speech Up Eof x may = ap (λ b. elim b as (λ _. Speech) [ true ↦ Closed | false ↦ Ended ]) (sym may)
 own-speech Down Eof x may = ap (λ b. elim b as (λ _. Speech) [ true ↦ Closed | false ↦ Ended ]) (sym may)
 own-speech Up Close x may = refl
@@ -82,7 +82,7 @@ own-speech Down (Request want) x may = refl
 own-speech Up Reply x may = refl
 own-speech Down Reply x may = refl
 
-own-parts : (act : Act) (a : Account) → AreSame (own_after act a) (record { room = a.room - carried (act_of act); maximum = a.maximum; unanswered = a.unanswered + asked (act_of act); speech = speech_after act a.speech })
+own-parts : (act : Act) (a : Account) → AreSame (account_after act a) (record { room = a.room - carried (summary_act_of act); maximum = a.maximum; unanswered = a.unanswered + asked (summary_act_of act); speech = speech_after act a.speech })
 own-parts (Data size) a = record { rooms = refl; packets = refl; asks = omega arith; spoken = refl }
 own-parts (Grant add) a = record { rooms = omega arith; packets = refl; asks = omega arith; spoken = refl }
 own-parts Eof a = record { rooms = omega arith; packets = refl; asks = omega arith; spoken = refl }
@@ -91,13 +91,13 @@ own-parts (Request true) a = record { rooms = omega arith; packets = refl; asks 
 own-parts (Request false) a = record { rooms = omega arith; packets = refl; asks = omega arith; spoken = refl }
 own-parts Reply a = record { rooms = omega arith; packets = refl; asks = omega arith; spoken = refl }
 
-pub own-goes : (way : Side) (act : Act) (x : Channel) → MayEnd act way x → IsAccounted way x → own_after act (account_of way x) ≡ account_of way (with_act way (act_of act) x)
+pub own-goes : (way : Side) (act : Act) (x : Channel) → MayEnd act way x → IsAccounted way x → account_after act (account_of way x) ≡ account_of way (with_act way (summary_act_of act) x)
 own-goes way act x may sound =
     let parts = own-parts act (account_of way x) in
-    same (own_after act (account_of way x)) (account_of way (with_act way (act_of act) x)) (record {
-      rooms = parts.rooms ∙ sym (own-room way (act_of act) x);
-      packets = parts.packets ∙ sym (own-maximum way (act_of act) x);
-      asks = parts.asks ∙ sym (own-asks way (act_of act) x sound);
+    same (account_after act (account_of way x)) (account_of way (with_act way (summary_act_of act) x)) (record {
+      rooms = parts.rooms ∙ sym (own-room way (summary_act_of act) x);
+      packets = parts.packets ∙ sym (own-maximum way (summary_act_of act) x);
+      asks = parts.asks ∙ sym (own-asks way (summary_act_of act) x sound);
       spoken = parts.spoken ∙ own-speech way act x may;
     })
 
@@ -135,7 +135,7 @@ other-speech : (way : Side) (act : summary.Act) (x : Channel) → speech_of (oth
 other-speech Up act x = refl
 other-speech Down act x = refl
 
-other-parts : (act : Act) (a : Account) → AreSame (other_after act a) (record { room = a.room + granted (act_of act); maximum = a.maximum; unanswered = a.unanswered - answered (act_of act); speech = a.speech })
+other-parts : (act : Act) (a : Account) → AreSame (other_after act a) (record { room = a.room + granted (summary_act_of act); maximum = a.maximum; unanswered = a.unanswered - answered (summary_act_of act); speech = a.speech })
 other-parts (Data size) a = record { rooms = omega arith; packets = refl; asks = omega arith; spoken = refl }
 other-parts (Grant add) a = record { rooms = refl; packets = refl; asks = omega arith; spoken = refl }
 other-parts Eof a = record { rooms = omega arith; packets = refl; asks = omega arith; spoken = refl }
@@ -144,7 +144,7 @@ other-parts (Request want) a = record { rooms = omega arith; packets = refl; ask
 other-parts Reply a = record { rooms = omega arith; packets = refl; asks = refl; spoken = refl }
 
 -- what the ledger accepts confirms nothing
-no-window : (act : Act) → first_window (act_of act) ≡ 0
+no-window : (act : Act) → first_window (summary_act_of act) ≡ 0
 no-window (Data size) = refl
 no-window (Grant add) = refl
 no-window Eof = refl
@@ -152,7 +152,7 @@ no-window Close = refl
 no-window (Request want) = refl
 no-window Reply = refl
 
-no-packet : (act : Act) → packet (act_of act) ≡ 0
+no-packet : (act : Act) → packet (summary_act_of act) ≡ 0
 no-packet (Data size) = refl
 no-packet (Grant add) = refl
 no-packet Eof = refl
@@ -160,12 +160,12 @@ no-packet Close = refl
 no-packet (Request want) = refl
 no-packet Reply = refl
 
-pub other-goes : (way : Side) (act : Act) (x : Channel) → IsWithin (other_side way) x → other_after act (account_of (other_side way) x) ≡ account_of (other_side way) (with_act way (act_of act) x)
+pub other-goes : (way : Side) (act : Act) (x : Channel) → IsWithin (other_side way) x → other_after act (account_of (other_side way) x) ≡ account_of (other_side way) (with_act way (summary_act_of act) x)
 other-goes way act x within =
     let parts = other-parts act (account_of (other_side way) x) in
-    same (other_after act (account_of (other_side way) x)) (account_of (other_side way) (with_act way (act_of act) x)) (record {
-      rooms = parts.rooms ∙ sym (other-room way (act_of act) x (no-window act) within);
-      packets = parts.packets ∙ sym (other-maximum way (act_of act) x (no-packet act));
-      asks = parts.asks ∙ sym (other-asks way (act_of act) x);
-      spoken = parts.spoken ∙ other-speech way (act_of act) x;
+    same (other_after act (account_of (other_side way) x)) (account_of (other_side way) (with_act way (summary_act_of act) x)) (record {
+      rooms = parts.rooms ∙ sym (other-room way (summary_act_of act) x (no-window act) within);
+      packets = parts.packets ∙ sym (other-maximum way (summary_act_of act) x (no-packet act));
+      asks = parts.asks ∙ sym (other-asks way (summary_act_of act) x);
+      spoken = parts.spoken ∙ other-speech way (summary_act_of act) x;
     })

@@ -11,7 +11,7 @@ use Rattle.mux_history.specs.Ledger.{breach}
 use Rattle.mux_history.specs.Laws.{with_act}
 use Rattle.mux_history.proofs.RoomActs.{accounted-act, may-of}
 use Rattle.window_ledger.specs.Stands.{IsStateOf, account_of, both_closed, is_answered, speech_of}
-use Rattle.window_ledger.specs.Leaving.{is_closed, is_over_in, left_state, sent_close_in}
+use Rattle.window_ledger.specs.Leaving.{is_speech_closed, is_over_in, left_state, sent_close_in}
 use Rattle.window_ledger.specs.declared.account.Account.{Account}
 use Rattle.window_ledger.specs.declared.account.Speech.{Speech}
 use Rattle.window_ledger.specs.declared.account.Speech.TheVariants.{Closed, Ended, Speaking}
@@ -20,24 +20,24 @@ use Rattle.window_ledger.specs.declared.ledger.State.{State}
 use Rattle.window_ledger.specs.declared.ledger.State.TheVariants.{Confirmed, Opened}
 use Rattle.window_ledger.proofs.Accounts.{other-goes, own-goes}
 
-speech-closed : (way : Side) (x : Channel) → is_closed (speech_of way x) ≡ any_by way is_closes x.acts
+speech-closed : (way : Side) (x : Channel) → is_speech_closed (speech_of way x) ≡ any_by way is_closes x.acts
 speech-closed way x = by_case (any_by way is_closes x.acts) (any_by way is_ends x.acts)
   where
-    by_case : (b c : Bool) → is_closed (elim b as (λ _. Speech) [ true ↦ Closed | false ↦ elim c as (λ _. Speech) [ true ↦ Ended | false ↦ Speaking ] ]) ≡ b
+    by_case : (b c : Bool) → is_speech_closed (elim b as (λ _. Speech) [ true ↦ Closed | false ↦ elim c as (λ _. Speech) [ true ↦ Ended | false ↦ Speaking ] ]) ≡ b
     by_case true c = refl
     by_case false true = refl
     by_case false false = refl
 
 pub said-is : (state : State) (x : Channel) → IsStateOf state x → sent_close_in state ≡ any_by Up is_closes x.acts
 said-is (Opened by window maximum) x is = ap (any_by Up is_closes) (sym is.fresh)
-said-is (Confirmed up down) x is = ap (λ (a : Account). is_closed a.speech) is.upward ∙ speech-closed Up x
+said-is (Confirmed up down) x is = ap (λ (a : Account). is_speech_closed a.speech) is.upward ∙ speech-closed Up x
 
 pub over-is : (state : State) (x : Channel) → IsStateOf state x → is_over_in state ≡ both_closed x
 over-is (Opened by window maximum) x is = ap (λ acts. any_by Up is_closes acts && any_by Down is_closes acts) (sym is.fresh)
 over-is (Confirmed up down) x is =
-    ap (λ (a : Account). is_closed a.speech && is_closed down.speech) is.upward
-    ∙ (ap (λ (a : Account). is_closed (speech_of Up x) && is_closed a.speech) is.downward
-    ∙ (ap (λ b. b && is_closed (speech_of Down x)) (speech-closed Up x) ∙ ap (λ b. any_by Up is_closes x.acts && b) (speech-closed Down x)))
+    ap (λ (a : Account). is_speech_closed a.speech && is_speech_closed down.speech) is.upward
+    ∙ (ap (λ (a : Account). is_speech_closed (speech_of Up x) && is_speech_closed a.speech) is.downward
+    ∙ (ap (λ b. b && is_speech_closed (speech_of Down x)) (speech-closed Up x) ∙ ap (λ b. any_by Up is_closes x.acts && b) (speech-closed Down x)))
 
 -- CLOSE breaks nothing in a confirmed channel in which it wasn't sent
 fine : (x : Channel) → is_confirmed x ≡ true → any_by Up is_closes x.acts ≡ false → breach Up Closes x ≡ None

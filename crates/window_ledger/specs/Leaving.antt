@@ -7,14 +7,14 @@ use Rattle.window_ledger.specs.declared.ledger.State.{State}
 use Rattle.window_ledger.specs.declared.ledger.State.TheVariants.{Opened, Confirmed}
 
 -- the sender of a direction has sent CLOSE
-abbrev pub is_closed : Speech → Bool
-is_closed Speaking = false
-is_closed Ended = false
-is_closed Closed = true
+abbrev pub is_speech_closed : Speech → Bool
+is_speech_closed Speaking = false
+is_speech_closed Ended = false
+is_speech_closed Closed = true
 
 abbrev pub sent_close_in : State → Bool
 sent_close_in (Opened by window maximum) = false
-sent_close_in (Confirmed up down) = is_closed up.speech
+sent_close_in (Confirmed up down) = is_speech_closed up.speech
 
 -- the client has sent CLOSE
 abbrev pub sent_close : Ledger → Bool
@@ -22,11 +22,11 @@ sent_close ledger = sent_close_in ledger.state
 
 abbrev pub is_over_in : State → Bool
 is_over_in (Opened by window maximum) = false
-is_over_in (Confirmed up down) = is_closed up.speech && is_closed down.speech
+is_over_in (Confirmed up down) = is_speech_closed up.speech && is_speech_closed down.speech
 
 -- both sides have sent CLOSE
-abbrev pub is_over : Ledger → Bool
-is_over ledger = is_over_in ledger.state
+abbrev pub is_account_over : Ledger → Bool
+is_account_over ledger = is_over_in ledger.state
 
 abbrev pub left_state : State → State
 left_state (Opened by window maximum) = Opened by window maximum

@@ -30,7 +30,7 @@ account_of way x = record {
 }
 
 -- a side has opened the channel with this window and this maximum, and nothing was done in it yet
-pub record IsBegun (by : Side) (window maximum : ℕ) (x : Channel) : Type 0 where
+pub record IsSideBegun (by : Side) (window maximum : ℕ) (x : Channel) : Type 0 where
   pub opener : x.by ≡ by
   pub first : x.window ≡ window
   pub longest : x.maximum ≡ maximum
@@ -45,7 +45,7 @@ pub record AreAccounts (up down : Account) (x : Channel) : Type 0 where
   pub sound : (way : Side) → IsAccounted way x
 
 abbrev pub IsStateOf : State → Channel → Type 0
-IsStateOf (Opened by window maximum) x = IsBegun by window maximum x
+IsStateOf (Opened by window maximum) x = IsSideBegun by window maximum x
 IsStateOf (Confirmed up down) x = AreAccounts up down x
 
 -- a ledger represents a channel
@@ -72,8 +72,8 @@ Judges ledger way act result = (x : Channel) → Stands ledger x → Answers res
 
 -- of each channel for which a ledger stood before, it stands afterwards for the channel with one
 -- more act
-abbrev pub GoesOn : Ledger → Ledger → Side → Act → Type 0
-GoesOn old new way act = (x : Channel) → Stands old x → Stands new (with_act way act x)
+abbrev pub LedgerGoesOn : Ledger → Ledger → Side → Act → Type 0
+LedgerGoesOn old new way act = (x : Channel) → Stands old x → Stands new (with_act way act x)
 
 -- and for the channel that the other side has confirmed with this window and this maximum
 abbrev pub IsConfirmed : Ledger → Ledger → (window maximum : ℕ) → Type 0
@@ -81,8 +81,8 @@ IsConfirmed old new window maximum = (x : Channel) → Stands old x
     → Stands new (with_act (other_side x.by) (Confirms window maximum) x)
 
 -- what is left for a direction and what was carried in it make up all that was granted for it
-abbrev pub AddsUp : (left : ℕ) → Side → Channel → Type 0
-AddsUp left way x = left + sum_of carried way x.acts
+abbrev pub AccountAddsUp : (left : ℕ) → Side → Channel → Type 0
+AccountAddsUp left way x = left + sum_of carried way x.acts
     ≡ initial way x + sum_of granted (other_side way) x.acts
 
 -- both sides have sent CLOSE

@@ -54,12 +54,12 @@ other_breach Reply other = elim (other.unanswered == 0) [ true ↦ Some Unasked 
 other_breach _ other = None
 
 -- the account of its own direction after an act
-abbrev pub own_after : Act → Account → Account
-own_after (Data size) own = record own { room = own.room - size }
-own_after Eof own = record own { speech = Ended }
-own_after Close own = record own { speech = Closed }
-own_after (Request true) own = record own { unanswered = own.unanswered + 1 }
-own_after _ own = own
+abbrev pub account_after : Act → Account → Account
+account_after (Data size) own = record own { room = own.room - size }
+account_after Eof own = record own { speech = Ended }
+account_after Close own = record own { speech = Closed }
+account_after (Request true) own = record own { unanswered = own.unanswered + 1 }
+account_after _ own = own
 
 -- and that of the other direction
 abbrev pub other_after : Act → Account → Account
@@ -82,5 +82,5 @@ breach_in Down act (Confirmed up down) = between act down up
 
 abbrev pub state_after : Side → Act → State → State
 state_after way act (Opened by window maximum) = Opened by window maximum
-state_after Up act (Confirmed up down) = Confirmed (own_after act up) (other_after act down)
-state_after Down act (Confirmed up down) = Confirmed (other_after act up) (own_after act down)
+state_after Up act (Confirmed up down) = Confirmed (account_after act up) (other_after act down)
+state_after Down act (Confirmed up down) = Confirmed (other_after act up) (account_after act down)

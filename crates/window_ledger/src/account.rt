@@ -1,6 +1,6 @@
 ghost use Rattle.std.specs.Prelude.{◌≡◌, true};
-ghost use Rattle.window_ledger.specs.Leaving.{is_closed};
-ghost use Rattle.window_ledger.specs.Step.{judged, own_act_breach, own_breach, other_breach, own_after, other_after};
+ghost use Rattle.window_ledger.specs.Leaving.{is_speech_closed};
+ghost use Rattle.window_ledger.specs.Step.{judged, own_act_breach, own_breach, other_breach, account_after, other_after};
 ghost use Rattle.window_ledger.specs.declared.act.Act.TheVariants.{Data, Grant, Eof, Request, Reply};
 ghost use Rattle.window_ledger.specs.declared.account.Speech.TheVariants.{Speaking};
 
@@ -20,8 +20,8 @@ pub enum Speech {
 }
 
 /// Whether the sender has sent CLOSE.
-pub fn is_closed(speech: Speech) -> bool
-    ensures { result ≡ is_closed speech }
+pub fn is_speech_closed(speech: Speech) -> bool
+    ensures { result ≡ is_speech_closed speech }
 {
     match speech {
         Speech::Speaking | Speech::Ended => false,
@@ -62,7 +62,7 @@ impl Account {
 
     /// After an act of this direction's sender.
     pub fn says(self, act: Act) -> Result<Account, Breach>
-        ensures { result ≡ judged (own_breach act self) (own_after act self) }
+        ensures { result ≡ judged (own_breach act self) (account_after act self) }
     {
         if self.speech == Speech::Closed {
             return Err(Breach::AfterClose);
@@ -91,7 +91,7 @@ impl Account {
     }
 
     fn carry(self, size: u32) -> Result<Account, Breach>
-        ensures { result ≡ judged (own_act_breach (Data size) self) (own_after (Data size) self) }
+        ensures { result ≡ judged (own_act_breach (Data size) self) (account_after (Data size) self) }
     {
         if self.speech != Speech::Speaking {
             return Err(Breach::AfterEof);
@@ -124,7 +124,7 @@ impl Account {
     }
 
     fn end(self) -> Result<Account, Breach>
-        ensures { result ≡ judged (own_act_breach Eof self) (own_after Eof self) }
+        ensures { result ≡ judged (own_act_breach Eof self) (account_after Eof self) }
     {
         if self.speech != Speech::Speaking {
             return Err(Breach::AfterEof);
@@ -137,7 +137,7 @@ impl Account {
 
     fn ask(self) -> Result<Account, Breach>
         ensures { result ≡ judged (own_act_breach (Request true) self)
-            (own_after (Request true) self) }
+            (account_after (Request true) self) }
     {
         if self.unanswered >= MAX_CHANNEL_REQUESTS {
             return Err(Breach::TooManyAsks {

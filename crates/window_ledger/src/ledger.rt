@@ -4,12 +4,12 @@ ghost use Rattle.mux_history.specs.Channels.{Channel, any_by, is_closes, is_conf
 ghost use Rattle.mux_history.specs.Ledger.{room};
 ghost use Rattle.mux_history.specs.Laws.{with_act};
 ghost use Rattle.ssh_grammar.specs.declared.side.Side.TheVariants.{Up};
-ghost use Rattle.window_ledger.specs.Act.{act_of};
-ghost use Rattle.window_ledger.specs.Leaving.{is_over, left, left_state, sent_close};
-ghost use Rattle.window_ledger.specs.Stands.{Stands, IsBegun, Judges, GoesOn, IsConfirmed, AddsUp, both_closed, confirmed};
-ghost use Rattle.window_ledger.specs.Step.{judged, between, own_after, other_after, breach_in, state_after};
+ghost use Rattle.window_ledger.specs.Act.{summary_act_of};
+ghost use Rattle.window_ledger.specs.Leaving.{is_account_over, left, left_state, sent_close};
+ghost use Rattle.window_ledger.specs.Stands.{Stands, IsSideBegun, Judges, LedgerGoesOn, IsConfirmed, AccountAddsUp, both_closed, confirmed};
+ghost use Rattle.window_ledger.specs.Step.{judged, between, account_after, other_after, breach_in, state_after};
 
-use crate::account::{Account, Speech, is_closed};
+use crate::account::{Account, Speech, is_speech_closed};
 use crate::act::Act;
 use ssh_grammar::{Breach, Side};
 
@@ -24,7 +24,7 @@ enum State {
 
 // After an act, the account of its own direction and that of the other.
 fn exchange(own: Account, other: Account, act: Act) -> Result<(Account, Account), Breach>
-    ensures { result ≡ judged (between act own other) (own_after act own, other_after act other) }
+    ensures { result ≡ judged (between act own other) (account_after act own, other_after act other) }
 {
     let own = own.says(act)?;
     let other = other.receives(act)?;
@@ -74,7 +74,7 @@ pub struct Ledger {
 impl Ledger {
     /// A channel that a side has opened, with the window and the maximum that its OPEN carries.
     pub fn opened(by: Side, window: u32, max: u32) -> Ledger
-        ensures stands { (x : Channel) → IsBegun by window max x → Stands result x }
+        ensures stands { (x : Channel) → IsSideBegun by window max x → Stands result x }
         ensures confirmed { confirmed result ≡ false }
     {
         Ledger {
@@ -128,8 +128,8 @@ impl Ledger {
     /// Any of the messages below, for a caller that has distinguished them already. The master is
     /// such a one: of these seven calls it makes this one alone.
     pub fn take(&mut self, way: Side, act: Act) -> Result<(), Breach>
-        ensures exact { Judges self.old way (act_of act) result }
-        ensures ok { OnOk result (GoesOn self.old self.new way (act_of act)) }
+        ensures exact { Judges self.old way (summary_act_of act) result }
+        ensures ok { OnOk result (LedgerGoesOn self.old self.new way (summary_act_of act)) }
         ensures unchanged { OnErr result (self.new ≡ self.old) }
         ensures confirmed { confirmed self.new ≡ confirmed self.old }
     {
@@ -140,7 +140,7 @@ impl Ledger {
     /// DATA or EXTENDED_DATA of `len` bytes (RFC 4254, section 5.2).
     pub fn data(&mut self, way: Side, len: u32) -> Result<(), Breach>
         ensures exact { Judges self.old way (Carries len) result }
-        ensures ok { OnOk result (GoesOn self.old self.new way (Carries len)) }
+        ensures ok { OnOk result (LedgerGoesOn self.old self.new way (Carries len)) }
         ensures unchanged { OnErr result (self.new ≡ self.old) }
         ensures confirmed { confirmed self.new ≡ confirmed self.old }
     {
@@ -150,7 +150,7 @@ impl Ledger {
     /// WINDOW_ADJUST by `n` bytes: room for the other direction (RFC 4254, section 5.2).
     pub fn grant(&mut self, way: Side, n: u32) -> Result<(), Breach>
         ensures exact { Judges self.old way (Grants n) result }
-        ensures ok { OnOk result (GoesOn self.old self.new way (Grants n)) }
+        ensures ok { OnOk result (LedgerGoesOn self.old self.new way (Grants n)) }
         ensures unchanged { OnErr result (self.new ≡ self.old) }
         ensures confirmed { confirmed self.new ≡ confirmed self.old }
     {
@@ -160,7 +160,7 @@ impl Ledger {
     /// EOF (RFC 4254, section 5.3).
     pub fn eof(&mut self, way: Side) -> Result<(), Breach>
         ensures exact { Judges self.old way Ends result }
-        ensures ok { OnOk result (GoesOn self.old self.new way Ends) }
+        ensures ok { OnOk result (LedgerGoesOn self.old self.new way Ends) }
         ensures unchanged { OnErr result (self.new ≡ self.old) }
         ensures confirmed { confirmed self.new ≡ confirmed self.old }
     {
@@ -170,7 +170,7 @@ impl Ledger {
     /// CLOSE (RFC 4254, section 5.3).
     pub fn close(&mut self, way: Side) -> Result<(), Breach>
         ensures exact { Judges self.old way Closes result }
-        ensures ok { OnOk result (GoesOn self.old self.new way Closes) }
+        ensures ok { OnOk result (LedgerGoesOn self.old self.new way Closes) }
         ensures unchanged { OnErr result (self.new ≡ self.old) }
         ensures confirmed { confirmed self.new ≡ confirmed self.old }
     {
@@ -180,7 +180,7 @@ impl Ledger {
     /// A channel request; `want` is whether it wants a reply (RFC 4254, section 5.4).
     pub fn request(&mut self, way: Side, want: bool) -> Result<(), Breach>
         ensures exact { Judges self.old way (Asks want) result }
-        ensures ok { OnOk result (GoesOn self.old self.new way (Asks want)) }
+        ensures ok { OnOk result (LedgerGoesOn self.old self.new way (Asks want)) }
         ensures unchanged { OnErr result (self.new ≡ self.old) }
         ensures confirmed { confirmed self.new ≡ confirmed self.old }
     {
@@ -190,7 +190,7 @@ impl Ledger {
     /// SUCCESS or FAILURE of a channel request of the other direction (RFC 4254, section 5.4).
     pub fn reply(&mut self, way: Side) -> Result<(), Breach>
         ensures exact { Judges self.old way Answers result }
-        ensures ok { OnOk result (GoesOn self.old self.new way Answers) }
+        ensures ok { OnOk result (LedgerGoesOn self.old self.new way Answers) }
         ensures unchanged { OnErr result (self.new ≡ self.old) }
         ensures confirmed { confirmed self.new ≡ confirmed self.old }
     {
@@ -199,12 +199,13 @@ impl Ledger {
 
     /// Whether both sides have sent CLOSE.
     pub fn closed(&self) -> bool
-        ensures test { result ≡ is_over self.now }
+        ensures test { result ≡ is_account_over self.now }
         ensures exact { (x : Channel) → Stands self.now x → result ≡ both_closed x }
     {
         match self.state {
             State::Opened { .. } => false,
-            State::Confirmed { up, down } => is_closed(up.speech) && is_closed(down.speech),
+            State::Confirmed { up, down } => is_speech_closed(up.speech)
+                && is_speech_closed(down.speech),
         }
     }
 
@@ -215,7 +216,7 @@ impl Ledger {
     {
         match self.state {
             State::Opened { .. } => false,
-            State::Confirmed { up, .. } => is_closed(up.speech),
+            State::Confirmed { up, .. } => is_speech_closed(up.speech),
         }
     }
 
@@ -238,7 +239,7 @@ impl Ledger {
     pub fn room(&self, way: Side) -> u32
         ensures exact { (x : Channel) → Stands self.now x → result ≡ room way x }
         // No room falls below zero: what is left and what was carried make up all that was granted.
-        ensures sums { (x : Channel) → Stands self.now x → AddsUp result way x }
+        ensures sums { (x : Channel) → Stands self.now x → AccountAddsUp result way x }
     {
         match (self.state, way) {
             (State::Confirmed { up, .. }, Side::Up) => up.room,

@@ -5,8 +5,8 @@ ghost use Rattle.std.specs.List.{list_any, list_all};
 ghost use Rattle.conf_rules.specs.Resolution.{is_final};
 ghost use Rattle.conf_rules.specs.Patterns.{answer_of, is_yes};
 ghost use Rattle.conf_rules.specs.Fits.{fits};
-ghost use Rattle.conf_options.specs.Kept.{Given, Keeps};
-ghost use Rattle.conf_fold.specs.Stands.{block_name, entered, own_mark, does_count, noted, if_counts};
+ghost use Rattle.conf_options.specs.Kept.{Given, KeepsSettings};
+ghost use Rattle.conf_fold.specs.FoldRepresents.{block_name, entered, own_mark, does_count, noted, if_counts};
 
 use super::Fold;
 use crate::entries::has_final;
@@ -89,8 +89,8 @@ impl Fold {
     // Takes the value of a line.
     pub(crate) fn give(&mut self, key: Key, value: Value, active: bool) -> Result<(), OutOfMemory>
         requires { fits key value ≡ true }
-        ensures keeps { OnOk result ((given : List Given) → Keeps self.old.settings given
-            → Keeps self.new.settings
+        ensures keeps { OnOk result ((given : List Given) → KeepsSettings self.old.settings given
+            → KeepsSettings self.new.settings
             (given ++ if_counts (does_count key active self.old) key value)) }
         ensures others { OnOk result
             (self.new ≡ record (noted key active self.old) { settings = self.new.settings }) }

@@ -7,10 +7,10 @@ ghost use Rattle.conf_rules.specs.Rows.{word_in, but_none};
 ghost use Rattle.conf_tokens.specs.Seen.{seen};
 ghost use Rattle.conf_tokens.specs.Known.{known};
 ghost use Rattle.conf_fold.specs.Entries.{entry_fits};
-ghost use Rattle.conf_reader.specs.Results.{Refuses, is_line_fault, refused_at};
+ghost use Rattle.conf_reader.specs.Results.{RefusesLine, is_line_fault, refused_at};
 ghost use Rattle.conf_rules.specs.Results.{as_error};
-ghost use Rattle.conf_fold.specs.Results.{Evaluated, GivesLine, RanUnless, breaks_line, breaks_off, FailsInLine, FailsAt, HasLineCause, HasRunCause};
-ghost use Rattle.conf_fold.specs.Stands.{OnNext, WhereRecorded, FoldsEntry, Folds, next_row, setting, view_of, entry_so_far};
+ghost use Rattle.conf_fold.specs.Results.{Evaluated, GivesLineReading, RanUnless, breaks_line, breaks_off, FailsInLine, FailsAtLine, HasLineCause, HasRunCause};
+ghost use Rattle.conf_fold.specs.FoldRepresents.{OnNext, WhereStatusesRecorded, FoldsEntry, Folds, next_row, setting, fold_view_of, entry_so_far};
 ghost use Rattle.conf_rules.specs.declared.key.Key.TheVariants as keys;
 
 use super::Fold;
@@ -41,12 +41,12 @@ fn evaluate<R: Runner>(
     view: &View<'_>,
     runner: &mut R,
 ) -> Result<bool, LineError>
-    ensures holds { WhereRecorded (R.recorded runner.old) (λ status.
+    ensures holds { WhereStatusesRecorded (R.recorded runner.old) (λ status.
         Evaluated result (verdict status (seen view.now) criteria.now).holds) }
-    ensures ran { WhereRecorded (R.recorded runner.old) (λ status.
+    ensures ran { WhereStatusesRecorded (R.recorded runner.old) (λ status.
         RanUnless (breaks_line result) (R.ran runner.old) (R.ran runner.new)
         (verdict status (seen view.now) criteria.now).ran) }
-    ensures failed { WhereRecorded (R.recorded runner.old) (λ status.
+    ensures failed { WhereStatusesRecorded (R.recorded runner.old) (λ status.
         FailsInLine result (R.ran runner.old) (R.ran runner.new)
         (verdict status (seen view.now) criteria.now).ran) }
     ensures cause { HasLineCause result (R.faults runner.old) (R.faults runner.new) }
@@ -63,15 +63,15 @@ impl Fold {
         facts: &Facts,
         runner: &mut R,
     ) -> Result<bool, LineError>
-        ensures holds { WhereRecorded (R.recorded runner.old) (λ status.
-            Evaluated result (verdict status (view_of self.now (known facts.now))
+        ensures holds { WhereStatusesRecorded (R.recorded runner.old) (λ status.
+            Evaluated result (verdict status (fold_view_of self.now (known facts.now))
             criteria.now).holds) }
-        ensures ran { WhereRecorded (R.recorded runner.old) (λ status.
+        ensures ran { WhereStatusesRecorded (R.recorded runner.old) (λ status.
             RanUnless (breaks_line result) (R.ran runner.old) (R.ran runner.new)
-            (verdict status (view_of self.now (known facts.now)) criteria.now).ran) }
-        ensures failed { WhereRecorded (R.recorded runner.old) (λ status.
+            (verdict status (fold_view_of self.now (known facts.now)) criteria.now).ran) }
+        ensures failed { WhereStatusesRecorded (R.recorded runner.old) (λ status.
             FailsInLine result (R.ran runner.old) (R.ran runner.new)
-            (verdict status (view_of self.now (known facts.now)) criteria.now).ran) }
+            (verdict status (fold_view_of self.now (known facts.now)) criteria.now).ran) }
         ensures cause { HasLineCause result (R.faults runner.old) (R.faults runner.new) }
         ensures recorded { R.recorded runner.new ≡ R.recorded runner.old }
     {
@@ -110,16 +110,16 @@ impl Fold {
         facts: &Facts,
         runner: &mut R,
     ) -> Result<bool, LineError>
-        ensures held { WhereRecorded (R.recorded runner.old) (λ status. active ≡ true
-            → Evaluated result (verdict status (view_of self.now (known facts.now))
+        ensures held { WhereStatusesRecorded (R.recorded runner.old) (λ status. active ≡ true
+            → Evaluated result (verdict status (fold_view_of self.now (known facts.now))
             criteria.now).holds) }
         ensures idle { active ≡ false → result ≡ Ok false }
-        ensures ran { WhereRecorded (R.recorded runner.old) (λ status. active ≡ true
+        ensures ran { WhereStatusesRecorded (R.recorded runner.old) (λ status. active ≡ true
             → RanUnless (breaks_line result) (R.ran runner.old) (R.ran runner.new)
-            (verdict status (view_of self.now (known facts.now)) criteria.now).ran) }
-        ensures failed { WhereRecorded (R.recorded runner.old) (λ status. active ≡ true
+            (verdict status (fold_view_of self.now (known facts.now)) criteria.now).ran) }
+        ensures failed { WhereStatusesRecorded (R.recorded runner.old) (λ status. active ≡ true
             → FailsInLine result (R.ran runner.old) (R.ran runner.new)
-            (verdict status (view_of self.now (known facts.now)) criteria.now).ran) }
+            (verdict status (fold_view_of self.now (known facts.now)) criteria.now).ran) }
         ensures quiet { active ≡ false → R.ran runner.new ≡ R.ran runner.old }
         ensures cause { HasLineCause result (R.faults runner.old) (R.faults runner.new) }
         ensures recorded { R.recorded runner.new ≡ R.recorded runner.old }
@@ -207,7 +207,7 @@ impl Fold {
             (next_row recorded pass rows place l).ran) }
         ensures failed { OnNext (known facts.now) (R.recorded runner.old) self.old line.now
             (λ recorded pass rows blocks place l.
-            FailsAt line.now.file line.now.number result (R.ran runner.old) (R.ran runner.new)
+            FailsAtLine line.now.file line.now.number result (R.ran runner.old) (R.ran runner.new)
             (next_row recorded pass rows place l).ran) }
         ensures cause { HasRunCause result (R.faults runner.old) (R.faults runner.new) }
         ensures depth { OnOk result (length self.new.applies ≡ line.now.depth + 1) }
@@ -225,10 +225,10 @@ impl Fold {
     }
 
     // The content of a line after those given so far.
-    #[tactic(auto, unfolding(crate::specs::Stands::entry_so_far))]
+    #[tactic(auto, unfolding(crate::specs::FoldRepresents::entry_so_far))]
     pub(crate) fn said(&self, line: &ConfLine) -> Result<LineContent, LineError>
         ensures fits { IfOk result (λ entry. entry_fits entry ≡ true) }
-        ensures read { GivesLine result (entry_so_far self.now line.now) }
+        ensures read { GivesLineReading result (entry_so_far self.now line.now) }
         ensures plain { IfErr result (λ e. is_line_fault e ≡ false) }
     {
         file_entry(
@@ -241,7 +241,7 @@ impl Fold {
 
     // The refusal of a line.
     pub(crate) fn refused(&self, line: &ConfLine, error: LineError) -> ResolveError
-        ensures { Refuses error line.now.file line.now.number result }
+        ensures { RefusesLine error line.now.file line.now.number result }
     {
         refuse(self.alloc, line.file.as_bytes(), line.number, error)
     }

@@ -1,11 +1,11 @@
 //! What is requested of the forwarder: at the start, and by clients.
 ghost use Rattle.std.specs.Prelude.{ℕ, ◌≡◌, ◌≤◌, ◌<◌, ◌+◌, ◌-◌, [], true, false, length, OnOk, IfOk, IfSome, None, Some, Ok};
-ghost use Rattle.mux_outside.specs.House.{nothing_known, ask_of};
+ghost use Rattle.mux_outside.specs.House.{nothing_known, start_ask_of};
 ghost use Rattle.mux_outside.specs.House.{known_after_ask};
-ghost use Rattle.house_forward.specs.Asks.{turns_away};
+ghost use Rattle.house_forward.specs.Asks.{how_many_of, turns_away};
 ghost use Rattle.house_forward.specs.Forwardings.{listeners_of, ComesUnless};
 ghost use Rattle.house_forward.specs.declared.rules.TheConstants.{MOST_ASKS};
-ghost use Rattle.house_forward.specs.ForwardingState.{BeginsWith, IsAsked};
+ghost use Rattle.house_forward.specs.ForwardingState.{BeginsWith, IsClientAsk};
 ghost use Rattle.house_forward.specs.RelayTraces.{HasLived, ForwardingStateGoes};
 ghost use Rattle.house_forward.specs.State.{held_in, known_in, due_in, most_due_in, ChangesForwardings};
 
@@ -13,7 +13,7 @@ use super::{ForwarderState, Stage};
 use crate::asks::{Asked, Asks, Outcome};
 use crate::forwardings::Forwardings;
 use crate::relays::Relays;
-use crate::rules::{ends_of, of_client};
+use crate::rules::{ListenRules, ends_of, of_client};
 use mux_outside::{FwdAsk, HouseReply, Starts};
 use proxy_frames::{Framer, Framing};
 use ssh_fields::OutOfMemory;
@@ -31,7 +31,7 @@ impl ForwarderState {
     {
         ForwarderState {
             alloc,
-            gateway: false,
+            rules: ListenRules::first(),
             must: false,
             asks: Asks::new(alloc),
             ordering: None,
@@ -71,9 +71,9 @@ impl ForwarderState {
         ensures begins { OnOk result (ForwardingStateGoes (BeginsWith starts.now)
             (held_in self.old) (held_in self.new)) }
     {
-        self.gateway = starts.gateway;
+        self.rules = ListenRules::of(self.alloc, starts)?;
         self.must = starts.must;
-        self.forwardings.start_all(starts)
+        self.forwardings.start_all(&starts.asks, &self.rules)
     }
 
     /// A request to open or close a forwarding.
@@ -96,7 +96,7 @@ impl ForwarderState {
             ≤ length self.old.asks.waiting.items + 1 }
         ensures ordering { self.new.ordering ≡ self.old.ordering }
         ensures goes { IfOk result (λ reply. ForwardingStateGoes
-            (IsAsked client id opening (ask_of what.now) reply)
+            (IsClientAsk client id opening (start_ask_of what.now) reply)
             (held_in self.old) (held_in self.new)) }
     {
         match self.asked(client, id, opening, what)? {
@@ -120,12 +120,12 @@ impl ForwarderState {
     ) -> Result<Asked, OutOfMemory>
         requires { self.old.ordering ≡ None }
         ensures comes { IfOk result (λ asked. ComesUnless
-            (turns_away client id self.old.asks.waiting.items) self.old.gateway opening
-            (ask_of what.now) self.old.forwardings.serials
+            (turns_away client id self.old.asks.waiting.items) self.old.rules opening
+            (start_ask_of what.now) self.old.forwardings.serials
             self.old.forwardings.all.items self.new.forwardings.all.items asked) }
         ensures refused { self.new.forwardings.refused ≡ self.old.forwardings.refused }
         ensures room { (serial : ℕ) → result ≡ Ok (Asked.Later serial)
-            → length self.new.asks.waiting.items < MOST_ASKS }
+            → how_many_of client self.new.asks.waiting.items < MOST_ASKS }
         ensures listeners { listeners_of self.new.forwardings.all.items
             ≡ listeners_of self.old.forwardings.all.items }
         ensures count { length self.new.forwardings.all.items
@@ -140,7 +140,7 @@ impl ForwarderState {
         if self.asks.turns_away(client, id) {
             return Ok(Asked::Now(Outcome::Refused));
         }
-        let Some(ends) = ends_of(of_client(what), self.gateway) else {
+        let Some(ends) = ends_of(of_client(what), &self.rules) else {
             return Ok(Asked::Now(Outcome::Refused));
         };
         if opening {

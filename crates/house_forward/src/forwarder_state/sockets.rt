@@ -1,19 +1,19 @@
-//! What comes of the sockets of the house.
+//! What happens to the sockets of the forwarder.
 ghost use Rattle.std.specs.Prelude.{ℕ, ◌≡◌, ◌≤◌, ◌+◌, ◌++◌, ◌∷◌, [], false, length, take, find, OnOk, IfOk, None, Some, Ok};
 ghost use Rattle.mux_outside.specs.House.{OwnTurnFits};
 ghost use Rattle.mux_outside.specs.House.{known_after_own_turn, queue_after_took};
 ghost use Rattle.mux_outside.specs.OwnStreams.{is_one, new_stream};
 ghost use Rattle.mux_outside.specs.declared.piece.TheConstants.{LONGEST_PIECE};
 ghost use Rattle.house_forward.specs.Forwardings.{has_listener};
-ghost use Rattle.house_forward.specs.Links.{streams_of, queue_at, is_full, has_full_dialogs, IsJoined, IsJoinedAt, IsDialed, Joins};
+ghost use Rattle.house_forward.specs.Links.{streams_of, queue_at, is_full, has_full_dialogs, IsRelayJoined, IsJoinedAt, IsDialed, Joins};
 ghost use Rattle.house_forward.specs.RelayTraces.{GoesFurther, TakesFurther, Follows};
 ghost use Rattle.mux_outside.specs.HouseCalls.{Turns, happening_of};
 ghost use Rattle.house_forward.specs.State.{held_in, known_in, quiet_in, due_in, ChangesRelays};
 
 use super::ForwarderState;
 use crate::forwarding::Forwarding;
-use crate::link::{Link, LinkStep, Stream};
-use crate::rules::Kind;
+use crate::link::{Link, LinkStep, LinkStream};
+use crate::rules::ForwardingKind;
 use house_relay::Relay;
 use mux_outside::{OwnStream, OwnTurn};
 use ssh_fields::{OutOfMemory, Text};
@@ -50,7 +50,7 @@ impl ForwarderState {
         }
     }
 
-    /// A socket was joined at a listener.
+    // A socket was joined at a listener.
     #[tactic(auto, using(crate::proofs::Changes::streams_more))]
     fn joined(&mut self, listener: u64, stream: u64) -> Result<(), OutOfMemory>
         requires ordering { self.old.ordering ≡ None }
@@ -68,14 +68,14 @@ impl ForwarderState {
         let relay = self.relay_of(listener, number, stream)?;
         self.relays.push(Link {
             relay,
-            stream: Stream::Made(OwnStream::new(stream)),
+            stream: LinkStream::Made(OwnStream::new(stream)),
         })?;
         Ok(())
     }
 
-    /// The relay of a socket that was joined at a listener.
+    // The relay of a socket that was joined at a listener.
     fn relay_of(&self, listener: u64, number: u32, stream: u64) -> Result<Relay, OutOfMemory>
-        ensures joined { IfOk result (λ r. IsJoined (is_full self.now.relays.all.items)
+        ensures joined { IfOk result (λ r. IsRelayJoined (is_full self.now.relays.all.items)
             (has_full_dialogs self.now.relays.all.items)
             (find (has_listener listener) self.now.forwardings.all.items) stream r) }
         ensures number { IfOk result (λ r. r.number ≡ number) }
@@ -106,7 +106,7 @@ impl ForwarderState {
         }
     }
 
-    /// A stream took the first bytes of those that wait for it.
+    /// A stream accepted the first bytes of those that wait for it.
     pub fn took(&mut self, stream: u64, n: usize)
         requires ordering { self.old.ordering ≡ None }
         requires fits { n ≤ length (queue_at self.old.relays.all.items stream) }
@@ -122,8 +122,8 @@ impl ForwarderState {
     }
 }
 
-/// The relay of a socket that was joined at the listener of a forwarding, where the house has all
-/// dialogs that it may have or not.
+// The relay of a socket that was joined at the listener of a forwarding, where the forwarder has
+// all dialogs that it may have or not.
 fn joined_at(
     alloc: Global,
     dialogs_full: bool,
@@ -137,15 +137,15 @@ fn joined_at(
     ensures few { IfOk result (λ r. length r.held.waiting ≤ LONGEST_PIECE) }
 {
     match forwarding.kind {
-        Kind::Dynamic => Ok(dialed(alloc, dialogs_full, number, stream)),
-        Kind::Local | Kind::Remote => {
+        ForwardingKind::Dynamic => Ok(dialed(alloc, dialogs_full, number, stream)),
+        ForwardingKind::Local | ForwardingKind::Remote => {
             let host = Text::copy(alloc, forwarding.connect_host.as_bytes())?;
             Ok(Relay::joined(alloc, number, stream, host, forwarding.connect_port))
         }
     }
 }
 
-/// The relay of a socket whose dialog is to say the end, where there is room for one more or not.
+// The relay of a socket whose dialog is to say the end, where there is room for one more or not.
 fn dialed(alloc: Global, dialogs_full: bool, number: u32, stream: u64) -> Relay
     ensures dialed { IsDialed dialogs_full stream result }
     ensures number { result.number ≡ number }

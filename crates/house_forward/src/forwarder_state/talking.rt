@@ -2,7 +2,7 @@
 ghost use Rattle.std.specs.Prelude.{◌≡◌, ◌≤◌, ◌<◌, true, false, length, find, is_some, OnOk, IfOk, IfSome, IsSome, None, Some, Ok};
 ghost use Rattle.mux_outside.specs.House.{SendsFits, sends_nothing};
 ghost use Rattle.mux_outside.specs.declared.piece.TheConstants.{LONGEST_PIECE};
-ghost use Rattle.house_forward.specs.Forwardings.{has_request, request_of};
+ghost use Rattle.house_forward.specs.Forwardings.{has_request, forwarding_request_of};
 ghost use Rattle.house_forward.specs.Quiet.{sends_none};
 ghost use Rattle.house_forward.specs.Said.{framed, request_payload};
 ghost use Rattle.house_forward.specs.RelayTraces.{is_grant, GoesFurther, ReceivesNext, ReceivesFrame};
@@ -54,7 +54,7 @@ impl ForwarderState {
             ≡ is_some (find has_request self.now.forwardings.all.items)) }
         ensures which { IfOk result (λ request. IfSome
             (find has_request self.now.forwardings.all.items)
-            (λ f. request ≡ Some (request_of f))) }
+            (λ f. request ≡ Some (forwarding_request_of f))) }
         ensures spelled { OnOk result (IfSome
             (find has_request self.now.forwardings.all.items)
             (λ f. into.new ≡ framed (request_payload f))) }

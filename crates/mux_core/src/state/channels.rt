@@ -1,8 +1,8 @@
 //! The channels that are held.
 
 ghost use Rattle.std.specs.Prelude.{◌≡◌, ◌+◌, ◌++◌, ◌∷◌, [], not, is_some, IfOk, OnErr};
-ghost use Rattle.channel_table.specs.Entries.{IsFree, RefusesAs, changed_at, freed, number_of_own, number_of_remote, own_entry, own_refusal, remote_entry, remote_refusal, with_ledger, with_own, with_remote};
-ghost use Rattle.mux_core.specs.Lookups.{Puts, changed_if, channel_for, confirmed_for, uses_own, waiting_for};
+ghost use Rattle.channel_table.specs.Entries.{IsNumberFree, RefusesAs, changed_at, freed, number_of_own, number_of_remote, own_entry, own_refusal, remote_entry, remote_refusal, with_ledger, entry_with_own, with_remote};
+ghost use Rattle.mux_core.specs.Lookups.{PutsLedger, changed_if, channel_for, confirmed_for, uses_own, waiting_for};
 
 use super::{Core, awaits_answer};
 use channel_table::{Channel, Refused};
@@ -65,7 +65,7 @@ impl Core {
     // A channel that the client has opened.
     pub(crate) fn add_own(&mut self, client: u64, own: u32, ledger: Ledger) -> Result<u32, Refused>
         ensures exact { RefusesAs result (own_refusal self.old.channels client own) }
-        ensures fresh { IfOk result (λ n. IsFree self.old.channels n) }
+        ensures fresh { IfOk result (λ n. IsNumberFree self.old.channels n) }
         ensures ok { IfOk result (λ n.
             self.new ≡ record self.old {
               channels =
@@ -84,7 +84,7 @@ impl Core {
         ledger: Ledger,
     ) -> Result<u32, Refused>
         ensures exact { RefusesAs result (remote_refusal self.old.channels client remote) }
-        ensures fresh { IfOk result (λ n. IsFree self.old.channels n) }
+        ensures fresh { IfOk result (λ n. IsNumberFree self.old.channels n) }
         ensures ok { IfOk result (λ n.
             self.new ≡ record self.old {
               channels =
@@ -102,7 +102,7 @@ impl Core {
         ensures ok { IfOk result (λ free.
             self.new ≡ record self.old {
               channels =
-                  changed_if free number (with_own own) self.old.channels;
+                  changed_if free number (entry_with_own own) self.old.channels;
             }) }
         ensures policy { self.new.policy ≡ self.old.policy }
     {
@@ -143,7 +143,7 @@ impl Core {
 
     // The account of a channel, which is over where the account is closed.
     pub(crate) fn put(&mut self, number: u32, ledger: Ledger)
-        ensures { Puts self.old self.new number ledger }
+        ensures { PutsLedger self.old self.new number ledger }
     {
         self.table.set_ledger(number, ledger);
         if ledger.closed() {

@@ -4,9 +4,9 @@ ghost use Rattle.std.specs.Prelude.{◌≡◌, ◌+◌, ◌++◌, ◌∷◌, [],
 ghost use Rattle.global_replies.specs.Replies.{FirstAsked, after_reply, is_none_left, or_behind, refusals_behind, request_of, rest_of};
 ghost use Rattle.global_replies.specs.Asks as asks;
 ghost use Rattle.conn_messages.specs.Keys.{IsShort, key_of};
-ghost use Rattle.forward_rules.specs.Step.{answered, asked, cancel_answered, cancelled, owner_at, some_free};
+ghost use Rattle.forward_rules.specs.Step.{answered, asked, cancel_answered, cancelled, forward_owner_at, some_free};
 ghost use Rattle.forward_rules.specs.Taking.{AddsAs};
-ghost use Rattle.mux_core.specs.Requesting.{more_awaited, waiting_of, with_waiting};
+ghost use Rattle.mux_core.specs.Requesting.{more_awaited, member_waiting_of, with_waiting};
 
 use super::Core;
 use conn_messages::Key;
@@ -17,14 +17,14 @@ use ssh_fields::OutOfMemory;
 impl Core {
     // How many requests of a client have no answer.
     pub(crate) fn waiting(&self, client: u64) -> u32
-        ensures { result ≡ length (waiting_of client self.now.clients) }
+        ensures { result ≡ length (member_waiting_of client self.now.clients) }
     {
         self.clients.waiting(client)
     }
 
     // A request that was sent and wants a reply.
     pub(crate) fn await_reply(&mut self, client: u64, what: Ask) -> Result<(), OutOfMemory>
-        requires { asks.IsShort (asks.what_of what) }
+        requires { asks.IsShortRequest (asks.what_of what) }
         ensures ok { OnOk result
             (self.new ≡ record self.old {
               asks = self.old.asks ++ request_of client what ∷ [];
@@ -39,7 +39,7 @@ impl Core {
 
     // A request that wants a reply and isn't sent: whether its refusal goes out at once.
     pub(crate) fn refuse_waiting(&mut self, client: u64) -> Result<bool, OutOfMemory>
-        ensures now { IfOk result (λ now. now ≡ is_none_left (waiting_of client self.old.clients)) }
+        ensures now { IfOk result (λ now. now ≡ is_none_left (member_waiting_of client self.old.clients)) }
         ensures ok { OnOk result
             (self.new ≡ record self.old {
               clients = with_waiting client or_behind self.old.clients;
@@ -53,14 +53,14 @@ impl Core {
     pub(crate) fn take_asker(&mut self) -> Option<(u64, Ask)>
         ensures first { FirstAsked self.old.asks result }
         ensures rest { self.new ≡ record self.old { asks = rest_of self.old.asks } }
-        ensures short { IfSome result (λ a. asks.IsShort (asks.what_of a.1)) }
+        ensures short { IfSome result (λ a. asks.IsShortRequest (asks.what_of a.1)) }
     {
         self.askers.answered()
     }
 
     // The reply to a client's first request goes to it: how many refusals follow it now.
     pub(crate) fn pass_reply(&mut self, client: u64) -> u32
-        ensures refusals { result ≡ refusals_behind (waiting_of client self.old.clients) }
+        ensures refusals { result ≡ refusals_behind (member_waiting_of client self.old.clients) }
         ensures left { self.new
             ≡ record self.old { clients = with_waiting client after_reply self.old.clients } }
     {
@@ -69,7 +69,7 @@ impl Core {
 
     // Whose a forwarded connection is.
     pub(crate) fn owner_of(&self, key: Key<'_>) -> Option<u64>
-        ensures { result ≡ owner_at (key_of key.entry) self.now.forwards }
+        ensures { result ≡ forward_owner_at (key_of key.entry) self.now.forwards }
     {
         self.forwards.owner_of(key)
     }

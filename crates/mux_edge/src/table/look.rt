@@ -1,12 +1,15 @@
-//! How the system is asked what became ready, and what it tells.
+//! How the system is asked what became ready, and what it reports.
 ghost use Rattle.std.specs.Prelude.{◌≡◌, ◌*◌, ◌≤◌, ◌||◌, if◌then◌else◌, [], None, OnOk, false, true, is_some, IfSome, IsSomeAnd};
 ghost use Rattle.std.specs.Duration.{as_nanos};
 ghost use Rattle.std.specs.List.{list_any};
 ghost use Rattle.mio.specs.Events.{items};
+ghost use Rattle.mux_edge.specs.Entries.{HasFewOwn};
+ghost use Rattle.mux_edge.specs.Recorded.{LosesNone, SocketsStay};
 ghost use Rattle.mux_edge.specs.StreamTable.{IsHandedOn, tells_server_takes, tells_write};
 
-use super::{LISTENER, OwnListener, ReadyQueue, StreamEntry, StreamTable};
+use super::{LISTENER, OwnListener, ReadyQueue, StreamEntry, StreamTable, number_at};
 use crate::lookups::Lookups;
+use crate::socket::{TcpSocket, UnixSocket};
 use indexmap::IndexMap;
 use mio::event::Event;
 use mio::{Events, Token};
@@ -26,8 +29,8 @@ const DOUBT_MILLIS: u64 = 10;
 
 const DOUBT_LOOKS: u32 = 64;
 
-impl StreamTable {
-    /// Hands on what was taken for the server, and then notes what became ready. Waits for it where
+impl<U: UnixSocket, T: TcpSocket> StreamTable<U, T> {
+    /// Hands on what was accepted for the server, and then notes what became ready: waits for it if
     /// nothing is so far. A fault, where only writes are wanted and one to the server failed.
     pub fn look(
         &mut self,
@@ -36,6 +39,8 @@ impl StreamTable {
         some: bool,
         is_busy: bool,
     ) -> io::Result<()>
+        ensures bytes { LosesNone U.remaining T.remaining U.contents T.contents self.old self.new }
+        ensures few { HasFewOwn self.old.entries → HasFewOwn self.new.entries }
         ensures listener { self.new.listener ≡ self.old.listener }
         ensures freed { OnOk result (list_any tells_server_takes (items self.new.events) ≡ true
             → self.new.full ≡ false) }
@@ -43,6 +48,26 @@ impl StreamTable {
             → items self.new.events ≡ [] → self.new.doubts ≡ None) }
     {
         self.hand_on();
+        self.look_on(lookups, want, some, is_busy)
+    }
+
+    // Notes what became ready, once nothing waits that the server's socket accepts.
+    fn look_on(
+        &mut self,
+        lookups: &mut Lookups,
+        want: Want,
+        some: bool,
+        is_busy: bool,
+    ) -> io::Result<()>
+        requires handed { IsHandedOn self.old }
+        ensures sockets { SocketsStay self.old.entries self.new.entries }
+        ensures outbox { self.new.outbox ≡ self.old.outbox }
+        ensures listener { self.new.listener ≡ self.old.listener }
+        ensures freed { OnOk result (list_any tells_server_takes (items self.new.events) ≡ true
+            → self.new.full ≡ false) }
+        ensures settled { OnOk result (some ≡ false → self.new.broken ≡ false
+            → items self.new.events ≡ [] → self.new.doubts ≡ None) }
+    {
         if self.fails_at_once(want) {
             return Err(io::Error::from(ErrorKind::BrokenPipe));
         }
@@ -81,7 +106,7 @@ impl StreamTable {
         }
     }
 
-    // Asks the system, and waits so long. Nothing waits meanwhile that the server's socket takes.
+    // Asks the system, and waits so long. Nothing waits meanwhile that the server's socket accepts.
     fn ask(&mut self, timeout: Option<Duration>) -> io::Result<()>
         requires handed { IsHandedOn self.old }
         ensures { self.new ≡ record self.old { poll = self.new.poll; events = self.new.events } }
@@ -94,6 +119,7 @@ impl StreamTable {
         ensures settled { some ≡ false → self.new.doubts ≡ None }
         ensures often { IfSome self.old.doubts
             (λ looks. DOUBT_LOOKS ≤ looks → self.new.doubts ≡ None) }
+        ensures sockets { SocketsStay self.old.entries self.new.entries }
         ensures rest { self.new ≡ record self.old {
           entries = self.new.entries;
           ready = self.new.ready;
@@ -112,7 +138,7 @@ impl StreamTable {
     }
 }
 
-// Whether the server's socket can be written to, or a write would tell that it can't.
+// Whether the server's socket can be written to, or a write would show that it can't.
 fn server_takes(events: &Events) -> bool
     ensures { result ≡ list_any tells_server_takes (items events.now) }
 {
@@ -121,7 +147,7 @@ fn server_takes(events: &Events) -> bool
         .any(|event| event.token() == SERVER && can_write(event))
 }
 
-// Whether a socket can be written to, or a write would tell that it can't.
+// Whether a socket can be written to, or a write would show that it can't.
 fn can_write(event: &Event) -> bool
     ensures { result ≡ tells_write event.now }
 {
@@ -129,23 +155,45 @@ fn can_write(event: &Event) -> bool
 }
 
 // Notes the doubted streams, and doubts none any more.
-fn note_doubted(entries: &mut IndexMap<u64, StreamEntry>, ready: &mut ReadyQueue) {
-    for (number, entry) in entries.iter_mut() {
-        if entry.doubted {
-            entry.doubted = false;
-            let _ = ready.note_bytes(*number, entry);
+fn note_doubted<U: UnixSocket, T: TcpSocket>(
+    entries: &mut IndexMap<u64, StreamEntry<U, T>>,
+    ready: &mut ReadyQueue,
+)
+    ensures { SocketsStay entries.old entries.new }
+{
+    for at in 0..entries.len() {
+        if let Some(number) = number_at(entries, at) {
+            note_if_doubted(number, entries, ready);
         }
     }
 }
 
-// Notes all that the system told of.
-fn note_all(
+// Notes a stream, if it is doubted.
+fn note_if_doubted<U: UnixSocket, T: TcpSocket>(
+    number: u64,
+    entries: &mut IndexMap<u64, StreamEntry<U, T>>,
+    ready: &mut ReadyQueue,
+)
+    ensures { SocketsStay entries.old entries.new }
+{
+    if let Some(entry) = entries.get_mut(&number) {
+        if entry.doubted {
+            entry.doubted = false;
+            let _ = ready.note_bytes(number, entry);
+        }
+    }
+}
+
+// Notes all that the system reported.
+fn note_all<U: UnixSocket, T: TcpSocket>(
     events: &Events,
     lookups: &mut Lookups,
-    entries: &mut IndexMap<u64, StreamEntry>,
+    entries: &mut IndexMap<u64, StreamEntry<U, T>>,
     own_listeners: &mut IndexMap<u64, OwnListener>,
     ready: &mut ReadyQueue,
-) -> Result<(), AllocError> {
+) -> Result<(), AllocError>
+    ensures { SocketsStay entries.old entries.new }
+{
     for event in events.iter() {
         if !lookups.note(event.token().0 as u64) {
             note_event(event, entries, own_listeners, ready)?;
@@ -154,12 +202,14 @@ fn note_all(
     Ok(())
 }
 
-fn note_event(
+fn note_event<U: UnixSocket, T: TcpSocket>(
     event: &Event,
-    entries: &mut IndexMap<u64, StreamEntry>,
+    entries: &mut IndexMap<u64, StreamEntry<U, T>>,
     own_listeners: &mut IndexMap<u64, OwnListener>,
     ready: &mut ReadyQueue,
-) -> Result<(), AllocError> {
+) -> Result<(), AllocError>
+    ensures { SocketsStay entries.old entries.new }
+{
     if event.token() == LISTENER {
         return ready.note_accept();
     }
@@ -173,12 +223,19 @@ fn note_event(
     }
 }
 
-fn note_stream(
+fn note_stream<U: UnixSocket, T: TcpSocket>(
     event: &Event,
     number: u64,
-    entry: &mut StreamEntry,
+    entry: &mut StreamEntry<U, T>,
     ready: &mut ReadyQueue,
-) -> Result<(), AllocError> {
+) -> Result<(), AllocError>
+    ensures { entry.new ≡ record entry.old {
+      stops_short = entry.new.stops_short;
+      reads = entry.new.reads;
+      writes = entry.new.writes;
+      held = entry.new.held;
+    } }
+{
     // An error and a peer that went away show at the next read or write.
     let ends = event.is_read_closed() || event.is_error();
     entry.stops_short |= ends || event.is_priority();

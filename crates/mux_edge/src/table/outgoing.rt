@@ -1,38 +1,56 @@
-//! What was taken for the server's stream: when its socket is given it, and what its failure comes
-//! to.
-ghost use Rattle.std.specs.Prelude.{◌≡◌, ◌≢◌, length, false, true};
+//! What was accepted for the server's stream: when its socket is given it, and the outcome of its
+//! failure.
+ghost use Rattle.std.specs.Prelude.{◌≡◌, ◌≢◌, [], length, false, true};
 ghost use Rattle.mux_outside.specs.declared.turn.Want.TheVariants.{Read, WriteOnly};
-ghost use Rattle.mux_edge.specs.Entries.{HasEntry, IsBlocked, IsOpen, StopsShort};
-ghost use Rattle.mux_edge.specs.StreamTable.{IsHandedOn, MayRead, Touches};
+ghost use Rattle.mux_edge.specs.Entries.{HasEntry, IsBlocked, IsConnected, IsOpen, StopsShort};
+ghost use Rattle.std.specs.Io.KnownBytes.{Keeps};
+ghost use Rattle.mux_edge.specs.Recorded.{LosesNone, SocketsStay, accepted, recorded_at};
+ghost use Rattle.mux_edge.specs.StreamTable.{IsHandedOn, StreamMayRead, Touches};
 
 use super::StreamTable;
+use crate::socket::{TcpSocket, UnixSocket};
 use mux_exchange::Given;
 use mux_outside::Want;
 
-impl StreamTable {
-    /// Gives the server's socket what was taken for it, as far as it takes it now.
+impl<U: UnixSocket, T: TcpSocket> StreamTable<U, T> {
+    // Gives the server's socket what was accepted for it, as far as it accepts that now.
     pub(super) fn hand_on(&mut self)
         ensures handed { IsHandedOn self.new }
+        ensures bytes { LosesNone U.remaining T.remaining U.contents T.contents self.old self.new }
         ensures rest { Touches 0 self.old self.new }
     {
         if self.full || self.outbox.is_empty() {
             return;
         }
-        let Some(entry) = self.entries.get_mut(&0) else {
-            self.full = true;
-            return;
-        };
-        let given = self.outbox.give(&mut entry.stream);
+        let given = self.give();
         self.note_given(given);
     }
 
-    // Notes how far the server's socket took what it was given.
+    // Gives the server's socket what it accepts of the outbox.
+    fn give(&mut self) -> Given
+        ensures all { result ≡ Given.All → self.new.outbox ≡ [] }
+        ensures connected { IsConnected 0 self.old.entries → IsConnected 0 self.new.entries }
+        ensures unread { recorded_at U.remaining T.remaining 0 self.new.entries
+            ≡ recorded_at U.remaining T.remaining 0 self.old.entries }
+        ensures given { Keeps
+            (accepted 0 (recorded_at U.contents T.contents 0 self.old.entries) self.old.outbox)
+            (accepted 0 (recorded_at U.contents T.contents 0 self.new.entries) self.new.outbox) }
+        ensures rest { Touches 0 self.old self.new }
+    {
+        match self.entries.get_mut(&0) {
+            Some(entry) => self.outbox.give(&mut entry.stream),
+            None => Given::Waits,
+        }
+    }
+
+    // Notes how far the server's socket accepted what it was given.
     fn note_given(&mut self, given: Given)
         ensures all { given ≡ Given.All → self.new ≡ self.old }
         ensures waits { given ≡ Given.Waits → self.new ≡ record self.old { full = true } }
         ensures failed { given ≡ Given.Failed → IsOpen 0 self.old.entries
             → self.new.broken ≡ true }
         ensures full { given ≢ Given.All → self.new.full ≡ true }
+        ensures sockets { SocketsStay self.old.entries self.new.entries }
         ensures outbox { self.new.outbox ≡ self.old.outbox }
         ensures rest { Touches 0 self.old self.new }
     {
@@ -43,14 +61,15 @@ impl StreamTable {
         }
     }
 
-    /// The server's socket failed at a write: it is given no more, and what it still says is read
-    /// before the failure is told. Behind its end there is nothing to read.
+    // The server's socket failed at a write: it is given no more, and what the server still sent
+    // is read before the failure is reported. After its end there is nothing to read.
     pub(super) fn break_off(&mut self)
         ensures broken { IsOpen 0 self.old.entries → self.new.broken ≡ true }
         ensures short { IsOpen 0 self.old.entries → StopsShort 0 self.new.entries }
-        ensures noted { IsOpen 0 self.old.entries → MayRead 0 self.old self.new }
+        ensures noted { IsOpen 0 self.old.entries → StreamMayRead 0 self.old self.new }
         ensures full { self.new.full ≡ true }
         ensures blocked { IsBlocked 0 self.old.entries → IsBlocked 0 self.new.entries }
+        ensures sockets { SocketsStay self.old.entries self.new.entries }
         ensures outbox { self.new.outbox ≡ self.old.outbox }
         ensures rest { Touches 0 self.old self.new }
     {
@@ -73,6 +92,8 @@ impl StreamTable {
         ensures told { result ≡ true → self.new.broken ≡ false }
         ensures reads { want ≡ Read → result ≡ false }
         ensures goes_on { result ≡ false → self.new ≡ self.old }
+        ensures sockets { SocketsStay self.old.entries self.new.entries }
+        ensures outbox { self.new.outbox ≡ self.old.outbox }
         ensures rest { Touches 0 self.old self.new }
     {
         if want == Want::Read || !self.broken {
@@ -85,7 +106,7 @@ impl StreamTable {
         true
     }
 
-    /// Gives a stream that goes what its socket takes of the outbox, if that is for it.
+    // Gives a stream that is dropped next what its socket accepts of the outbox, if it is for it.
     pub(super) fn give_last(&mut self, number: u64)
         ensures empty { number ≡ 0 → HasEntry number self.old.entries
             → length self.new.outbox ≡ 0 }

@@ -1,15 +1,17 @@
 //! The master's own listeners and streams.
-ghost use Rattle.std.specs.Prelude.{◌≡◌, ◌⊎◌, false, true, IfSome, IsSome, None, OnOk, OnSome, Some, nat_eq};
+ghost use Rattle.std.specs.Prelude.{◌≡◌, ◌⊎◌, false, true, IfSome, IsNone, IsSome, None, OnErr, OnOk, OnSome, Some, nat_eq};
 ghost use Rattle.indexmap.specs.IndexMap.{get};
-ghost use Rattle.mux_edge.specs.Entries.{HasEntry, IsAwaited, IsBlocked, IsConnected, IsFinished, IsKeptBack, IsNoted, IsPaused};
+ghost use Rattle.mux_edge.specs.Entries.{EntriesStay, HasEntry, IsAwaited, IsBlocked, IsConnected, IsFinished, IsKeptBack, IsNoted, IsPaused};
+ghost use Rattle.mux_edge.specs.Recorded.{SocketsStay};
 ghost use Rattle.mux_edge.specs.StreamTable.{Touches};
-ghost use Rattle.mux_edge.specs.Ready.{IsFull};
+ghost use Rattle.mux_edge.specs.Ready.{IsReadyFull};
 
 use super::StreamTable;
 use super::ready::OwnListener;
 use crate::lookups::Lookups;
+use crate::socket::{TcpSocket, UnixSocket};
 use crate::stream::Stream;
-use mio::net::{TcpListener, TcpStream};
+use mio::net::TcpListener;
 use mio::{Interest, Token};
 use mux_outside::Turn;
 use std::alloc::AllocError;
@@ -17,7 +19,7 @@ use std::io;
 use std::io::ErrorKind;
 use std::net::{Net, SocketAddr};
 
-impl StreamTable {
+impl<U: UnixSocket, T: TcpSocket> StreamTable<U, T> {
     /// Listens at an address, with a listener of this number.
     pub fn listen<N: Net>(&mut self, rt: &N, number: u64, address: SocketAddr) -> io::Result<()>
         ensures there { OnOk result (IsSome (get nat_eq self.new.own_listeners number)) }
@@ -42,8 +44,9 @@ impl StreamTable {
         ensures waits { OnOk result (IsBlocked number self.new.entries) }
         ensures rest { Touches number self.old self.new }
     {
+        self.make_place(number)?;
         let stream = Stream::connect(rt, address)?;
-        self.add(number, stream, true)
+        self.put(number, stream, true)
     }
 
     // Looks whether a connection is made. What may be read of it is noted then. Where it isn't
@@ -59,11 +62,17 @@ impl StreamTable {
         ensures connected { result ≡ Some (Turn.Writable number)
             → IsConnected number self.new.entries }
         ensures noted { result ≡ Some (Turn.Writable number) → IsAwaited number self.old.entries
-            → IsNoted number self.new.entries ⊎ IsFull self.old.ready }
+            → IsNoted number self.new.entries ⊎ IsReadyFull self.old.ready }
+        ensures sockets { IsConnected number self.old.entries
+            → SocketsStay self.old.entries self.new.entries }
+        ensures outbox { self.new.outbox ≡ self.old.outbox }
         ensures rest { Touches number self.old self.new }
     {
         let entry = self.entries.get_mut(&number)?;
         entry.writes = false;
+        if !entry.connecting {
+            return None;
+        }
         let mut made = entry.stream.is_made();
         if made.is_err() || entry.stream.is_begun() {
             made = lookups
@@ -76,7 +85,7 @@ impl StreamTable {
     }
 }
 
-impl StreamTable {
+impl<U: UnixSocket, T: TcpSocket> StreamTable<U, T> {
     /// Drops a listener.
     pub fn unlisten(&mut self, number: u64)
         ensures gone { get nat_eq self.new.own_listeners number ≡ None }
@@ -103,33 +112,34 @@ impl StreamTable {
     pub(super) fn join_at(&mut self, listener: u64, number: u64) -> Option<Turn>
         ensures turn { IfSome result (λ turn. turn ≡ Turn.Joined listener number) }
         ensures there { OnSome result (HasEntry number self.new.entries) }
+        ensures not_taken { IsNone result → EntriesStay self.old.entries self.new.entries }
+        ensures outbox { self.new.outbox ≡ self.old.outbox }
         ensures rest { Touches number self.old self.new }
     {
         let own_listener = self.own_listeners.get_mut(&listener)?;
         own_listener.joins = false;
-        match own_listener.listener.accept() {
-            Ok((stream, _)) => self.take_in(listener, number, stream),
-            Err(e) => {
-                self.not_joined(listener, &e);
-                None
-            }
-        }
-    }
-
-    // Takes in what was accepted.
-    fn take_in(&mut self, listener: u64, number: u64, stream: TcpStream) -> Option<Turn>
-        ensures turn { IfSome result (λ turn. turn ≡ Turn.Joined listener number) }
-        ensures there { OnSome result (HasEntry number self.new.entries) }
-        ensures rest { Touches number self.old self.new }
-    {
-        let _ = stream.set_nodelay(true);
-        if let Err(e) = self.add(number, Stream::Tcp(stream), false) {
+        if let Err(e) = self.accept_at(listener, number) {
             self.not_joined(listener, &e);
             return None;
         }
         // More may wait.
         self.join_again(listener);
         Some(Turn::Joined(listener, number))
+    }
+
+    // Accepts a socket at a listener, once it has a place. Without one it waits there.
+    fn accept_at(&mut self, listener: u64, number: u64) -> io::Result<()>
+        ensures there { OnOk result (HasEntry number self.new.entries) }
+        ensures not_taken { OnErr result (EntriesStay self.old.entries self.new.entries) }
+        ensures outbox { self.new.outbox ≡ self.old.outbox }
+        ensures rest { Touches number self.old self.new }
+    {
+        self.make_place(number)?;
+        let Some(own_listener) = self.own_listeners.get(&listener) else {
+            return Err(io::Error::from(ErrorKind::NotFound));
+        };
+        let stream = T::accept(&own_listener.listener)?;
+        self.put(number, Stream::Tcp(stream), false)
     }
 
     // A socket that could not be accepted is no fault of the run.
@@ -174,7 +184,7 @@ impl StreamTable {
         ensures resumed { HasEntry number self.old.entries
             → IsPaused false number self.new.entries }
         ensures noted { IsKeptBack number self.old.entries
-            → IsNoted number self.new.entries ⊎ IsFull self.old.ready }
+            → IsNoted number self.new.entries ⊎ IsReadyFull self.old.ready }
         ensures rest { Touches number self.old self.new }
     {
         if let Some(entry) = self.entries.get_mut(&number) {
@@ -183,7 +193,7 @@ impl StreamTable {
         }
     }
 
-    /// Says the end of a stream to the other side.
+    /// Sends the end of a stream to the other side.
     pub fn finish(&mut self, number: u64)
         ensures finished { HasEntry number self.old.entries
             → IsFinished number self.new.entries }

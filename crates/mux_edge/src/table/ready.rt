@@ -1,8 +1,9 @@
 //! What is ready, in the order in which it became so.
 ghost use Rattle.std.specs.Prelude.{◌≡◌, ◌≤◌, ◌+◌, ◌-◌, ◌*◌, ◌^◌, ◌||◌, not, ◌++◌, ◌∷◌, [], false, true, filter, min, IfSome, IsNone, IsSomeAnd, Some, OnErr, OnOk, slice_get};
 ghost use Rattle.std.specs.VecDeque.{deque_capacity, deque_len};
-ghost use Rattle.mux_edge.specs.Ready.{IsFull, IsLookedFor, is_accept, is_join, is_of, is_round_over};
+ghost use Rattle.mux_edge.specs.Ready.{IsReadyFull, IsLookedFor, is_ready_accept, is_join, is_of, is_round_over};
 
+use crate::socket::{TcpSocket, UnixSocket};
 use crate::stream::Stream;
 use mio::net::TcpListener;
 use mux_outside::{Turn, Want, is_own};
@@ -12,8 +13,8 @@ use std::io;
 
 /// A stream with what is known of it.
 #[derive(Drop)]
-pub struct StreamEntry {
-    pub stream: Stream,
+pub struct StreamEntry<U: UnixSocket, T: TcpSocket> {
+    pub stream: Stream<U, T>,
     /// a read may stop short of what is there
     pub stops_short: bool,
     /// descriptors may be passed beside its bytes, at which a read stops short
@@ -67,12 +68,15 @@ pub struct ReadyQueue {
     again: bool,
 }
 
-impl StreamEntry {
+impl<U: UnixSocket, T: TcpSocket> StreamEntry<U, T> {
+    ghost use Rattle.std.specs.Prelude.{if◌then◌else◌};
     ghost use Rattle.mux_edge.specs.Connections.{met_turn};
+    ghost use Rattle.mux_edge.specs.Recorded.{ended_once, of_socket};
     ghost use Rattle.mux_edge.specs.Entries.{is_silent};
 
     /// A stream, whose connection is made or is being made.
-    pub fn new(stream: Stream, passes: bool, connecting: bool) -> StreamEntry
+    pub fn new(stream: Stream<U, T>, passes: bool, connecting: bool) -> StreamEntry<U, T>
+        ensures stream { result.stream ≡ stream }
         ensures passes { result.passes ≡ passes }
         ensures connecting { result.connecting ≡ connecting }
         ensures blocked { result.blocked ≡ connecting }
@@ -100,9 +104,17 @@ impl StreamEntry {
         self.paused || (self.connecting || self.ended)
     }
 
-    /// Says the end to the other side, as soon as its connection is made.
+    /// Sends the end to the other side, as soon as its connection is made.
     pub fn finish(&mut self)
-        ensures { self.new ≡ record self.old { finished = true } }
+        ensures rest { self.new
+            ≡ record self.old { finished = true; stream = self.new.stream } }
+        ensures ended { of_socket U.ended T.ended self.new.stream
+            ≡ (if self.old.connecting then of_socket U.ended T.ended self.old.stream
+            else ended_once (of_socket U.ended T.ended self.old.stream)) }
+        ensures unread { of_socket U.remaining T.remaining self.new.stream
+            ≡ of_socket U.remaining T.remaining self.old.stream }
+        ensures unwritten { of_socket U.contents T.contents self.new.stream
+            ≡ of_socket U.contents T.contents self.old.stream }
     {
         self.finished = true;
         if !self.connecting {
@@ -114,7 +126,11 @@ impl StreamEntry {
     pub fn meet(&mut self, number: u64, made: &io::Result<bool>) -> Option<Turn>
         ensures turn { result ≡ met_turn made.now number }
         ensures writable { result ≡ Some (Turn.Writable number)
-            → self.new ≡ record self.old { connecting = false; blocked = false } }
+            → self.new ≡ record self.old {
+              connecting = false;
+              blocked = false;
+              stream = self.new.stream;
+            } }
         ensures failed { result ≡ Some (Turn.Failed number)
             → self.new ≡ record self.old { ended = true } }
         ensures not_yet { IsNone result → self.new ≡ self.old }
@@ -134,7 +150,14 @@ impl StreamEntry {
 
     // Its connection is made.
     fn made(&mut self)
-        ensures { self.new ≡ record self.old { connecting = false; blocked = false } }
+        ensures rest { self.new ≡ record self.old {
+          connecting = false;
+          blocked = false;
+          stream = self.new.stream;
+        } }
+        ensures ended { of_socket U.ended T.ended self.new.stream
+            ≡ (if self.old.finished then ended_once (of_socket U.ended T.ended self.old.stream)
+            else of_socket U.ended T.ended self.old.stream) }
     {
         self.connecting = false;
         self.blocked = false;
@@ -168,8 +191,8 @@ fn is_of(number: u64, ready: Ready) -> bool
 }
 
 // Whether this is of clients.
-fn is_accept(ready: Ready) -> bool
-    ensures { result ≡ is_accept ready }
+fn is_ready_accept(ready: Ready) -> bool
+    ensures { result ≡ is_ready_accept ready }
 {
     matches!(ready, Ready::Accept)
 }
@@ -216,7 +239,7 @@ impl ReadyQueue {
         ensures queued { OnOk result (self.old.accepts ≡ false
             → self.new.items.items ≡ self.old.items.items ++ Ready.Accept ∷ []) }
         ensures once { self.old.accepts ≡ true → self.new ≡ self.old }
-        ensures full { OnErr result (IsFull self.old) }
+        ensures full { OnErr result (IsReadyFull self.old) }
     {
         if !self.accepts {
             self.items.push_back(Ready::Accept)?;
@@ -236,7 +259,7 @@ impl ReadyQueue {
         ensures queued { OnOk result (own_listener.old.joins ≡ false
             → self.new.items.items ≡ self.old.items.items ++ Ready.Join number ∷ []) }
         ensures once { own_listener.old.joins ≡ true → self.new ≡ self.old }
-        ensures full { OnErr result (IsFull self.old) }
+        ensures full { OnErr result (IsReadyFull self.old) }
     {
         if !own_listener.joins {
             self.items.push_back(Ready::Join(number))?;
@@ -246,12 +269,16 @@ impl ReadyQueue {
     }
 
     /// Notes that a stream may be read, or that it may be once it isn't silent any more.
-    pub fn note_bytes(&mut self, number: u64, entry: &mut StreamEntry) -> Result<(), AllocError>
+    pub fn note_bytes<U: UnixSocket, T: TcpSocket>(
+        &mut self,
+        number: u64,
+        entry: &mut StreamEntry<U, T>,
+    ) -> Result<(), AllocError>
         ensures entry { entry.new
             ≡ record entry.old { reads = entry.new.reads; held = entry.new.held } }
         ensures held { is_silent entry.old ≡ true → entry.new.held ≡ true }
         ensures noted { OnOk result (is_silent entry.old ≡ false → entry.new.reads ≡ true) }
-        ensures full { OnErr result (IsFull self.old) }
+        ensures full { OnErr result (IsReadyFull self.old) }
     {
         if entry.is_silent() {
             entry.held = true;
@@ -261,12 +288,16 @@ impl ReadyQueue {
     }
 
     /// Notes that a stream may be read of which that was kept back, where it isn't silent any more.
-    pub fn note_held(&mut self, number: u64, entry: &mut StreamEntry) -> Result<(), AllocError>
+    pub fn note_held<U: UnixSocket, T: TcpSocket>(
+        &mut self,
+        number: u64,
+        entry: &mut StreamEntry<U, T>,
+    ) -> Result<(), AllocError>
         ensures entry { entry.new
             ≡ record entry.old { reads = entry.new.reads; held = entry.new.held } }
         ensures noted { OnOk result (is_silent entry.old ≡ false → entry.old.held ≡ true
             → entry.new.reads ≡ true) }
-        ensures full { OnErr result (IsFull self.old) }
+        ensures full { OnErr result (IsReadyFull self.old) }
     {
         if entry.held && !entry.is_silent() {
             self.note_read(number, entry)?;
@@ -276,13 +307,17 @@ impl ReadyQueue {
     }
 
     /// Notes that a stream may be read.
-    pub fn note_read(&mut self, number: u64, entry: &mut StreamEntry) -> Result<(), AllocError>
+    pub fn note_read<U: UnixSocket, T: TcpSocket>(
+        &mut self,
+        number: u64,
+        entry: &mut StreamEntry<U, T>,
+    ) -> Result<(), AllocError>
         ensures entry { entry.new ≡ record entry.old { reads = entry.new.reads } }
         ensures noted { OnOk result (entry.new.reads ≡ true) }
         ensures queued { OnOk result (entry.old.reads ≡ false
             → self.new.items.items ≡ self.old.items.items ++ Ready.Read number ∷ []) }
         ensures once { entry.old.reads ≡ true → self.new ≡ self.old }
-        ensures full { OnErr result (IsFull self.old) }
+        ensures full { OnErr result (IsReadyFull self.old) }
     {
         if !entry.reads {
             self.items.push_back(Ready::Read(number))?;
@@ -292,13 +327,17 @@ impl ReadyQueue {
     }
 
     /// Notes that a stream can be written to.
-    pub fn note_write(&mut self, number: u64, entry: &mut StreamEntry) -> Result<(), AllocError>
+    pub fn note_write<U: UnixSocket, T: TcpSocket>(
+        &mut self,
+        number: u64,
+        entry: &mut StreamEntry<U, T>,
+    ) -> Result<(), AllocError>
         ensures entry { entry.new ≡ record entry.old { writes = entry.new.writes } }
         ensures noted { OnOk result (entry.new.writes ≡ true) }
         ensures queued { OnOk result (entry.old.writes ≡ false
             → self.new.items.items ≡ self.old.items.items ++ Ready.Write number ∷ []) }
         ensures once { entry.old.writes ≡ true → self.new ≡ self.old }
-        ensures full { OnErr result (IsFull self.old) }
+        ensures full { OnErr result (IsReadyFull self.old) }
     {
         if !entry.writes {
             self.items.push_back(Ready::Write(number))?;
@@ -308,13 +347,17 @@ impl ReadyQueue {
     }
 
     /// Notes that a connection may be made.
-    pub fn note_connect(&mut self, number: u64, entry: &mut StreamEntry) -> Result<(), AllocError>
+    pub fn note_connect<U: UnixSocket, T: TcpSocket>(
+        &mut self,
+        number: u64,
+        entry: &mut StreamEntry<U, T>,
+    ) -> Result<(), AllocError>
         ensures entry { entry.new ≡ record entry.old { writes = entry.new.writes } }
         ensures noted { OnOk result (entry.new.writes ≡ true) }
         ensures queued { OnOk result (entry.old.writes ≡ false
             → self.new.items.items ≡ self.old.items.items ++ Ready.Connect number ∷ []) }
         ensures once { entry.old.writes ≡ true → self.new ≡ self.old }
-        ensures full { OnErr result (IsFull self.old) }
+        ensures full { OnErr result (IsReadyFull self.old) }
     {
         if !entry.writes {
             self.items.push_back(Ready::Connect(number))?;
@@ -326,16 +369,20 @@ impl ReadyQueue {
     /// Forgets the clients that may wait.
     pub fn drop_accept(&mut self)
         ensures items { self.new.items.items
-            ≡ filter (λ ready. not (is_accept ready)) self.old.items.items }
+            ≡ filter (λ ready. not (is_ready_accept ready)) self.old.items.items }
         ensures rest { self.new
             ≡ record self.old { items = self.new.items; accepts = false } }
     {
-        self.items.retain(|r| !is_accept(*r));
+        self.items.retain(|r| !is_ready_accept(*r));
         self.accepts = false;
     }
 
     /// Forgets a stream.
-    pub fn drop_stream(&mut self, number: u64, entry: &StreamEntry)
+    pub fn drop_stream<U: UnixSocket, T: TcpSocket>(
+        &mut self,
+        number: u64,
+        entry: &StreamEntry<U, T>,
+    )
         ensures gone { (entry.now.reads || entry.now.writes) ≡ true → self.new.items.items
             ≡ filter (λ ready. not (is_of number ready)) self.old.items.items }
         ensures kept { (entry.now.reads || entry.now.writes) ≡ false

@@ -7,7 +7,7 @@ ghost use Rattle.mux_history.specs.declared.why.Why.TheVariants as why;
 ghost use Rattle.mux_history.specs.declared.ended.Ended.TheVariants as ended;
 ghost use Rattle.mux_history.specs.Rows.{losses};
 ghost use Rattle.mux_history.specs.Policy.{any_policy};
-ghost use Rattle.mux_history.specs.Solo.{end_of};
+ghost use Rattle.mux_history.specs.Solo.{run_end_of};
 ghost use Rattle.mux_history.specs.Worked.{hex, run, run_of, under, recorded, hello, two_alive_checks, another_version, session_with_descriptors, terminate, alive_without_id, unknown_types, forward_asks};
 
 /// Two clients ask whether the master lives, a byte of each in turn.
@@ -16,7 +16,7 @@ pub fn each_client_is_answered_its_own_alive_check()
         ≡ hello ++ hex (codes "0000000c 80000005 00000007 0000002a") }
     ensures second { recorded 2 (run two_alive_checks)
         ≡ hello ++ hex (codes "0000000c 80000005 00000007 0000002a") }
-    ensures end { end_of (run two_alive_checks) ≡ Some ended.ServerEnd }
+    ensures end { run_end_of (run two_alive_checks) ≡ Some ended.ServerEnd }
 {}
 
 /// A client that speaks version 3 is dropped, and another goes on.
@@ -38,7 +38,7 @@ pub fn a_session_with_descriptors_is_refused()
 /// A client ends the run, and nothing after that is read.
 pub fn a_client_may_end_the_run()
     ensures down { recorded 1 (run terminate) ≡ hello ++ hex (codes "00000008 80000001 00000003") }
-    ensures end { end_of (run terminate) ≡ Some (ended.Terminated 1 3) }
+    ensures end { run_end_of (run terminate) ≡ Some (ended.Terminated 1 3) }
 {}
 
 /// A control message that is cut short drops its client.

@@ -4,7 +4,7 @@ ghost use Rattle.std.specs.Prelude.{◌≡◌, [], ◌∷◌, ◌++◌, codes, S
 ghost use Rattle.mux_history.specs.declared.broke.Break.TheVariants as broke;
 ghost use Rattle.mux_history.specs.declared.ended.Ended.TheVariants as ended;
 ghost use Rattle.mux_history.specs.Rows.{losses};
-ghost use Rattle.mux_history.specs.Solo.{end_of};
+ghost use Rattle.mux_history.specs.Solo.{run_end_of};
 ghost use Rattle.mux_history.specs.Worked.{hex, run, run_of, under, sent, recorded_in_proxy};
 ghost use Rattle.mux_history.specs.WorkedForwards.{asks_port, bound_to, success, failure, cancels, cancels_at_once, connects_to, two_ports, connected, connected_twice, port_8080_only, one_of_two_ports, no_more_sessions, cancelled_twice, cancel_refused_late, recorded_too_late, replies_to_nothing, short_port};
 
@@ -24,7 +24,7 @@ pub fn a_forwarded_open_reaches_its_client()
 
 /// The server may not use a number of its own twice.
 pub fn a_live_number_of_the_server_is_not_taken_again()
-    ensures { end_of (run connected_twice) ≡ Some (ended.Broke 4 (broke.NumberInUse 9)) }
+    ensures { run_end_of (run connected_twice) ≡ Some (ended.Broke 4 (broke.NumberInUse 9)) }
 {}
 
 /// A refusal waits until all earlier requests are answered.
@@ -63,6 +63,6 @@ pub fn a_port_of_a_lost_client_is_given_back()
 
 /// A reply to nothing, and a success without the port that was asked for, break the protocol.
 pub fn a_wrong_reply_ends_the_run()
-    ensures nothing { end_of (run replies_to_nothing) ≡ Some (ended.Broke 1 broke.NoAsker) }
-    ensures short { end_of (run short_port) ≡ Some (ended.Broke 1 (broke.BadReply 0)) }
+    ensures nothing { run_end_of (run replies_to_nothing) ≡ Some (ended.Broke 1 broke.NoAsker) }
+    ensures short { run_end_of (run short_port) ≡ Some (ended.Broke 1 (broke.BadReply 0)) }
 {}

@@ -7,7 +7,7 @@ ghost use Rattle.mux_history.specs.declared.why.Why.TheVariants as why;
 ghost use Rattle.mux_history.specs.declared.broke.Break.TheVariants as broke;
 ghost use Rattle.mux_history.specs.declared.ended.Ended.TheVariants as ended;
 ghost use Rattle.mux_history.specs.Rows.{losses};
-ghost use Rattle.mux_history.specs.Solo.{end_of};
+ghost use Rattle.mux_history.specs.Solo.{run_end_of};
 ghost use Rattle.mux_history.specs.Worked.{hex, run, run_of, under, sent, recorded, recorded_in_proxy, greets, hello};
 ghost use Rattle.mux_history.specs.WorkedProxy.{session, two_sessions, sent_after_two, confirmed, past_window, overgrown_down, overgrown_up, data_to_nobody, data_too_early, again_setting, foreign_data, database_only, no_session, to_database, opens_directly, opens_session_too, opens_display, sends_at_once, server_sends, enters_in_pieces, cut_short, server_fails};
 
@@ -45,18 +45,18 @@ pub fn no_window_grows_past_its_type()
         ≡ (2, Some (why.Channel 5 (breach.Overflow 4294967295 1))) ∷ [] }
     ensures sent { sent_after_two (run overgrown_down)
         ≡ hex (codes "0000000a 00 5d 00000005 ffdfffff 00000006 00 61 00000005") }
-    ensures up { end_of (run overgrown_up)
+    ensures up { run_end_of (run overgrown_up)
         ≡ Some (ended.Broke 3 (broke.Channel 1 (breach.Overflow 4294967295 1))) }
 {}
 
-/// A number that nobody holds is no channel; one that is given again isn't open before it is
+/// A number that no client holds is no channel; one that is given again isn't open before it is
 /// confirmed.
 pub fn a_closed_channel_takes_nothing()
-    ensures nobody { end_of (run data_to_nobody) ≡ Some (ended.Broke 3 (broke.NoChannel 1)) }
+    ensures nobody { run_end_of (run data_to_nobody) ≡ Some (ended.Broke 3 (broke.NoChannel 1)) }
     ensures again { sent_after_two (run_of again_setting data_too_early)
         ≡ hex (codes "00000006 00 61 00000005") ++ (hex (codes "00000019 00 5a 00000007")
         ++ (codes "session" ++ hex (codes "00000001 00200000 00008000"))) }
-    ensures unconfirmed { end_of (run_of again_setting data_too_early)
+    ensures unconfirmed { run_end_of (run_of again_setting data_too_early)
         ≡ Some (ended.Broke 3 (broke.Channel 1 breach.NotOpen)) }
 {}
 
@@ -76,8 +76,8 @@ pub fn a_direct_channel_needs_its_permission()
     ensures up { sent (run_of (under database_only 0 []) opens_directly) ≡ to_database 0 }
 {}
 
-/// A session is started where the policy permits sessions, and refused to the client elsewhere; what
-/// else is permitted is opened all the same.
+/// A session is started where the policy permits sessions, and refused to the client elsewhere;
+/// what else is permitted is opened all the same.
 pub fn a_session_needs_its_permission()
     ensures down { recorded_in_proxy 1 (run_of (under no_session 0 []) opens_session_too)
         ≡ hex (codes "0000001f 00 5c 00000003 00000001 0000000d") ++ (codes "not permitted"
@@ -108,12 +108,12 @@ pub fn a_bad_frame_drops_its_client()
 
 /// The same of the server ends the run.
 pub fn a_bad_frame_of_the_server_ends_the_run()
-    ensures long { end_of (run (server_sends (hex (codes "00040001"))))
+    ensures long { run_end_of (run (server_sends (hex (codes "00040001"))))
         ≡ Some (ended.Broke 1 (broke.Frame (bad.Long 262145))) }
-    ensures short { end_of (run (server_sends (hex (codes "00000001"))))
+    ensures short { run_end_of (run (server_sends (hex (codes "00000001"))))
         ≡ Some (ended.Broke 1 (broke.Frame (bad.Short 1))) }
-    ensures padding { end_of (run (server_sends (hex (codes "00000002 01"))))
+    ensures padding { run_end_of (run (server_sends (hex (codes "00000002 01"))))
         ≡ Some (ended.Broke 1 (broke.Frame (bad.Padding 1))) }
-    ensures cut { end_of (run cut_short) ≡ Some (ended.Broke 1 (broke.Cut 5)) }
-    ensures failed { end_of (run server_fails) ≡ Some ended.ServerFailed }
+    ensures cut { run_end_of (run cut_short) ≡ Some (ended.Broke 1 (broke.Cut 5)) }
+    ensures failed { run_end_of (run server_fails) ≡ Some ended.ServerFailed }
 {}

@@ -1,6 +1,6 @@
 //! What an engine shows, and what is removed from it.
 
-ghost use Rattle.std.specs.Prelude.{◌≡◌, ◌≤◌, ◌++◌, [], length, filter, List, ℕ, false, None};
+ghost use Rattle.std.specs.Prelude.{◌≡◌, ◌≤◌, ◌++◌, [], length, filter, List, ℕ, Bool, false, None};
 ghost use Rattle.ssh_fields.specs.Fields.{AreBytes};
 ghost use Rattle.mux_outside.specs.Streams.{among};
 ghost use Rattle.mux_outside.specs.declared.mark.Mark.{Mark as TheMark};
@@ -13,7 +13,7 @@ ghost use Rattle.mux_history.specs.Promises.{listens, has_output};
 ghost use Rattle.mux_history.specs.Journal.{IsLawful};
 ghost use Rattle.mux_bounds.specs.Bounds.{longest_rest};
 ghost use Rattle.mux_state.specs.Bounds.{QueueShort};
-ghost use Rattle.mux_state.specs.Stands.{Closes, GoesAlone, IsFirst, Stands, log, not_closed};
+ghost use Rattle.mux_state.specs.Stands.{Closes, GoesAlone, IsFirstLost, Stands, log, not_closed};
 ghost use Rattle.mux_state.specs.State.{closed_by, first_of, queue_in, rest_in, taken, waiting_in};
 
 use super::Engine;
@@ -54,8 +54,8 @@ impl Engine {
     pub fn took(&mut self, stream: u64, n: usize)
         requires { n ≤ length (queue_in self.old stream) }
         ensures exact { self.new ≡ taken self.old stream n }
-        ensures stands { (bytes : List ℕ) → length bytes ≡ n
-            → GoesAlone self.old self.new (Takes stream bytes) }
+        ensures stands { (bytes : List ℕ) (accepts : Bool) → length bytes ≡ n
+            → GoesAlone self.old self.new (Takes stream bytes accepts) }
     {
         if take(&mut self.up, &mut self.clients, stream, n) {
             self.waiting.remove(stream);
@@ -139,7 +139,7 @@ impl Engine {
 
     /// The stream of the client that `closing` shows was closed: nothing waits for it any more.
     pub fn closed(&mut self, client: u64)
-        requires { IsFirst client self.old.leaving }
+        requires { IsFirstLost client self.old.leaving }
         ensures exact { self.new ≡ closed_by self.old client }
         ensures stands { Closes self.old self.new client }
     {

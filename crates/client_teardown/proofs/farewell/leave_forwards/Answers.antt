@@ -1,6 +1,6 @@
 use Rattle.std.proofs.Common.{◌≡◌, ◌++◌, Bool, length, refl, ap, sym, ◌∙◌, arith}
 use Rattle.conn_messages.specs.Keys.{own_key_of}
-use Rattle.forward_rules.specs.Step.{without_client}
+use Rattle.forward_rules.specs.Step.{forwards_without_client}
 use Rattle.forward_rules.proofs.Taken.{taking-others}
 use Rattle.ssh_grammar.specs.Messages.{Key}
 use Rattle.ssh_grammar.specs.SpellMessage.{cancel_forward}
@@ -37,7 +37,7 @@ loop-preserved c =
     ] in
     record {
       sent = taking-step k fs gs t u v c.in-Some.ensures.exact c.take_of.ensures.step done.sends ∙ before.sent;
-      others = ap (without_client k) c.take_of.ensures.step ∙ (taking-others k fs ∙ before.others);
+      others = ap (forwards_without_client k) c.take_of.ensures.step ∙ (taking-others k fs ∙ before.others);
       remaining = omega (arith, c.in-Some.ensures.fewer, before.remaining);
       spare = omega (arith, before.spare, done.spare);
     }

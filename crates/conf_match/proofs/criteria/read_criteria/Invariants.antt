@@ -1,6 +1,6 @@
 use Rattle.std.proofs.Common.{◌≡◌, ◌-◌, ◌≤◌, length, drop}
 use Rattle.conf_rules.specs.Criteria.{criteria_from, read_criteria}
-use Rattle.conf_match.specs.Place.{onto}
+use Rattle.conf_match.specs.CriterionPlace.{onto}
 use Rattle.conf_match.proofs.criteria.read_criteria.Given as goal
 
 abbrev pub invariant-loop-place : goal.invariant-loop-place

@@ -1,12 +1,12 @@
 use Rattle.std.proofs.Common.{◌≡◌, ◌+◌, length}
 use Rattle.conf_rules.specs.Patterns.{some_suffix}
-use Rattle.conf_match.specs.Pieces.{takes_name, Fits}
+use Rattle.conf_match.specs.Pieces.{takes_name, PatternFits}
 use Rattle.conf_match.proofs.stars.some_suffix.Given as goal
 
 abbrev pub invariant-loop-ts : goal.invariant-loop-ts
 invariant-loop-ts l = record {
   here : some_suffix (takes_name l.syntax l.p) l.t ≡ some_suffix (takes_name l.syntax l.pattern) l.name;
-  fits : Fits l.syntax l.p;
+  fits : PatternFits l.syntax l.p;
 }
 
 abbrev pub decreases-loop-ts : goal.decreases-loop-ts

@@ -1,5 +1,5 @@
 use Rattle.std.proofs.Common.{◌≡◌, ◌≤◌, ℕ, true, drop, length}
-use Rattle.conf_match.specs.Pieces.{takes_name, Fits}
+use Rattle.conf_match.specs.Pieces.{takes_name, PatternFits}
 use Rattle.conf_match.proofs.stars.to_star.Given as goal
 
 abbrev pub invariant-loop-piece : goal.invariant-loop-piece
@@ -8,7 +8,7 @@ invariant-loop-piece l = record {
   further : (k : ℕ) → takes_name l.syntax l.pattern (drop k l.name) ≡ true → takes_name l.syntax l.p (drop k l.t) ≡ true;
   shorter : length l.p ≤ length l.pattern;
   no_longer : length l.t ≤ length l.name;
-  fits : Fits l.syntax l.p;
+  fits : PatternFits l.syntax l.p;
 }
 
 abbrev pub decreases-loop-piece : goal.decreases-loop-piece

@@ -1,6 +1,6 @@
 use Rattle.std.proofs.Common.{◌≡◌, drop}
 use Rattle.conf_tokens.specs.Seen.{seen}
-use Rattle.conf_output.specs.Puts.{onto}
+use Rattle.conf_output.specs.PutsListing.{onto}
 use Rattle.conf_output.specs.Shown.{lines_over}
 use Rattle.conf_output.proofs.keys.put_keys.Given as goal
 

@@ -5,7 +5,7 @@ use Rattle.conf_rules.specs.declared.asked.Asked.{Asked}
 use Rattle.conf_rules.specs.Recorded.{Facts}
 use Rattle.conf_reader.specs.declared.line.ConfLine.{ConfLine}
 use Rattle.conf_reader.specs.Firsts.{firsts_of}
-use Rattle.conf_resolve.specs.Passes.{final_rows}
+use Rattle.conf_resolve.specs.PassGives.{final_rows}
 use Rattle.conf_resolve.proofs.CauseLemmas.{read-causes, run-causes}
 use Rattle.conf_resolve.proofs.DepthLemmas.{depth-low, given-bounded, more-bounded}
 use Rattle.conf_resolve.proofs.PassLemmas.{goes-on, line-fails, reader-fails, all-given, line-ran, reader-ran, all-ran, start-ran, none-given}

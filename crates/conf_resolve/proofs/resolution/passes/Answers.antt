@@ -3,7 +3,7 @@ use Rattle.std.proofs.lemmas.Result.{err_from_is_err_and}
 use Rattle.conf_rules.specs.Rows.{First, Second}
 use Rattle.conf_fold.specs.Begins.{asked_rows, asked_again, SecondBegins}
 use Rattle.conf_fold.specs.Results.{breaks_off}
-use Rattle.conf_resolve.specs.Passes.{first_rows}
+use Rattle.conf_resolve.specs.PassGives.{first_rows}
 use Rattle.conf_resolve.proofs.ResolveLemmas.{first-begins, first-refused, first-stands, behind-asked, once, second-begins, twice, asked-start, first-broken, first-ran, once-ran, second-start, twice-ran}
 use Rattle.conf_resolve.proofs.FaultLemmas as faults
 use Rattle.conf_resolve.proofs.ReadingLemmas as readings

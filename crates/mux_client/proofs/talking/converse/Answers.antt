@@ -2,7 +2,7 @@ use Rattle.std.specs.Prelude.{Err}
 use Rattle.std.proofs.Common.{◌≡◌, ◌∙◌, ◌+◌, [], refl, sym, ap, subst, ℕ, List, inl, arith}
 use Rattle.mux_client.specs.declared.stage.TalkStage.TheVariants.{Greets}
 use Rattle.mux_client.specs.declared.talked.Talked.TheVariants.{OutOfMemory}
-use Rattle.mux_client.specs.Client.{ClientState}
+use Rattle.mux_client.specs.Client.{TalkState}
 use Rattle.mux_client.specs.Counted.{AnsweredBy}
 use Rattle.mux_client.specs.Talking.{IsTalk, Talking, WholeTalk}
 use Rattle.mux_client.proofs.Counts.{answered-later, decided-answered, heard-offered, heard-then, well-none, well-on}
@@ -30,9 +30,9 @@ loop-init g c = let recorded = (g.W.Wire.state c.args.wire.now).seen.recorded in
   talking = shows-none (g.S.Sink.recorded c.args.out.now) c.args.out.now (λ shown. Talking c.args.asks.now recorded recorded c.new-held.result shown c.in_ok-client.client)
       (subst (λ (h : List ℕ). Talking c.args.asks.now recorded recorded h [] c.in_ok-client.client) (sym c.new-held.ensures)
       (subst (Talking c.args.asks.now recorded recorded [] []) (sym c.in_ok-client.ensures.new) (talk-starts c.args.asks.now recorded)));
-  between = record { settled = c.in_ok-client.ensures.settled; blocked = c.requires.joined.none_blocked ∙ sym c.new-held.ensures; is_held = inl c.new-held.ensures };
-  first = λ z. ap (λ (s : ClientState). s.stage) c.in_ok-client.ensures.new;
-  heard = inl (ap (λ (s : ClientState). s.stage) c.in_ok-client.ensures.new);
+  between = record { settled = c.in_ok-client.ensures.settled; blocked = c.requires.joined.none_blocked ∙ sym c.new-held.ensures; is_reply_held = inl c.new-held.ensures };
+  first = λ z. ap (λ (s : TalkState). s.stage) c.in_ok-client.ensures.new;
+  heard = inl (ap (λ (s : TalkState). s.stage) c.in_ok-client.ensures.new);
   calls = well-none (g.W.Wire.state c.args.wire.now).calls;
   cause = refl;
   sink = refl;

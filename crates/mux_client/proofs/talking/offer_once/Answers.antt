@@ -1,11 +1,11 @@
-use Rattle.std.proofs.Common.{◌∙◌, ◌++◌, ◌∷◌, [], ap, subst, sym, ℕ, List, take, Option}
+use Rattle.std.proofs.Common.{◌∙◌, ◌++◌, ◌∷◌, [], ap, subst, sym, ℕ, Bool, List, take, Option}
 use Rattle.mux_outside.specs.Seen.{Seen}
 use Rattle.std.specs.Option.{option_map}
 use Rattle.std.proofs.lemmas.List.{append-nil}
 use Rattle.mux_outside.specs.declared.mark.Mark.{Mark}
 use Rattle.mux_outside.specs.declared.mark.Mark.TheVariants.{Takes}
 use Rattle.mux_client.specs.declared.talked.Talked.TheVariants.{OutOfMemory, ServerFailed}
-use Rattle.mux_client.specs.Client.{ClientState, without_sent}
+use Rattle.mux_client.specs.Client.{TalkState, without_sent}
 use Rattle.mux_client.specs.Talking.{IsTalk, Talking}
 use Rattle.mux_client.proofs.TalkSteps.{talk-holds, talk-starved, talk-takes, talk-write-fails, want-of-memory}
 use Rattle.mux_client.proofs.JournalGrows.{recorded-none}
@@ -20,12 +20,13 @@ returns-in_err-push-in-Later-clause-talking g c asks start shown v =
 
 pub returns-in-Took-clause-talking : goal.returns-in-Took-clause-talking
 returns-in-Took-clause-talking g c asks start shown v =
-    let s : ClientState = c.args.client.now in
+    let s : TalkState = c.args.client.now in
     let recorded : Option (List Mark) = (g.W.Wire.state c.args.wire.now).seen.recorded in
+    let accepts : Bool = (g.W.Wire.state c.args.wire.now).seen.listens in
     subst (λ k. Talking asks start (g.W.Wire.state c.write.new.self).seen.recorded c.args.held.now shown k) (sym c.took.ensures.exact)
     (subst (λ (x : Seen). Talking asks start x.recorded c.args.held.now shown (without_sent c.in-Took.n s)) (sym (ap (λ (s : WireState). s.seen) c.in-Took.ensures.state))
-    (subst (λ (q : List ℕ). Talking asks start (option_map (λ l. l ++ Takes 0 (take c.in-Took.n q) ∷ []) recorded) c.args.held.now shown (without_sent c.in-Took.n s)) (sym c.front-bytes.ensures)
-    (talk-takes c.in-Took.n v)))
+    (subst (λ (q : List ℕ). Talking asks start (option_map (λ l. l ++ Takes 0 (take c.in-Took.n q) accepts ∷ []) recorded) c.args.held.now shown (without_sent c.in-Took.n s)) (sym c.front-bytes.ensures)
+    (talk-takes c.in-Took.n accepts v)))
 
 pub returns-in_ok-push-in-Later-clause-talking : goal.returns-in_ok-push-in-Later-clause-talking
 returns-in_ok-push-in-Later-clause-talking g c asks start shown v =

@@ -44,7 +44,7 @@ returns-in-Writable-clause-talking g c start shown v =
     let zero : c.in-Writable.stream ≡ 0 = is-zero c.in-Writable.stream _ c.requires.alone.streams c.in-Writable.ensures.turn.0 in
     shows-none (g.S.Sink.recorded c.args.out.now) c.args.out.now (λ more. Talking c.args.asks.now start (g.W.Wire.state c.wait.new.self).seen.recorded c.remove.new.self (shown ++ more) c.args.client.now)
     (subst (λ (h : List ℕ). Talking c.args.asks.now start (g.W.Wire.state c.wait.new.self).seen.recorded h (shown ++ []) c.args.client.now)
-    (sym (c.remove.ensures ∙ ap (λ n. without n c.args.held.now) zero ∙ without-held c.args.held.now c.requires.between.is_held))
+    (sym (c.remove.ensures ∙ ap (λ n. without n c.args.held.now) zero ∙ without-held c.args.held.now c.requires.between.is_reply_held))
     (still-talking (turn-frees (g.W.Wire.state c.args.wire.now).seen v c.requires.between.settled c.requires.offered c.requires.going (g.W.Wire.state c.wait.new.self).seen c.in-Writable.stream c.wait.new.into zero (ap (λ (s : WireState). s.seen) c.in-Writable.ensures.state))))
 
 pub returns-in-Failed-clause-talking : goal.returns-in-Failed-clause-talking

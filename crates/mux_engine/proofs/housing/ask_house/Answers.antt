@@ -53,7 +53,7 @@ returns-clause-serving g c =
     let e1 = c.reply_all.new.engine in
     let at1 : List ℕ = 0 ∷ without HOUSE (here e1) in
     runs-then c.next_order.result c.next_order.new.house (scene (g.W.Wire.state c.next_order.new.wire) c.next_order.new.lists e1) 1 (λ (more : Bool). cond more 1 0) (λ (more : Bool). at1) c.in_ok-reply_all.ensures.house.known.present
-    (replied g (goal.at.returns-clause-serving g c).In_ok-reply_all) (c.next_order.ensures.serving at1 e1)
+    (replied g (goal.at.returns-clause-serving g c).In_ok-reply_all) (c.next_order.ensures.serving at1 e1 c.in_ok-reply_all.ensures.on)
 
 pub returns-clause-together : goal.returns-clause-together
 returns-clause-together g c =

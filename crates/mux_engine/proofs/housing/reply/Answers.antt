@@ -24,7 +24,7 @@ returns-in_err-event-clause-serving g c held failed first calls before policy pi
     let H = g.H.Asks in
     on-err c.from_residual-in_err-event.result _ _ c.from_residual-in_err-event.ensures.0
     (subst (λ (x : Seen). Promised H.may (RestsOf H.state (H.state c.args.house.now).known.present first) before (H.state c.answer.new.self).recorded policy pid start x.recorded (given + 0)) (sym (ap (λ (x : WireState). x.seen) c.in_ok-note.ensures.state))
-    (no-turns-left (cut-answered (H.state c.args.house.now).known v c.in-Some.client c.in-Some.id c.in-Some.given c.requires.present c.in-Some.ensures.fits c.in-Some.ensures.gave.recorded)))
+    (no-turns-left (cut-answered (H.state c.args.house.now).known v c.in-Some.client c.in-Some.id c.in-Some.given c.requires.present c.requires.on c.in-Some.ensures.fits c.in-Some.ensures.gave.recorded)))
 
 pub returns-clause-serving : goal.returns-clause-serving
 returns-clause-serving g c held failed first calls before policy pid start given hands v =

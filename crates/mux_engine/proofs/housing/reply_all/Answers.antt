@@ -4,7 +4,7 @@ use Rattle.mux_outside.specs.House.{Known}
 use Rattle.mux_outside.specs.Streams.{without}
 use Rattle.mux_history.specs.declared.limits.TheConstants.{HOUSE}
 use Rattle.mux_state.specs.Events.{here}
-use Rattle.mux_engine.specs.Owned.{IsOffered}
+use Rattle.mux_engine.specs.Owned.{IsOwnOffered}
 use Rattle.mux_engine.specs.Serving.{scene, scene_of}
 use Rattle.mux_engine.specs.Sides.{AnsweredOr, Housed}
 use Rattle.mux_engine.proofs.Arms.{on-err}
@@ -34,7 +34,7 @@ handed g c = goes-then c.loop-wire.invariant.goes record {
 offered : (g : Over) (c : In_ok-own_rounds g) → Goes g.H.Asks.may g.H.Asks.state c.hand_over.new.house c.own_rounds.new.house (g.W.Wire.state c.hand_over.new.wire) (g.W.Wire.state c.own_rounds.new.wire) (g.W.Wire.faults c.hand_over.new.wire) (g.W.Wire.faults c.own_rounds.new.wire)
     (scene_of (g.W.Wire.state c.hand_over.new.wire) c.loop-wire.lists.held c.loop-wire.lists.failed c.hand_over.new.engine) (scene_of (g.W.Wire.state c.own_rounds.new.wire) c.own_rounds.new.held c.own_rounds.new.failed c.hand_over.new.engine) (0 ∷ without HOUSE (here c.hand_over.new.engine)) (0 ∷ without HOUSE (here c.hand_over.new.engine))
 offered g c = record {
-  ran = own-ran c.own_rounds.ensures.house.recorded c.in_ok-own_rounds.ensures.house.known c.in_ok-own_rounds.ensures.serving;
+  ran = own-ran c.own_rounds.ensures.house.recorded c.in_ok-own_rounds.ensures.house.known c.in_ok-own_rounds.ensures.serving c.in_ok-hand_over.ensures.silence;
   known = same-house _ _ c.in_ok-own_rounds.ensures.house.known;
   must = c.own_rounds.ensures.house.must;
   places = c.own_rounds.ensures.places;
@@ -62,7 +62,10 @@ pub loop-wire-init : goal.loop-wire-init
 loop-wire-init g c = record { goes = goes-none c.args.house.now (g.W.Wire.state c.args.wire.now) (g.W.Wire.faults c.args.wire.now) _ _; held_is = c.requires.ongoing.together.held_is; own = refl; on = c.requires.ongoing.on }
 
 pub hand_over-requires : goal.hand_over-requires
-hand_over-requires g c = record { ordering = c.loop-wire.invariant.goes.known.ordering ∙ c.requires.ongoing.together.housed.ordering }
+hand_over-requires g c = let now = c.loop-wire.invariant.goes in record {
+  ordering = now.known.ordering ∙ c.requires.ongoing.together.housed.ordering;
+  receives = (served-then now.known.present c.requires.ongoing.served now.ran).serving.receives;
+}
 
 pub own_rounds-requires : goal.own_rounds-requires
 own_rounds-requires g c = let H = g.H.Asks in let W = g.W.Wire in let now = handed g (goal.at.own_rounds-requires g c).In_ok-hand_over in record {
@@ -105,7 +108,7 @@ returns-then-not-branch g c =
       house = record { known = all.known; must = all.must };
       rests = record {
         answers = none.answers;
-        offered = λ t a. subst (λ (q : List ℕ). IsOffered q c.own_rounds.new.held c.own_rounds.new.failed t) (sym (none.queues t)) (c.in_ok-own_rounds.ensures.offered t a);
+        offered = λ t a. subst (λ (q : List ℕ). IsOwnOffered q c.own_rounds.new.held c.own_rounds.new.failed t) (sym (none.queues t)) (c.in_ok-own_rounds.ensures.offered t a);
       };
       places = all.places;
       held_is = c.in_ok-own_rounds.ensures.held_is ∙ sym c.reply.ensures.streams.blocked;
@@ -130,7 +133,7 @@ returns-in_err-hand_over g c = let r = c.from_residual.result in let is_err = c.
 
 pub returns-in_err-own_rounds : goal.returns-in_err-own_rounds
 returns-in_err-own_rounds g c = let r = c.from_residual-in_err-own_rounds.result in let is_err = c.from_residual-in_err-own_rounds.ensures.0 in let before = handed g (goal.at.returns-in_err-own_rounds g c).In_ok-hand_over in record {
-  serving = runs-cut r 0 (λ x. 0) (λ x. 0 ∷ without HOUSE (here c.hand_over.new.engine)) is_err (cut-then before.known.present before.ran (own-cut c.own_rounds.ensures.house.recorded c.in_err-own_rounds.ensures.serving)) (le_refl 0);
+  serving = runs-cut r 0 (λ x. 0) (λ x. 0 ∷ without HOUSE (here c.hand_over.new.engine)) is_err (cut-then before.known.present before.ran (own-cut c.own_rounds.ensures.house.recorded c.in_err-own_rounds.ensures.serving (goal.at.returns-in_err-own_rounds g c).In_ok-hand_over.in_ok-hand_over.ensures.silence)) (le_refl 0);
   house = record { known = on-err r _ _ is_err tt; must = c.own_rounds.ensures.house.must ∙ before.must };
   places = places-then _ _ _ before.places c.own_rounds.ensures.places;
   held_is = on-err r _ _ is_err tt;

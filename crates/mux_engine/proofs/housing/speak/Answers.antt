@@ -18,7 +18,7 @@ use Rattle.mux_engine.proofs.Noted.{seen-with}
 use Rattle.mux_engine.proofs.Spoken.{IsPiece, Said, asks-ends, cut-said, err-serves, hands-nothing, ok-serves, said-ends, said-applies, said-so, recorded-nothing}
 use Rattle.mux_engine.proofs.Wired.{idle-note, untouched-none, untouched-note, untouched-then}
 use Rattle.mux_engine.proofs.housing.speak.Given.{Over}
-use Rattle.mux_engine.proofs.housing.speak.Goals.{After-event_of_bytes-said, In_ok-note, In_ok-says}
+use Rattle.mux_engine.proofs.housing.speak.Goals.{After-event_of_bytes-said, In_ok-note_said, In_ok-says}
 use Rattle.mux_engine.proofs.housing.speak.Goals as goal
 
 pub returns-in_err-says-clause-serving : goal.returns-in_err-says-clause-serving
@@ -31,31 +31,27 @@ said : (g : Over) (c : In_ok-says g) → c.in_ok-says.field-0 ≡ true → Said 
 said g c more = let o = c.says.ensures in said-so c.says.result (g.H.Asks.state c.args.house.now) (g.H.Asks.state c.says.new.self) c.says.new.into (c.in_ok-says.was ∙ ap (λ (b : Bool). Ok b) more) o.gave.recorded c.in_ok-says.ensures.gave.known o.gave.stands o.fits
 
 -- it was noted, and is an event
-noted-so : (g : Over) (c : In_ok-note g) → (g.W.Wire.state c.note.new.self).seen ≡ seen-with (HouseSaid c.says.new.into ∷ []) (g.W.Wire.state c.args.wire.now).seen
-noted-so g c = ap (λ (x : WireState). x.seen) c.in_ok-note.ensures.state ∙ ap (λ (l : List ℕ). seen-with (HouseSaid l ∷ []) (g.W.Wire.state c.args.wire.now).seen) (c.in_ok-bytes.ensures ∙ c.as_bytes.ensures.bytes)
+noted-so : (g : Over) (c : In_ok-note_said g) → (g.W.Wire.state c.note_said.new.self).seen ≡ seen-with (HouseSaid c.says.new.into ∷ []) (g.W.Wire.state c.args.wire.now).seen
+noted-so g c = ap (λ (x : WireState). x.seen) c.in_ok-note_said.ensures.state ∙ ap (λ (l : List ℕ). seen-with (HouseSaid l ∷ []) (g.W.Wire.state c.args.wire.now).seen) c.as_bytes.ensures.bytes
 
 piece : (g : Over) (c : After-event_of_bytes-said g) → IsPiece c.event_of_bytes-said.result c.says.new.into
 piece g c = let o = c.event_of_bytes-said.ensures in subst (λ (l : List ℕ). IsPiece c.event_of_bytes-said.result l) c.as_bytes-2.ensures.bytes record { is = o.records; few = c.as_bytes-2.ensures.room; are = o.bytes }
 
-pub returns-in_err-bytes-clause-serving : goal.returns-in_err-bytes-clause-serving
-returns-in_err-bytes-clause-serving g c held failed first calls before policy pid start given hands v = on-err c.from_residual-in_err-bytes.result _ _ c.from_residual-in_err-bytes.ensures.0
-    (cut-said (said g (goal.at.returns-in_err-bytes-clause-serving g c).In_ok-says c.if-not-branch.false) v c.requires.on c.requires.present c.requires.room _ refl)
-
-pub returns-in_err-note-clause-serving : goal.returns-in_err-note-clause-serving
-returns-in_err-note-clause-serving g c held failed first calls before policy pid start given hands v = on-err c.from_residual-in_err-note.result _ _ c.from_residual-in_err-note.ensures.0
-    (cut-said (said g (goal.at.returns-in_err-note-clause-serving g c).In_ok-says c.if-not-branch.false) v c.requires.on c.requires.present c.requires.room _ (ap (λ (x : WireState). x.seen.recorded) c.in_err-note.ensures.state))
+pub returns-in_err-note_said-clause-serving : goal.returns-in_err-note_said-clause-serving
+returns-in_err-note_said-clause-serving g c held failed first calls before policy pid start given hands v = on-err c.from_residual-in_err-note_said.result _ _ c.from_residual-in_err-note_said.ensures.0
+    (cut-said (said g (goal.at.returns-in_err-note_said-clause-serving g c).In_ok-says c.if-not-branch.false) v c.requires.on c.requires.present c.requires.room _ (ap (λ (x : WireState). x.seen.recorded) c.in_err-note_said.ensures.state))
 
 pub returns-in_err-apply-clause-serving : goal.returns-in_err-apply-clause-serving
 returns-in_err-apply-clause-serving g c held failed first calls before policy pid start given hands v =
     let p = goal.at.returns-in_err-apply-clause-serving g c in
     on-err c.from_residual-in_err-apply.result _ _ c.from_residual-in_err-apply.ensures.0
-    (err-serves c.apply.result _ _ c.in_err-apply.was (said-applies (said g p.In_ok-says c.if-not-branch.false) v c.requires.on c.requires.present c.requires.room (piece g p.After-event_of_bytes-said) c.apply.result c.apply.new.engine c.apply.new.asks (g.H.Asks.state c.apply.new.house) _ (g.W.Wire.state c.apply.new.wire).seen (noted-so g p.In_ok-note) c.apply.ensures.applied))
+    (err-serves c.apply.result _ _ c.in_err-apply.was (said-applies (said g p.In_ok-says c.if-not-branch.false) v c.requires.on c.requires.present c.requires.room (piece g p.After-event_of_bytes-said) c.apply.result c.apply.new.engine c.apply.new.asks (g.H.Asks.state c.apply.new.house) _ (g.W.Wire.state c.apply.new.wire).seen (noted-so g p.In_ok-note_said) c.apply.ensures.applied))
 
 pub returns-clause-serving : goal.returns-clause-serving
 returns-clause-serving g c held failed first calls before policy pid start given hands v =
     let p = goal.at.returns-clause-serving g c in
     let d = said g p.In_ok-says c.if-not-branch.false in
-    let served = ok-serves c.apply.result _ _ c.in_ok-apply.was (said-applies d v c.requires.on c.requires.present c.requires.room (piece g p.After-event_of_bytes-said) c.apply.result c.apply.new.engine c.apply.new.asks (g.H.Asks.state c.apply.new.house) _ (g.W.Wire.state c.apply.new.wire).seen (noted-so g p.In_ok-note) c.apply.ensures.applied) in
+    let served = ok-serves c.apply.result _ _ c.in_ok-apply.was (said-applies d v c.requires.on c.requires.present c.requires.room (piece g p.After-event_of_bytes-said) c.apply.result c.apply.new.engine c.apply.new.asks (g.H.Asks.state c.apply.new.house) _ (g.W.Wire.state c.apply.new.wire).seen (noted-so g p.In_ok-note_said) c.apply.ensures.applied) in
     handed-more _ (calls_of c.apply.new.asks) (hands-then (g.H.Asks.state first).stands (g.H.Asks.state c.args.house.now).stands (g.H.Asks.state c.says.new.self).stands calls (calls_of (HouseSaid c.says.new.into ∷ [])) hands d.hands) c.in_ok-apply.ensures.handed served
 
 pub returns-clause-house : goal.returns-clause-house
@@ -84,16 +80,16 @@ returns-then-not-branch-clause-serving g c held failed first calls before policy
 
 -- ---- the wire
 
-pub returns-in_err-note-clause-streams : goal.returns-in_err-note-clause-streams
-returns-in_err-note-clause-streams g c = streams-note c.note.result (HouseSaid c.in_ok-bytes.bytes) _ _ (ap (λ (x : WireState). x.seen) c.note.ensures.state)
+pub returns-in_err-note_said-clause-streams : goal.returns-in_err-note_said-clause-streams
+returns-in_err-note_said-clause-streams g c = streams-note c.note_said.result (HouseSaid c.as_bytes.result.now) _ _ (ap (λ (x : WireState). x.seen) c.note_said.ensures.state)
 
 pub returns-in_err-apply-clause-streams : goal.returns-in_err-apply-clause-streams
 returns-in_err-apply-clause-streams g c =
-    streams-then _ _ _ (streams-note c.note.result (HouseSaid c.in_ok-bytes.bytes) _ _ (ap (λ (x : WireState). x.seen) c.note.ensures.state)) (applied-streams c.apply.result g.H.Asks.may c.event_of_bytes-said.result _ _ c.apply.new.asks _ _ _ _ _ _ c.apply.ensures.applied)
+    streams-then _ _ _ (streams-note c.note_said.result (HouseSaid c.as_bytes.result.now) _ _ (ap (λ (x : WireState). x.seen) c.note_said.ensures.state)) (applied-streams c.apply.result g.H.Asks.may c.event_of_bytes-said.result _ _ c.apply.new.asks _ _ _ _ _ _ c.apply.ensures.applied)
 
 pub returns-clause-streams : goal.returns-clause-streams
 returns-clause-streams g c =
-    streams-then _ _ _ (streams-note c.note.result (HouseSaid c.in_ok-bytes.bytes) _ _ (ap (λ (x : WireState). x.seen) c.note.ensures.state)) (applied-streams c.apply.result g.H.Asks.may c.event_of_bytes-said.result _ _ c.apply.new.asks _ _ _ _ _ _ c.apply.ensures.applied)
+    streams-then _ _ _ (streams-note c.note_said.result (HouseSaid c.as_bytes.result.now) _ _ (ap (λ (x : WireState). x.seen) c.note_said.ensures.state)) (applied-streams c.apply.result g.H.Asks.may c.event_of_bytes-said.result _ _ c.apply.new.asks _ _ _ _ _ _ c.apply.ensures.applied)
 
 pub returns-in_err-says-clause-wire : goal.returns-in_err-says-clause-wire
 returns-in_err-says-clause-wire g c = untouched-none _ _
@@ -101,17 +97,14 @@ returns-in_err-says-clause-wire g c = untouched-none _ _
 pub returns-then-not-branch-clause-wire : goal.returns-then-not-branch-clause-wire
 returns-then-not-branch-clause-wire g c = untouched-none _ _
 
-pub returns-in_err-bytes-clause-wire : goal.returns-in_err-bytes-clause-wire
-returns-in_err-bytes-clause-wire g c = untouched-none _ _
-
-pub returns-in_err-note-clause-wire : goal.returns-in_err-note-clause-wire
-returns-in_err-note-clause-wire g c = untouched-note c.note.result (HouseSaid c.in_ok-bytes.bytes) c.note.ensures.state c.note.ensures.faults
+pub returns-in_err-note_said-clause-wire : goal.returns-in_err-note_said-clause-wire
+returns-in_err-note_said-clause-wire g c = untouched-note c.note_said.result (HouseSaid c.as_bytes.result.now) c.note_said.ensures.state c.note_said.ensures.faults
 
 pub returns-in_err-apply-clause-wire : goal.returns-in_err-apply-clause-wire
-returns-in_err-apply-clause-wire g c = untouched-then (untouched-note c.note.result (HouseSaid c.in_ok-bytes.bytes) c.note.ensures.state c.note.ensures.faults) c.apply.ensures.wire
+returns-in_err-apply-clause-wire g c = untouched-then (untouched-note c.note_said.result (HouseSaid c.as_bytes.result.now) c.note_said.ensures.state c.note_said.ensures.faults) c.apply.ensures.wire
 
 pub returns-clause-wire : goal.returns-clause-wire
-returns-clause-wire g c = untouched-then (untouched-note c.note.result (HouseSaid c.in_ok-bytes.bytes) c.note.ensures.state c.note.ensures.faults) c.apply.ensures.wire
+returns-clause-wire g c = untouched-then (untouched-note c.note_said.result (HouseSaid c.as_bytes.result.now) c.note_said.ensures.state c.note_said.ensures.faults) c.apply.ensures.wire
 
 -- ---- own faults
 
@@ -121,18 +114,15 @@ returns-in_err-says-clause-counted g c picked replies journal closed st within =
 pub returns-then-not-branch-clause-counted : goal.returns-then-not-branch-clause-counted
 returns-then-not-branch-clause-counted g c picked replies journal closed st within = own-same _ _
 
-pub returns-in_err-bytes-clause-counted : goal.returns-in_err-bytes-clause-counted
-returns-in_err-bytes-clause-counted g c picked replies journal closed st within = own-same _ _
-
-pub returns-in_err-note-clause-counted : goal.returns-in_err-note-clause-counted
-returns-in_err-note-clause-counted g c picked replies journal closed st within = (idle-note c.note.result (HouseSaid c.in_ok-bytes.bytes) refl c.note.ensures.state c.note.ensures.faults).own_faults
+pub returns-in_err-note_said-clause-counted : goal.returns-in_err-note_said-clause-counted
+returns-in_err-note_said-clause-counted g c picked replies journal closed st within = (idle-note c.note_said.result (HouseSaid c.as_bytes.result.now) refl c.note_said.ensures.state c.note_said.ensures.faults).own_faults
 
 pub returns-in_err-apply-clause-counted : goal.returns-in_err-apply-clause-counted
 returns-in_err-apply-clause-counted g c picked replies journal closed st within =
-    own-then _ _ _ _ _ _ (idle-note c.note.result (HouseSaid c.in_ok-bytes.bytes) refl c.note.ensures.state c.note.ensures.faults).own_faults
+    own-then _ _ _ _ _ _ (idle-note c.note_said.result (HouseSaid c.as_bytes.result.now) refl c.note_said.ensures.state c.note_said.ensures.faults).own_faults
     (applied-counted st (house-comes c.event_of_bytes-said.result c.args.engine.now journal c.as_bytes-2.result.now within c.event_of_bytes-said.ensures.bytes c.event_of_bytes-said.ensures.records) c.apply.result g.H.Asks.may c.apply.new.engine c.apply.new.asks _ _ _ _ _ _ _ _ c.apply.ensures.own_faults c.apply.ensures.applied)
 
 pub returns-clause-counted : goal.returns-clause-counted
 returns-clause-counted g c picked replies journal closed st within =
-    own-then _ _ _ _ _ _ (idle-note c.note.result (HouseSaid c.in_ok-bytes.bytes) refl c.note.ensures.state c.note.ensures.faults).own_faults
+    own-then _ _ _ _ _ _ (idle-note c.note_said.result (HouseSaid c.as_bytes.result.now) refl c.note_said.ensures.state c.note_said.ensures.faults).own_faults
     (applied-counted st (house-comes c.event_of_bytes-said.result c.args.engine.now journal c.as_bytes-2.result.now within c.event_of_bytes-said.ensures.bytes c.event_of_bytes-said.ensures.records) c.apply.result g.H.Asks.may c.apply.new.engine c.apply.new.asks _ _ _ _ _ _ _ _ c.apply.ensures.own_faults c.apply.ensures.applied)

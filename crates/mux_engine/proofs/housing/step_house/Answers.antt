@@ -11,7 +11,7 @@ use Rattle.mux_engine.proofs.Following.{Ran, cut-then, is-served, ran-again, ran
 use Rattle.mux_engine.proofs.HouseCalls.{same-house}
 use Rattle.mux_engine.proofs.Lists.{true-false}
 use Rattle.mux_engine.proofs.Places.{places-then}
-use Rattle.mux_engine.proofs.Stepping.{both-ways, ends-err, ends-live, ends-offered, ends-said, no-more-held, on-said, together-still, waits-err, works-again}
+use Rattle.mux_engine.proofs.Stepping.{both-ways, ends-err, ends-live, ends-offered, ends-said, no-more-held, on-said, on-unsaid, together-still, waits-err, works-again}
 use Rattle.mux_engine.proofs.Wired.{works-err, works-idle, works-then}
 use Rattle.mux_engine.proofs.housing.step_house.Given.{Over}
 use Rattle.mux_engine.proofs.housing.step_house.Goals.{In_ok-ask_house, In_ok-flush}
@@ -100,6 +100,27 @@ returns-clause-ended g c =
     let p = goal.at.returns-clause-ended g c in
     let served = served-then c.in_ok-ask_house.ensures.house.present c.requires.ongoing.served (offered g p.In_ok-flush (unasked g p.In_ok-ask_house c.if-branch.false)) in
     ends-said c.speak.result _ _ _ _ _ _ (sym c.in_ok-ask_house.ensures.house.present ∙ (sym c.present.ensures.present ∙ c.if-not-present.false)) (c.speak.ensures.ends c.flush.new.held c.ask_house.new.lists.failed served)
+
+pub returns-then-branch-clause-offered : goal.returns-then-branch-clause-offered
+returns-then-branch-clause-offered g c = λ e. true-false e
+
+pub returns-in_err-ask_house-clause-offered : goal.returns-in_err-ask_house-clause-offered
+returns-in_err-ask_house-clause-offered g c = on-err c.from_residual.result _ _ c.from_residual.ensures.0 tt
+
+pub returns-in_err-flush-clause-offered : goal.returns-in_err-flush-clause-offered
+returns-in_err-flush-clause-offered g c = on-err c.from_residual-in_err-flush.result _ _ c.from_residual-in_err-flush.ensures.0 tt
+
+pub returns-then-not-present-clause-offered : goal.returns-then-not-present-clause-offered
+returns-then-not-present-clause-offered g c = λ e. (no-more-held (g.H.Asks.state c.ask_house.new.house) c.ask_house.new.lists c.flush.new.held c.in_ok-flush.ensures.holds (c.in_ok-ask_house.ensures.ready c.if-branch.false)).offered
+
+pub returns-clause-offered : goal.returns-clause-offered
+returns-clause-offered g c =
+    let H = g.H.Asks in
+    let W = g.W.Wire in
+    let h1 = c.ask_house.new.house in
+    let lists = c.ask_house.new.lists in
+    on-unsaid c.speak.result (H.state h1) (H.state c.speak.new.house) (W.state c.flush.new.wire).seen (W.state c.speak.new.wire).seen c.flush.new.engine c.speak.new.engine (record lists { held = c.flush.new.held })
+    (no-more-held (H.state h1) lists c.flush.new.held c.in_ok-flush.ensures.holds (c.in_ok-ask_house.ensures.ready c.if-branch.false)).offered c.speak.ensures.silent
 
 pub returns-clause-ready : goal.returns-clause-ready
 returns-clause-ready g c =

@@ -23,10 +23,10 @@ use Rattle.mux_engine.proofs.orders.obey.Goals as goal
 -- ---- no memory for it
 
 pub returns-in_err-number-clause-serving : goal.returns-in_err-number-clause-serving
-returns-in_err-number-clause-serving g c todo s first calls before policy pid start given hands v = on-err c.from_residual.result _ _ c.from_residual.ensures.0
+returns-in_err-number-clause-serving g c todo s live first calls before policy pid start given hands v = on-err c.from_residual.result _ _ c.from_residual.ensures.0
     (elim c.in_err-number.ensures.carried [
       | inl o ↦ cut-here v _ _ _ [] o.marks (o.recorded ∙ records-none _) refl (omega arith)
-      | inr w ↦ order-lost v c.requires.present c.args.order w.0 _ _ w.1.made (closes-own c.args.order _ _ _ c.requires.ordered) refl w.1.recorded w.1.marks
+      | inr w ↦ order-lost v c.requires.present live c.args.order w.0 _ _ w.1.made (closes-own c.args.order _ _ _ c.requires.ordered) refl w.1.recorded w.1.marks
     ])
 
 pub returns-in_err-number-clause-wire : goal.returns-in_err-number-clause-wire
@@ -38,17 +38,17 @@ returns-in_err-number-clause-wire g c = record {
   ];
 }
 
--- ---- the wire told it
+-- ---- the wire recorded it
 
 pub returns-then-makes-clause-serving : goal.returns-then-makes-clause-serving
-returns-then-makes-clause-serving g c todo s first calls before policy pid start given hands v =
+returns-then-makes-clause-serving g c todo s live first calls before policy pid start given hands v =
     let H = g.H.Asks in
     let o = c.in_ok-number.ensures.carried in
     let side = side-carried c.args.order c.in_ok-number.number _ _ _ _ c.requires.ordered o.known in
     let more : List HouseCall = calls_of (more_recorded c.args.order c.in_ok-number.number) in
     let carried : Seen = seen_carried c.args.order c.in_ok-number.number (g.W.Wire.state c.args.wire.now).seen in
     handed-more _ more hands o.stands
-    (order-noted v {E = Unit {0}} (Ok tt) c.args.order c.in_ok-number.number (noted (H.state c.carry_out.new.house).recorded (H.state c.carry_out.new.house).known (calls ++ more)) carried _ _ _ c.requires.present o.made (closes-own c.args.order _ _ _ c.requires.ordered) refl o.recorded side.asks refl side.present refl refl
+    (order-noted v {E = Unit {0}} (Ok tt) c.args.order c.in_ok-number.number (noted (H.state c.carry_out.new.house).recorded (H.state c.carry_out.new.house).known (calls ++ more)) carried _ _ _ c.requires.present live o.made (closes-own c.args.order _ _ _ c.requires.ordered) refl o.recorded side.asks refl side.present refl refl
     (carried-recorded c.args.order c.in_ok-number.number _) (o.seen_is ∙ recorded-noted c.args.order c.in_ok-number.number carried (sym c.if-makes.ensures)) o.held o.failed)
 
 pub returns-then-makes-clause-housed : goal.returns-then-makes-clause-housed
@@ -78,14 +78,14 @@ pub note-requires : goal.note-requires
 note-requires g c = record { may = may-note c.args.order c.in_ok-number.number (sym c.if-makes.ensures) }
 
 pub returns-clause-serving : goal.returns-clause-serving
-returns-clause-serving g c todo s first calls before policy pid start given hands v =
+returns-clause-serving g c todo s live first calls before policy pid start given hands v =
     let H = g.H.Asks in
     let o = c.in_ok-number.ensures.carried in
     let side = side-carried c.args.order c.in_ok-number.number _ _ _ _ c.requires.ordered o.known in
     let more : List HouseCall = calls_of (more_recorded c.args.order c.in_ok-number.number) in
     let seen_is = o.seen_is ∙ recorded-later c.args.order c.in_ok-number.number _ (sym c.if-makes.ensures) in
     match-more c.note.result _ (λ served. handed-more _ more hands o.stands served)
-    (order-noted v c.note.result c.args.order c.in_ok-number.number (noted (H.state c.carry_out.new.house).recorded (H.state c.carry_out.new.house).known (calls ++ more)) _ _ _ _ c.requires.present o.made (closes-own c.args.order _ _ _ c.requires.ordered) refl o.recorded side.asks refl side.present refl seen_is
+    (order-noted v c.note.result c.args.order c.in_ok-number.number (noted (H.state c.carry_out.new.house).recorded (H.state c.carry_out.new.house).known (calls ++ more)) _ _ _ _ c.requires.present live o.made (closes-own c.args.order _ _ _ c.requires.ordered) refl o.recorded side.asks refl side.present refl seen_is
     (ap (λ (x : Seen). x.recorded) seen_is ∙ carried-recorded c.args.order c.in_ok-number.number _) (ap (λ (x : WireState). x.seen) c.note.ensures.state) o.held o.failed)
 
 pub returns-clause-housed : goal.returns-clause-housed

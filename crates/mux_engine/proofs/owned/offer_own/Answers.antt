@@ -8,7 +8,7 @@ use Rattle.mux_engine.proofs.owned.offer_own.Goals as goal
 
 pub loop-init : goal.loop-init
 loop-init g c = record {
-  serving = λ present first before now policy pid start given todo s none hands v. handed-none _ hands v;
+  serving = λ present first before now policy pid start given todo s accepts none hands v. handed-none _ hands v;
   house = took-none _;
   places = places-same _ _ refl;
   held_is = c.requires.knows.held_is;
@@ -25,9 +25,9 @@ own_once-requires g c = record {
 
 pub loop-preserved : goal.loop-preserved
 loop-preserved g c = let v = c.loop.invariant in let o = c.in_ok-own_once.ensures in record {
-  serving = λ present first before now policy pid start given todo s none hands v'.
-      let h = v.serving present first before now policy pid start given todo s none hands v' in
-      o.serving present first before (record now { calls = h.all }) policy pid start given todo s none h.hands h.so;
+  serving = λ present first before now policy pid start given todo s accepts none hands v'.
+      let h = v.serving present first before now policy pid start given todo s accepts none hands v' in
+      o.serving present first before (record now { calls = h.all }) policy pid start given todo s (λ l. accepts (c.loop.invariant.places.silence l)) none h.hands h.so;
   house = took-then v.house (took o.house);
   places = places-then _ _ _ v.places c.own_once.ensures.places;
   held_is = o.lists.held_is;
@@ -42,9 +42,9 @@ loop-smaller g c = took-less (g.H.Asks.state c.loop.house).queue (g.H.Asks.state
 -- ---- out of memory
 
 pub returns-in_err-own_once-clause-serving : goal.returns-in_err-own_once-clause-serving
-returns-in_err-own_once-clause-serving g c present first before now policy pid start given todo s none hands v =
-    let h = c.loop.invariant.serving present first before now policy pid start given todo s none hands v in
-    on-err c.from_residual.result _ _ c.from_residual.ensures.0 (c.in_err-own_once.ensures.serving present first before (record now { calls = h.all }) policy pid start given todo s none h.hands h.so)
+returns-in_err-own_once-clause-serving g c present first before now policy pid start given todo s accepts none hands v =
+    let h = c.loop.invariant.serving present first before now policy pid start given todo s accepts none hands v in
+    on-err c.from_residual.result _ _ c.from_residual.ensures.0 (c.in_err-own_once.ensures.serving present first before (record now { calls = h.all }) policy pid start given todo s (λ l. accepts (c.loop.invariant.places.silence l)) none h.hands h.so)
 
 pub returns-in_err-own_once-clause-house : goal.returns-in_err-own_once-clause-house
 returns-in_err-own_once-clause-house g c = took-err c.from_residual.result c.from_residual.ensures.0 (took-then c.loop.invariant.house c.in_err-own_once.ensures.house)
@@ -58,9 +58,9 @@ returns-in_err-own_once-clause-wire g c = works-own-err c.from_residual.result c
 -- ---- the end
 
 pub returns-clause-serving : goal.returns-clause-serving
-returns-clause-serving g c present first before now policy pid start given todo s none hands v =
-    let h = c.loop.invariant.serving present first before now policy pid start given todo s none hands v in
-    c.in_ok-own_once.ensures.serving present first before (record now { calls = h.all }) policy pid start given todo s none h.hands h.so
+returns-clause-serving g c present first before now policy pid start given todo s accepts none hands v =
+    let h = c.loop.invariant.serving present first before now policy pid start given todo s accepts none hands v in
+    c.in_ok-own_once.ensures.serving present first before (record now { calls = h.all }) policy pid start given todo s (λ l. accepts (c.loop.invariant.places.silence l)) none h.hands h.so
 
 pub returns-clause-offered : goal.returns-clause-offered
 returns-clause-offered g c = was-offered (g.H.Asks.state c.loop.house).queue (g.H.Asks.state c.own_once.new.house).queue c.own_once.new.held c.own_once.new.failed c.args.stream _ c.if-branch.false c.in_ok-own_once.ensures.offered

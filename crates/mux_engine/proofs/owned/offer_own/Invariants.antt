@@ -7,17 +7,18 @@ use Rattle.mux_state.specs.State.{State}
 use Rattle.mux_engine.specs.Called.{Handed}
 use Rattle.mux_engine.specs.Owned.{FailsFurther, StayOffered}
 use Rattle.mux_engine.specs.Serving.{Serving}
-use Rattle.mux_engine.specs.Sides.{RestsOf, SamePlaces, Side}
+use Rattle.mux_engine.specs.Sides.{RestsOf, SameSockets, Side}
+use Rattle.mux_engine.specs.SilentAnswers.{AcceptsAs}
 use Rattle.mux_engine.proofs.Owning.{JustTook}
 use Rattle.mux_engine.proofs.Wired.{WorkedOwn}
 use Rattle.mux_engine.proofs.owned.offer_own.Given as goal
 
 abbrev pub invariant-loop : goal.invariant-loop
 invariant-loop g l = let W = g.W.Wire in let H = g.H.Asks in record {
-  serving : (present : Bool) (first : _) (before : Option (List HouseMark)) (now : Side) (policy : Policy) (pid : ℕ) (start : Option (List Mark)) (given : ℕ) (todo : List ℕ) (s : State) → now.unnoted ≡ [] → HandsOn (H.state first).stands (H.state l.fn.house).stands now.calls → Serving H.may (RestsOf H.state present first) before now policy pid start (W.state l.fn.wire).seen l.fn.held l.fn.failed given todo s
+  serving : (present : Bool) (first : _) (before : Option (List HouseMark)) (now : Side) (policy : Policy) (pid : ℕ) (start : Option (List Mark)) (given : ℕ) (todo : List ℕ) (s : State) → AcceptsAs (W.state l.fn.wire).seen s → now.unnoted ≡ [] → HandsOn (H.state first).stands (H.state l.fn.house).stands now.calls → Serving H.may (RestsOf H.state present first) before now policy pid start (W.state l.fn.wire).seen l.fn.held l.fn.failed given todo s
       → Handed (H.state first).stands (H.state l.house).stands (λ (calls : List HouseCall). Serving H.may (RestsOf H.state present first) before (record now { calls = calls }) policy pid start (W.state l.wire).seen l.held l.failed given todo s);
   house : JustTook (H.state l.fn.house) (H.state l.house);
-  places : SamePlaces (W.state l.fn.wire).seen (W.state l.wire).seen;
+  places : SameSockets (W.state l.fn.wire).seen (W.state l.wire).seen;
   held_is : l.held ≡ (W.state l.wire).seen.blocked;
   keeps : StayOffered (H.state l.fn.house).queue (H.state l.house).queue l.fn.held l.held l.fn.failed l.failed;
   fails : FailsFurther (l.stream ∷ []) l.fn.failed l.failed;

@@ -8,7 +8,7 @@ use Rattle.mux_outside.specs.HouseCalls as call
 use Rattle.mux_engine.proofs.Arms.{on-err, some-bytes}
 use Rattle.mux_engine.proofs.Called.{handed-more, handed-none}
 use Rattle.mux_engine.proofs.Offers.{cut-fails, cut-holds, cut-starved}
-use Rattle.mux_engine.proofs.OwnMarks.{own-fails, own-holds, own-takes}
+use Rattle.mux_engine.proofs.OwnMarks.{own-fails, own-holds, own-takes, still-sound}
 use Rattle.mux_engine.proofs.Owns.{taking}
 use Rattle.mux_engine.proofs.Owning.{fails-none, fails-one}
 use Rattle.mux_engine.proofs.Wired.{seen-is, works-own-none, works-own-starved, works-own-write}
@@ -24,33 +24,33 @@ unfinished k bytes known same finished some = ap (is_finished k) (sym same) ∙ 
     by_test false e = refl
 
 pub returns-in-Took-clause-serving : goal.returns-in-Took-clause-serving
-returns-in-Took-clause-serving g c present first before now policy pid start given todo s none hands v =
+returns-in-Took-clause-serving g c present first before now policy pid start given todo s accepts none hands v =
     handed-more {mid = (g.H.Asks.state c.args.house.now).stands} _ (call.Takes c.args.stream (take c.in-Took.n c.queue_of-bytes.result.now) ∷ []) hands (rw (sym c.queue_of-bytes.ensures.queue) at c.took.ensures.stands)
-    (own-takes v c.args.stream c.requires.stream.own c.requires.stream.stream_open c.in-Took.n c.queue_of-bytes.result.now _ (unfinished _ _ _ c.requires.knows.same c.queue_of-bytes.ensures.finished (some-bytes c.queue_of-bytes.result.now (sym c.if-is_empty.ensures))) none c.in-Took.ensures.bytes (some-bytes c.queue_of-bytes.result.now (sym c.if-is_empty.ensures)) c.in-Took.ensures.wrote (seen-is c.in-Took.ensures.state))
+    (own-takes v c.args.stream c.requires.stream.own c.requires.stream.stream_open c.in-Took.n c.queue_of-bytes.result.now _ (unfinished _ _ _ c.requires.knows.same c.queue_of-bytes.ensures.finished (some-bytes c.queue_of-bytes.result.now (sym c.if-is_empty.ensures))) (sym c.if-contains-2.ensures) none c.in-Took.ensures.bytes (some-bytes c.queue_of-bytes.result.now (sym c.if-is_empty.ensures)) c.in-Took.ensures.wrote accepts (seen-is c.in-Took.ensures.state))
 
 pub returns-in_ok-push-in-Later-clause-serving : goal.returns-in_ok-push-in-Later-clause-serving
-returns-in_ok-push-in-Later-clause-serving g c present first before now policy pid start given todo s none hands v =
-    handed-none _ hands (own-holds v c.args.stream c.requires.stream.own c.requires.stream.stream_open c.queue_of-bytes.result.now _ _ (unfinished _ _ _ c.requires.knows.same c.queue_of-bytes.ensures.finished (some-bytes c.queue_of-bytes.result.now (sym c.if-is_empty.ensures))) c.in-Later.ensures.bytes (some-bytes c.queue_of-bytes.result.now (sym c.if-is_empty.ensures)) (seen-is c.in-Later.ensures.state) c.in_ok-push-in-Later.ensures.ok)
+returns-in_ok-push-in-Later-clause-serving g c present first before now policy pid start given todo s accepts none hands v =
+    handed-none _ hands (own-holds v c.args.stream c.requires.stream.own c.requires.stream.stream_open c.queue_of-bytes.result.now _ _ (unfinished _ _ _ c.requires.knows.same c.queue_of-bytes.ensures.finished (some-bytes c.queue_of-bytes.result.now (sym c.if-is_empty.ensures))) (sym c.if-contains-2.ensures) c.in-Later.ensures.bytes (some-bytes c.queue_of-bytes.result.now (sym c.if-is_empty.ensures)) (seen-is c.in-Later.ensures.state) c.in_ok-push-in-Later.ensures.ok)
 
 pub returns-in_err-push-in-Later-clause-serving : goal.returns-in_err-push-in-Later-clause-serving
-returns-in_err-push-in-Later-clause-serving g c present first before now policy pid start given todo s none hands v = on-err c.from_residual.result _ _ c.from_residual.ensures.0
-    (cut-holds v _ c.args.stream c.queue_of-bytes.result.now (taking _ v.journal v.places c.args.stream c.requires.stream.stream_open (unfinished _ _ _ c.requires.knows.same c.queue_of-bytes.ensures.finished (some-bytes c.queue_of-bytes.result.now (sym c.if-is_empty.ensures)))) c.requires.stream.stream_open c.in-Later.ensures.bytes (some-bytes c.queue_of-bytes.result.now (sym c.if-is_empty.ensures)) (seen-is c.in-Later.ensures.state))
+returns-in_err-push-in-Later-clause-serving g c present first before now policy pid start given todo s accepts none hands v = on-err c.from_residual.result _ _ c.from_residual.ensures.0
+    (cut-holds v _ c.args.stream c.queue_of-bytes.result.now (taking _ v.journal v.places c.args.stream c.requires.stream.stream_open (unfinished _ _ _ c.requires.knows.same c.queue_of-bytes.ensures.finished (some-bytes c.queue_of-bytes.result.now (sym c.if-is_empty.ensures))) (still-sound v c.args.stream c.requires.stream.own c.requires.stream.stream_open (sym c.if-contains-2.ensures))) c.requires.stream.stream_open c.in-Later.ensures.bytes (some-bytes c.queue_of-bytes.result.now (sym c.if-is_empty.ensures)) (seen-is c.in-Later.ensures.state))
 
 pub returns-in_ok-turn-in-Failed-clause-serving : goal.returns-in_ok-turn-in-Failed-clause-serving
-returns-in_ok-turn-in-Failed-clause-serving g c present first before now policy pid start given todo s none hands v =
+returns-in_ok-turn-in-Failed-clause-serving g c present first before now policy pid start given todo s accepts none hands v =
     handed-more _ (Turns (Failed c.args.stream) ∷ []) hands c.in_ok-turn-in-Failed.ensures.stands
-    (own-fails v c.args.stream c.requires.stream.own c.requires.stream.stream_open c.queue_of-bytes.result.now _ _ (unfinished _ _ _ c.requires.knows.same c.queue_of-bytes.ensures.finished (some-bytes c.queue_of-bytes.result.now (sym c.if-is_empty.ensures))) none c.in-Failed.ensures.bytes (some-bytes c.queue_of-bytes.result.now (sym c.if-is_empty.ensures)) (seen-is c.in-Failed.ensures.state) c.in_ok-push-in-Failed.ensures.ok)
+    (own-fails v c.args.stream c.requires.stream.own c.requires.stream.stream_open c.queue_of-bytes.result.now _ _ (unfinished _ _ _ c.requires.knows.same c.queue_of-bytes.ensures.finished (some-bytes c.queue_of-bytes.result.now (sym c.if-is_empty.ensures))) (sym c.if-contains-2.ensures) none c.in-Failed.ensures.bytes (some-bytes c.queue_of-bytes.result.now (sym c.if-is_empty.ensures)) (seen-is c.in-Failed.ensures.state) c.in_ok-push-in-Failed.ensures.ok)
 
 pub returns-in_err-push-in-Failed-clause-serving : goal.returns-in_err-push-in-Failed-clause-serving
-returns-in_err-push-in-Failed-clause-serving g c present first before now policy pid start given todo s none hands v = on-err c.from_residual-in_err-push-in-Failed.result _ _ c.from_residual-in_err-push-in-Failed.ensures.0
-    (cut-fails v _ c.args.stream c.queue_of-bytes.result.now (taking _ v.journal v.places c.args.stream c.requires.stream.stream_open (unfinished _ _ _ c.requires.knows.same c.queue_of-bytes.ensures.finished (some-bytes c.queue_of-bytes.result.now (sym c.if-is_empty.ensures)))) c.requires.stream.stream_open c.in-Failed.ensures.bytes (some-bytes c.queue_of-bytes.result.now (sym c.if-is_empty.ensures)) (seen-is c.in-Failed.ensures.state))
+returns-in_err-push-in-Failed-clause-serving g c present first before now policy pid start given todo s accepts none hands v = on-err c.from_residual-in_err-push-in-Failed.result _ _ c.from_residual-in_err-push-in-Failed.ensures.0
+    (cut-fails v _ c.args.stream c.queue_of-bytes.result.now (taking _ v.journal v.places c.args.stream c.requires.stream.stream_open (unfinished _ _ _ c.requires.knows.same c.queue_of-bytes.ensures.finished (some-bytes c.queue_of-bytes.result.now (sym c.if-is_empty.ensures))) (still-sound v c.args.stream c.requires.stream.own c.requires.stream.stream_open (sym c.if-contains-2.ensures))) c.requires.stream.stream_open c.in-Failed.ensures.bytes (some-bytes c.queue_of-bytes.result.now (sym c.if-is_empty.ensures)) (seen-is c.in-Failed.ensures.state))
 
 pub returns-in_err-turn-in-Failed-clause-serving : goal.returns-in_err-turn-in-Failed-clause-serving
-returns-in_err-turn-in-Failed-clause-serving g c present first before now policy pid start given todo s none hands v = on-err c.from_residual-in_err-turn-in-Failed.result _ _ c.from_residual-in_err-turn-in-Failed.ensures.0
-    (cut-fails v _ c.args.stream c.queue_of-bytes.result.now (taking _ v.journal v.places c.args.stream c.requires.stream.stream_open (unfinished _ _ _ c.requires.knows.same c.queue_of-bytes.ensures.finished (some-bytes c.queue_of-bytes.result.now (sym c.if-is_empty.ensures)))) c.requires.stream.stream_open c.in-Failed.ensures.bytes (some-bytes c.queue_of-bytes.result.now (sym c.if-is_empty.ensures)) (seen-is c.in-Failed.ensures.state))
+returns-in_err-turn-in-Failed-clause-serving g c present first before now policy pid start given todo s accepts none hands v = on-err c.from_residual-in_err-turn-in-Failed.result _ _ c.from_residual-in_err-turn-in-Failed.ensures.0
+    (cut-fails v _ c.args.stream c.queue_of-bytes.result.now (taking _ v.journal v.places c.args.stream c.requires.stream.stream_open (unfinished _ _ _ c.requires.knows.same c.queue_of-bytes.ensures.finished (some-bytes c.queue_of-bytes.result.now (sym c.if-is_empty.ensures))) (still-sound v c.args.stream c.requires.stream.own c.requires.stream.stream_open (sym c.if-contains-2.ensures))) c.requires.stream.stream_open c.in-Failed.ensures.bytes (some-bytes c.queue_of-bytes.result.now (sym c.if-is_empty.ensures)) (seen-is c.in-Failed.ensures.state))
 
 pub returns-in-NoMemory-clause-serving : goal.returns-in-NoMemory-clause-serving
-returns-in-NoMemory-clause-serving g c present first before now policy pid start given todo s none hands v = cut-starved v _ c.args.stream c.queue_of-bytes.result.now (seen-is c.in-NoMemory.ensures.state)
+returns-in-NoMemory-clause-serving g c present first before now policy pid start given todo s accepts none hands v = cut-starved v _ c.args.stream c.queue_of-bytes.result.now (seen-is c.in-NoMemory.ensures.state)
 
 -- ---- the lists
 

@@ -9,8 +9,10 @@ use Rattle.mux_engine.proofs.Called.{handed-so}
 use Rattle.mux_engine.proofs.Ending.{ends-closed, ends-cut, ends-later, refused-none}
 use Rattle.mux_engine.proofs.Following.{Ran, WasCut, cut-then, is-served, ran-as, ran-then, served-then, stays-ran}
 use Rattle.mux_engine.proofs.HouseCalls.{housed-still, none-given, same-house}
-use Rattle.mux_engine.proofs.Running.{all-left, step-took}
+use Rattle.mux_engine.proofs.Lists.{true-false}
+use Rattle.mux_engine.proofs.Running.{step-took}
 use Rattle.mux_engine.proofs.Spending.{cut-one-more, turned-stepped}
+use Rattle.mux_engine.proofs.Stepping.{offered-closed}
 use Rattle.mux_engine.proofs.Wired.{idle-then, works-then, works-recorded}
 use Rattle.mux_engine.proofs.serving.one_turn.Given.{Over}
 use Rattle.mux_engine.proofs.serving.one_turn.Goals.{After-close_lost, After-stop_accepting, In_err-went, In_ok-step_house, In_ok-went}
@@ -40,7 +42,7 @@ hushed-together g c before =
     let lists = c.step_house.new.lists in
     let t = c.in_ok-step_house.ensures.together in
     record {
-      housed = housed-still house.known house.known _ _ lists.own (c.close_lost.ensures.ready house.known house.quiet house.queue lists.failed lists.own t.housed).0 (same-house house.known house.known refl) c.stop_accepting.ensures.places;
+      housed = housed-still house.known house.known _ _ lists.own (c.close_lost.ensures.ready house.known house.quiet house.queue lists.failed lists.own t.housed).0 (same-house house.known house.known refl) c.stop_accepting.ensures.streams.places;
       alone = t.alone;
       held_is = (served-then c.in_ok-step_house.ensures.house.present c.requires.ongoing.served (hushed g c before)).serving.held_is;
     }
@@ -68,6 +70,9 @@ returns-then-branch-clause-house g c = let h = c.in_ok-step_house.ensures.house 
 pub returns-then-branch-clause-ended : goal.returns-then-branch-clause-ended
 returns-then-branch-clause-ended g c = let e = c.in_ok-step_house.ensures.ended in record { failed = e.failed; by_row = e.by_row; by_count = e.by_count; unopened = e.unopened }
 
+pub returns-then-branch-clause-offered : goal.returns-then-branch-clause-offered
+returns-then-branch-clause-offered g c = λ e. true-false (sym e)
+
 pub returns-then-branch-clause-calls : goal.returns-then-branch-clause-calls
 returns-then-branch-clause-calls g c = let o = c.in_ok-step_house.ensures in
     turned-stepped (g.H.Asks.state c.args.house.now).known.present _ _ _ (λ p. (o.alone p).waits (ap (λ b. Ok b) c.if-branch.true)) o.wire.calls
@@ -84,6 +89,7 @@ returns-in_err-step_house g c = let W = g.W.Wire in let r = c.from_residual in l
   together = on-err r.result _ _ r.ensures.0 tt;
   house = record { present = on-err r.result _ _ r.ensures.0 tt; must = o.house.must };
   goes = on-err r.result _ _ r.ensures.0 tt;
+  offered = on-err r.result _ _ r.ensures.0 tt;
   ended = ends-cut r.result (g.H.Asks.state c.args.house.now).known.present c.step_house.new.engine.ended (W.state c.args.wire.now) (W.state c.step_house.new.wire) (W.faults c.args.wire.now) (W.faults c.step_house.new.wire) r.ensures.0 o.ended.unopened;
   idle = λ none p. on-err r.result _ _ r.ensures.0 tt;
   calls = on-err r.result _ _ r.ensures.0 (cut-one-more _ _ o.wire.calls);
@@ -106,7 +112,7 @@ pub returns-then-is_over-clause-serving : goal.returns-then-is_over-clause-servi
 returns-then-is_over-clause-serving g c first calls before policy pid start given hands v =
     let p = goal.at.returns-then-is_over-clause-serving g c in
     let h = (hushed g p.After-stop_accepting (closed g p.After-close_lost (stepped g p.In_ok-step_house false c.if-branch.false))).runs first calls before policy pid start given hands v in
-    handed-so h (inr (refl, all-left (HOUSE ∷ []) (none-given h.so)))
+    handed-so h (inr (refl, none-given h.so))
 
 pub returns-then-is_over-clause-together : goal.returns-then-is_over-clause-together
 returns-then-is_over-clause-together g c =
@@ -120,7 +126,11 @@ pub returns-then-is_over-clause-ended : goal.returns-then-is_over-clause-ended
 returns-then-is_over-clause-ended g c = let W = g.W.Wire in
     ends-closed _ _ (g.H.Asks.state c.args.house.now).known.present c.step_house.new.engine.ended c.close_lost.new.engine.ended (W.state c.args.wire.now) (W.state c.step_house.new.wire) (W.state c.stop_accepting.new.wire)
     (W.faults c.args.wire.now) (W.faults c.step_house.new.wire) (W.faults c.stop_accepting.new.wire) c.close_lost.ensures.ended (idle-then c.close_lost.ensures.wire c.stop_accepting.ensures.wire).untouched
-    (c.stop_accepting.ensures.places.last_own ∙ c.close_lost.ensures.unopened) c.in_ok-step_house.ensures.ended
+    (c.stop_accepting.ensures.streams.places.last_own ∙ c.close_lost.ensures.unopened) c.in_ok-step_house.ensures.ended
+
+pub returns-then-is_over-clause-offered : goal.returns-then-is_over-clause-offered
+returns-then-is_over-clause-offered g c = let o = c.in_ok-step_house.ensures in let lists = c.step_house.new.lists in
+    λ e. offered-closed (g.H.Asks.state c.step_house.new.house) lists.failed lists.own c.close_lost.ensures.ready o.together.housed (o.offered c.if-branch.false)
 
 pub returns-then-is_over-clause-calls : goal.returns-then-is_over-clause-calls
 returns-then-is_over-clause-calls g c = let w = works-recorded _ (c.in_ok-step_house.ensures.wire) (idle-then c.close_lost.ensures.wire c.stop_accepting.ensures.wire) in inr (w.calls, inr refl)
@@ -157,8 +167,9 @@ returns-in_err-went g c = let H = g.H.Asks in let W = g.W.Wire in let p = goal.a
       together = on-err r.result _ _ r.ensures.0 tt;
       house = record { present = on-err r.result _ _ r.ensures.0 tt; must = t.house.must ∙ o.house.must };
       goes = on-err r.result _ _ r.ensures.0 tt;
+      offered = on-err r.result _ _ r.ensures.0 tt;
       ended = ends-cut r.result (H.state c.args.house.now).known.present c.turn.new.engine.ended (W.state c.args.wire.now) (W.state c.turn.new.wire) (W.faults c.args.wire.now) (W.faults c.turn.new.wire) r.ensures.0
-          (λ p. t.ended.unopened (o.house.present ∙ p) ∙ (c.stop_accepting.ensures.places.last_own ∙ (c.close_lost.ensures.unopened ∙ o.ended.unopened p)));
+          (λ p. t.ended.unopened (o.house.present ∙ p) ∙ (c.stop_accepting.ensures.streams.places.last_own ∙ (c.close_lost.ensures.unopened ∙ o.ended.unopened p)));
       idle = λ none p. on-err r.result _ _ r.ensures.0 tt;
       calls = on-err r.result _ _ r.ensures.0 both.calls;
       wire = both.keeps;
@@ -182,7 +193,10 @@ returns-clause-ended g c = let H = g.H.Asks in let W = g.W.Wire in let o = c.in_
     let before = works-recorded _ o.wire (idle-then c.close_lost.ensures.wire c.stop_accepting.ensures.wire) in
     ends-later _ (H.state c.args.house.now).known.present (H.state c.step_house.new.house).known.present c.turn.new.engine.ended (W.state c.args.wire.now) (W.state c.stop_accepting.new.wire) (W.state c.turn.new.wire)
     (W.faults c.args.wire.now) (W.faults c.stop_accepting.new.wire) (W.faults c.turn.new.wire) o.house.present before.keeps.later before.calls.came
-    (λ p. c.stop_accepting.ensures.places.last_own ∙ (c.close_lost.ensures.unopened ∙ o.ended.unopened p)) record { failed = e.failed; by_row = e.by_row; by_count = e.by_count; unopened = e.unopened }
+    (λ p. c.stop_accepting.ensures.streams.places.last_own ∙ (c.close_lost.ensures.unopened ∙ o.ended.unopened p)) record { failed = e.failed; by_row = e.by_row; by_count = e.by_count; unopened = e.unopened }
+
+pub returns-clause-offered : goal.returns-clause-offered
+returns-clause-offered g c = λ e. true-false (sym e)
 
 pub returns-clause-calls : goal.returns-clause-calls
 returns-clause-calls g c = let before = works-recorded _ c.in_ok-step_house.ensures.wire (idle-then c.close_lost.ensures.wire c.stop_accepting.ensures.wire) in

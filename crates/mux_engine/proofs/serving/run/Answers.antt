@@ -1,5 +1,7 @@
 use Rattle.std.proofs.Common.{◌+◌, ◌∙◌, [], refl, sym, ap, subst, arith, List, ℕ}
 use Rattle.mux_outside.proofs.HouseCalls.{hands-none}
+use Rattle.mux_outside.specs.OwnStreams.{is_one}
+use Rattle.mux_outside.specs.Streams.{among}
 use Rattle.mux_state.specs.State.{State}
 use Rattle.mux_engine.specs.Sides.{Housed, RestsOf}
 use Rattle.mux_engine.proofs.Answering.{answer-is, failed-whole, none-given, none-held, over-still, ran-starved, ran-whole, refused-whole, spent-from, stops-whole}
@@ -8,6 +10,7 @@ use Rattle.mux_engine.proofs.Comes.{came-same, came-then, over-answer, over-late
 use Rattle.mux_engine.proofs.Counting.{none-more}
 use Rattle.mux_engine.proofs.Ending.{places-cut}
 use Rattle.mux_engine.proofs.HouseCalls.{housed-still, same-house}
+use Rattle.mux_engine.proofs.Owns.{among-one}
 use Rattle.mux_engine.proofs.Running.{given-is, present-is, promised-is}
 use Rattle.mux_engine.proofs.Spending.{cut-from, cut-idle, spent-cuts, stops-starved}
 use Rattle.mux_engine.proofs.Wired.{keeps-idle, keeps-then, no-fault-then}
@@ -116,9 +119,11 @@ returns g c = let H = g.H.Asks in let W = g.W.Wire in let p = (H.state c.args.ho
           let handed = t.serving c.args.house.now [] before policy pid start (hands-none (H.state c.args.house.now).stands) (none-held _ _ c.new-lists.ensures.held c.new-lists.ensures.failed (c.in_ok-enter.ensures.serving c.args.house.now [] before policy pid start [] [] 0 v z).0) in
           let spent = handed.so in
           let last = f.serving c.args.house.now handed.all before policy pid start spent.given handed.hands (present-is (λ b. RestsOf H.state b c.args.house.now) _ _ (sym t.house.present) spent.serving) in
-          ran-whole (H.state c.args.house.now).stands (H.state c.finish.new.house).stands c.args.turns spent.given _ c.turns_of.new.engine.ended (W.faults c.turns_of.new.wire) (W.faults c.finish.new.wire) _ c.answer_of.result
+          ran-whole (H.state c.args.house.now).stands (H.state c.finish.new.house) c.args.turns spent.given _ c.turns_of.new.engine.ended (W.faults c.turns_of.new.wire) (W.faults c.finish.new.wire) _ c.answer_of.result
           (present-is (λ b. RestsOf H.state b c.args.house.now) _ _ t.house.present last.so)
-          refl last.hands spent.most spent.all_given f.ended (λ q on. over-still (λ h. (H.state h).known.present) (λ h. (H.state h).must) (λ h. (H.state h).refused) c.turns_of.new.house c.finish.new.house p (f.unasked q) t.house.present (t.goes.over q on)) is;
+          refl last.hands
+          (λ t' one. f.offered t' (ap (among t') (f.own ∙ t.together.housed.own_is) ∙ (among-one t' (W.state c.turns_of.new.wire).seen.own ∙ (ap (is_one t') (sym f.places.own) ∙ one))))
+          spent.most spent.all_given f.ended (λ q on. over-still (λ h. (H.state h).known.present) (λ h. (H.state h).must) (λ h. (H.state h).refused) c.turns_of.new.house c.finish.new.house p (f.settled (t.goes.refused q on)) t.house.present (t.goes.over q on)) is;
       must = f.house.must ∙ t.house.must;
       ended = record {
         permitted = λ index e. refused-whole c.answer_of.result c.turns_of.new.engine.ended c.finish.new.engine.ended (W.faults c.turns_of.new.wire) (W.faults c.finish.new.wire) _ index t.ended.by_row f.ended is e;
@@ -132,7 +137,7 @@ returns g c = let H = g.H.Asks in let W = g.W.Wire in let p = (H.state c.args.ho
       calls = record {
         came = came-then _ _ _ (came-then _ _ _ (came-same _ _ i.untouched.calls) t.calls.came) f.wire.calls.came;
         stops = stops-whole p _ (H.state c.finish.new.house).must c.args.turns c.answer_of.result _ _ _ _ c.turns_of.new.engine.ended c.finish.new.engine.ended (W.faults c.turns_of.new.wire) (W.faults c.finish.new.wire) (H.state c.finish.new.house).refused
-            i.untouched.calls t.calls f.wire.calls f.ended t.ended.by_row (λ q on. over-still (λ h. (H.state h).known.present) (λ h. (H.state h).must) (λ h. (H.state h).refused) c.turns_of.new.house c.finish.new.house p (f.unasked q) t.house.present (t.goes.over q on))
+            i.untouched.calls t.calls f.wire.calls f.ended t.ended.by_row (λ q on. over-still (λ h. (H.state h).known.present) (λ h. (H.state h).must) (λ h. (H.state h).refused) c.turns_of.new.house c.finish.new.house p (f.settled (t.goes.refused q on)) t.house.present (t.goes.over q on))
             (λ out none. let j = t.idle none in let a = c.enter.ensures.alone out in
             ap (λ (s : State). s.ended) ((f.idle (ap (λ (s : State). s.waiting) (j.1 ∙ a.0) ∙ c.requires.quiet) (t.house.present ∙ out)).0 ∙ (j.1 ∙ a.0)) ∙ c.requires.on)
             is;

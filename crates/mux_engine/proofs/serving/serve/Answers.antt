@@ -20,7 +20,7 @@ returns-in_default g c =
     let wire = g.W.Wire.state c.args.wire.now in
     let house = H.state c.args.house.now in
     let Rest = RestsOf H.state house.known.present c.args.house.now in record {
-      kept = ends-starved H.may Rest house.stands house.stands house.recorded c.args.policy c.args.pid c.args.turns wire.seen.recorded _ house.recorded wire.seen
+      kept = ends-starved H.may Rest house.stands house house.recorded c.args.policy c.args.pid c.args.turns wire.seen.recorded _ house.recorded wire.seen
           (starts-starved H.may Rest house.recorded c.args.policy c.args.pid wire.seen.recorded c.args.turns);
       must = refl;
       ended = ended-starved _ _ _ _ _ _;
@@ -71,7 +71,7 @@ returns-clause-kept g c = let H = g.H.Asks in let r = c.requires in let o = r.op
 
 pub returns-in-Ok-run-clause-came : goal.returns-in-Ok-run-clause-came
 returns-in-Ok-run-clause-came g c = let H = g.H.Asks in
-    run-came (H.state c.args.house.now) (H.state c.run.new.house).stands _ _ c.args.turns _ _ _ _ _ c.in-Ok-run.ended _ _ (returns-in-Ok-run-clause-kept g c) (λ some. c.in-Ok-run.ensures.greets) c.in-Ok-run.ensures.ended.by_count
+    run-came (H.state c.args.house.now) (H.state c.run.new.house) _ _ c.args.turns _ _ _ _ _ c.in-Ok-run.ended _ _ (returns-in-Ok-run-clause-kept g c) (λ some. c.in-Ok-run.ensures.greets) c.in-Ok-run.ensures.ended.by_count
 
 pub returns-clause-came : goal.returns-clause-came
 returns-clause-came g c = λ silent. tt

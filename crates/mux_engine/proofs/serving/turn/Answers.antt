@@ -7,12 +7,13 @@ use Rattle.mux_outside.specs.WireState.{WireState}
 use Rattle.mux_state.specs.Events.{went_of}
 use Rattle.mux_state.specs.declared.event.Went.{Went}
 use Rattle.mux_state.specs.declared.event.Went.TheVariants.{On}
-use Rattle.mux_engine.specs.Owned.{waits_for}
+use Rattle.mux_engine.specs.Owned.{waits_for_own}
 use Rattle.mux_engine.specs.Turns.{IsEventOf, IsOwnOf}
-use Rattle.mux_engine.specs.Wires.{IsIdle}
+use Rattle.mux_engine.specs.Wires.{IsIdleWire}
 use Rattle.mux_engine.proofs.Arms.{on-err}
 use Rattle.mux_engine.proofs.Handed.{BeginsTurn, HasWaited, at-wait, has-waited, turn-fits}
 use Rattle.mux_engine.proofs.OneWait.{turn-event, turn-freed, turn-heard, turn-unheard, turn-unlisted, turn-wanting, works-event, works-own-turn, works-unlisted}
+use Rattle.mux_engine.proofs.Owning.{numbers-own}
 use Rattle.mux_engine.proofs.OwnAsks.{applied-counted, turn-comes}
 use Rattle.mux_engine.proofs.Places.{server-open}
 use Rattle.mux_engine.proofs.Waits.{some-waits, waiting-blocked, waiting-open}
@@ -26,16 +27,19 @@ use Rattle.mux_engine.proofs.serving.turn.Goals as goal
 begins : (g : Over) (c : Start g) → BeginsTurn (g.H.Asks.state c.args.house.now) (g.W.Wire.state c.args.wire.now) c.args.lists.now c.args.engine.now
 begins g c = let q = c.requires in record { together = q.together; ready = q.ready; permitted = q.permitted; closed = q.closed; on = q.on; receives = q.receives }
 
+listed : (g : Over) (c : In_ok-list_waiting g) → c.list_waiting.new.todo ≡ c.waiting.result.now ++ filter (waits_for_own (g.H.Asks.state c.args.house.now).queue c.args.lists.now.failed) c.args.lists.now.own
+listed g c = c.in_ok-list_waiting.ensures ∙ ap (λ (l : List ℕ). c.waiting.result.now ++ filter (waits_for_own (g.H.Asks.state c.args.house.now).queue c.args.lists.now.failed) l) (numbers-own c.requires.together.housed)
+
 -- the streams that wait
-todo-is : (g : Over) (c : In_ok-list_waiting g) → c.list_waiting.new.todo ≡ c.args.engine.now.waiting ++ filter (waits_for (g.H.Asks.state c.args.house.now).queue c.args.lists.now.failed) c.args.lists.now.own
-todo-is g c = c.in_ok-list_waiting.ensures ∙ ap (λ (l : List ℕ). l ++ filter (waits_for (g.H.Asks.state c.args.house.now).queue c.args.lists.now.failed) c.args.lists.now.own) c.waiting.ensures.exact
+todo-is : (g : Over) (c : In_ok-list_waiting g) → c.list_waiting.new.todo ≡ c.args.engine.now.waiting ++ filter (waits_for_own (g.H.Asks.state c.args.house.now).queue c.args.lists.now.failed) c.args.lists.now.own
+todo-is g c = listed g c ∙ ap (λ (l : List ℕ). l ++ filter (waits_for_own (g.H.Asks.state c.args.house.now).queue c.args.lists.now.failed) c.args.lists.now.own) c.waiting.ensures.exact
 
 waited : (g : Over) (c : After-next_of g) → HasWaited (g.W.Wire.state c.args.wire.now).seen (g.W.Wire.state c.wait-recorded.new.self).seen c.args.lists.now.own c.args.lists.now.failed (g.H.Asks.state c.args.house.now).queue c.args.engine.now c.wait-recorded.result c.wait-recorded.new.into
 waited g c =
     let k = c.wait-recorded in
     let lists = c.args.lists.now in
     has-waited (g.W.Wire.state c.args.wire.now) (g.W.Wire.state k.new.self) lists.own lists.failed (g.H.Asks.state c.args.house.now).queue c.args.engine.now k.result k.new.into c.as_bytes.result.now c.list_waiting.new.todo c.waiting.result.now c.wanted.result (g.W.Wire.state k.new.self).tally
-    k.ensures.state c.in_ok-list_waiting.ensures c.waiting.ensures.exact c.wanted.ensures c.next_of.ensures.bytes c.as_bytes.ensures.bytes k.ensures.turn k.ensures.own_turn
+    k.ensures.state (c.in_ok-list_waiting.ensures ∙ ap (λ (l : List ℕ). c.waiting.result.now ++ filter (waits_for_own (g.H.Asks.state c.args.house.now).queue c.args.lists.now.failed) l) (numbers-own c.requires.together.housed)) c.waiting.ensures.exact c.wanted.ensures c.next_of.ensures.bytes c.as_bytes.ensures.bytes k.ensures.turn k.ensures.own_turn
 
 recorded-own : (g : Over) (c : In-Own g) → IsOwnOf c.in-Own.recorded c.wait-recorded.result c.wait-recorded.new.into
 recorded-own g c = subst (λ (x : List ℕ). IsOwnOf c.in-Own.recorded c.wait-recorded.result x) c.as_bytes.ensures.bytes c.in-Own.ensures.next
@@ -76,7 +80,7 @@ returns-in-Event g c =
     let p = goal.at.returns-in-Event g c in
     let k = c.wait-recorded in
     let next : IsEventOf c.in-Event.e k.result k.new.into = subst (λ (x : List ℕ). IsEventOf c.in-Event.e k.result x) c.as_bytes.ensures.bytes c.in-Event.ensures.next in
-    let applied : IsIdle (g.W.Wire.state k.new.self) (g.W.Wire.state c.apply.new.wire) (g.W.Wire.faults k.new.self) (g.W.Wire.faults c.apply.new.wire) = record {
+    let applied : IsIdleWire (g.W.Wire.state k.new.self) (g.W.Wire.state c.apply.new.wire) (g.W.Wire.faults k.new.self) (g.W.Wire.faults c.apply.new.wire) = record {
       untouched = c.apply.ensures.wire;
       own_faults = applied-counted c.requires.served.serving.stands (turn-comes c.requires.served.serving c.in-Event.e k.result c.wanted.result k.new.into c.as_bytes.result.now c.next_of.ensures.bytes k.ensures.turn c.in-Event.ensures.next)
           c.apply.result g.H.Asks.may c.apply.new.engine c.apply.new.asks _ _ _ _ _ _ _ _ c.apply.ensures.own_faults c.apply.ensures.applied;

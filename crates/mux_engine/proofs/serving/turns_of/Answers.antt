@@ -73,7 +73,8 @@ returns-then-not-branch g c = let H = g.H.Asks in let W = g.W.Wire in let i = c.
       handed-so t (went-over c.loop.counter c.args.turns _ (omega arith) (ends-is (λ b. RestsOf H.state b first) _ _ i.present t.so));
   together = o.together;
   house = record { present = o.house.present ∙ i.present; must = o.house.must ∙ i.must };
-  goes = record { goes = λ q. true-false (sym q); unsettled = λ q. true-false (sym q); over = λ q. o.goes.over c.if-not-branch.true };
+  goes = record { goes = λ q. true-false (sym q); unsettled = λ q. true-false (sym q); over = λ q. o.goes.over c.if-not-branch.true; refused = λ q. o.goes.refused c.if-not-branch.true };
+  offered = o.offered;
   ended = ends-later _ (H.state c.args.house.now).known.present (H.state c.loop.house).known.present c.one_turn.new.engine.ended (W.state c.args.wire.now) (W.state c.loop.wire) (W.state c.one_turn.new.wire)
       (W.faults c.args.wire.now) (W.faults c.loop.wire) (W.faults c.one_turn.new.wire) i.present i.wire.later i.calls.came i.unopened
       record { failed = e.failed; by_row = e.by_row; by_count = e.by_count; unopened = e.unopened };
@@ -90,7 +91,8 @@ returns g c = let H = g.H.Asks in let W = g.W.Wire in let i = c.loop.invariant i
       handed-so h (all-spent c.loop.counter c.args.turns (omega arith) (yet-unsettled _ i.settled (given-is (0 + c.loop.counter) c.loop.counter (omega arith) h.so)));
   together = i.together;
   house = record { present = i.present; must = i.must };
-  goes = record { goes = λ e. i.on; unsettled = λ e. i.settled; over = λ e. true-false e };
+  goes = record { goes = λ e. i.on; unsettled = λ e. i.settled; over = λ e. true-false e; refused = λ e. true-false e };
+  offered = λ e. true-false (sym e ∙ i.settled);
   ended = ends-live _ (H.state c.args.house.now).known.present c.loop.engine.ended (W.state c.args.wire.now) (W.state c.loop.wire) (W.faults c.args.wire.now) (W.faults c.loop.wire) i.on i.unopened;
   calls = spent-all _ c.loop.counter c.args.turns _ _ (omega arith) i.calls;
   idle = λ z. let f = i.first (omega (arith, z)) in (f.0, f.1, record { server = ap (λ w. (W.faults w).server) f.2; client = ap (λ w. (W.faults w).client) f.2 });
@@ -108,6 +110,7 @@ returns-in_err-one_turn g c = let H = g.H.Asks in let W = g.W.Wire in let i = c.
   together = on-err r.result _ _ r.ensures.0 tt;
   house = record { present = on-err r.result _ _ r.ensures.0 tt; must = o.house.must ∙ i.must };
   goes = on-err r.result _ _ r.ensures.0 tt;
+  offered = on-err r.result _ _ r.ensures.0 tt;
   ended = ends-cut r.result (H.state c.args.house.now).known.present c.one_turn.new.engine.ended (W.state c.args.wire.now) (W.state c.one_turn.new.wire) (W.faults c.args.wire.now) (W.faults c.one_turn.new.wire) r.ensures.0 (λ p. o.ended.unopened (i.present ∙ p) ∙ i.unopened p);
   calls = on-err r.result _ _ r.ensures.0 (spent-cut _ c.loop.counter c.args.turns _ _ _ (omega arith) i.calls o.calls);
   idle = λ z. absurd (omega (arith, z));
@@ -120,6 +123,7 @@ returns-in_err-piece g c = let H = g.H.Asks in let W = g.W.Wire in let r = c.fro
   together = on-err r.result _ _ r.ensures.0 tt;
   house = record { present = on-err r.result _ _ r.ensures.0 tt; must = refl };
   goes = on-err r.result _ _ r.ensures.0 tt;
+  offered = on-err r.result _ _ r.ensures.0 tt;
   ended = ends-cut r.result (H.state c.args.house.now).known.present c.args.engine.now.ended (W.state c.args.wire.now) (W.state c.args.wire.now) (W.faults c.args.wire.now) (W.faults c.args.wire.now) r.ensures.0 (λ p. refl);
   calls = on-err r.result _ _ r.ensures.0 (cut-none c.args.turns _);
   idle = λ z. (refl, refl, record { server = refl; client = refl });

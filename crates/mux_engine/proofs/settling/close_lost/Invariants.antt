@@ -5,7 +5,7 @@ use Rattle.mux_history.specs.Policy.{Policy}
 use Rattle.mux_engine.specs.Rests.{StaysReady}
 use Rattle.mux_engine.specs.Serving.{Serving}
 use Rattle.mux_engine.specs.Sides.{RestsOf, Side}
-use Rattle.mux_engine.specs.Wires.{IsIdle}
+use Rattle.mux_engine.specs.Wires.{IsIdleWire}
 use Rattle.mux_engine.proofs.settling.close_lost.Given as goal
 
 abbrev pub invariant-loop-client : goal.invariant-loop-client
@@ -15,7 +15,7 @@ invariant-loop-client g l = let W = g.W.Wire in let H = g.H.Asks in record {
   ready : StaysReady (W.state l.fn.wire).seen (W.state l.wire).seen l.fn.held l.held l.fn.engine l.engine;
   ended : l.engine.ended ≡ l.fn.engine.ended;
   unopened : (W.state l.wire).seen.last_own ≡ (W.state l.fn.wire).seen.last_own;
-  wire : IsIdle (W.state l.fn.wire) (W.state l.wire) (W.faults l.fn.wire) (W.faults l.wire);
+  wire : IsIdleWire (W.state l.fn.wire) (W.state l.wire) (W.faults l.fn.wire) (W.faults l.wire);
 }
 
 abbrev pub decreases-loop-client : goal.decreases-loop-client

@@ -14,12 +14,16 @@ stop_accepting-requires g c = record { receives = c.requires.served.serving.rece
 pub offer_clients-requires : goal.offer_clients-requires
 offer_clients-requires g c = let w = c.requires.served in record {
   served = served-on w (c.stop_accepting.ensures.serving _ w.present w.first w.before w.now w.policy w.pid w.start w.failed w.given w.todo w.serving);
+  silence = c.stop_accepting.ensures.silence;
 }
 
 pub offer-requires-clause-served : goal.offer-requires-clause-served
 offer-requires-clause-served g c = let w = c.requires.served in
     served-on w (c.in_ok-offer_clients.ensures.serving w.todo w.present w.first w.before w.now w.policy w.pid w.start w.failed w.given
     (more-left w.todo (c.stop_accepting.ensures.serving _ w.present w.first w.before w.now w.policy w.pid w.start w.failed w.given w.todo w.serving)))
+
+pub offer-requires-clause-silence : goal.offer-requires-clause-silence
+offer-requires-clause-silence g c = c.in_ok-offer_clients.ensures.silence
 
 pub offer-requires-clause-stream : goal.offer-requires-clause-stream
 offer-requires-clause-stream g c = record { opened = refl; no_house = no-zero }
@@ -29,14 +33,14 @@ returns-in_err-offer_clients-clause-serving g c left present first before now po
     (c.in_err-offer_clients.ensures.serving left present first before now policy pid start failed given (c.stop_accepting.ensures.serving _ present first before now policy pid start failed given _ v))
 
 pub returns-in_err-offer_clients-clause-places : goal.returns-in_err-offer_clients-clause-places
-returns-in_err-offer_clients-clause-places g c = places-then _ _ _ c.stop_accepting.ensures.places c.offer_clients.ensures.places
+returns-in_err-offer_clients-clause-places g c = places-then _ _ _ c.stop_accepting.ensures.streams.places c.offer_clients.ensures.places
 
 pub returns-clause-serving : goal.returns-clause-serving
 returns-clause-serving g c left present first before now policy pid start failed given v = c.offer.ensures.serving left refl present first before now policy pid start failed given
     (c.in_ok-offer_clients.ensures.serving left present first before now policy pid start failed given (c.stop_accepting.ensures.serving _ present first before now policy pid start failed given _ v))
 
 pub returns-clause-places : goal.returns-clause-places
-returns-clause-places g c = places-then _ _ _ c.stop_accepting.ensures.places (places-then _ _ _ c.offer_clients.ensures.places c.offer.ensures.places)
+returns-clause-places g c = places-then _ _ _ c.stop_accepting.ensures.streams.places (places-then _ _ _ c.offer_clients.ensures.places c.offer.ensures.places)
 
 pub returns-clause-holds : goal.returns-clause-holds
 returns-clause-holds g c = on-ok c.offer.result (λ h t a. h t (c.in_ok-offer_clients.ensures.holds t a)) c.offer.ensures.holds

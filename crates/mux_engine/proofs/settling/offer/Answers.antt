@@ -16,6 +16,7 @@ loop-init g c = let w = c.requires.served in record {
   holds = λ t a. a;
   places = places-same _ _ refl;
   free = ap (among c.args.stream) (sym w.serving.held_is) ∙ sym c.if-contains.ensures;
+  silence = c.requires.silence;
   wire = worked-none _ _;
   idle = λ none. (refl, refl);
 }
@@ -42,6 +43,7 @@ loop-preserved g c = record {
   holds = λ t a. c.in_ok-offer_once.ensures.holds t (c.loop.invariant.holds t a);
   places = places-then _ _ _ c.loop.invariant.places c.offer_once.ensures.places;
   free = (c.in_ok-offer_once.ensures.more c.if-branch.true).free;
+  silence = (c.in_ok-offer_once.ensures.more c.if-branch.true).silence;
   wire = works-then c.loop.invariant.wire (worked c.in_ok-offer_once.ensures.wire);
   idle = unchanged-then c.args.stream c.args.engine.now c.loop.engine c.offer_once.new.engine c.args.wire.now c.loop.wire c.offer_once.new.wire c.loop.invariant.idle c.offer_once.ensures.idle;
 }
@@ -80,6 +82,14 @@ returns-in_err-offer_once-clause-places g c = places-then _ _ _ c.loop.invariant
 
 pub returns-then-contains-clause-places : goal.returns-then-contains-clause-places
 returns-then-contains-clause-places g c = places-same _ _ refl
+
+-- ---- clients are accepted only as the engine does
+
+pub returns-clause-silence : goal.returns-clause-silence
+returns-clause-silence g c = c.in_ok-offer_once.ensures.silence
+
+pub returns-then-contains-clause-silence : goal.returns-then-contains-clause-silence
+returns-then-contains-clause-silence g c = λ nz. c.requires.silence
 
 -- ---- the engine and the wire
 

@@ -7,11 +7,12 @@ use Rattle.mux_outside.specs.declared.turn.Wrote.TheVariants as wrote
 use Rattle.mux_state.specs.State.{State}
 use Rattle.mux_engine.specs.Serving.{Serving}
 use Rattle.mux_engine.specs.Sides.{RestsOf}
+use Rattle.mux_engine.specs.SilentAnswers.{AcceptsAs}
 use Rattle.mux_engine.proofs.Arms.{Failing, empty-is, failing, offered-fails, offered-none, offered-same, on-err, some-bytes, unless-empty}
 use Rattle.mux_engine.proofs.Asks.{goes-asked, goes-unasked, none-asked, unasked-none}
 use Rattle.mux_engine.proofs.Holding.{held-more, none-finished}
 use Rattle.mux_engine.proofs.Lists.{not-own-stream}
-use Rattle.mux_engine.proofs.Marks.{serve-alone, serve-next}
+use Rattle.mux_engine.proofs.Marks.{accepts-then, listening-lost, serve-alone, serve-next}
 use Rattle.mux_engine.proofs.Offers.{SameRun, cut-fails, cut-holds, cut-starved, next-fails, next-holds, next-takes}
 use Rattle.mux_engine.proofs.Owns.{client-apart, writes-client}
 use Rattle.mux_engine.proofs.Places.{AtStream, at-stream, open-own, places-same, places-write, stream-open}
@@ -50,10 +51,10 @@ returns-in-Took-clause-serving g c todo zero present first before now policy pid
     let same : SameRun s c.took.new.self = took-run s c.took.new.self k n c.took.ensures.exact in
     let at : AtStream s v.journal v.closed k = at-stream v.stands k c.requires.stream.opened in
     subst (λ (x : Seen). Serving g.H.Asks.may (RestsOf g.H.Asks.state present first) before now policy pid start x c.args.held.now failed given (k ∷ todo) c.took.new.self) (sym (seen-is c.in-Took.ensures.state))
-    (serve-alone v now (seen_after_write (wrote.Took n) k bytes (g.W.Wire.state c.args.wire.now).seen) c.args.held.now failed given (k ∷ todo) c.took.new.self (Takes k (take n bytes))
-    (c.took.ensures.stands (take n bytes) (length-take-le n bytes fits) v.picked v.replies v.journal v.closed v.stands ((λ nz. queue-present s k bytes c.queue_of-bytes.ensures.exact some nz), not-own-stream k (open-own v k c.requires.stream.opened c.requires.stream.no_house)))
-    (took-asks s c.took.new.self k (take n bytes) v.journal same)
-    (next-takes v c.took.new.self k n bytes c.requires.stream.opened c.requires.stream.no_house same c.queue_of-bytes.ensures.bytes c.in-Took.ensures.wrote.0 fits (c.queue_of-bytes.ensures.waits v.picked v.replies v.journal v.closed v.stands at.not_closed)))
+    (serve-alone v now (seen_after_write (wrote.Took n) k bytes (g.W.Wire.state c.args.wire.now).seen) c.args.held.now failed given (k ∷ todo) c.took.new.self (Takes k (take n bytes) (g.W.Wire.state c.args.wire.now).seen.listens)
+    (c.took.ensures.stands (take n bytes) (g.W.Wire.state c.args.wire.now).seen.listens (length-take-le n bytes fits) v.picked v.replies v.journal v.closed v.stands ((λ nz. queue-present s k bytes c.queue_of-bytes.ensures.exact some nz), not-own-stream k (open-own v k c.requires.stream.opened c.requires.stream.no_house)))
+    (took-asks s c.took.new.self k (take n bytes) (g.W.Wire.state c.args.wire.now).seen.listens v.journal same)
+    (next-takes v c.took.new.self k n bytes c.requires.stream.opened c.requires.stream.no_house same c.queue_of-bytes.ensures.bytes c.in-Took.ensures.wrote.0 fits c.requires.silence (c.queue_of-bytes.ensures.waits v.picked v.replies v.journal v.closed v.stands at.not_closed)))
 
 pub took-requires : goal.took-requires
 took-requires g c = subst (λ (b : List ℕ). c.in-Took.n ≤ length b) c.queue_of-bytes.ensures.exact c.in-Took.ensures.wrote.1
@@ -153,6 +154,33 @@ returns-in-NoMemory-clause-places g c = places-write wrote.NoMemory c.args.strea
 pub returns-then-is_empty-clause-places : goal.returns-then-is_empty-clause-places
 returns-then-is_empty-clause-places g c = places-same _ _ refl
 
+-- ---- clients are accepted only as the engine does
+
+took-accepts : (g : given_to.Over) (c : goal.After-took g) → AcceptsAs (g.W.Wire.state c.write.new.self).seen c.took.new.self
+took-accepts g c = let same = took-run c.args.engine.now c.took.new.self c.args.stream c.in-Took.n c.took.ensures.exact in
+    accepts-then (g.W.Wire.state c.args.wire.now).seen (g.W.Wire.state c.write.new.self).seen c.args.engine.now c.took.new.self c.requires.silence (places-write (wrote.Took c.in-Took.n) c.args.stream c.queue_of-bytes.result.now _ _ (seen-is c.in-Took.ensures.state)).silence same.ended same.listening
+
+pub returns-then-is_empty-clause-silence : goal.returns-then-is_empty-clause-silence
+returns-then-is_empty-clause-silence g c = λ nz. c.requires.silence
+
+pub returns-in-Took-clause-silence : goal.returns-in-Took-clause-silence
+returns-in-Took-clause-silence g c = λ nz. took-accepts g c
+
+pub returns-in_ok-push-in-Later-clause-silence : goal.returns-in_ok-push-in-Later-clause-silence
+returns-in_ok-push-in-Later-clause-silence g c = λ nz.
+    accepts-then (g.W.Wire.state c.args.wire.now).seen (g.W.Wire.state c.write.new.self).seen c.args.engine.now c.args.engine.now c.requires.silence (places-write wrote.Later c.args.stream c.queue_of-bytes.result.now _ _ (seen-is c.in-Later.ensures.state)).silence refl refl
+
+pub returns-in_ok-event-in-Failed-clause-silence : goal.returns-in_ok-event-in-Failed-clause-silence
+returns-in_ok-event-in-Failed-clause-silence g c = λ nz.
+    let k : ℕ = c.args.stream in
+    let v = c.requires.served.serving in
+    let client = not-own-stream k (open-own v k c.requires.stream.opened c.requires.stream.no_house) in
+    let f : Failing k c.args.engine.now c.event.new.self = lost g c in
+    let said = c.in_ok-event-in-Failed.ensures.takes.stands (WriteFails k) c.event_of_fault.ensures.write v.picked v.replies v.journal v.closed v.stands ((at-stream v.stands k c.requires.stream.opened).accepted, client) in
+    let on = goes-unasked {May = g.H.Asks.may} v.stands said (none-asked said.asks (goes-asked (λ j. ⊥) said f.policy f.pid tt)) in
+    accepts-then (g.W.Wire.state c.args.wire.now).seen (g.W.Wire.state c.write.new.self).seen c.args.engine.now c.event.new.self c.requires.silence (places-write wrote.Failed k c.queue_of-bytes.result.now _ _ (seen-is c.in-Failed.ensures.state)).silence (f.client nz)
+    (listening-lost v.stands c.event.new.self k on.picks on.replies f.policy f.pid on.stands nz client)
+
 -- ---- the engine, and what it can take more
 
 pub returns-then-is_empty-clause-engine : goal.returns-then-is_empty-clause-engine
@@ -166,6 +194,7 @@ pub returns-in-Took-clause-more : goal.returns-in-Took-clause-more
 returns-in-Took-clause-more g c = λ more. record {
   less = took-less c.args.engine.now c.took.new.self c.args.stream c.in-Took.n c.took.ensures.exact c.in-Took.ensures.wrote.0 (subst (λ (b : List ℕ). c.in-Took.n ≤ length b) c.queue_of-bytes.ensures.exact c.in-Took.ensures.wrote.1);
   free = ap (λ (x : Seen). among c.args.stream x.blocked) (seen-is c.in-Took.ensures.state) ∙ c.requires.free;
+  silence = took-accepts g c;
 }
 
 pub returns-in_ok-push-in-Later-clause-engine : goal.returns-in_ok-push-in-Later-clause-engine

@@ -2,7 +2,7 @@ use Rattle.std.proofs.Common.{◌≡◌, ◌∙◌, None, false, refl, sym, ap, 
 use Rattle.std.specs.Prelude.{is_some}
 use Rattle.mux_outside.specs.Seen.{Seen}
 use Rattle.mux_engine.specs.Serving.{Serving}
-use Rattle.mux_engine.specs.Sides.{RestsOf, SamePlaces}
+use Rattle.mux_engine.specs.Sides.{RestsOf, SameStreams}
 use Rattle.mux_engine.proofs.Lists.{true-false}
 use Rattle.mux_engine.proofs.Loops.{serve-hushed}
 use Rattle.mux_engine.proofs.Wired.{idle-silence, seen-is}
@@ -20,8 +20,11 @@ pub returns-clause-serving : goal.returns-clause-serving
 returns-clause-serving g c held present first before now policy pid start failed given todo v =
     subst (λ (x : Seen). Serving g.H.Asks.may (RestsOf g.H.Asks.state present first) before now policy pid start x held failed given todo c.args.engine.now) (sym (seen-is c.stop_listening.ensures.state)) (serve-hushed v (silent g c))
 
-pub returns-clause-places : goal.returns-clause-places
-returns-clause-places g c = subst (SamePlaces (g.W.Wire.state c.args.wire.now).seen) (sym (seen-is c.stop_listening.ensures.state)) record { streams = refl; listeners = refl; own = refl; last_own = refl }
+pub returns-clause-silence : goal.returns-clause-silence
+returns-clause-silence g c l = true-false (sym l ∙ ap (λ (x : Seen). x.listens) (seen-is c.stop_listening.ensures.state))
+
+pub returns-clause-streams : goal.returns-clause-streams
+returns-clause-streams g c = subst (SameStreams (g.W.Wire.state c.args.wire.now).seen) (sym (seen-is c.stop_listening.ensures.state)) record { places = record { streams = refl; listeners = refl; own = refl; last_own = refl; silence = λ l. true-false (sym l) }; blocked = refl }
 
 -- ---- the wire
 

@@ -12,8 +12,8 @@ use Rattle.ssh_mux.proofs.drill.serve_drill.Goals as goal
 any-read : (os ls : List Bytes) → os ≡ [] → ls ≡ [] → IsOk (read_policy os ls true)
 any-read os ls e f = rw (e, f) refl
 
-any-lists : (os ls : List Bytes) → os ≡ [] → ls ≡ [] → policy_of (record { opens = os; listens = ls; sessions = true }) ≡ any_policy
-any-lists os ls e f = rw (e, f) refl
+any-lists : (os ls hs : List Bytes) → os ≡ [] → ls ≡ [] → policy_of (record { opens = os; listens = ls; sessions = true; here = hs }) ≡ any_policy
+any-lists os ls hs e f = rw (e, f) refl
 
 pub policy_of-requires : goal.policy_of-requires
 policy_of-requires g c = record { permitted = any-read c.new-opens.result c.new-listens.result c.new-opens.ensures c.new-listens.ensures }
@@ -52,7 +52,7 @@ pub returns-clause-opened : goal.returns-clause-opened
 returns-clause-opened g c = rw (c.new-control.ensures, c.in_ok-transport.ensures, c.as_slice.ensures) at c.open_and_serve.ensures.opened
 
 pub returns-clause-served : goal.returns-clause-served
-returns-clause-served g c = rw (c.in_ok-policy.ensures.exact ∙ any-lists c.new-opens.result c.new-listens.result c.new-opens.ensures c.new-listens.ensures) at c.open_and_serve.ensures.served
+returns-clause-served g c = rw (c.in_ok-policy.ensures.exact ∙ any-lists c.new-opens.result c.new-listens.result c.new-here.result c.new-opens.ensures c.new-listens.ensures) at c.open_and_serve.ensures.served
 
 pub returns-clause-start : goal.returns-clause-start
 returns-clause-start g c = c.open_and_serve.ensures.start

@@ -25,7 +25,7 @@ pub returns-in_err-begin-clause-wire : goal.returns-in_err-begin-clause-wire
 returns-in_err-begin-clause-wire g c = let p = err_from_is_err_and c.from_residual.result c.from_residual.ensures.1 in let e = c.in_err-begin.ensures.err in rw (p.1, p.2, e) (starved-counts _ _ _ _)
 
 pub open_and_serve-requires-clause-silent : goal.open_and_serve-requires-clause-silent
-open_and_serve-requires-clause-silent g c = λ present. (Begins (starts_for c.args.found.now.settings) ∷ [], (refl, c.in_ok-begin.ensures.stands))
+open_and_serve-requires-clause-silent g c = λ present. (Begins (starts_for c.args.grants.here c.args.found.now.settings) ∷ [], (refl, c.in_ok-begin.ensures.stands))
 
 pub returns-clause-served : goal.returns-clause-served
 returns-clause-served g c = shares-begun g.H.Asks.state _ _ _ c.in_ok-begin.ensures.stands _ _ _ _ _ _ _ _ _ _ _ (rw (c.in_ok-begin.ensures.known, c.in_ok-begin.ensures.recorded) at c.open_and_serve.ensures.served)

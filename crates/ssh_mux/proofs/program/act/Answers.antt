@@ -1,8 +1,8 @@
 use Rattle.std.proofs.Common.{◌≡◌, refl}
 use Rattle.std.proofs.lemmas.Result.{err_from_is_err_and}
 use Rattle.conf_rules.specs.declared.command.Command.TheVariants as commands
-use Rattle.conf_rules.specs.Outcome.{Drills}
-use Rattle.ssh_mux.specs.Answers.{may_ask, may_open, may_write, so_far, touches}
+use Rattle.conf_rules.specs.CommandOutcome.{Drills}
+use Rattle.ssh_mux.specs.Answers.{may_have_joined, may_open, may_write, so_far, touches}
 use Rattle.ssh_mux.specs.Looks.{coming, coming_of_words, machine_of_sources}
 use Rattle.ssh_mux.specs.Outcomes.{Certain, drills, opens}
 use Rattle.ssh_mux.specs.Sharing.{pid_of}
@@ -14,13 +14,13 @@ use Rattle.ssh_mux.proofs.MisreadLemmas.{for-read, of-drill, of-read}
 use Rattle.ssh_mux.proofs.NamedLemmas.{names-forwards}
 use Rattle.ssh_mux.proofs.Obeyed.{client-obeyed, drill-obeyed, list-obeyed, master-obeyed, misread-obeyed, obeyed-runs}
 use Rattle.ssh_mux.proofs.PlaceLemmas.{client-recorded, list-recorded, master-recorded}
-use Rattle.ssh_mux.proofs.PolicyLemmas.{are-permitted}
+use Rattle.ssh_mux.proofs.PolicyLemmas.{are-permitted, here-permitted}
 use Rattle.ssh_mux.proofs.RefusalLemmas.{list-looks, master-looks}
 use Rattle.ssh_mux.proofs.StillLemmas.{both-shown, else-or, first-still, not_false, on_false, or-else, second-still, untouched}
 use Rattle.ssh_mux.proofs.program.act.Goals as goal
 
 pub share-requires : goal.share-requires
-share-requires g c = record { permitted = are-permitted _ _ _ _ (rw c.in-Master.is at c.requires.read); fresh = c.requires.fresh }
+share-requires g c = record { permitted = are-permitted _ _ _ _ (rw c.in-Master.is at c.requires.read); here = here-permitted _ _ _ _ (rw c.in-Master.is at c.requires.read); fresh = c.requires.fresh }
 
 pub ask_master-requires : goal.ask_master-requires
 ask_master-requires g c = record { named = names-forwards _ _ _ (rw c.in-Control.is at c.requires.read) }
@@ -31,7 +31,7 @@ returns-in-List-clause-runs g c = let e = rw c.in-List.is at c.requires.read in 
 
 pub returns-in-List-clause-leaves : goal.returns-in-List-clause-leaves
 returns-in-List-clause-leaves g c = record {
-  unwritten = or-else (may_write (so_far c.list.result)) (may_ask (coming_of_words (sources g.F.Files g.R.Runner c.args.files.now c.args.runner.now) c.args.facts.now c.args.words.now) (so_far c.list.result)) (c.list.new.out ≡ c.args.out.now) c.list.ensures.unwritten;
+  unwritten = or-else (may_write (so_far c.list.result)) (may_have_joined (coming_of_words (sources g.F.Files g.R.Runner c.args.files.now c.args.runner.now) c.args.facts.now c.args.words.now) (so_far c.list.result)) (c.list.new.out ≡ c.args.out.now) c.list.ensures.unwritten;
   unlisted = rw (of-read _ _ _ (rw c.in-List.is at c.requires.read)) c.list.ensures.unlisted;
   files = rw (of-read _ _ _ (rw c.in-List.is at c.requires.read)) (not_false _ _ (list-looks _ _));
   runner = rw (of-read _ _ _ (rw c.in-List.is at c.requires.read)) (not_false _ _ (list-looks _ _));
@@ -49,7 +49,7 @@ returns-in-Master-clause-leaves g c = record {
   unlisted = on_false _ _;
   files = rw (of-read _ _ _ (rw c.in-Master.is at c.requires.read)) (not_false _ _ (master-looks _ _ _ _));
   runner = rw (of-read _ _ _ (rw c.in-Master.is at c.requires.read)) (not_false _ _ (master-looks _ _ _ _));
-  wire = rw (of-read _ _ _ (rw c.in-Master.is at c.requires.read)) (or-else (touches (coming (sources g.F.Files g.R.Runner c.args.files.now c.args.runner.now) c.args.facts.now (commands.Master c.in-Master.asked c.in-Master.transport c.in-Master.permits)) (so_far c.share.result)) (may_ask (coming (sources g.F.Files g.R.Runner c.args.files.now c.args.runner.now) c.args.facts.now (commands.Master c.in-Master.asked c.in-Master.transport c.in-Master.permits)) (so_far c.share.result)) (c.share.new.wire ≡ c.args.wire.now) (untouched (may_open (so_far c.share.result)) (opens (coming (sources g.F.Files g.R.Runner c.args.files.now c.args.runner.now) c.args.facts.now (commands.Master c.in-Master.asked c.in-Master.transport c.in-Master.permits))) (drills (coming (sources g.F.Files g.R.Runner c.args.files.now c.args.runner.now) c.args.facts.now (commands.Master c.in-Master.asked c.in-Master.transport c.in-Master.permits))) (c.share.new.wire ≡ c.args.wire.now) (first-still _ _ _ c.share.ensures.untouched)));
+  wire = rw (of-read _ _ _ (rw c.in-Master.is at c.requires.read)) (or-else (touches (coming (sources g.F.Files g.R.Runner c.args.files.now c.args.runner.now) c.args.facts.now (commands.Master c.in-Master.asked c.in-Master.transport c.in-Master.permits)) (so_far c.share.result)) (may_have_joined (coming (sources g.F.Files g.R.Runner c.args.files.now c.args.runner.now) c.args.facts.now (commands.Master c.in-Master.asked c.in-Master.transport c.in-Master.permits)) (so_far c.share.result)) (c.share.new.wire ≡ c.args.wire.now) (untouched (may_open (so_far c.share.result)) (opens (coming (sources g.F.Files g.R.Runner c.args.files.now c.args.runner.now) c.args.facts.now (commands.Master c.in-Master.asked c.in-Master.transport c.in-Master.permits))) (drills (coming (sources g.F.Files g.R.Runner c.args.files.now c.args.runner.now) c.args.facts.now (commands.Master c.in-Master.asked c.in-Master.transport c.in-Master.permits))) (c.share.new.wire ≡ c.args.wire.now) (first-still _ _ _ c.share.ensures.untouched)));
   house = rw (of-read _ _ _ (rw c.in-Master.is at c.requires.read)) (second-still _ _ _ c.share.ensures.untouched);
 }
 
@@ -59,11 +59,11 @@ returns-in-Control-clause-runs g c = let e = rw c.in-Control.is at c.requires.re
 
 pub returns-in-Control-clause-leaves : goal.returns-in-Control-clause-leaves
 returns-in-Control-clause-leaves g c = record {
-  unwritten = rw (of-read _ _ _ (rw c.in-Control.is at c.requires.read)) (else-or (may_write (so_far c.ask_master.result)) (may_ask (coming (sources g.F.Files g.R.Runner c.args.files.now c.args.runner.now) c.args.facts.now (commands.Control c.in-Control.asked c.in-Control.control)) (so_far c.ask_master.result)) (c.ask_master.new.out ≡ c.args.out.now) (second-still _ _ _ c.ask_master.ensures.untouched));
+  unwritten = rw (of-read _ _ _ (rw c.in-Control.is at c.requires.read)) (else-or (may_write (so_far c.ask_master.result)) (may_have_joined (coming (sources g.F.Files g.R.Runner c.args.files.now c.args.runner.now) c.args.facts.now (commands.Control c.in-Control.asked c.in-Control.control)) (so_far c.ask_master.result)) (c.ask_master.new.out ≡ c.args.out.now) (second-still _ _ _ c.ask_master.ensures.untouched));
   unlisted = rw (of-read _ _ _ (rw c.in-Control.is at c.requires.read)) (unlisted-client (machine_of_sources (sources g.F.Files g.R.Runner c.args.files.now c.args.runner.now) c.args.facts.now) c.in-Control.asked c.in-Control.control (so_far c.ask_master.result) (c.ask_master.new.out ≡ c.args.out.now) (second-still _ _ _ c.ask_master.ensures.untouched));
   files = rw (of-read _ _ _ (rw c.in-Control.is at c.requires.read)) (not_false _ _ (client-looks _ _ _));
   runner = rw (of-read _ _ _ (rw c.in-Control.is at c.requires.read)) (not_false _ _ (client-looks _ _ _));
-  wire = rw (of-read _ _ _ (rw c.in-Control.is at c.requires.read)) (else-or (touches (coming (sources g.F.Files g.R.Runner c.args.files.now c.args.runner.now) c.args.facts.now (commands.Control c.in-Control.asked c.in-Control.control)) (so_far c.ask_master.result)) (may_ask (coming (sources g.F.Files g.R.Runner c.args.files.now c.args.runner.now) c.args.facts.now (commands.Control c.in-Control.asked c.in-Control.control)) (so_far c.ask_master.result)) (c.ask_master.new.wire ≡ c.args.wire.now) (first-still _ _ _ c.ask_master.ensures.untouched));
+  wire = rw (of-read _ _ _ (rw c.in-Control.is at c.requires.read)) (else-or (touches (coming (sources g.F.Files g.R.Runner c.args.files.now c.args.runner.now) c.args.facts.now (commands.Control c.in-Control.asked c.in-Control.control)) (so_far c.ask_master.result)) (may_have_joined (coming (sources g.F.Files g.R.Runner c.args.files.now c.args.runner.now) c.args.facts.now (commands.Control c.in-Control.asked c.in-Control.control)) (so_far c.ask_master.result)) (c.ask_master.new.wire ≡ c.args.wire.now) (first-still _ _ _ c.ask_master.ensures.untouched));
   house = on_false _ _;
 }
 
@@ -73,10 +73,10 @@ returns-in-Drill-clause-runs g c = let e = rw c.in-Drill.is at c.requires.read i
 
 pub returns-in-Drill-clause-leaves : goal.returns-in-Drill-clause-leaves
 returns-in-Drill-clause-leaves g c = record {
-  unwritten = or-else (may_write (so_far c.drill.result)) (may_ask (coming_of_words (sources g.F.Files g.R.Runner c.args.files.now c.args.runner.now) c.args.facts.now c.args.words.now) (so_far c.drill.result)) (c.drill.new.out ≡ c.args.out.now) c.drill.ensures.unwritten;
+  unwritten = or-else (may_write (so_far c.drill.result)) (may_have_joined (coming_of_words (sources g.F.Files g.R.Runner c.args.files.now c.args.runner.now) c.args.facts.now c.args.words.now) (so_far c.drill.result)) (c.drill.new.out ≡ c.args.out.now) c.drill.ensures.unwritten;
   unlisted = rw (of-drill _ _ _ _ _ (rw c.in-Drill.is at c.requires.read)) tt;
   files = on_false _ _;
   runner = on_false _ _;
-  wire = rw (of-drill _ _ _ _ _ (rw c.in-Drill.is at c.requires.read)) (or-else (touches (Certain (Drills c.in-Drill.seed c.in-Drill.clients c.in-Drill.messages)) (so_far c.drill.result)) (may_ask (Certain (Drills c.in-Drill.seed c.in-Drill.clients c.in-Drill.messages)) (so_far c.drill.result)) (c.drill.new.wire ≡ c.args.wire.now) (not_false (touches (Certain (Drills c.in-Drill.seed c.in-Drill.clients c.in-Drill.messages)) (so_far c.drill.result)) (c.drill.new.wire ≡ c.args.wire.now) (drill-touches c.in-Drill.seed c.in-Drill.clients c.in-Drill.messages c.drill.result c.drill.ensures.goes.ends)));
+  wire = rw (of-drill _ _ _ _ _ (rw c.in-Drill.is at c.requires.read)) (or-else (touches (Certain (Drills c.in-Drill.seed c.in-Drill.clients c.in-Drill.messages)) (so_far c.drill.result)) (may_have_joined (Certain (Drills c.in-Drill.seed c.in-Drill.clients c.in-Drill.messages)) (so_far c.drill.result)) (c.drill.new.wire ≡ c.args.wire.now) (not_false (touches (Certain (Drills c.in-Drill.seed c.in-Drill.clients c.in-Drill.messages)) (so_far c.drill.result)) (c.drill.new.wire ≡ c.args.wire.now) (drill-touches c.in-Drill.seed c.in-Drill.clients c.in-Drill.messages c.drill.result c.drill.ensures.goes.ends)));
   house = on_false _ _;
 }

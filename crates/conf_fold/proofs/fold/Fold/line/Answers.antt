@@ -1,6 +1,6 @@
 use Rattle.std.proofs.Common.{◌≡◌, ◌∙◌, Err, ap, refl, subst, sym}
-use Rattle.conf_fold.specs.Results.{breaks_line, breaks_off, FailsAt}
-use Rattle.conf_fold.specs.Stands.{Folds, next_row}
+use Rattle.conf_fold.specs.Results.{breaks_line, breaks_off, FailsAtLine}
+use Rattle.conf_fold.specs.FoldRepresents.{Folds, next_row}
 use Rattle.conf_fold.proofs.RefusedLemmas.{entry-refused, placed-refusal, placed-folds}
 use Rattle.conf_fold.proofs.RanLemmas.{ran-weaker, refused-ran, breaks-placed, never-failed, plain-placed, placed-fails, some-broken, Placed}
 use Rattle.conf_fold.proofs.fold.Fold.line.Goals as goal
@@ -37,5 +37,5 @@ returns-clause-failed g c = λ recorded pass rows blocks place l facts status s 
     let given = c.args.line.now in
     let file : c.in-Ok-copy.file ≡ given.file = c.in-Ok-copy.ensures ∙ c.as_bytes.ensures in
     let is : c.placed.result ≡ Placed c.take.result given.file given.number = c.placed.ensures ∙ ap (λ f. Placed c.take.result f given.number) file in
-    subst (λ r. FailsAt given.file given.number r (g.R.Runner.ran c.args.runner.now) (g.R.Runner.ran c.take.new.runner) (next_row recorded pass rows place l).ran) (sym is)
+    subst (λ r. FailsAtLine given.file given.number r (g.R.Runner.ran c.args.runner.now) (g.R.Runner.ran c.take.new.runner) (next_row recorded pass rows place l).ran) (sym is)
     (placed-fails c.take.result given.file given.number _ _ _ (c.take.ensures.failed recorded pass rows blocks place l facts status s n c.in-Ok.ensures.read))

@@ -1,5 +1,5 @@
 use Rattle.std.proofs.Common.{◌≡◌, refl}
-use Rattle.conf_fold.specs.Stands.{host_so_far}
+use Rattle.conf_fold.specs.FoldRepresents.{host_so_far}
 use Rattle.conf_fold.proofs.SecondLemmas.{second-begins}
 use Rattle.conf_fold.proofs.fold.Fold.second.Goals as goal
 

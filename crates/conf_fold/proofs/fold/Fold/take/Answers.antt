@@ -3,7 +3,7 @@ use Rattle.std.proofs.lemmas.Result.{err_from_is_err_and}
 use Rattle.conf_rules.specs.Evaluation.{verdict}
 use Rattle.conf_fold.specs.declared.fold.Fold.{Fold}
 use Rattle.conf_fold.specs.Results.{breaks_line}
-use Rattle.conf_fold.specs.Stands.{view_of}
+use Rattle.conf_fold.specs.FoldRepresents.{fold_view_of}
 use Rattle.conf_fold.proofs.FoldLemmas.{folds-nothing, folds-block, folds-tests}
 use Rattle.conf_fold.proofs.GiveLemmas.{folds-gives}
 use Rattle.conf_fold.proofs.RefusedLemmas.{tests-failed, gives-depth}
@@ -30,7 +30,7 @@ returns-in_ok-open-in-Host-clause-ran g c = λ recorded pass rows blocks place l
 pub returns-in_ok-open-in-Match-clause-folds : goal.returns-in_ok-open-in-Match-clause-folds
 returns-in_ok-open-in-Match-clause-folds g c = λ recorded pass rows blocks place l facts status s n e.
     folds-tests recorded pass c.args.self.now _ rows blocks c.args.line.now place l _ c.in_ok-applies-in-Match.applies s n (e ∙ ap (λ x. Ok x) c.in-Match.is)
-    (λ a. ap (λ f. (verdict recorded.status (view_of c.args.self.now f) c.in-Match.criteria).holds) facts ∙ c.in_ok-applies-in-Match.ensures.held recorded.status status (c.all_apply-active.ensures ∙ a))
+    (λ a. ap (λ f. (verdict recorded.status (fold_view_of c.args.self.now f) c.in-Match.criteria).holds) facts ∙ c.in_ok-applies-in-Match.ensures.held recorded.status status (c.all_apply-active.ensures ∙ a))
     (λ a. let h = c.in_ok-applies-in-Match.ensures.idle (c.all_apply-active.ensures ∙ a) in cc)
     (c.in_ok-open-in-Match.ensures.ok ∙ ap (λ (f : Fold). record f { applies = take c.args.line.now.depth f.applies ++ c.in_ok-applies-in-Match.applies ∷ [] }) c.ask.ensures)
 

@@ -1,5 +1,5 @@
 use Rattle.std.proofs.Common.{◌∙◌, sym, subst}
-use Rattle.conf_reader.specs.Reads.{AreIdle}
+use Rattle.conf_reader.specs.ReaderReads.{AreIdle}
 use Rattle.conf_reader.proofs.BetweenLemmas.{over-left, over-reads}
 use Rattle.conf_reader.proofs.UsesLemmas.{uses-for, uses-named, uses-none}
 use Rattle.conf_reader.proofs.line_reader.LineReader.next.Goals as goal

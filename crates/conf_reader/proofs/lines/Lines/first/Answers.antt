@@ -2,12 +2,12 @@ use Rattle.std.proofs.Common.{◌≡◌, Bool, true, sym, ap, refl, subst, Some,
 use Rattle.std.proofs.lemmas.Result.{err_from_is_err_and}
 use Rattle.std.specs.List.{slice_get}
 use Rattle.conf_rules.specs.declared.causes.Cause.TheVariants as causes
-use Rattle.conf_reader.specs.declared.files.Found.{Found}
-use Rattle.conf_reader.specs.declared.files.Found.TheVariants.{Holds}
+use Rattle.conf_reader.specs.declared.files.FoundFile.{FoundFile}
+use Rattle.conf_reader.specs.declared.files.FoundFile.TheVariants.{Holds}
 use Rattle.conf_reader.specs.declared.lines.Lines.{Lines}
 use Rattle.conf_reader.specs.Left.{left, IsFound}
 use Rattle.conf_reader.specs.Looking.{all_meet}
-use Rattle.conf_reader.specs.Moving.{GoesOn}
+use Rattle.conf_reader.specs.Moving.{ReadingGoesOn}
 use Rattle.conf_reader.proofs.RefusalLemmas.{moves-refused}
 use Rattle.conf_reader.proofs.FirstLemmas.{fails-moved, lack-refused, size-moves, plain-at, below-end}
 use Rattle.conf_reader.proofs.LookingLemmas.{all-on, files-meet, first-records}
@@ -65,7 +65,7 @@ returns-else-required-clause-lines g c =
       moves = λ recorded place blocks records.
           let none : recorded.content f.path ≡ None = rw (c.in-Nothing.is, c.as_bytes.ensures) at (c.in_ok-first_found.ensures.found recorded records) in
           c.skip.ensures.left recorded place blocks (rw named (none, c.if-required.false));
-      goes_on = subst (λ o. GoesOn r.open_files o) (sym (ap (λ (n : Lines). n.open_files) c.skip.ensures.others)) (goes-same r.open_files c.requires.ready);
+      goes_on = subst (λ o. ReadingGoesOn r.open_files o) (sym (ap (λ (n : Lines). n.open_files) c.skip.ensures.others)) (goes-same r.open_files c.requires.ready);
       firsts = ap (λ (n : Lines). n.firsts) c.skip.ensures.others;
       count = ap (λ (n : Lines). n.read) c.skip.ensures.others;
     }
@@ -172,7 +172,7 @@ returns-in_err-first_found-clause-files g c =
     let found = c.in_err-first_found.ensures in
     rw (p.1, p.2) (record {
       recorded = found.recorded;
-      cause = cause-on Found Bool _ _ _ _ refl found.cause;
+      cause = cause-on FoundFile Bool _ _ _ _ refl found.cause;
       looks = λ recorded test h. (first-records Bool test recorded c.args.self.now c.in-Some.first.now _ _ _ _ (sym c.in-Some.ensures) c.as_bytes.ensures found.failed h, tt);
       noted = λ recorded records.
           let f = c.in-Some.first.now in

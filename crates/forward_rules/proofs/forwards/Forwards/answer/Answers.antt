@@ -1,7 +1,7 @@
 use Rattle.std.proofs.Common.{rules, ◌≡◌, ◌∙◌, ap, sym, subst, position, map, refl, true, ℕ, List, Option, Some, None, slice_index_or, slice_set}
 use Rattle.ssh_grammar.specs.Messages.{Key}
 use Rattle.conn_messages.specs.Keys.{key_of, with_port}
-use Rattle.forward_rules.specs.Listing.{forward_of}
+use Rattle.forward_rules.specs.Listing.{listed_forward_of}
 use Rattle.forward_rules.specs.State.{Forward}
 use Rattle.forward_rules.specs.Step.{answered, is_asked_at}
 use Rattle.forward_rules.specs.Taking.{AreFew}
@@ -15,9 +15,9 @@ none-asked : (k : ℕ) (key : Key) (port : Option ℕ) (fs : List Forward) → N
 none-asked k key None fs none = sym none.without
 none-asked k key (Some port) fs none = sym (none.changed (λ f. record f { live = true; key = with_port port f.key }))
 
-begun : (k port : ℕ) (key : Key) (fs : List Listed) (i : ℕ) (x d : Listed) → position (sees (is_asked_at k key)) fs ≡ Some i → forward_of x ≡ record (forward_of d) { live = true; key = with_port port (forward_of d).key } → d ≡ slice_index_or fs i d → map forward_of (slice_set fs i x) ≡ answered k key (Some port) (map forward_of fs)
+begun : (k port : ℕ) (key : Key) (fs : List Listed) (i : ℕ) (x d : Listed) → position (sees (is_asked_at k key)) fs ≡ Some i → listed_forward_of x ≡ record (listed_forward_of d) { live = true; key = with_port port (listed_forward_of d).key } → d ≡ slice_index_or fs i d → map listed_forward_of (slice_set fs i x) ≡ answered k key (Some port) (map listed_forward_of fs)
 begun k port key fs i x d h is at =
-    set-found (is_asked_at k key) (λ f. record f { live = true; key = with_port port f.key }) fs i x d h (is ∙ ap (λ (e : Listed). record (forward_of e) { live = true; key = with_port port (forward_of e).key }) at)
+    set-found (is_asked_at k key) (λ f. record f { live = true; key = with_port port f.key }) fs i x d h (is ∙ ap (λ (e : Listed). record (listed_forward_of e) { live = true; key = with_port port (listed_forward_of e).key }) at)
 
 few-begun : (k port : ℕ) (key : Key) (fs : List Forward) → AreFew fs → AreFew (answered k key (Some port) fs)
 few-begun k port key fs few = few-first (is_asked_at k key) (λ f. record f { live = true; key = with_port port f.key }) (λ f. refl) fs few
@@ -25,17 +25,17 @@ few-begun k port key fs few = few-first (is_asked_at k key) (λ f. record f { li
 pub returns-in_default : goal.returns-in_default
 returns-in_default c =
     let h : position (sees (is_asked_at c.args.client (key_of c.args.key))) c.self.inside.listed.items ≡ None = search rules in
-    rw (← c.self.view_is) (none-asked c.args.client (key_of c.args.key) c.args.bound (map forward_of c.self.inside.listed.items) (missed (is_asked_at c.args.client (key_of c.args.key)) c.self.inside.listed.items h))
+    rw (← c.self.view_is) (none-asked c.args.client (key_of c.args.key) c.args.bound (map listed_forward_of c.self.inside.listed.items) (missed (is_asked_at c.args.client (key_of c.args.key)) c.self.inside.listed.items h))
 
 pub invariant_of-self : goal.invariant_of-self
 invariant_of-self c =
     let h : position (sees (is_asked_at c.args.client (key_of c.args.key))) c.self.inside.listed.items ≡ Some c.in-Some.place = search rules in
-    subst AreFew (sym (begun c.args.client c.in-Some-bound.port (key_of c.args.key) c.self.inside.listed.items c.in-Some.place c.begin.new.self c.index_mut.result.now h (search rules) c.index_mut.ensures.value)) (few-begun c.args.client c.in-Some-bound.port (key_of c.args.key) (map forward_of c.self.inside.listed.items) c.self.invariant)
+    subst AreFew (sym (begun c.args.client c.in-Some-bound.port (key_of c.args.key) c.self.inside.listed.items c.in-Some.place c.begin.new.self c.index_mut.result.now h (search rules) c.index_mut.ensures.value)) (few-begun c.args.client c.in-Some-bound.port (key_of c.args.key) (map listed_forward_of c.self.inside.listed.items) c.self.invariant)
 
 pub invariant_of-self-in-None : goal.invariant_of-self-in-None
 invariant_of-self-in-None c =
     let h : position (sees (is_asked_at c.args.client (key_of c.args.key))) c.self.inside.listed.items ≡ Some c.in-Some.place = search rules in
-    subst AreFew (sym (ap (map forward_of) c.remove.ensures.items ∙ remove-found (is_asked_at c.args.client (key_of c.args.key)) c.self.inside.listed.items c.in-Some.place h)) (few-without (is_asked_at c.args.client (key_of c.args.key)) (map forward_of c.self.inside.listed.items) c.self.invariant)
+    subst AreFew (sym (ap (map listed_forward_of) c.remove.ensures.items ∙ remove-found (is_asked_at c.args.client (key_of c.args.key)) c.self.inside.listed.items c.in-Some.place h)) (few-without (is_asked_at c.args.client (key_of c.args.key)) (map listed_forward_of c.self.inside.listed.items) c.self.invariant)
 
 pub returns-in-Some-bound : goal.returns-in-Some-bound
 returns-in-Some-bound c =
@@ -45,4 +45,4 @@ returns-in-Some-bound c =
 pub returns-in-None : goal.returns-in-None
 returns-in-None c =
     let h : position (sees (is_asked_at c.args.client (key_of c.args.key))) c.self.inside.listed.items ≡ Some c.in-Some.place = search rules in
-    rw (← c.self.view_is, c.in-None.is) (ap (map forward_of) c.remove.ensures.items ∙ remove-found (is_asked_at c.args.client (key_of c.args.key)) c.self.inside.listed.items c.in-Some.place h)
+    rw (← c.self.view_is, c.in-None.is) (ap (map listed_forward_of) c.remove.ensures.items ∙ remove-found (is_asked_at c.args.client (key_of c.args.key)) c.self.inside.listed.items c.in-Some.place h)

@@ -5,7 +5,7 @@ use Rattle.mux_history.proofs.SameKeys.{key-is}
 use Rattle.mux_history.proofs.Sends.{and-right}
 use Rattle.ssh_grammar.specs.Messages.{Key}
 use Rattle.conn_messages.specs.Keys.{IsShort, key_of, own_key_of}
-use Rattle.forward_rules.specs.Listing.{forward_of}
+use Rattle.forward_rules.specs.Listing.{listed_forward_of}
 use Rattle.forward_rules.specs.State.{Forward}
 use Rattle.forward_rules.specs.Step.{cancelled, cancels, is_free_at, is_live_at, is_of, some_free}
 use Rattle.forward_rules.specs.Taking.{AreFew}
@@ -19,13 +19,13 @@ none-free : (k : ℕ) (key : Key) (want : Bool) (fs : List Forward) → NonePass
 none-free k key true fs none = (sym (ap is_some none.found), sym (none.changed (λ f. record f { cancel = Some (cancels k fs) })))
 none-free k key false fs none = (sym (ap is_some none.found), sym none.without)
 
-free-found : (k : ℕ) (key : Key) (fs : List Listed) (i : ℕ) (d : Listed) → position (sees (is_free_at k key)) fs ≡ Some i → true ≡ some_free k key (map forward_of fs)
+free-found : (k : ℕ) (key : Key) (fs : List Listed) (i : ℕ) (d : Listed) → position (sees (is_free_at k key)) fs ≡ Some i → true ≡ some_free k key (map listed_forward_of fs)
 free-found k key fs i d h = sym (ap is_some (found (is_free_at k key) fs i d h))
 
 -- one that waits after the others
-leaves : (k : ℕ) (key : Key) (fs : List Listed) (i r : ℕ) (x d : Listed) → position (sees (is_free_at k key)) fs ≡ Some i → forward_of x ≡ record (forward_of d) { cancel = Some r } → r ≡ cancels k (map forward_of fs) → d ≡ slice_index_or fs i d → map forward_of (slice_set fs i x) ≡ cancelled k key true (map forward_of fs)
+leaves : (k : ℕ) (key : Key) (fs : List Listed) (i r : ℕ) (x d : Listed) → position (sees (is_free_at k key)) fs ≡ Some i → listed_forward_of x ≡ record (listed_forward_of d) { cancel = Some r } → r ≡ cancels k (map listed_forward_of fs) → d ≡ slice_index_or fs i d → map listed_forward_of (slice_set fs i x) ≡ cancelled k key true (map listed_forward_of fs)
 leaves k key fs i r x d h is rank at =
-    set-found (is_free_at k key) (λ f. record f { cancel = Some (cancels k (map forward_of fs)) }) fs i x d h (is ∙ (ap (λ (q : ℕ). record (forward_of d) { cancel = Some q }) rank ∙ ap (λ (e : Listed). record (forward_of e) { cancel = Some (cancels k (map forward_of fs)) }) at))
+    set-found (is_free_at k key) (λ f. record f { cancel = Some (cancels k (map listed_forward_of fs)) }) fs i x d h (is ∙ (ap (λ (q : ℕ). record (listed_forward_of d) { cancel = Some q }) rank ∙ ap (λ (e : Listed). record (listed_forward_of e) { cancel = Some (cancels k (map listed_forward_of fs)) }) at))
 
 few-leaves : (k : ℕ) (key : Key) (fs : List Forward) → AreFew fs → AreFew (cancelled k key true fs)
 few-leaves k key fs few = few-first (is_free_at k key) (λ f. record f { cancel = Some (cancels k fs) }) (λ f. refl) fs few
@@ -40,28 +40,28 @@ short-found k key fs i d h = subst IsShort (key-is (own_key_of f.key) key same) 
     same : is_key (own_key_of (slice_index_or fs i d).key) key ≡ true
     same =
         let all = passes (is_free_at k key) fs i d h in
-        let live = and-right (is_none (slice_index_or fs i d).cancel) (is_live_at key (forward_of (slice_index_or fs i d))) (and-right (is_of k (forward_of (slice_index_or fs i d))) (is_none (slice_index_or fs i d).cancel && is_live_at key (forward_of (slice_index_or fs i d))) all) in
+        let live = and-right (is_none (slice_index_or fs i d).cancel) (is_live_at key (listed_forward_of (slice_index_or fs i d))) (and-right (is_of k (listed_forward_of (slice_index_or fs i d))) (is_none (slice_index_or fs i d).cancel && is_live_at key (listed_forward_of (slice_index_or fs i d))) all) in
         and-right (slice_index_or fs i d).live (is_key (own_key_of (slice_index_or fs i d).key) key) live
 
 pub returns-in_default-clause-exact : goal.returns-in_default-clause-exact
 returns-in_default-clause-exact c =
     let h : position (sees (is_free_at c.args.client (key_of c.args.key))) c.self.inside.listed.items ≡ None = search rules in
-    rw (← c.self.view_is) (none-free c.args.client (key_of c.args.key) c.args.want (map forward_of c.self.inside.listed.items) (missed (is_free_at c.args.client (key_of c.args.key)) c.self.inside.listed.items h)).0
+    rw (← c.self.view_is) (none-free c.args.client (key_of c.args.key) c.args.want (map listed_forward_of c.self.inside.listed.items) (missed (is_free_at c.args.client (key_of c.args.key)) c.self.inside.listed.items h)).0
 
 pub returns-in_default-clause-step : goal.returns-in_default-clause-step
 returns-in_default-clause-step c =
     let h : position (sees (is_free_at c.args.client (key_of c.args.key))) c.self.inside.listed.items ≡ None = search rules in
-    rw (← c.self.view_is) (none-free c.args.client (key_of c.args.key) c.args.want (map forward_of c.self.inside.listed.items) (missed (is_free_at c.args.client (key_of c.args.key)) c.self.inside.listed.items h)).1
+    rw (← c.self.view_is) (none-free c.args.client (key_of c.args.key) c.args.want (map listed_forward_of c.self.inside.listed.items) (missed (is_free_at c.args.client (key_of c.args.key)) c.self.inside.listed.items h)).1
 
 pub invariant_of-self : goal.invariant_of-self
 invariant_of-self c =
     let h : position (sees (is_free_at c.args.client (key_of c.args.key))) c.self.inside.listed.items ≡ Some c.in-Some.place = search rules in
-    subst AreFew (sym (leaves c.args.client (key_of c.args.key) c.self.inside.listed.items c.in-Some.place c.cancels_in-rank.result _ c.index_mut.result.now h refl (search rules) c.index_mut.ensures.value)) (few-leaves c.args.client (key_of c.args.key) (map forward_of c.self.inside.listed.items) c.self.invariant)
+    subst AreFew (sym (leaves c.args.client (key_of c.args.key) c.self.inside.listed.items c.in-Some.place c.cancels_in-rank.result _ c.index_mut.result.now h refl (search rules) c.index_mut.ensures.value)) (few-leaves c.args.client (key_of c.args.key) (map listed_forward_of c.self.inside.listed.items) c.self.invariant)
 
 pub invariant_of-self-else-want : goal.invariant_of-self-else-want
 invariant_of-self-else-want c =
     let h : position (sees (is_free_at c.args.client (key_of c.args.key))) c.self.inside.listed.items ≡ Some c.in-Some.place = search rules in
-    subst AreFew (sym (ap (map forward_of) c.remove.ensures.items ∙ remove-found (is_free_at c.args.client (key_of c.args.key)) c.self.inside.listed.items c.in-Some.place h)) (few-without (is_free_at c.args.client (key_of c.args.key)) (map forward_of c.self.inside.listed.items) c.self.invariant)
+    subst AreFew (sym (ap (map listed_forward_of) c.remove.ensures.items ∙ remove-found (is_free_at c.args.client (key_of c.args.key)) c.self.inside.listed.items c.in-Some.place h)) (few-without (is_free_at c.args.client (key_of c.args.key)) (map listed_forward_of c.self.inside.listed.items) c.self.invariant)
 
 pub returns-then-want-clause-exact : goal.returns-then-want-clause-exact
 returns-then-want-clause-exact c =
@@ -86,7 +86,7 @@ returns-else-want-clause-exact c =
 pub returns-else-want-clause-step : goal.returns-else-want-clause-step
 returns-else-want-clause-step c =
     let h : position (sees (is_free_at c.args.client (key_of c.args.key))) c.self.inside.listed.items ≡ Some c.in-Some.place = search rules in
-    rw (← c.self.view_is, c.if-want.false) (ap (map forward_of) c.remove.ensures.items ∙ remove-found (is_free_at c.args.client (key_of c.args.key)) c.self.inside.listed.items c.in-Some.place h)
+    rw (← c.self.view_is, c.if-want.false) (ap (map listed_forward_of) c.remove.ensures.items ∙ remove-found (is_free_at c.args.client (key_of c.args.key)) c.self.inside.listed.items c.in-Some.place h)
 
 pub returns-else-want-clause-short : goal.returns-else-want-clause-short
 returns-else-want-clause-short c =

@@ -2,7 +2,7 @@ use Rattle.std.proofs.Common.{rules, map, ap, sym, subst, ◌∙◌}
 use Rattle.std.specs.Prelude.{not}
 use Rattle.std.proofs.lemmas.Fn.{filter_same}
 use Rattle.forward_rules.specs.declared.listed.Listed.{Listed}
-use Rattle.forward_rules.specs.Listing.{forward_of}
+use Rattle.forward_rules.specs.Listing.{listed_forward_of}
 use Rattle.forward_rules.specs.Step.{is_cancelled_at}
 use Rattle.forward_rules.specs.Taking.{AreFew}
 use Rattle.forward_rules.proofs.Counts.{few-filter}
@@ -10,7 +10,7 @@ use Rattle.forward_rules.proofs.Places.{filter-seen}
 use Rattle.forward_rules.proofs.forwards.Forwards.end.Goals as goal
 
 pub invariant_of-self : goal.invariant_of-self
-invariant_of-self c = subst AreFew (sym (ap (map forward_of) (filter_same _ (λ (f : Listed). not (is_cancelled_at c.args.client c.args.rank (forward_of f))) _ (λ x b f' k. search rules) _ _ c.retain.ensures.filtered) ∙ filter-seen (λ f. not (is_cancelled_at c.args.client c.args.rank f)) c.self.inside.listed.items)) (few-filter (λ f. not (is_cancelled_at c.args.client c.args.rank f)) (map forward_of c.self.inside.listed.items) c.self.invariant)
+invariant_of-self c = subst AreFew (sym (ap (map listed_forward_of) (filter_same _ (λ (f : Listed). not (is_cancelled_at c.args.client c.args.rank (listed_forward_of f))) _ (λ x b f' k. search rules) _ _ c.retain.ensures.filtered) ∙ filter-seen (λ f. not (is_cancelled_at c.args.client c.args.rank f)) c.self.inside.listed.items)) (few-filter (λ f. not (is_cancelled_at c.args.client c.args.rank f)) (map listed_forward_of c.self.inside.listed.items) c.self.invariant)
 
 pub returns : goal.returns
-returns c = rw (← c.self.view_is) (ap (map forward_of) (filter_same _ (λ (f : Listed). not (is_cancelled_at c.args.client c.args.rank (forward_of f))) _ (λ x b f' k. search rules) _ _ c.retain.ensures.filtered) ∙ filter-seen (λ f. not (is_cancelled_at c.args.client c.args.rank f)) c.self.inside.listed.items)
+returns c = rw (← c.self.view_is) (ap (map listed_forward_of) (filter_same _ (λ (f : Listed). not (is_cancelled_at c.args.client c.args.rank (listed_forward_of f))) _ (λ x b f' k. search rules) _ _ c.retain.ensures.filtered) ∙ filter-seen (λ f. not (is_cancelled_at c.args.client c.args.rank f)) c.self.inside.listed.items)

@@ -1,9 +1,7 @@
-use Rattle.std.proofs.Common.{rules, ◌<◌, length}
-use Rattle.std.proofs.lemmas.List.Edits.{map_over_more}
-use Rattle.house_forward.specs.Asks.{settle_one}
+use Rattle.house_forward.proofs.Counting.{few-settled}
 use Rattle.house_forward.proofs.asks.Asks.settle.Goals as goal
 
-pub loop-w-preserved : goal.loop-w-preserved
-loop-w-preserved c =
-    let lt : c.loop-w.w-index < length c.deref_mut-w-items.result.now = c.loop-w-test.true in
-    rw c.settled.ensures (map_over_more (settle_one c.args.forwarding c.args.opening c.args.self.now.done c.args.outcome) c.deref_mut-w-items.result.now c.loop-w.w-items c.loop-w.w-index _ lt c.loop-w.invariant (search rules))
+pub invariant_of-self : goal.invariant_of-self
+invariant_of-self c =
+    let now = c.args.self.now in
+    record { few = rw c.settle_all.ensures (few-settled c.args.forwarding c.args.opening now.done c.args.outcome now.waiting.items now.few) }

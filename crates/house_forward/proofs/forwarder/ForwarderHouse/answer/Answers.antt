@@ -23,7 +23,7 @@ returns-clause-gave g c =
       recorded = first_of (search rules, grind arith);
       stands = hands-on (Marks (HouseAnswer a.client a.id a.reply)) has _ none none refl refl refl
           (forwarding_state-goes (Answers a.client a.id a.reply) (held_in has) _
-          (gives-answer a.client a.id a.reply (Some (a.client, a.id, a.reply)) has.relays has.framer has.stage has.gateway has.greeted has.forwardings has.asks asks refl
+          (gives-answer a.client a.id a.reply (Some (a.client, a.id, a.reply)) has.relays has.framer has.stage has.rules has.greeted has.forwardings has.asks asks refl
           a.ensures.exact a.ensures.taken a.ensures.done));
     }
 

@@ -1,7 +1,7 @@
 use Rattle.std.proofs.Common.{rules, ◌≡◌, ◌∙◌, refl, ap, true, arith}
 use Rattle.mux_outside.specs.HouseCalls.{Marks}
 use Rattle.mux_outside.specs.declared.house_mark.HouseMark.TheVariants.{HouseSaid}
-use Rattle.house_forward.specs.RelayTraces.{SendsIn}
+use Rattle.house_forward.specs.RelayTraces.{RelaySendsIn}
 use Rattle.house_forward.specs.State.{held_in}
 use Rattle.house_forward.specs.declared.forwarder_state.ForwarderState.{ForwarderState}
 use Rattle.house_forward.proofs.Calling.{from-same, no-ordering, since-on}
@@ -22,7 +22,7 @@ returns-clause-gave g c =
       stands = λ calls h. record {
         since = since-on has.ordering new.ordering calls (Marks (HouseSaid c.send.new.into)) (held_in has) (held_in new) none
             (c.send.ensures.same.ordering ∙ ap (λ (x : ForwarderState). x.ordering) c.reserve.ensures.has ∙ none) refl
-            (from-same (SendsIn c.send.new.into) has c.reserve.new.self.has (held_in new) c.reserve.ensures.has says.goes) h.since;
+            (from-same (RelaySendsIn c.send.new.into) has c.reserve.new.self.has (held_in new) c.reserve.ensures.has says.goes) h.since;
         greeting = greeted-said has.greeted new.greeted calls c.send.new.into says.greeted
             (λ no. says.first (ap (λ (x : ForwarderState). x.greeted) c.reserve.ensures.has ∙ no)) h.greeting;
       };

@@ -1,5 +1,5 @@
 use Rattle.std.proofs.Common.{◌≡◌, ◌∙◌, sym, None, arith}
-use Rattle.mux_outside.specs.House.{ask_of}
+use Rattle.mux_outside.specs.House.{start_ask_of}
 use Rattle.house_forward.specs.Asks.{turns_away}
 use Rattle.house_forward.specs.Forwardings.{ComesUnless, Opens, is_new, standing, opens_of}
 use Rattle.house_forward.specs.declared.asks.Asked.{Asked}
@@ -10,27 +10,27 @@ use Rattle.house_forward.proofs.forwarder_state.ForwarderState.asked.Goals as go
 pub returns-then-turns_away-clause-comes : goal.returns-then-turns_away-clause-comes
 returns-then-turns_away-clause-comes c =
     let now = c.args.self.now in
-    turned-away (turns_away c.args.client c.args.id now.asks.waiting.items) now.gateway c.args.opening (ask_of c.args.what.now) now.forwardings.serials now.forwardings.all.items
+    turned-away (turns_away c.args.client c.args.id now.asks.waiting.items) now.rules c.args.opening (start_ask_of c.args.what.now) now.forwardings.serials now.forwardings.all.items
     (sym c.turns_away.ensures ∙ c.if-turns_away.true)
 
 pub returns-in_default-clause-comes : goal.returns-in_default-clause-comes
 returns-in_default-clause-comes c =
     let now = c.args.self.now in
-    refused-alone (turns_away c.args.client c.args.id now.asks.waiting.items) now.gateway c.args.opening (ask_of c.args.what.now) now.forwardings.serials now.forwardings.all.items
-    (sym c.turns_away.ensures ∙ c.if-turns_away.false) (c.in_default.ensures.exact (ask_of c.args.what.now) c.of_client.ensures)
+    refused-alone (turns_away c.args.client c.args.id now.asks.waiting.items) now.rules c.args.opening (start_ask_of c.args.what.now) now.forwardings.serials now.forwardings.all.items
+    (sym c.turns_away.ensures ∙ c.if-turns_away.false) (c.in_default.ensures.exact (start_ask_of c.args.what.now) c.of_client.ensures)
 
 pub returns-then-opening-clause-comes : goal.returns-then-opening-clause-comes
 returns-then-opening-clause-comes c =
     let now = c.args.self.now in
-    let ask = ask_of c.args.what.now in
+    let ask = start_ask_of c.args.what.now in
     let fs = now.forwardings.all.items in
     let new = c.«open».new.self.all.items in
     let ends = c.in-Some.ends in
     let away = turns_away c.args.client c.args.id now.asks.waiting.items in
     if-ok (λ (asked : Asked). asked ≡ opens_of now.forwardings.serials ends fs (standing ends fs))
-    (λ (asked : Asked). ComesUnless away now.gateway c.args.opening ask now.forwardings.serials fs new asked)
+    (λ (asked : Asked). ComesUnless away now.rules c.args.opening ask now.forwardings.serials fs new asked)
     (Opens (is_new ends fs (standing ends fs)) ends now.forwardings.serials None fs new) c.«open».result
-    (λ asked same leaves. by-ends away now.gateway c.args.opening ask now.forwardings.serials fs new (sym c.turns_away.ensures ∙ c.if-turns_away.false)
+    (λ asked same leaves. by-ends away now.rules c.args.opening ask now.forwardings.serials fs new (sym c.turns_away.ensures ∙ c.if-turns_away.false)
     (c.in-Some.ensures.exact ask c.of_client.ensures) ends (c.in-Some.ensures.ends ask c.of_client.ensures) asked
     (opens-there c.args.opening now.forwardings.serials ends fs asked c.if-opening.true same)
     (opens-leaves c.args.opening now.forwardings.serials ends fs new c.if-opening.true leaves)) c.«open».ensures.exact c.«open».ensures.all
@@ -38,10 +38,10 @@ returns-then-opening-clause-comes c =
 pub returns-else-opening-clause-comes : goal.returns-else-opening-clause-comes
 returns-else-opening-clause-comes c =
     let now = c.args.self.now in
-    let ask = ask_of c.args.what.now in
+    let ask = start_ask_of c.args.what.now in
     let fs = now.forwardings.all.items in
     let new = c.close.new.self.all.items in
-    by-ends (turns_away c.args.client c.args.id now.asks.waiting.items) now.gateway c.args.opening ask now.forwardings.serials fs new
+    by-ends (turns_away c.args.client c.args.id now.asks.waiting.items) now.rules c.args.opening ask now.forwardings.serials fs new
     (sym c.turns_away.ensures ∙ c.if-turns_away.false)
     (c.in-Some.ensures.exact ask c.of_client.ensures) c.in-Some.ends (c.in-Some.ensures.ends ask c.of_client.ensures) c.close.result
     (closes-there c.args.opening now.forwardings.serials c.in-Some.ends fs c.close.result c.if-opening.false c.close.ensures.exact)

@@ -6,7 +6,7 @@ use Rattle.house_forward.specs.ForwardingState.{forwarding_state_of, Forwardings
 use Rattle.house_forward.specs.Due.{link_due}
 use Rattle.house_forward.specs.Known.{open_asks}
 use Rattle.house_forward.specs.Links.{is_offered, streams_of, ConnectsAt}
-use Rattle.house_forward.specs.RelayTraces.{ForwardingStateGoes, OrdersSocket, held_of}
+use Rattle.house_forward.specs.RelayTraces.{ForwardingStateGoes, OrdersSocket, forwarder_held_of}
 use Rattle.house_forward.specs.State.{held_in}
 use Rattle.house_forward.specs.declared.asks.Waiting.{Waiting}
 use Rattle.house_forward.specs.declared.relays.Relays.{Relays}
@@ -20,7 +20,7 @@ pub returns-in-Some-clause-gives : goal.returns-in-Some-clause-gives
 returns-in-Some-clause-gives c =
     let now = c.args.self.now in
     obeys c.in-Some.order now.ordering now.relays.all.items c.order.new.self.all.items now.framer now.stage
-    (forwarding_state_of now.gateway now.greeted now.forwardings now.asks) c.in-Some.ensures.obeys
+    (forwarding_state_of now.rules now.greeted now.forwardings now.asks) c.in-Some.ensures.obeys
 
 pub returns-in-Some-offer-clause-gives : goal.returns-in-Some-offer-clause-gives
 returns-in-Some-offer-clause-gives c =
@@ -29,10 +29,10 @@ returns-in-Some-offer-clause-gives c =
     let o = c.in-Some-offer in
     let links = c.order.new.self.all.items in
     let there = subst (λ (t : List ℕ). IfSome (find is_offered links) (λ l. ConnectsAt t o.port l.stream)) o.host.same o.ensures.gives in
-    subst (λ (r : Relays). OrdersSocket o.host.other o.port (held_of r now.framer now.stage now.gateway now.greeted now.forwardings now.asks)
-    (held_of c.offer.new.self now.framer now.stage now.gateway now.greeted now.forwardings now.asks)) same
+    subst (λ (r : Relays). OrdersSocket o.host.other o.port (forwarder_held_of r now.framer now.stage now.rules now.greeted now.forwardings now.asks)
+    (forwarder_held_of c.offer.new.self now.framer now.stage now.rules now.greeted now.forwardings now.asks)) same
     (orders-socket o.host.other o.port links c.offer.new.self.all.items now.framer now.stage
-    (forwarding_state_of now.gateway now.greeted now.forwardings now.asks) (one-is (list_any is_offered links) o.ensures.exact) there o.ensures.awaits)
+    (forwarding_state_of now.rules now.greeted now.forwardings now.asks) (one-is (list_any is_offered links) o.ensures.exact) there o.ensures.awaits)
 
 pub returns-in-Listen-clause-gives : goal.returns-in-Listen-clause-gives
 returns-in-Listen-clause-gives c =
@@ -44,8 +44,8 @@ returns-in-Listen-clause-gives c =
     let asks = c.order-2.new.asks in
     let goes = rw l.is at c.in_ok-host.ensures.orders in
     subst (λ (r : Relays). ForwardingStateGoes (OrdersListener l.host.other l.port) (held_in now)
-    (held_of r now.framer now.stage now.gateway now.greeted fs asks)) (sym (second ∙ first))
-    (forwarding_state-by (OrdersListener l.host.other l.port) now.relays now.framer now.stage now.gateway now.greeted now.forwardings now.asks fs asks
+    (forwarder_held_of r now.framer now.stage now.rules now.greeted fs asks)) (sym (second ∙ first))
+    (forwarding_state-by (OrdersListener l.host.other l.port) now.relays now.framer now.stage now.rules now.greeted now.forwardings now.asks fs asks
     (subst (λ (t : List ℕ). ForwardingsGo (OrdersListener t l.port) now.forwardings now.asks fs asks) l.host.same goes))
 
 pub returns-in-Unlisten-clause-gives : goal.returns-in-Unlisten-clause-gives
@@ -57,11 +57,11 @@ returns-in-Unlisten-clause-gives c =
     let fs = c.order-2.new.self in
     let asks = c.order-2.new.asks in
     let goes = rw u.is at c.in_ok-host.ensures.orders in
-    let new = held_of c.offer.new.self now.framer now.stage now.gateway now.greeted fs asks in
+    let new = forwarder_held_of c.offer.new.self now.framer now.stage now.rules now.greeted fs asks in
     forwarding_state-goes (EndsListener u.listener) (held_in now) new
     (subst (λ (r : Relays). ForwardingStateGoes (EndsListener u.listener) (held_in now)
-    (held_of r now.framer now.stage now.gateway now.greeted fs asks)) (sym (second ∙ first))
-    (forwarding_state-by (EndsListener u.listener) now.relays now.framer now.stage now.gateway now.greeted now.forwardings now.asks fs asks goes))
+    (forwarder_held_of r now.framer now.stage now.rules now.greeted fs asks)) (sym (second ∙ first))
+    (forwarding_state-by (EndsListener u.listener) now.relays now.framer now.stage now.rules now.greeted now.forwardings now.asks fs asks goes))
 
 pub invariant_of-self-in-Listen : goal.invariant_of-self-in-Listen
 invariant_of-self-in-Listen c =
@@ -86,7 +86,7 @@ returns-in-Listen-clause-known c =
 pub returns-in-Listen-clause-first : goal.returns-in-Listen-clause-first
 returns-in-Listen-clause-first c =
     let goes = rw c.in-Listen.is at c.in_ok-host.ensures.orders in
-    record { connects = tt; listens = (goes true true).there }
+    record { connects = tt; listens = (goes c.args.self.now.rules true).there }
 
 pub returns-in-Listen-clause-due : goal.returns-in-Listen-clause-due
 returns-in-Listen-clause-due c =
@@ -106,8 +106,8 @@ returns-in-Unlisten-clause-fits c =
     let now = c.args.self.now in
     let u = c.in-Unlisten in
     let goes = rw u.is at c.in_ok-host.ensures.orders in
-    (ended-more u.listener (forwarding_state_of true true now.forwardings now.asks) (forwarding_state_of true true c.order-2.new.self c.order-2.new.asks)
-    (goes true true)).among
+    (ended-more u.listener (forwarding_state_of c.args.self.now.rules true now.forwardings now.asks) (forwarding_state_of c.args.self.now.rules true c.order-2.new.self c.order-2.new.asks)
+    (goes c.args.self.now.rules true)).among
 
 pub returns-in-Unlisten-clause-known : goal.returns-in-Unlisten-clause-known
 returns-in-Unlisten-clause-known c =
@@ -116,8 +116,8 @@ returns-in-Unlisten-clause-known c =
     let first : c.order.new.self ≡ now.relays = c.in_default.ensures.silent refl in
     let second : c.offer.new.self ≡ c.order.new.self = c.in_default-offer.ensures.silent refl in
     let goes = rw u.is at c.in_ok-host.ensures.orders in
-    let e = ended-more u.listener (forwarding_state_of true true now.forwardings now.asks) (forwarding_state_of true true c.order-2.new.self c.order-2.new.asks)
-    (goes true true) in
+    let e = ended-more u.listener (forwarding_state_of c.args.self.now.rules true now.forwardings now.asks) (forwarding_state_of c.args.self.now.rules true c.order-2.new.self c.order-2.new.asks)
+    (goes c.args.self.now.rules true) in
     same-known _ _ _ _ _ _ _ _ e.listeners (ap (λ (r : Relays). streams_of r.all.items) (second ∙ first)) e.same.asks refl
 
 pub returns-in-Unlisten-clause-due : goal.returns-in-Unlisten-clause-due
@@ -127,8 +127,8 @@ returns-in-Unlisten-clause-due c =
     let first : c.order.new.self ≡ now.relays = c.in_default.ensures.silent refl in
     let second : c.offer.new.self ≡ c.order.new.self = c.in_default-offer.ensures.silent refl in
     let goes = rw u.is at c.in_ok-host.ensures.orders in
-    let e = ended-more u.listener (forwarding_state_of true true now.forwardings now.asks) (forwarding_state_of true true c.order-2.new.self c.order-2.new.asks)
-    (goes true true) in
+    let e = ended-more u.listener (forwarding_state_of c.args.self.now.rules true now.forwardings now.asks) (forwarding_state_of c.args.self.now.rules true c.order-2.new.self c.order-2.new.asks)
+    (goes c.args.self.now.rules true) in
     let due = e.due in
     let links = ap (λ (r : Relays). sum_by link_due r.all.items) (second ∙ first) in
     let count = e.same.count in

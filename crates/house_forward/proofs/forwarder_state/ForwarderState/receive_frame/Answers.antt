@@ -8,12 +8,12 @@ pub returns-then-grants-clause-receives : goal.returns-then-grants-clause-receiv
 returns-then-grants-clause-receives c =
     let now = c.args.self.now in
     grants-frame now.framer.current c.content.result.now now.relays.all.items now.framer c.switch.new.self now.stage
-    (forwarding_state_of now.gateway now.greeted now.forwardings now.asks) c.in-Control.is c.content.ensures
+    (forwarding_state_of now.rules now.greeted now.forwardings now.asks) c.in-Control.is c.content.ensures
     (sym c.grants.ensures ∙ c.if-grants.true) c.switch.ensures.exact
 
 pub returns-in-Proxy-clause-receives : goal.returns-in-Proxy-clause-receives
 returns-in-Proxy-clause-receives c =
     let now = c.args.self.now in
     on-ok c.receive.result (λ goes. proxy-frame now.framer.current c.content-in-Proxy.result.now now.relays now.forwardings now.asks
-    c.receive.new.relays c.receive.new.forwardings c.receive.new.asks now.framer now.stage now.gateway now.greeted
+    c.receive.new.relays c.receive.new.forwardings c.receive.new.asks now.framer now.stage now.rules now.greeted
     c.in-Proxy.is c.content-in-Proxy.ensures goes) c.receive.ensures.goes

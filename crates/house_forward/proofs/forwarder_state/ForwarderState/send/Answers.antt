@@ -27,7 +27,7 @@ returns-in-Some-clause-says c =
     let which = c.in_ok-request.ensures in
     let greeted : now.greeted ≡ true = first_of (search rules, grind arith) in
     λ yes. record {
-      goes = requests-one c.in_ok-request.field-0 c.in-Some.request c.request.new.into now.relays now.framer now.stage now.gateway now.greeted now.forwardings
+      goes = requests-one c.in_ok-request.field-0 c.in-Some.request c.request.new.into now.relays now.framer now.stage now.rules now.greeted now.forwardings
           c.said.new.self now.asks greeted c.in-Some.is which.exact which.which which.spelled said.all said.requests said.serials said.refused;
       greeted = greeted;
       first = λ no. absurd (false≢true (sym no ∙ greeted));
@@ -38,7 +38,7 @@ returns-clause-says c =
     let now = c.args.self.now in
     let greeted : now.greeted ≡ true = first_of (search rules, grind arith) in
     says-so c.send.result c.send.new.into now _ greeted refl (says-one c.send.result c.send.new.into now.relays.all.items c.send.new.self.all.items now.framer now.stage
-    (forwarding_state_of now.gateway now.greeted now.forwardings now.asks) greeted
+    (forwarding_state_of now.rules now.greeted now.forwardings now.asks) greeted
     (no-request (find has_request now.forwardings.all.items) c.in_ok-request.field-0 c.in_default.is c.in_ok-request.ensures.exact)
     c.send.ensures.exact c.send.ensures.spelled c.send.ensures.says)
 

@@ -31,8 +31,8 @@ returns-in-Some-listener-clause-makes c =
     let f = c.index_mut-f in
     let g : Forwarding = record f.result.now { stage = Listening l.listener } in
     let settled = c.settle.new.self in
-    rw l.is (λ gateway greeted.
-    let old = forwarding_state_of gateway greeted now asks in
+    rw l.is (λ rules greeted.
+    let old = forwarding_state_of rules greeted now asks in
     let new : ForwardingState = record old { all = set now.all.items c.in-Some.i g; waiting = settled.waiting.items; done = settled.done } in
     makes-listener (Some l.listener) old new c.requires (rw (sym c.in-Some.ensures) (f.result.now, f.ensures.value, refl))
     (same-forwarding_states new _ refl refl refl refl refl refl
@@ -45,9 +45,9 @@ returns-in-None-clause-makes c =
     let asks = c.args.asks.now in
     let fail = c.fail.new.self in
     let refuse = c.refuse.new.self in
-    rw c.in-None.is (λ gateway greeted.
-    let old = forwarding_state_of gateway greeted now asks in
-    let new = forwarding_state_of gateway greeted fail refuse in
+    rw c.in-None.is (λ rules greeted.
+    let old = forwarding_state_of rules greeted now asks in
+    let new = forwarding_state_of rules greeted fail refuse in
     makes-listener None old new c.requires (rw (sym c.in-Some.ensures) c.fail.ensures.all)
     (same-forwarding_states new _ refl refl refl c.fail.ensures.serials
     (first-refused to_listen now.all.items c.in-Some.i now.refused fail.refused (sym c.in-Some.ensures) c.fail.ensures.refused)

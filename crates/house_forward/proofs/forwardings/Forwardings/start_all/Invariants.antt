@@ -7,6 +7,6 @@ invariant-loop-i l = record {
   listeners : listeners_of l.self.all.items ≡ listeners_of l.initial.self.all.items;
   count : length l.self.all.items ≤ length l.initial.self.all.items + l.i;
   requests : l.self.requests.items ≡ l.initial.self.requests.items;
-  begins : Begins l.starts.gateway l.starts.asks l.i (what_stands l.initial.self.all.items l.initial.self.serials l.initial.self.refused)
+  begins : Begins l.rules l.asks l.i (what_stands l.initial.self.all.items l.initial.self.serials l.initial.self.refused)
       (what_stands l.self.all.items l.self.serials l.self.refused);
 }

@@ -1,7 +1,7 @@
 use Rattle.std.specs.Prelude.{◌==◌}
 use Rattle.house_forward.specs.declared.link.Link.{Link}
 use Rattle.house_forward.proofs.Changes.{fits-at, changes-at}
-use Rattle.house_forward.specs.Going.{ReceivesOn}
+use Rattle.house_forward.specs.Going.{RelayReceivesOn}
 use Rattle.house_forward.proofs.Going.{went-at, on-ok, on-both}
 use Rattle.house_forward.proofs.relays.Relays.receive_at.Goals as goal
 
@@ -24,4 +24,4 @@ returns-clause-streams c =
 pub returns-clause-receives : goal.returns-clause-receives
 returns-clause-receives c =
     let both = on-both _ _ c.receives.result c.receives.ensures.heard c.receives.ensures.goes in
-    on-ok c.receives.result (λ heard. went-at c.args.i (ReceivesOn c.args.message.now) c.args.self.now.all.items c.index_mut-link.result.now c.receives.new.self c.index_mut-link.ensures.value c.receives.ensures.stream heard) both
+    on-ok c.receives.result (λ heard. went-at c.args.i (RelayReceivesOn c.args.message.now) c.args.self.now.all.items c.index_mut-link.result.now c.receives.new.self c.index_mut-link.ensures.value c.receives.ensures.stream heard) both

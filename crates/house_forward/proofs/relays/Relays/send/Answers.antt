@@ -3,7 +3,7 @@ use Rattle.house_forward.specs.Links.{has_sending}
 use Rattle.house_forward.proofs.Changes.{one-there}
 use Rattle.house_forward.proofs.Lists.{none-passes, none-found}
 use Rattle.std.specs.List.{position}
-use Rattle.house_forward.specs.Going.{SendsOn}
+use Rattle.house_forward.specs.Going.{RelaySendsOn}
 use Rattle.house_forward.proofs.Going.{leaves}
 use Rattle.house_forward.proofs.relays.Relays.send.Goals as goal
 
@@ -24,4 +24,4 @@ returns-in_default-clause-spelled c =
 
 pub returns-clause-says : goal.returns-clause-says
 returns-clause-says c =
-    leaves (position has_sending c.args.self.now.all.items) c.in-Some.i SendsOn c.args.self.now.all.items _ _ (sym c.in-Some.ensures) c.in_ok-said.ensures.says c.sweep.ensures.all
+    leaves (position has_sending c.args.self.now.all.items) c.in-Some.i RelaySendsOn c.args.self.now.all.items _ _ (sym c.in-Some.ensures) c.in_ok-said.ensures.says c.sweep.ensures.all

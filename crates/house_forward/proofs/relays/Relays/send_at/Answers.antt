@@ -4,7 +4,7 @@ use Rattle.house_forward.specs.Links.{has_sending}
 use Rattle.house_forward.specs.declared.link.Link.{Link}
 use Rattle.house_forward.proofs.Changes.{fits-at, changes-at, passes-at}
 use Rattle.house_relay.specs.Next.{sends_of}
-use Rattle.house_forward.specs.Going.{SendsOn}
+use Rattle.house_forward.specs.Going.{RelaySendsOn}
 use Rattle.house_forward.proofs.Changes.{first-is}
 use Rattle.house_forward.proofs.Going.{goes-at, on-ok, on-both, said-one}
 use Rattle.house_forward.proofs.relays.Relays.send_at.Goals as goal
@@ -35,7 +35,7 @@ returns-clause-exact c =
 pub returns-clause-says : goal.returns-clause-says
 returns-clause-says c =
     let both = on-both _ _ c.send.result c.send.ensures.said c.send.ensures.goes in
-    on-ok c.send.result (λ said. goes-at _ c.args.i SendsOn c.args.self.now.all.items c.index_mut-link.result.now c.send.new.relay refl c.index_mut-link.ensures.value said) both
+    on-ok c.send.result (λ said. goes-at _ c.args.i RelaySendsOn c.args.self.now.all.items c.index_mut-link.result.now c.send.new.relay refl c.index_mut-link.ensures.value said) both
 
 pub returns-clause-spelled : goal.returns-clause-spelled
 returns-clause-spelled c =

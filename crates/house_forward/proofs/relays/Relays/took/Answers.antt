@@ -1,7 +1,7 @@
 use Rattle.std.proofs.Common.{refl, sym, ap, take}
 use Rattle.std.specs.Prelude.{find}
 use Rattle.house_relay.specs.declared.relay.Relay.{Relay}
-use Rattle.house_forward.specs.Links.{is_of, queue_in}
+use Rattle.house_forward.specs.Links.{is_of, link_queue_in}
 use Rattle.house_forward.specs.declared.link.Link.{Link}
 use Rattle.house_forward.proofs.Changes.{fits-at, changes-at}
 use Rattle.house_forward.proofs.Queues.{Took, took-queues, none-took, queue-first, takes-of}
@@ -55,6 +55,6 @@ returns-clause-takes c =
     let ls = c.args.self.now.all.items in
     let x = c.index_mut-link.result.now in
     let queued = queue-first ls c.in-Some.i c.args.stream x (sym c.in-Some.ensures) c.index_mut-link.ensures.value in
-    goes-at (position (is_of c.args.stream) ls) c.in-Some.i (TakesOf (take c.args.n (queue_in (find (is_of c.args.stream) ls)))) ls x c.took.new.self (sym c.in-Some.ensures) c.index_mut-link.ensures.value
-    (takes-of x.relay c.took.new.self c.args.n (queue_in (find (is_of c.args.stream) ls)) queued c.requires
+    goes-at (position (is_of c.args.stream) ls) c.in-Some.i (TakesOf (take c.args.n (link_queue_in (find (is_of c.args.stream) ls)))) ls x c.took.new.self (sym c.in-Some.ensures) c.index_mut-link.ensures.value
+    (takes-of x.relay c.took.new.self c.args.n (link_queue_in (find (is_of c.args.stream) ls)) queued c.requires
     (λ small. (c.took.ensures.exact small, c.took.ensures.stands small)))

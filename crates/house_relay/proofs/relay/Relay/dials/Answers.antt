@@ -1,7 +1,7 @@
 use Rattle.std.proofs.Common.{◌≡◌, ◌∙◌, refl, sym, ap, subst, Bool, true, false, ℕ, List, ◌∷◌, drop, Some, if◌then◌else◌}
 use Rattle.socks_dialog.specs.State.{State}
 use Rattle.house_relay.specs.Acts.{Reads}
-use Rattle.house_relay.specs.Relay.{Stands, holding}
+use Rattle.house_relay.specs.Relay.{RelayRepresents, holding}
 use Rattle.house_relay.specs.Steps.{no_channel_left_of}
 use Rattle.house_relay.specs.declared.dialing.Came.{Came}
 use Rattle.house_relay.specs.declared.dialing.Came.TheVariants.{Connect}
@@ -64,7 +64,7 @@ returns-in_ok-host-in-Connect-clause-stands c = λ may dials acts s.
     (c.in_ok-host-in-Connect.ensures ∙ c.as_bytes.ensures.value) c.from.ensures in
     let after = line-of (Connect c.in-Connect.host c.in-Connect.port c.in-Connect.version) c.args.free c.receive.new.dialog
     c.args.self.now.socket socket line sides in
-    subst (λ (r : Relay). Stands dials (Reads c.args.bytes.now ∷ acts) (holding (drop c.in_ok-count.field-0.count c.args.bytes.now) r))
+    subst (λ (r : Relay). RelayRepresents dials (Reads c.args.bytes.now ∷ acts) (holding (drop c.in_ok-count.field-0.count c.args.bytes.now) r))
     (sym c.asks.ensures.others)
     (reads-dialog c.args.self.now c.in-Dialing.dialog c.receive.new.dialog c.args.bytes.now c.in_ok-count.field-0
     c.receive.new.queue line socket dials acts c.in-Dialing.is

@@ -1,5 +1,5 @@
 use Rattle.std.proofs.Common.{◌∙◌, ap, subst, sym, None, arith}
-use Rattle.mux_client.specs.Client.{ClientState, ReadsNextTo, place_of}
+use Rattle.mux_client.specs.Client.{TalkState, ReadsNextTo, place_of}
 use Rattle.mux_client.specs.declared.stage.TalkStage.TheVariants.{Broken}
 use Rattle.mux_client.specs.declared.verdict.OutLine.TheVariants.{Nothing}
 use Rattle.mux_client.proofs.ReadFrames.{IsCut, bad-hello, cut-frame, cut-goes, cut-stops, hello-goes, none-cut}
@@ -10,15 +10,15 @@ returns-then-not-cut c = record { reads = none-cut _ _ _ 0 _ (ap place_of c.requ
 
 pub returns-then-not-is_hello_of_4 : goal.returns-then-not-is_hello_of_4
 returns-then-not-is_hello_of_4 c =
-    let k : IsCut c.args.self.now c.cut.new.self c.content-body.result.now = cut-frame _ _ 0 _ c.cut.ensures.exact (sym (ap (λ (s : ClientState). s.framer.current) c.self.view_is) ∙ c.content-body.ensures) in
+    let k : IsCut c.args.self.now c.cut.new.self c.content-body.result.now = cut-frame _ _ 0 _ c.cut.ensures.exact (sym (ap (λ (s : TalkState). s.framer.current) c.self.view_is) ∙ c.content-body.ensures) in
     record {
-      reads = subst (λ (s : ClientState). ReadsNextTo c.args.asks.now c.args.self.now (record s { stage = Broken 0 }) None) (sym c.self.view_is)
+      reads = subst (λ (s : TalkState). ReadsNextTo c.args.asks.now c.args.self.now (record s { stage = Broken 0 }) None) (sym c.self.view_is)
           (cut-stops c.args.asks.now c.args.self.now c.cut.new.self c.content-body.result.now (Broken 0) k (bad-hello _ _ _ c.requires.stage (sym c.is_hello_of_4.ensures ∙ c.if-not-is_hello_of_4.true)));
     }
 
 pub returns : goal.returns
 returns c =
-    let k : IsCut c.args.self.now c.cut.new.self c.content-body.result.now = cut-frame _ _ 0 _ c.cut.ensures.exact (sym (ap (λ (s : ClientState). s.framer.current) c.self.view_is) ∙ c.content-body.ensures) in
+    let k : IsCut c.args.self.now c.cut.new.self c.content-body.result.now = cut-frame _ _ 0 _ c.cut.ensures.exact (sym (ap (λ (s : TalkState). s.framer.current) c.self.view_is) ∙ c.content-body.ensures) in
     record {
       reads = cut-goes c.args.asks.now c.args.self.now c.cut.new.self c.ask.new.self c.content-body.result.now 0 _ Nothing k
           (hello-goes _ _ _ _ c.requires.stage (sym c.is_hello_of_4.ensures ∙ c.if-not-is_hello_of_4.false) (omega arith)) c.in_ok-ask.ensures.exact;

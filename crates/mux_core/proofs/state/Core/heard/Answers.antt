@@ -1,6 +1,6 @@
 use Rattle.std.proofs.Common.{rules}
 use Rattle.mux_history.specs.Summary.{Confirmation, Fails, Open, Refuses, Succeeds, Transport, Within}
-use Rattle.window_ledger.specs.Act.{act_of}
+use Rattle.window_ledger.specs.Act.{summary_act_of}
 use Rattle.mux_core.specs.declared.heard.Delivery.TheVariants as heard
 use Rattle.conn_messages.specs.Message.{opening_of}
 use Rattle.mux_core.proofs.Dispatch.{not-one}
@@ -27,4 +27,4 @@ pub returns-in-Ok-Fails-clause-stands : goal.returns-in-Ok-Fails-clause-stands
 returns-in-Ok-Fails-clause-stands c = receives-quiet c.args.self.now c.receive_failure.new.self c.args.payload.now c.receive_failure.new.payload (Within c.in-Ok-Fails.recipient Fails) c.args.up.now c.receive_failure.result (search rules) c.receive_failure.ensures.stands
 
 pub returns-in-Ok-Within-clause-stands : goal.returns-in-Ok-Within-clause-stands
-returns-in-Ok-Within-clause-stands c = receives-quiet c.args.self.now c.receive_within.new.self c.args.payload.now c.receive_within.new.payload (Within c.in-Ok-Within.recipient (act_of c.in-Ok-Within.act)) c.args.up.now c.receive_within.result (search rules) c.receive_within.ensures.stands
+returns-in-Ok-Within-clause-stands c = receives-quiet c.args.self.now c.receive_within.new.self c.args.payload.now c.receive_within.new.payload (Within c.in-Ok-Within.recipient (summary_act_of c.in-Ok-Within.act)) c.args.up.now c.receive_within.result (search rules) c.receive_within.ensures.stands

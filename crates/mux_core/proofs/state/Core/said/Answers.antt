@@ -1,6 +1,6 @@
 use Rattle.std.proofs.Common.{rules, sym, ◌∙◌}
 use Rattle.conn_messages.specs.Message.{opening_of}
-use Rattle.window_ledger.specs.Act.{act_of}
+use Rattle.window_ledger.specs.Act.{summary_act_of}
 use Rattle.mux_history.specs.Summary.{Confirmation, Fails, Within}
 use Rattle.mux_core.proofs.Dispatch.{not-one, on-all, on-bad, on-judged, on-open, on-other, on-refusal, on-some, on-success}
 use Rattle.mux_core.proofs.state.Core.said.Goals as goal
@@ -21,7 +21,7 @@ pub returns-in-Ok-Fails-clause-stands : goal.returns-in-Ok-Fails-clause-stands
 returns-in-Ok-Fails-clause-stands c = on-all c.args.self.now c.send_failure.new.self c.args.client c.args.payload.now (Within c.in-Ok-Fails.recipient Fails) c.args.up.now c.send_failure.new.up c.send_failure.result (search rules) c.send_failure.ensures.stands
 
 pub returns-in-Ok-Within-clause-stands : goal.returns-in-Ok-Within-clause-stands
-returns-in-Ok-Within-clause-stands c = on-all c.args.self.now c.send_within.new.self c.args.client c.args.payload.now (Within c.in-Ok-Within.recipient (act_of c.in-Ok-Within.act)) c.args.up.now c.send_within.new.up c.send_within.result (search rules) c.send_within.ensures.stands
+returns-in-Ok-Within-clause-stands c = on-all c.args.self.now c.send_within.new.self c.args.client c.args.payload.now (Within c.in-Ok-Within.recipient (summary_act_of c.in-Ok-Within.act)) c.args.up.now c.send_within.new.up c.send_within.result (search rules) c.send_within.ensures.stands
 
 pub send_confirmation-requires-clause-bytes : goal.send_confirmation-requires-clause-bytes
 send_confirmation-requires-clause-bytes c = c.are_bytes.ensures

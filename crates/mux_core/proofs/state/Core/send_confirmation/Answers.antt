@@ -1,7 +1,7 @@
 use Rattle.std.proofs.Common.{rules, ◌≡◌, sym, ◌∙◌, Some, true, false}
 use Rattle.std.specs.Prelude.{is_some}
 use Rattle.window_ledger.specs.Stands.{IsConfirmed}
-use Rattle.channel_table.specs.Entries.{number_of_own, with_own}
+use Rattle.channel_table.specs.Entries.{number_of_own, entry_with_own}
 use Rattle.mux_core.specs.Lookups.{waiting_for}
 use Rattle.mux_core.proofs.Naming.{is-unused, is-used, named-not, own-named, own-used}
 use Rattle.mux_core.proofs.SendsConfirmation.{confirms, confirms-none, confirms-used, waiting-idle}
@@ -15,7 +15,7 @@ returns-in_default-clause-stands c = record {
 
 pub returns-then-not-branch-clause-stands : goal.returns-then-not-branch-clause-stands
 returns-then-not-branch-clause-stands c =
-    let same = named-not c.args.self.now c.name_own.new.self c.in_ok-name_own.field-0 c.in-Some.number (with_own c.args.sender) c.if-not-branch.true c.in_ok-name_own.ensures.ok in
+    let same = named-not c.args.self.now c.name_own.new.self c.in_ok-name_own.field-0 c.in-Some.number (entry_with_own c.args.sender) c.if-not-branch.true c.in_ok-name_own.ensures.ok in
     rw same (record {
       pick = 0;
       goes = λ rows st serves e.

@@ -1,6 +1,6 @@
 use Rattle.std.proofs.Common.{rules}
 use Rattle.ssh_grammar.specs.declared.side.Side.TheVariants.{Up}
-use Rattle.window_ledger.specs.Act.{act_of}
+use Rattle.window_ledger.specs.Act.{summary_act_of}
 use Rattle.mux_core.proofs.Acts.{ActsOn, plain-act, no-failure}
 use Rattle.mux_core.proofs.SendsWithin.{not-yours, breaks-account, is-sent}
 use Rattle.mux_core.proofs.state.Core.send_within.Goals as goal
@@ -15,5 +15,5 @@ returns-in-Err-clause-stands c = λ rows st serves e.
 
 pub returns-clause-stands : goal.returns-clause-stands
 returns-clause-stands c = λ rows st serves e.
-    let acts : ActsOn Up (act_of c.args.act) c.in-Some.ledger c.take.new.self c.put.ensures.over = record { goes = search rules; ends = c.put.ensures.closed; confirmed = c.take.ensures.confirmed; fine = plain-act c.args.act } in
-    rw c.in_ok-push_payload.ensures.ok (is-sent c.args.self.now c.put.new.self c.args.client c.args.remote c.in-Some.number c.in-Some.ledger c.take.new.self c.put.ensures.over (act_of c.args.act) c.args.payload.now c.args.up.now rows st serves (search rules) (search rules) acts (no-failure c.args.act) c.put.ensures.after e)
+    let acts : ActsOn Up (summary_act_of c.args.act) c.in-Some.ledger c.take.new.self c.put.ensures.over = record { goes = search rules; ends = c.put.ensures.closed; confirmed = c.take.ensures.confirmed; fine = plain-act c.args.act } in
+    rw c.in_ok-push_payload.ensures.ok (is-sent c.args.self.now c.put.new.self c.args.client c.args.remote c.in-Some.number c.in-Some.ledger c.take.new.self c.put.ensures.over (summary_act_of c.args.act) c.args.payload.now c.args.up.now rows st serves (search rules) (search rules) acts (no-failure c.args.act) c.put.ensures.after e)

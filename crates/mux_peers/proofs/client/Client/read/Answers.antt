@@ -1,6 +1,6 @@
 use Rattle.std.proofs.Common.{◌≡◌, Ok, Some, sym, ap, ◌∙◌, ◌++◌, subst, Bool, true, arith}
 use Rattle.ssh_grammar.specs.Said.{first_in}
-use Rattle.mux_peers.specs.Stands.{is_read, mode_of}
+use Rattle.mux_peers.specs.Stands.{is_read, parse_mode_of}
 use Rattle.mux_peers.specs.State.{ClientState}
 use Rattle.mux_peers.specs.Nexts.{SendsNext}
 use Rattle.mux_peers.proofs.Heeding.{applies_any, applies_err, applies_none, applies_then, ordering_kept}
@@ -19,7 +19,7 @@ loop-self-preserved g c = let read : is_read c.loop-self.self.peer.standing ≡ 
   loop = record {
     receiving = receiving_goes g.H.Asks.may (Some c.args.asks.now) (Some c.loop-self.asks) (Some c.send_next.new.asks) c.args.pid (c.args.self.now.rest ++ c.args.bytes.now) c.args.core.now c.loop-self.core c.send_next.new.core c.args.up.now c.loop-self.up c.send_next.new.up
         c.args.self.now c.loop-self.self c.send_next.new.self c.loop-self.change c.send_next.new.change read c.in_ok-send_next.ensures.policy c.loop-self.invariant.loop.receiving
-        (subst (λ (more : Bool). SendsNext g.H.Asks.may (Some c.loop-self.asks) (Some c.send_next.new.asks) c.args.pid more (first_in (mode_of c.loop-self.self.peer.standing) c.loop-self.self.rest) c.loop-self.core c.send_next.new.core c.loop-self.up c.send_next.new.up c.loop-self.self c.loop-self.change c.send_next.new.self c.send_next.new.change) c.if-not-branch.false c.in_ok-send_next.ensures.next);
+        (subst (λ (more : Bool). SendsNext g.H.Asks.may (Some c.loop-self.asks) (Some c.send_next.new.asks) c.args.pid more (first_in (parse_mode_of c.loop-self.self.peer.standing) c.loop-self.self.rest) c.loop-self.core c.send_next.new.core c.loop-self.up c.send_next.new.up c.loop-self.self c.loop-self.change c.send_next.new.self c.send_next.new.change) c.if-not-branch.false c.in_ok-send_next.ensures.next);
     room = room-on c.args.up.now c.loop-self.up c.send_next.new.up c.loop-self.self.peer.standing c.send_next.new.self.peer.standing read c.loop-self.invariant.loop.room c.in_ok-send_next.ensures.keeps.spare;
     number = c.in_ok-send_next.ensures.keeps.number ∙ c.loop-self.invariant.loop.number;
   };
@@ -29,7 +29,7 @@ loop-self-preserved g c = let read : is_read c.loop-self.self.peer.standing ≡ 
 pub returns-then-not-branch-clause-receives : goal.returns-then-not-branch-clause-receives
 returns-then-not-branch-clause-receives g c = receives_rest g.H.Asks.may (Some c.args.asks.now) (Some c.loop-self.asks) (Some c.send_next.new.asks) c.args.pid c.args.bytes.now c.args.core.now c.loop-self.core c.send_next.new.core c.args.up.now c.loop-self.up c.send_next.new.up
     c.args.self.now c.loop-self.self c.send_next.new.self c.loop-self.change c.send_next.new.change c.loop-self.invariant.loop.receiving
-    (subst (λ (more : Bool). SendsNext g.H.Asks.may (Some c.loop-self.asks) (Some c.send_next.new.asks) c.args.pid more (first_in (mode_of c.loop-self.self.peer.standing) c.loop-self.self.rest) c.loop-self.core c.send_next.new.core c.loop-self.up c.send_next.new.up c.loop-self.self c.loop-self.change c.send_next.new.self c.send_next.new.change) c.if-not-branch.true c.in_ok-send_next.ensures.next)
+    (subst (λ (more : Bool). SendsNext g.H.Asks.may (Some c.loop-self.asks) (Some c.send_next.new.asks) c.args.pid more (first_in (parse_mode_of c.loop-self.self.peer.standing) c.loop-self.self.rest) c.loop-self.core c.send_next.new.core c.loop-self.up c.send_next.new.up c.loop-self.self c.loop-self.change c.send_next.new.self c.send_next.new.change) c.if-not-branch.true c.in_ok-send_next.ensures.next)
 
 -- what was asked so far, and what the last saying asked
 pub returns-in_err-send_next-clause-applies : goal.returns-in_err-send_next-clause-applies

@@ -1,7 +1,7 @@
 use Rattle.std.proofs.Common.{Bool, [], ◌∷◌, ◌++◌, None, ap, ◌∙◌, subst}
 use Rattle.mux_core.specs.Calls.{AdmitsOn}
 use Rattle.mux_peers.specs.State.{ClientState}
-use Rattle.mux_peers.proofs.Enters.{enters-new, enters-refused}
+use Rattle.mux_peers.proofs.PeerEnters.{enters-new, enters-refused}
 use Rattle.mux_peers.proofs.Found.{none-noted}
 use Rattle.mux_peers.proofs.clients.Clients.admit.Goals as goal
 

@@ -1,5 +1,5 @@
 use Rattle.std.proofs.Common.{sym, ap, ◌∙◌, subst}
-use Rattle.mux_state.specs.Ready.{IsSound}
+use Rattle.mux_state.specs.Ready.{IsEngineSound}
 use Rattle.mux_state.specs.Shown.{state_of}
 use Rattle.mux_state.specs.State.{State, closed_by}
 use Rattle.mux_state.specs.Stands.{Closes}
@@ -11,7 +11,7 @@ use Rattle.mux_state.proofs.engine.Engine.closed.Goals as goal
 pub invariant_of-self : goal.invariant_of-self
 invariant_of-self c =
     let parts : State = state_of c.self.inside in
-    subst IsSound (sym (close-written parts c.args.client c.close.new.self.all c.remove.new.self c.close.new.self.leaving c.remove-2.new.self c.close.ensures.clients c.remove.ensures c.close.ensures.leaving c.remove-2.ensures)) (sound-closed parts c.args.client c.self.invariant)
+    subst IsEngineSound (sym (close-written parts c.args.client c.close.new.self.all c.remove.new.self c.close.new.self.leaving c.remove-2.new.self c.close.ensures.clients c.remove.ensures c.close.ensures.leaving c.remove-2.ensures)) (sound-closed parts c.args.client c.self.invariant)
 
 pub returns-clause-stands : goal.returns-clause-stands
 returns-clause-stands c =

@@ -1,6 +1,6 @@
 use Rattle.std.proofs.Common.{refl, sym, subst}
 use Rattle.std.proofs.lemmas.Result.{on_ok_weaker}
-use Rattle.mux_state.specs.Ready.{IsReady}
+use Rattle.mux_state.specs.Ready.{IsEngineReady}
 use Rattle.mux_state.specs.Shown.{state_of}
 use Rattle.mux_state.specs.State.{State}
 use Rattle.mux_state.proofs.Written.{enter-written, enter_new, room-entered}
@@ -20,7 +20,7 @@ returns-clause-enters c =
 
 pub returns-clause-ready : goal.returns-clause-ready
 returns-clause-ready c =
-    let was : IsReady (state_of c.self.inside) = subst IsReady (sym c.self.view_is) c.requires.ready in
+    let was : IsEngineReady (state_of c.self.inside) = subst IsEngineReady (sym c.self.view_is) c.requires.ready in
     on_ok_weaker c.list_waiting.result
     (λ waits. record {
       room = room-entered c.args.client c.in_ok-take_in.ensures.takes_in.let_in c.self.inside.clients.all c.take_in.new.clients.all c.reserve_farewells.new.up c.in_ok-take_in.ensures.takes_in.clients_are c.in_ok-reserve_farewells.ensures.one_more;

@@ -2,7 +2,7 @@ use Rattle.std.proofs.Common.{◌≡◌, true, Some, ◌&&◌, not, refl, sym, a
 use Rattle.std.proofs.lemmas.Result.{on_ok_weaker}
 use Rattle.mux_peers.proofs.Heeding.{applies_any}
 use Rattle.mux_peers.proofs.Starved.{on-err}
-use Rattle.mux_state.specs.Ready.{IsReady}
+use Rattle.mux_state.specs.Ready.{IsEngineReady}
 use Rattle.mux_state.specs.Shown.{state_of}
 use Rattle.mux_state.specs.State.{State, numbers}
 use Rattle.mux_state.specs.Steps.{is_received}
@@ -48,7 +48,7 @@ returns-clause-cut g c = on-err c.list_waiting.result
 
 pub returns-clause-ready : goal.returns-clause-ready
 returns-clause-ready g c =
-    let was : IsReady (state_of c.self.inside) = subst IsReady (sym c.self.view_is) c.requires.ready in
+    let was : IsEngineReady (state_of c.self.inside) = subst IsEngineReady (sym c.self.view_is) c.requires.ready in
     on_ok_weaker c.list_waiting.result
     (λ waits. record { room = c.in_ok-heard.ensures.keeps.room was.room; cuts = was.cuts; well = was.well }) c.list_waiting.ensures
 

@@ -1,6 +1,6 @@
 use Rattle.std.proofs.Common.{refl, sym, ◌∙◌, subst}
 use Rattle.std.proofs.lemmas.Result.{on_ok_weaker}
-use Rattle.mux_state.specs.Ready.{IsReady}
+use Rattle.mux_state.specs.Ready.{IsEngineReady}
 use Rattle.mux_state.specs.Shown.{state_of}
 use Rattle.mux_state.specs.State.{State}
 use Rattle.mux_state.proofs.Others.{heard-leaves-idle}
@@ -22,7 +22,7 @@ returns-clause-others c = on_ok_weaker c.list_waiting.result (λ h. heard-leaves
 
 pub returns-clause-ready : goal.returns-clause-ready
 returns-clause-ready c =
-    let was : IsReady (state_of c.self.inside) = subst IsReady (sym c.self.view_is) c.requires.ready in
+    let was : IsEngineReady (state_of c.self.inside) = subst IsEngineReady (sym c.self.view_is) c.requires.ready in
     on_ok_weaker c.list_waiting.result
     (λ waits on. record {
       room = c.in_ok-self-inside.ensures.room was.room;

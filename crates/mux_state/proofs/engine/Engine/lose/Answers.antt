@@ -1,6 +1,6 @@
 use Rattle.std.proofs.Common.{◌≡◌, true, refl, sym, ap, ◌∙◌, subst}
 use Rattle.std.proofs.lemmas.Result.{on_ok_weaker}
-use Rattle.mux_state.specs.Ready.{IsReady}
+use Rattle.mux_state.specs.Ready.{IsEngineReady}
 use Rattle.mux_state.specs.Shown.{state_of}
 use Rattle.mux_state.specs.State.{State}
 use Rattle.mux_state.specs.Steps.{is_served}
@@ -23,7 +23,7 @@ returns-clause-loses c =
 
 pub returns-clause-ready : goal.returns-clause-ready
 returns-clause-ready c =
-    let was : IsReady (state_of c.self.inside) = subst IsReady (sym c.self.view_is) c.requires.ready in
+    let was : IsEngineReady (state_of c.self.inside) = subst IsEngineReady (sym c.self.view_is) c.requires.ready in
     on_ok_weaker c.list_waiting.result
     (λ waits. record { room = c.lose.ensures.keeps.room was.room; cuts = was.cuts; well = was.well }) c.list_waiting.ensures
 

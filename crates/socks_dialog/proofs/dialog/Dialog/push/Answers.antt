@@ -1,5 +1,5 @@
 use Rattle.std.proofs.Common.{◌≡◌, ◌∙◌, ap, arith, ℕ, ◌+◌, ◌≤◌, List, ◌++◌, length, take, subst, sym, length-append, length-take}
-use Rattle.socks_dialog.specs.State.{State, GoesOn, HasConnect, and_bytes}
+use Rattle.socks_dialog.specs.State.{State, DialogGoesOn, HasConnect, and_dialog_bytes}
 use Rattle.socks_dialog.proofs.Stand.{stands_push, rest_push, connect_stays}
 use Rattle.socks_dialog.proofs.dialog.Dialog.push.Goals as goal
 
@@ -11,7 +11,7 @@ kept_count kept bytes new n e le =
 
 pub returns-clause-stands : goal.returns-clause-stands
 returns-clause-stands c =
-    subst (λ (d : State). GoesOn c.args.self.now d (and_bytes c.args.bytes.now)) (sym c.keep.ensures.exact)
+    subst (λ (d : State). DialogGoesOn c.args.self.now d (and_dialog_bytes c.args.bytes.now)) (sym c.keep.ensures.exact)
     (stands_push c.args.bytes.now c.args.self.now)
 
 pub returns-clause-rest : goal.returns-clause-rest

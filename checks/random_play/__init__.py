@@ -1,0 +1,1 @@
+"""The parts of checks/random-play: messages, the model of the rules, messages at random, and a round."""
