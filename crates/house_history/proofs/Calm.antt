@@ -60,16 +60,16 @@ use Rattle.house_history.proofs.Seen.{AreViews, IsView, LiveIs, Seen, Unnumbered
 -- ---- lists of relays and of how they are seen
 
 -- the entry of one of them, and those of the others
-record Split (before : List Life) (l : Life) (behind : List Life) (es : List Entry) : Type 0 where
-  front : List Entry
-  entry : Entry
-  back : List Entry
-  are : es ≡ front ++ entry ∷ back
-  fronts : AreViews before front
-  is : IsView l entry
-  backs : AreViews behind back
+pub record Split (before : List Life) (l : Life) (behind : List Life) (es : List Entry) : Type 0 where
+  pub front : List Entry
+  pub entry : Entry
+  pub back : List Entry
+  pub are : es ≡ front ++ entry ∷ back
+  pub fronts : AreViews before front
+  pub is : IsView l entry
+  pub backs : AreViews behind back
 
-split : (before : List Life) (l : Life) (behind : List Life) (es : List Entry) → AreViews (before ++ l ∷ behind) es → Split before l behind es
+pub split : (before : List Life) (l : Life) (behind : List Life) (es : List Entry) → AreViews (before ++ l ∷ behind) es → Split before l behind es
 split [] l behind [] a = absurd a
 split [] l behind (e ∷ es) a = record { front = []; entry = e; back = es; are = refl; fronts = tt; is = a.0; backs = a.1 }
 split (b ∷ before) l behind [] a = absurd a
@@ -350,7 +350,7 @@ seen-makes hs notes host port number old new h s =
 
 -- ---- by its calls
 
-seen-same : (hs : List Channel) (notes : List Note) (old new : Trace) → new.relay_traces ≡ old.relay_traces → Seen hs old.relay_traces notes → Seen hs new.relay_traces notes
+pub seen-same : (hs : List Channel) (notes : List Note) (old new : Trace) → new.relay_traces ≡ old.relay_traces → Seen hs old.relay_traces notes → Seen hs new.relay_traces notes
 seen-same hs notes old new e s = subst (λ (ls : List Life). Seen hs ls notes) (sym e) s
 
 same-of : (old new c : Trace) → new ≡ c → c.relay_traces ≡ old.relay_traces → new.relay_traces ≡ old.relay_traces
@@ -888,11 +888,11 @@ heard-message hs notes (message.Failure recipient) old new d h s =
 -- ---- payloads
 
 -- the note of what a payload reads as
-abbrev note-as : Result Said Bad → Note
+abbrev pub note-as : Result Said Bad → Note
 note-as (Ok said) = note-of (summary.summary said)
 note-as (Err bad) = Nothing
 
-note-reads : (p : List ℕ) → note-in p ≡ note-as (reading p)
+pub note-reads : (p : List ℕ) → note-in p ≡ note-as (reading p)
 note-reads p = go (reading p)
   where
     go : (r : Result Said Bad) → (elim (elim r as (λ _. Result summary.Summary Bad) [ Ok m ↦ Ok (summary.summary m) | Err e ↦ Err e ]) as (λ _. Note) [ Ok g ↦ note-of g | Err bad ↦ Nothing ]) ≡ note-as r

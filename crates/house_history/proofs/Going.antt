@@ -112,16 +112,41 @@ pub record RightAt (rows : List Row) : Type 0 where
   pub owned : Each (λ (x : Channel). (n : ℕ) → x.number ≡ Some n → (c : ℕ) × (x.own ≡ Some c) × (c < 4294967296)) (held_of (rows_of HOUSE rows))
   pub used : is_ended rows ≡ false → AllUsed (rows_of HOUSE rows)
 
+-- What waits for the forwarder and what it has not read yet is what it was sent and didn't receive.
+-- Once it receives it, its relays fit channels that the history had of it.
+pub record Still (rows : List Row) (trace : Trace) : Type 0 where
+  pub recorded : Recorded
+  pub channels : List Channel
+  pub waits : Waits trace (pending HOUSE rows) recorded
+  pub seen : Seen channels trace.relay_traces (map note-in recorded.payloads)
+
+pub still-same : (rows more : List Row) (trace : Trace) → rows_of HOUSE more ≡ rows_of HOUSE rows → Still rows trace → Still more trace
+still-same rows more trace same s = record {
+  recorded = s.recorded;
+  channels = s.channels;
+  waits = subst (λ (own : List Row). Waits trace (pending_down own) s.recorded) (sym same) s.waits;
+  seen = s.seen;
+}
+
+-- while the run goes on it is so
+pub still-of : (rows : List Row) (trace : Trace) (recorded : Recorded) → Going rows trace recorded → Still rows trace
+still-of rows trace recorded g = record {
+  recorded = recorded;
+  channels = held_of (rows_of HOUSE rows);
+  waits = g.waits;
+  seen = g.seen;
+}
+
 -- the run ends by a row, and the forwarder isn't dropped; or it goes on, and not much more waits
 -- for the forwarder
 pub data Next (rows more : List Row) (trace : Trace) (most : ℕ) : Type 0 where
-  Ends : is_ended more ≡ true → is_lost (rows_of HOUSE more) ≡ false → Next rows more trace most
+  Ends : is_ended more ≡ true → is_lost (rows_of HOUSE more) ≡ false → Still more trace → Next rows more trace most
   GoesOn : (recorded : Recorded) → Going more trace recorded → length (pending HOUSE more) ≤ length (pending HOUSE rows) + most → Next rows more trace most
 
 -- what is so after some rows and calls: the run is over, and the forwarder wasn't dropped; or it
 -- goes on
 pub data After (more : List Row) (trace : Trace) : Type 0 where
-  IsOver : is_ended more ≡ true → is_lost (rows_of HOUSE more) ≡ false → After more trace
+  IsOver : is_ended more ≡ true → is_lost (rows_of HOUSE more) ≡ false → Still more trace → After more trace
   IsOn : (recorded : Recorded) → Going more trace recorded → After more trace
 
 -- all bytes that the forwarder sent: none before it greets, and whole frames after

@@ -27,7 +27,7 @@ use Rattle.house_history.proofs.Lists.{Each}
 use Rattle.house_history.proofs.Receiving.{Recorded}
 use Rattle.house_history.proofs.RowsOf.{item_size, total}
 use Rattle.house_history.proofs.AnswersOf.{IsSizedItem, atEach-down, atEach-here}
-use Rattle.house_history.proofs.Going.{After, Ends, GoesOn, Going, IsOn, IsOver, Next, RightAt, going-others, in-kept, others-stay}
+use Rattle.house_history.proofs.Going.{After, Ends, GoesOn, Going, IsOn, IsOver, Next, RightAt, Still, going-others, in-kept, others-stay, still-of, still-same}
 
 -- ---- whose row an item makes
 
@@ -84,11 +84,15 @@ reply-other picks given rows item o = o
 
 -- a row of another client
 pub after-row : (row : Row) (rows : List Row) (trace : Trace) → (row.client == HOUSE) ≡ false → After rows trace → After (row ∷ rows) trace
-after-row row rows trace other (IsOver ended kept) = IsOver (or-yes (is_end row.fate) (is_ended rows) ended) (ap is_lost (others-stay row rows other) ∙ kept)
+after-row row rows trace other (IsOver ended kept still) =
+    IsOver (or-yes (is_end row.fate) (is_ended rows) ended) (ap is_lost (others-stay row rows other) ∙ kept)
+    (still-same rows (row ∷ rows) trace (others-stay row rows other) still)
 after-row row rows trace other (IsOn recorded g) = by_case (is_end row.fate) refl
   where
     by_case : (b : Bool) → is_end row.fate ≡ b → After (row ∷ rows) trace
-    by_case true e = IsOver (ap (λ (b : Bool). b || is_ended rows) e) (ap is_lost (others-stay row rows other) ∙ in-kept (rows_of HOUSE rows) g.inside)
+    by_case true e =
+        IsOver (ap (λ (b : Bool). b || is_ended rows) e) (ap is_lost (others-stay row rows other) ∙ in-kept (rows_of HOUSE rows) g.inside)
+        (still-same rows (row ∷ rows) trace (others-stay row rows other) (still-of rows trace recorded g))
     by_case false e = IsOn recorded (going-others row rows trace recorded other e g)
 
 pub next-other : (policy : Policy) (pid : ℕ) (picks : List ℕ) (given : List HouseReply) (rows : List Row) (item : Item) → IsOther item → ((next_row (by_lists policy pid picks given) rows item).client == HOUSE) ≡ false
@@ -124,7 +128,7 @@ IsBytesItem item = Unit {0}
 
 -- as After, and so much more may wait for the forwarder
 pub data AfterWith (rows : List Row) (trace : Trace) (most : ℕ) : Type 0 where
-  OverWith : is_ended rows ≡ true → is_lost (rows_of HOUSE rows) ≡ false → AfterWith rows trace most
+  OverWith : is_ended rows ≡ true → is_lost (rows_of HOUSE rows) ≡ false → Still rows trace → AfterWith rows trace most
   OnWith : (recorded : Recorded) → Going rows trace recorded → length (pending HOUSE rows) + most ≤ 33554432 → AfterWith rows trace most
 
 -- what ReceivedRows proves
@@ -160,11 +164,12 @@ module _ (policy : Policy) (pid : ℕ) (picks : List ℕ) (given : List HouseRep
       (by_next (heard (pick_of (FromLists picks given) rows (Heard p)) rows p trace recorded right g bytes few sized.0 sized.1 (omega (arith, le))))
     where
       by_next : Next rows (next_row setting rows (Heard p) ∷ rows) trace (65 * (length p + 5)) → AfterWith (next_row setting rows (Heard p) ∷ rows) trace (65 * most)
-      by_next (Ends ended kept) = OverWith ended kept
+      by_next (Ends ended kept still) = OverWith ended kept still
       by_next (GoesOn recorded' g' more) = OnWith recorded' g' (omega (arith, le, more))
   heard-on (BadServer fault) rows trace most recorded is sized bytes right few g le =
       subst (λ (more : List Row). AfterWith more trace (65 * most)) (sym (on-more (BadServer fault) rows refl g.on))
-      (OverWith refl (ap is_lost (others-stay (next_row setting rows (BadServer fault)) rows refl) ∙ in-kept (rows_of HOUSE rows) g.inside))
+      (OverWith refl (ap is_lost (others-stay (next_row setting rows (BadServer fault)) rows refl) ∙ in-kept (rows_of HOUSE rows) g.inside)
+      (still-same rows (next_row setting rows (BadServer fault) ∷ rows) trace (others-stay (next_row setting rows (BadServer fault)) rows refl) (still-of rows trace recorded g)))
   heard-on (Admit k) rows trace most recorded is sized bytes right few g le = absurd is
   heard-on (Says k outgoing reply) rows trace most recorded is sized bytes right few g le = absurd is
   heard-on (HouseSays k id reply) rows trace most recorded is sized bytes right few g le = absurd is
@@ -177,13 +182,13 @@ module _ (policy : Policy) (pid : ℕ) (picks : List ℕ) (given : List HouseRep
 
   heard-item : (item : Item) (rows : List Row) (trace : Trace) (most : ℕ) → IsReceivedItem item → IsSizedItem item → IsBytesItem item → RightAt rows → length trace.forwarding_state.requests ≤ 64
       → AfterWith rows trace (65 * (item_size item + most)) → AfterWith (more_of setting rows item) trace (65 * most)
-  heard-item item rows trace most is sized bytes right few (OverWith ended kept) =
-      subst (λ (more : List Row). AfterWith more trace (65 * most)) (sym (over-stays item rows (heard-took item is) ended)) (OverWith ended kept)
+  heard-item item rows trace most is sized bytes right few (OverWith ended kept still) =
+      subst (λ (more : List Row). AfterWith more trace (65 * most)) (sym (over-stays item rows (heard-took item is) ended)) (OverWith ended kept still)
   heard-item item rows trace most is sized bytes right few (OnWith recorded g le) = heard-on item rows trace most recorded is sized bytes right few g le
 
   pub heard-items : (items : List Item) (rows : List Row) (trace : Trace) → Each IsReceivedItem items → Each IsSizedItem items → Each IsBytesItem items → AtEach RightAt (more_all setting rows items)
       → length trace.forwarding_state.requests ≤ 64 → AfterWith rows trace (65 * total items) → After (more_all setting rows items) trace
-  heard-items [] rows trace are sized bytes each few (OverWith ended kept) = IsOver ended kept
+  heard-items [] rows trace are sized bytes each few (OverWith ended kept still) = IsOver ended kept still
   heard-items [] rows trace are sized bytes each few (OnWith recorded g le) = IsOn recorded g
   heard-items (item ∷ items) rows trace are sized bytes each few after =
       let right : RightAt rows = atEach-here RightAt rows (atEach-down RightAt setting rows (item ∷ items) each) in

@@ -28,6 +28,8 @@ pub mod Unasked
 pub mod Relays
 pub mod Permitted
 pub mod Marks
+pub mod Windows
+pub mod Replies
 pub mod Runs
 pub mod Ends
 pub mod Marked

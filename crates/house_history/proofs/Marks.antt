@@ -29,10 +29,12 @@ use Rattle.mux_history.specs.Log.{Setting, is_took, makes_row, more_all, more_of
 use Rattle.mux_history.specs.Pending.{pending}
 use Rattle.mux_history.specs.Policy.{Policy}
 use Rattle.mux_history.specs.Promises.{SpeaksInTime, Throughout, WaitsAt}
-use Rattle.mux_history.specs.Rows.{Admit, BadServer, Gone, Heard, HouseSays, Item, Row, RunEnd, Says, ServerCut, ServerEnd, ServerFailed, Took, is_ended, is_lost, rows_of}
+use Rattle.mux_history.specs.Rows.{Admit, BadServer, Gone, Heard, HouseSays, Item, Row, RunEnd, Says, ServerCut, ServerEnd, ServerFailed, Took, is_end, is_ended, is_lost, rows_of}
+use Rattle.mux_history.proofs.Bools.{or-yes}
 use Rattle.mux_history.specs.Settings.{by_lists}
 use Rattle.mux_history.specs.Wires.{FollowsRead, ReadsWhenAsked}
 use Rattle.mux_peers.specs.Asked.{asks_of_rows}
+use Rattle.mux_engine.specs.AfterEnd.{AfterEnd}
 use Rattle.mux_engine.specs.Answers.{AnswersOpen}
 use Rattle.mux_engine.specs.Called.{calls_at, calls_in, if_own}
 use Rattle.mux_engine.specs.Places.{IsOfOthers, is_mark_about}
@@ -41,15 +43,15 @@ use Rattle.mux_engine.proofs.Deferred.{answer-deferred, is_deferred}
 use Rattle.house_forward.specs.RelayTraces.{Trace, Follows, Life, TraceReaches, SendsBy, first_trace}
 use Rattle.house_forward.proofs.Sound.{All, Sound, all-sound, follow-sound}
 use Rattle.house_history.specs.Runs.{HouseStays}
-use Rattle.house_history.proofs.Lists.{Each, each-found, each-front, found}
+use Rattle.house_history.proofs.Lists.{Each, each-found, each-front, each-of, found}
 use Rattle.house_history.proofs.Receiving.{NoGrant, Recorded, Waits as WaitsFor, receives, none-left}
 use Rattle.house_history.proofs.Requesting.{requests-few}
 use Rattle.house_history.proofs.RowsOf.{heard-size, plain_row, total}
 use Rattle.house_history.proofs.AnswersOf.{atEach-before, atEach-here, heard-sized}
 use Rattle.house_history.proofs.Calm.{IsCalm, distinct-of}
-use Rattle.house_history.proofs.Going.{After, Going, IsOn, IsOver, RightAt, SentSo, in-kept, others-stay, own-more}
+use Rattle.house_history.proofs.Going.{After, Going, IsOn, IsOver, RightAt, SentSo, Still, in-kept, others-stay, own-more, still-same}
 use Rattle.house_history.proofs.Items.{ReceivedRow, IsOther, OnWith, heard-items, is-bytes-all, is-heard-all, is-other-all, others-items, next-other, IsReceivedItem}
-use Rattle.house_history.proofs.Takes.{calm-rest, calm-step, took-step}
+use Rattle.house_history.proofs.Takes.{calm-rest, calm-step, calm-still, took-more, took-step, took-still}
 use Rattle.house_history.proofs.ForwardingStates.{forwarding_state-heard}
 use Rattle.house_history.proofs.Asks.{greets-step, request-step}
 use Rattle.house_history.proofs.Relays.{EachSmall, WindowIn, relay-step}
@@ -141,7 +143,7 @@ pub record Split (calls more : List HouseCall) (a c : Trace) : Type 0 where
   pub first : TraceReaches a calls middle
   pub rest : TraceReaches middle more c
 
-reach-split : (calls more : List HouseCall) (a c : Trace) → TraceReaches a (calls ++ more) c → Split calls more a c
+pub reach-split : (calls more : List HouseCall) (a c : Trace) → TraceReaches a (calls ++ more) c → Split calls more a c
 reach-split [] more a c h = record { middle = a; first = refl; rest = h }
 reach-split (one ∷ calls) more a c h =
     let s = reach-split calls more h.0 c h.2 in
@@ -150,11 +152,13 @@ reach-split (one ∷ calls) more a c h =
 -- calls that are calm leave the run and its house going on
 pub record Calmed (rows : List Row) (trace new : Trace) : Type 0 where
   pub goes : (recorded : Recorded) → Going rows trace recorded → Going rows new recorded
+  pub still : Still rows trace → Still rows new
   pub greeted : new.forwarding_state.greeted ≡ trace.forwarding_state.greeted
 
 calms : (rows : List Row) (calls : List HouseCall) (trace new : Trace) → Each IsCalm calls → All Sound trace → TraceReaches trace calls new → Calmed rows trace new
 calms rows [] trace new calm sound h = record {
   goes = λ recorded g. subst (λ (c : Trace). Going rows c recorded) (sym h) g;
+  still = λ s. subst (Still rows) (sym h) s;
   greeted = ap (λ c. c.forwarding_state.greeted) h;
 }
 calms rows (one ∷ calls) trace new calm sound h =
@@ -162,6 +166,7 @@ calms rows (one ∷ calls) trace new calm sound h =
     let first = calm-rest one trace h.0 calm.0 h.1 in
     record {
       goes = λ recorded g. rest.goes recorded (calm-step rows trace h.0 one recorded sound calm.0 h.1 g);
+      still = λ s. rest.still (calm-still rows trace h.0 one sound calm.0 h.1 s);
       greeted = rest.greeted ∙ first.greeted;
     }
 
@@ -175,7 +180,8 @@ if-calm t one calm = go (is_own t)
 -- ---- what is so after each mark
 
 pub data Inv (setting : Setting) (journal : List Mark) (trace : Trace) : Type 0 where
-  Past : is_ended (log_of_journal setting journal) ≡ true → is_lost (rows_of HOUSE (log_of_journal setting journal)) ≡ false → Inv setting journal trace
+  Past : is_ended (log_of_journal setting journal) ≡ true → is_lost (rows_of HOUSE (log_of_journal setting journal)) ≡ false
+      → (Throughout (AfterEnd setting) journal → Still (log_of_journal setting journal) trace) → Inv setting journal trace
   Here : (recorded : Recorded) → Going (log_of_journal setting journal) trace recorded → SentSo trace.forwarding_state.greeted (bytes_of HOUSE journal) → Inv setting journal trace
 
 -- the forwarder sends nothing at this mark
@@ -197,7 +203,10 @@ pub quiet-step : (policy : Policy) (pid : ℕ) (picks : List ℕ) (given : List 
     → Each IsCalm (calls_at (by_lists policy pid picks given) before mark) → All Sound trace → TraceReaches trace (calls_at (by_lists policy pid picks given) before mark) new
     → SentSo trace.forwarding_state.greeted (bytes_of HOUSE before)
     → After (log_of_journal (by_lists policy pid picks given) (mark ∷ before)) trace → Inv (by_lists policy pid picks given) (mark ∷ before) new
-quiet-step policy pid picks given before mark trace new silent calm sound reached said (IsOver ended kept) = Past ended kept
+quiet-step policy pid picks given before mark trace new silent calm sound reached said (IsOver ended kept still) =
+    let setting = by_lists policy pid picks given in
+    let c = calms (log_of_journal setting (mark ∷ before)) (calls_at setting before mark) trace new calm sound reached in
+    Past ended kept (λ after. c.still still)
 quiet-step policy pid picks given before mark trace new silent calm sound reached said (IsOn recorded g) =
     let setting = by_lists policy pid picks given in
     let c = calms (log_of_journal setting (mark ∷ before)) (calls_at setting before mark) trace new calm sound reached in
@@ -316,7 +325,7 @@ module _ (policy : Policy) (pid : ℕ) (picks : List ℕ) (given : List HouseRep
 
   -- what its items leave
   after-is : (mark : Mark) (before : List Mark) (new : Trace) → After (log_of_journal setting (mark ∷ before)) new → SentSo new.forwarding_state.greeted (bytes_of HOUSE (mark ∷ before)) → Inv setting (mark ∷ before) new
-  after-is mark before new (IsOver ended kept) said = Past ended kept
+  after-is mark before new (IsOver ended kept still) said = Past ended kept (λ after. still)
   after-is mark before new (IsOn recorded g) said = Here recorded g said
 
   -- a mark of others
@@ -448,9 +457,128 @@ module _ (policy : Policy) (pid : ℕ) (picks : List ℕ) (given : List HouseRep
   step heard before (Joins l t) trace new recorded other one g said = other-mark before (Joins l t) trace new recorded one g said refl (tt, tt) tt
   step heard before (House mark) trace new recorded other one g said = house-step before mark trace new recorded (λ e. other (ap House e)) one g said
 
+  -- ---- a mark after the end
+
+  -- no item is of what the forwarder accepts
+  abbrev SparesHouse : Item → Type 0
+  SparesHouse (Took t n) = (t == HOUSE) ≡ false
+  SparesHouse item = Unit {0}
+
+  spares-other : (item : Item) → IsOther item → SparesHouse item
+  spares-other (Took t n) other = other
+  spares-other item other = tt
+
+  spares-received : (item : Item) → IsReceivedItem item → SparesHouse item
+  spares-received (Took t n) is = absurd is
+  spares-received item is = tt
+
+  past-none : (item : Item) (rows : List Row) → is_took item ≡ false → is_ended rows ≡ true → more_of setting rows item ≡ rows
+  past-none item rows none ended =
+      ap (λ (b : Bool). elim (elim b as (λ _. Bool) [ true ↦ is_took item | false ↦ makes_row rows item ]) as (λ _. List Row) [ false ↦ rows | true ↦ next_row setting rows item ∷ rows ]) ended
+      ∙ ap (λ (b : Bool). elim b as (λ _. List Row) [ false ↦ rows | true ↦ next_row setting rows item ∷ rows ]) none
+
+  own-none : (item : Item) (rows : List Row) → is_took item ≡ false → is_ended rows ≡ true → rows_of HOUSE (more_of setting rows item) ≡ rows_of HOUSE rows
+  own-none item rows none ended = ap (rows_of HOUSE) (past-none item rows none ended)
+
+  own-took : (t n : ℕ) (rows : List Row) → (t == HOUSE) ≡ false → rows_of HOUSE (more_of setting rows (Took t n)) ≡ rows_of HOUSE rows
+  own-took t n rows other = go (makes_next rows (Took t n))
+    where
+      go : (b : Bool) → rows_of HOUSE (elim b as (λ _. List Row) [ false ↦ rows | true ↦ next_row setting rows (Took t n) ∷ rows ]) ≡ rows_of HOUSE rows
+      go false = refl
+      go true = others-stay (next_row setting rows (Took t n)) rows (next-other policy pid picks given rows (Took t n) other)
+
+  own-item : (item : Item) (rows : List Row) → SparesHouse item → is_ended rows ≡ true → rows_of HOUSE (more_of setting rows item) ≡ rows_of HOUSE rows
+  own-item (Took t n) rows spares ended = own-took t n rows spares
+  own-item (Admit k) rows spares ended = own-none (Admit k) rows refl ended
+  own-item (Says k outgoing reply) rows spares ended = own-none (Says k outgoing reply) rows refl ended
+  own-item (HouseSays k id reply) rows spares ended = own-none (HouseSays k id reply) rows refl ended
+  own-item (Gone k) rows spares ended = own-none (Gone k) rows refl ended
+  own-item (Heard payload) rows spares ended = own-none (Heard payload) rows refl ended
+  own-item (BadServer fault) rows spares ended = own-none (BadServer fault) rows refl ended
+  own-item ServerEnd rows spares ended = own-none ServerEnd rows refl ended
+  own-item (ServerCut left) rows spares ended = own-none (ServerCut left) rows refl ended
+  own-item ServerFailed rows spares ended = own-none ServerFailed rows refl ended
+  own-item (RunEnd cause) rows spares ended = own-none (RunEnd cause) rows refl ended
+
+  ended-item : (item : Item) (rows : List Row) → is_ended rows ≡ true → is_ended (more_of setting rows item) ≡ true
+  ended-item item rows ended = go (makes_next rows item)
+    where
+      go : (b : Bool) → is_ended (elim b as (λ _. List Row) [ false ↦ rows | true ↦ next_row setting rows item ∷ rows ]) ≡ true
+      go false = ended
+      go true = or-yes (is_end (next_row setting rows item).fate) (is_ended rows) ended
+
+  own-items : (items : List Item) (rows : List Row) → Each SparesHouse items → is_ended rows ≡ true → rows_of HOUSE (more_all setting rows items) ≡ rows_of HOUSE rows
+  own-items [] rows spares ended = refl
+  own-items (item ∷ items) rows spares ended =
+      own-items items (more_of setting rows item) spares.1 (ended-item item rows ended) ∙ own-item item rows spares.0 ended
+
+  -- a mark by which nothing is sent, and nothing that waits for the forwarder received
+  record IsIdle (before : List Mark) (mark : Mark) : Type 0 where
+    calm : Each IsCalm (calls_at setting before mark)
+    spares : Each SparesHouse (items_in before mark)
+
+  idle-still : (before : List Mark) (mark : Mark) (trace new : Trace) → OneMore before mark trace new → is_ended (log_of_journal setting before) ≡ true → IsIdle before mark
+      → Still (log_of_journal setting before) trace → Still (log_of_journal setting (mark ∷ before)) new
+  idle-still before mark trace new one ended idle s =
+      let rows = log_of_journal setting before in
+      let same = own-items (items_in before mark) rows idle.spares ended in
+      (calms (more_all setting rows (items_in before mark)) (calls_at setting before mark) trace new idle.calm (all-sound one.calls trace one.reached) one.goes).still
+      (still-same rows (more_all setting rows (items_in before mark)) trace same s)
+
+  spares-all : (items : List Item) → Each IsOther items → Each SparesHouse items
+  spares-all items all = each-of IsOther SparesHouse spares-other items all
+
+  gets-spares : (before : List Mark) (t : ℕ) (bytes : List ℕ) → (t == HOUSE) ≡ false → Each SparesHouse (items_in before (Gets t bytes))
+  gets-spares before t bytes other = by_server (is_server t)
+    where
+      by_server : (b : Bool) → Each SparesHouse (elim b as (λ _. List Item) [ true ↦ new_received (bytes_of 0 before) (bytes_of 0 before ++ bytes) | false ↦ unless_own t (new_sayings t (bytes_of t before) (bytes_of t before ++ bytes)) ])
+      by_server true = each-of IsReceivedItem SparesHouse spares-received (new_received (bytes_of 0 before) (bytes_of 0 before ++ bytes)) (is-heard-all (bytes_of 0 before) bytes)
+      by_server false = spares-all (unless_own t (new_sayings t (bytes_of t before) (bytes_of t before ++ bytes))) (gets-other t (bytes_of t before) bytes (is_own_stream t) other)
+
+  past-house : (before : List Mark) (mark : HouseMark) (trace new : Trace) → (mark ≡ HouseIn → ⊥) → OneMore before (House mark) trace new → is_ended (log_of_journal setting before) ≡ true
+      → AfterEnd setting before (House mark) → Still (log_of_journal setting before) trace → Still (log_of_journal setting (House mark ∷ before)) new
+  past-house before HouseIn trace new other one ended after s = absurd (other refl)
+  past-house before (HouseSaid bytes) trace new other one ended after s = absurd (let bad : true ≡ false = sym ended ∙ after in cc)
+  past-house before (HouseTook size) trace new other one ended after s =
+      let rows = log_of_journal setting before in
+      let follows : Follows (Receives (take size (pending HOUSE rows))) trace new = subst (λ (c : Trace). Follows (Receives (take size (pending HOUSE rows))) trace c) (sym one.goes.2) one.goes.1 in
+      let apart = distinct-of trace.relay_traces (channels-differ one.calls trace one.reached) in
+      subst (λ (more : List Row). Still more new) (sym (took-more setting rows size)) (took-still rows trace new size apart s follows)
+  past-house before (HouseAsked client id opening ask reply) trace new other one ended after s =
+      idle-still before (House (HouseAsked client id opening ask reply)) trace new one ended (record { calm = (tt, tt); spares = tt }) s
+  past-house before (HouseAnswer client id reply) trace new other one ended after s = absurd (let bad : true ≡ false = sym ended ∙ after in cc)
+  past-house before (HouseOrder order number) trace new other one ended after s =
+      idle-still before (House (HouseOrder order number)) trace new one ended (record { calm = (tt, tt); spares = tt }) s
+
+  -- what waited for the forwarder as the run ended still waits, or it receives it
+  past-still : (before : List Mark) (mark : Mark) (trace new : Trace) → (mark ≡ House HouseIn → ⊥) → OneMore before mark trace new → is_ended (log_of_journal setting before) ≡ true
+      → AfterEnd setting before mark → Still (log_of_journal setting before) trace → Still (log_of_journal setting (mark ∷ before)) new
+  past-still before (Waits waiting want streams shown) trace new other one ended after s =
+      idle-still before (Waits waiting want streams shown) trace new one ended (record { calm = tt; spares = tt }) s
+  past-still before (Accepts k) trace new other one ended after s = idle-still before (Accepts k) trace new one ended (record { calm = tt; spares = (tt, tt) }) s
+  past-still before (Gets t bytes) trace new other one ended after s =
+      idle-still before (Gets t bytes) trace new one ended (record { calm = if-calm t (Turns (Got t bytes)) tt; spares = gets-spares before t bytes one.other }) s
+  past-still before (Ends t) trace new other one ended after s =
+      idle-still before (Ends t) trace new one ended
+      (record { calm = if-calm t (Turns (End t)) tt; spares = spares-all (items_in before (Ends t)) (ends-other t (parse InProxy (bytes_of 0 before)).rest (is_server t) (is_own_stream t) one.other) }) s
+  past-still before (Frees t) trace new other one ended after s = idle-still before (Frees t) trace new one ended (record { calm = if-calm t (Turns (Writable t)) tt; spares = tt }) s
+  past-still before (Fails t) trace new other one ended after s =
+      idle-still before (Fails t) trace new one ended
+      (record { calm = if-calm t (Turns (Failed t)) tt; spares = spares-all (items_in before (Fails t)) (fails-other t (is_server t) (is_own_stream t) one.other) }) s
+  past-still before (Takes t bytes accepts) trace new other one ended after s =
+      idle-still before (Takes t bytes accepts) trace new one ended
+      (record { calm = if-calm t (call.Takes t bytes) tt; spares = spares-all (items_in before (Takes t bytes accepts)) (takes-other t (length bytes) (is_own_stream t) one.other) }) s
+  past-still before (Holds t) trace new other one ended after s = idle-still before (Holds t) trace new one ended (record { calm = tt; spares = tt }) s
+  past-still before (WriteFails t) trace new other one ended after s =
+      idle-still before (WriteFails t) trace new one ended
+      (record { calm = if-calm t (Turns (Failed t)) tt; spares = spares-all (items_in before (WriteFails t)) (fails-other t (is_server t) (is_own_stream t) one.other) }) s
+  past-still before (Joins l t) trace new other one ended after s = idle-still before (Joins l t) trace new one ended (record { calm = (tt, tt); spares = tt }) s
+  past-still before (House mark) trace new other one ended after s = past-house before mark trace new (λ e. other (ap House e)) one ended after s
+
   next : ReceivedRow policy pid → (before : List Mark) (mark : Mark) (trace new : Trace) → (mark ≡ House HouseIn → ⊥) → OneMore before mark trace new → Inv setting before trace → Inv setting (mark ∷ before) new
-  next heard before mark trace new other one (Past ended kept) =
-      let p = past-items (items_in before mark) (log_of_journal setting before) (record { ended = ended; kept = kept }) in Past p.ended p.kept
+  next heard before mark trace new other one (Past ended kept still) =
+      let p = past-items (items_in before mark) (log_of_journal setting before) (record { ended = ended; kept = kept }) in
+      Past p.ended p.kept (λ after. past-still before mark trace new other one ended after.0 (still after.1))
   next heard before mark trace new other one (Here recorded g said) = step heard before mark trace new recorded other one g said
 
   -- ---- the forwarder is let in
@@ -551,7 +679,7 @@ module _ (policy : Policy) (pid : ℕ) (picks : List ℕ) (given : List HouseRep
   comes-in [] trace j = let-in j.starts trace j.reached
   comes-in (mark ∷ before) trace j = absurd (let none = j.lawful.0 in cc)
 
-  journeys : ReceivedRow policy pid → (journal : List Mark) (trace : Trace) → Journey journal trace → Inv setting journal trace
+  pub journeys : ReceivedRow policy pid → (journal : List Mark) (trace : Trace) → Journey journal trace → Inv setting journal trace
   journeys heard [] trace j = absurd (let bad = j.within in cc)
   journeys heard (mark ∷ before) trace j = by_mark mark j (λ (c : Trace) (j : Journey before c). journeys heard before c j)
     where
@@ -569,7 +697,7 @@ module _ (policy : Policy) (pid : ℕ) (picks : List ℕ) (given : List HouseRep
       by_mark mark j earlier = goes mark (λ e. absurd (cc)) j earlier
 
   ends-unlost : (journal : List Mark) (trace : Trace) → Inv setting journal trace → is_lost (rows_of HOUSE (log_of_journal setting journal)) ≡ false
-  ends-unlost journal trace (Past ended kept) = kept
+  ends-unlost journal trace (Past ended kept still) = kept
   ends-unlost journal trace (Here recorded g said) = in-kept (rows_of HOUSE (log_of_journal setting journal)) g.inside
 
   -- ---- a forwarder that was not let in has no rows
@@ -659,7 +787,7 @@ module _ (policy : Policy) (pid : ℕ) (picks : List ℕ) (given : List HouseRep
   unlost journal lawful others out = ap is_lost (nobody journal lawful others out)
 
   -- no mark names the forwarder, whose calls greet first
-  names-others : (journal : List Mark) → Throughout IsOfOthers journal → Throughout (AnswersOpen setting) journal → GreetsFirst (calls_in setting journal) → Throughout NamesOthers journal
+  pub names-others : (journal : List Mark) → Throughout IsOfOthers journal → Throughout (AnswersOpen setting) journal → GreetsFirst (calls_in setting journal) → Throughout NamesOthers journal
   names-others [] others answered greets = tt
   names-others (mark ∷ before) others answered greets = (by_mark mark others.0 answered.0, names-others before others.1 answered.1 earlier)
     where

@@ -108,6 +108,7 @@ BoundView act NoChannel = Unit {0}
 BoundView act IsOpened = Unit {0}
 BoundView act (IsOffered s w m) = Unit {0}
 BoundView (Grants k) (IsLive a) = a.room + k ≤ 4294967295
+BoundView (Carries k) (IsLive a) = a.came + k ≤ 2097152 + a.given
 BoundView (Asks true) (IsLive a) = a.close_sent ≡ false → a.failures + 1 ≤ 1024
 BoundView act (IsLive a) = Unit {0}
 

@@ -53,7 +53,7 @@ use Rattle.house_history.proofs.RowsOf.{AllUsed, IsReplyFrame, asks-go-on, heard
 use Rattle.house_history.proofs.AnswersOf.{failure-short, heard-answers, no-reply-in, replies-all, replies-append, replies-in}
 use Rattle.house_history.proofs.Records.{recorded-act, recorded-confirmed, recorded-failed, recorded-nothing, recorded-offered}
 use Rattle.house_history.proofs.Channels.{heard-act, heard-confirmation, heard-open, heard-other, heard-refused}
-use Rattle.house_history.proofs.Going.{Ends, GoesOn, Going, IsYoung, Next, Phase, RightAt, going-others, in-kept, more-recorded, others-stay, recorded-all}
+use Rattle.house_history.proofs.Going.{Ends, GoesOn, Going, IsYoung, Next, Phase, RightAt, going-others, in-kept, more-recorded, others-stay, recorded-all, still-of, still-same}
 
 -- ---- what is small
 
@@ -665,8 +665,8 @@ heard-row policy pid pick rows p trace recorded right going bytes few some short
     by_dest : (d : Dest) → dest rows p ≡ d → Next rows (received_row rows p d ∷ rows) trace (65 * (length p + 5))
     by_dest ToMaster e = others-go (received_row rows p ToMaster) rows trace recorded (65 * (length p + 5)) refl (master-goes p) going
     by_dest (ToClient k) e = by_client k (k == HOUSE) refl e
-    by_dest Disconnects e = Ends refl lost
-    by_dest (Breaks cause) e = Ends refl lost
+    by_dest Disconnects e = Ends refl lost (still-same rows (received_row rows p Disconnects ∷ rows) trace refl (still-of rows trace recorded going))
+    by_dest (Breaks cause) e = Ends refl lost (still-same rows (received_row rows p (Breaks cause) ∷ rows) trace refl (still-of rows trace recorded going))
 
 -- nothing that is received is for a forwarder that has no rows
 pub heard-client : (rows : List Row) (p : List ℕ) → rows_of HOUSE rows ≡ [] → ((received_row rows p (dest rows p)).client == HOUSE) ≡ false

@@ -177,7 +177,13 @@ bound-live : (act : Act) (x : Channel) (a : Acct) → IsAccount x a → is_confi
 bound-live (Grants n) x a is plain fine = (receives-account (Grants n) x a is plain fine).small
 bound-live (Asks true) x a is plain fine = λ h. subst (λ (k : ℕ). k ≤ 1024) (let more : more_asks true a.close_sent a.failures ≡ a.failures + 1 = rw h refl in more) ((receives-account (Asks true) x a is plain fine).few h)
 bound-live (Asks false) x a is plain fine = tt
-bound-live (Carries n) x a is plain fine = tt
+bound-live (Carries n) x a is plain fine =
+    let on = receives-account (Carries n) x a is plain fine in
+    let came = on.came in
+    let within = (on.accounted Down).within in
+    let window = on.window in
+    let given = on.given in
+    omega (arith, came, within, window, given)
 bound-live Ends x a is plain fine = tt
 bound-live Closes x a is plain fine = tt
 bound-live Answers x a is plain fine = tt

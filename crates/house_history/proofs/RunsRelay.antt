@@ -1,7 +1,7 @@
 -- What a run of the program with a forwarder does for its relays and for requests.
-use Rattle.std.proofs.Common.{◌≡◌, ◌∙◌, refl, sym, ap, subst, arith, ◌<◌, ◌≤◌, ◌+◌, ◌-◌, ◌^◌, ℕ, Bool, true, false, length, length-append, length-drop, List, [], ◌∷◌, ◌++◌, append_assoc, Option, Some, None}
+use Rattle.std.proofs.Common.{◌≡◌, ◌∙◌, refl, sym, ap, subst, arith, ◌<◌, ◌≤◌, ◌+◌, ◌-◌, ◌*◌, ◌^◌, ℕ, Bool, true, false, length, length-append, length-drop, List, [], ◌∷◌, ◌++◌, append_assoc, Option, Some, None}
 use Rattle.std.specs.Prelude.{IfSome}
-use Rattle.std.specs.List.{All, cons_option, filter_map}
+use Rattle.std.specs.List.{All, cons_option, filter_map, sum_by}
 use Rattle.std.proofs.lemmas.List.Elements.{All-append, All-cons, All-head, All-nil, All-tail, All-weaker}
 use Rattle.mux_outside.specs.House.{HouseState, IsAtRest}
 use Rattle.mux_outside.specs.HouseCalls.{Begins, HouseCall}
@@ -33,7 +33,7 @@ use Rattle.house_relay.proofs.Whole.{keeps, relays}
 use Rattle.house_forward.specs.ForwarderEvents.{Begins as HasBegun, ForwarderEvent, Happen, Leave}
 use Rattle.house_forward.specs.ForwardingState.{ForwardingState}
 use Rattle.house_forward.specs.Known.{ordering_of}
-use Rattle.house_forward.specs.Laws.{IsBounded, KeepsWindow, Rests}
+use Rattle.house_forward.specs.Laws.{KeepsWindow, Rests}
 use Rattle.house_forward.specs.Links.{own_stream_of, streams_of}
 use Rattle.house_forward.specs.RelayTraces.{AreRelayTraces, HasLived, Held, Life, StandsSince, Trace, TraceReaches, first_trace, taken_in}
 use Rattle.house_forward.specs.Streaming.{IsOfStream}
@@ -58,17 +58,22 @@ use Rattle.house_forward.proofs.Owning.{channels-differ, streams-are-theirs, str
 use Rattle.house_forward.proofs.Quieting.{each-quiet}
 use Rattle.house_forward.proofs.Refused.{each-refused}
 use Rattle.house_forward.proofs.Resolving.{each-awaits}
-use Rattle.house_forward.proofs.Sound.{Each as EachLife, Sound, all-sound}
+use Rattle.house_forward.proofs.Sound.{All as AllLives, Each as EachLife, Sound, all-sound}
 use Rattle.house_forward.proofs.Starting.{each-start}
 use Rattle.house_forward.proofs.Streaming.{each-has-its-stream}
-use Rattle.house_history.specs.Moments.{AtEachRead, ForwarderRun, HasMoments, IsMoment, calls_up_to}
-use Rattle.house_history.specs.RunsRelay.{AnswersRight, CarriesAll, CarriesBytes, ConnectsRight, HasGrantedAll, HasItsSocket, IsOfSocket, RestsAt, RunsRelay}
+use Rattle.house_history.specs.Moments.{AtEachMoment, AtEachRead, ForwarderRun, HasMoments, IsMoment, calls_up_to}
+use Rattle.house_history.specs.RunsRelay.{AnswersRight, CarriesAll, CarriesBytes, ConnectsRight, HasGrantedAll, HasItsSocket, IsOfSocket, RestsAt, RunsRelay, StaysInWindow, longest_own_queue, waiting_for, waiting_if}
 use Rattle.ssh_mux.specs.Starts.{BegunRests}
 use Rattle.house_history.proofs.Ends.{closes-channel}
 use Rattle.house_history.proofs.Marked.{calls-more, open-in, socket-of, taken-first}
 use Rattle.house_history.proofs.Received.{received-all, sent-all}
 use Rattle.house_history.proofs.Marks.{house-stays}
+use Rattle.house_history.proofs.Replies.{replies-short}
 use Rattle.house_history.proofs.Runs.{leads-on}
+use Rattle.house_history.proofs.Windows.{Ran, Windowed, ran-till, windows}
+use Rattle.house_forward.specs.Numbers.{number_of, open_streams}
+use Rattle.std.proofs.lemmas.List.{length-map}
+use Rattle.std.proofs.lemmas.List.Sums.{sum_by-cons}
 
 -- ---- bytes
 
@@ -108,6 +113,36 @@ all-there P so calls trace reached =
     let all = all-sound calls trace reached in
     All-append P trace.relay_traces trace.past (all-of P so trace.relay_traces all.relay_traces) (all-of P so trace.past all.past)
 
+-- no more waits for its socket than it may
+stays-of : (l : Life) → Sound l → Windowed l → StaysInWindow l
+stays-of l s kept = record { delivers = kept; waits = bounded l.dials l.acts l.relay s.stands kept }
+
+stays-each : (ls : List Life) → EachLife Sound ls → EachLife Windowed ls → All StaysInWindow ls
+stays-each [] sounds kept = All-nil StaysInWindow
+stays-each (l ∷ ls) sounds kept = All-cons StaysInWindow l ls (stays-of l sounds.0 kept.0) (stays-each ls sounds.1 kept.1)
+
+-- nor for all of them
+
+within-most : (window waits replied took : ℕ) → waits ≤ window + (replied - took) → replied ≤ 12 → waits ≤ window + 12
+within-most window waits replied took fits short = omega (arith, fits, short)
+
+waits-few : (l : Life) → StaysInWindow l → length l.relay.queue.waiting ≤ longest_own_queue
+waits-few l s = within-most WINDOW (length l.relay.queue.waiting) (length (replies l.dials l.acts)) (taken l.acts) s.waits (replies-short l.dials l.acts)
+
+sum-few : (ls : List Life) → All StaysInWindow ls → sum_by waiting_for ls ≤ length (open_streams ls) * longest_own_queue
+sum-few [] all = omega arith
+sum-few (l ∷ ls) all =
+    subst (λ n. n ≤ length (open_streams (l ∷ ls)) * longest_own_queue) (sym (sum_by-cons waiting_for l ls))
+    (go l.own (sum-few ls (All-tail StaysInWindow l ls all)))
+  where
+    fits : length l.relay.queue.waiting ≤ longest_own_queue
+    fits = waits-few l (All-head StaysInWindow l ls all)
+
+    go : (o : Option OwnStream) → sum_by waiting_for ls ≤ length (open_streams ls) * longest_own_queue
+        → waiting_if o (length l.relay.queue.waiting) + sum_by waiting_for ls ≤ length (cons_option (number_of o) (open_streams ls)) * longest_own_queue
+    go None rest = rest
+    go (Some own) rest = omega (arith, rest, fits)
+
 -- ---- a run whose calls lead on
 
 module _ (run : ForwarderRun) where
@@ -117,14 +152,26 @@ module _ (run : ForwarderRun) where
   sockets-of earlier None acts of = tt
   sockets-of earlier (Some own) acts of = λ e. socket-of run.setting run.starts earlier own.number acts of e
 
-  carries : CarriesAll run
-  carries = record {
+  carries : AtEachMoment run (λ earlier trace. AllLives Windowed trace) → CarriesAll run
+  carries windowed = record {
     relays = λ earlier trace moment. all-there CarriesBytes carries-of (calls_up_to run earlier) trace moment.reached;
     sockets = λ earlier trace moment.
         All-weaker (λ (l : Life). IfSome l.own (λ own. IsOfStream (calls_up_to run earlier) own.number l.acts)) (HasItsSocket earlier)
         (λ l of. sockets-of earlier l.own l.acts of) trace.relay_traces
         (each-has-its-stream (calls_up_to run earlier) trace moment.reached);
-    bounded = λ earlier trace moment. all-there IsBounded (λ l s. bounded l.dials l.acts l.relay s.stands) (calls_up_to run earlier) trace moment.reached;
+    bounded = λ earlier trace moment. (
+        let kept = windowed earlier trace moment in
+        let sounds = all-sound (calls_up_to run earlier) trace moment.reached in
+        All-append StaysInWindow trace.relay_traces trace.past (stays-each trace.relay_traces sounds.relay_traces kept.relay_traces) (stays-each trace.past sounds.past kept.past)
+        );
+    bounded_in_all = λ earlier trace moment. (
+        let kept = windowed earlier trace moment in
+        let sounds = all-sound (calls_up_to run earlier) trace moment.reached in
+        let is : length (open_streams trace.relay_traces) ≡ length (own_in earlier) =
+        ap length (streams-are-theirs (calls_up_to run earlier) trace moment.reached ∙ sym (open-in run.setting earlier)) ∙ length-map (own_in earlier) (λ (own : OwnStream). own.number) in
+        subst (λ n. sum_by waiting_for trace.relay_traces ≤ n * longest_own_queue) is
+        (sum-few trace.relay_traces (stays-each trace.relay_traces sounds.relay_traces kept.relay_traces))
+        );
     streams = λ earlier trace moment.
         streams-are-theirs (calls_up_to run earlier) trace moment.reached ∙ sym (open-in run.setting earlier);
     apart = λ earlier trace moment. streams-differ (calls_up_to run earlier) trace moment.reached;
@@ -293,6 +340,22 @@ pub runs-relay : {T : Type 0} (May : HouseReply → Type 0) (recorded : T → Op
 runs-relay {T} May recorded has now left starts policy pid turns before start seen refused answer run small =
     let set : Setting = by_lists policy pid run.choices.picks run.choices.replies in
     let of : ForwarderRun = record { setting = set; starts = starts; journal = run.wire.journal } in
+    let windowed : AtEachMoment of (λ earlier trace. AllLives Windowed trace) = λ earlier trace moment. (
+        let ran : Ran policy pid run.choices.picks run.choices.replies run.wire.journal = record {
+          lawful = run.wire.of_wire.lawful;
+          asked = run.wire.of_wire.asked;
+          waits = run.marks.written.waits;
+          speaks = run.marks.written.speaks;
+          answered = run.marks.answered;
+          others = run.wire.own_streams.others;
+          after = run.marks.after_end;
+          rows = run.log.rows;
+          is_log = run.log.is_log;
+          fresh = run.log.fresh;
+        } in
+        windows policy pid run.choices.picks run.choices.replies earlier starts trace
+        (ran-till policy pid run.choices.picks run.choices.replies moment.later earlier (subst (Ran policy pid run.choices.picks run.choices.replies) moment.are ran)) moment.reached
+        ) in
     let others-till : (earlier : List Mark) (trace : Trace) → IsMoment of earlier trace → Throughout IsOfOthers earlier =
     λ earlier trace moment. throughout-till IsOfOthers moment.later earlier (subst (Throughout IsOfOthers) moment.are run.wire.own_streams.others) in
     record {
@@ -300,7 +363,7 @@ runs-relay {T} May recorded has now left starts policy pid turns before start se
           let lead = leads-on left (Begins starts ∷ calls_in set run.wire.journal) (run.forwarder.handed ne (Begins starts ∷ []) refl) small in
           moments of lead.0 lead.1
           );
-      carries = carries of;
+      carries = carries of windowed;
       speaks = record {
         sends = λ earlier trace moment. sent-all set earlier (others-till earlier trace moment);
         receives = λ earlier trace moment. received-all set earlier (others-till earlier trace moment);

@@ -26,7 +26,7 @@ use Rattle.house_history.proofs.Seen.{Seen, note-in}
 use Rattle.house_history.proofs.AnswersOf.{replies-append, replies-in}
 use Rattle.house_history.proofs.ForwardingStates.{forwarding_state-heard}
 use Rattle.house_history.proofs.Calm.{Distinct, IsCalm, IsCalmMark, calm, heard-all}
-use Rattle.house_history.proofs.Going.{After, Going, IsOn, IsYoung, Phase, own-more}
+use Rattle.house_history.proofs.Going.{After, Going, IsOn, IsYoung, Phase, Still, own-more}
 
 -- ---- calls by which nothing is sent or received
 
@@ -91,9 +91,20 @@ calm-step rows trace new call recorded sound c h g =
           (subst (λ (s : Stage). Phase trace.forwarding_state.greeted s recorded own) (sym rest.stage) g.phase);
     }
 
+-- and what waited for the forwarder still waits
+pub calm-still : (rows : List Row) (trace new : Trace) (call : HouseCall) → All Sound trace → IsCalm call → Follows call trace new → Still rows trace → Still rows new
+calm-still rows trace new call sound c h s =
+    let rest = calm-rest call trace new c h in
+    record {
+      recorded = s.recorded;
+      channels = s.channels;
+      waits = waits-same trace new (pending HOUSE rows) s.recorded rest.framer rest.stage s.waits;
+      seen = calm s.channels (map note-in s.recorded.payloads) call trace new sound c h s.seen;
+    }
+
 -- ---- what it accepts
 
-abbrev took_row : ℕ → Row
+abbrev pub took_row : ℕ → Row
 took_row n = plain_row (Took HOUSE n) HOUSE [] []
 
 -- nothing is sent by it
@@ -109,7 +120,7 @@ same-took : (choices : Choices) (rows : List Row) (n : ℕ) → with_reply choic
 same-took (FromLists picks replies) rows n = refl
 same-took TheirOwn rows n = refl
 
-took-more : (setting : Setting) (rows : List Row) (n : ℕ) → more_all setting rows (Took HOUSE n ∷ []) ≡ took_row n ∷ rows
+pub took-more : (setting : Setting) (rows : List Row) (n : ℕ) → more_all setting rows (Took HOUSE n ∷ []) ≡ took_row n ∷ rows
 took-more setting rows n =
     ap (λ (b : Bool). elim b as (λ _. List Row) [ false ↦ rows | true ↦ next_row setting rows (Took HOUSE n) ∷ rows ]) (next-took rows HOUSE n)
     ∙ ap (λ (item : Item). treat setting.policy setting.pid (pick_of setting.choices rows (Took HOUSE n)) rows item ∷ rows) (same-took setting.choices rows n)
@@ -153,6 +164,24 @@ took-going rows trace new n recorded apart g h =
           subst (Phase new.forwarding_state.greeted new.stage h.left) (sym same)
           (subst (λ (b : Bool). Phase b new.stage h.left (row ∷ own)) (sym forwarding_state.greeted)
           (took-phase trace.forwarding_state.greeted n trace new (drop n (pending HOUSE rows)) recorded own h g.phase));
+    }
+
+-- what waits besides still waits, once the forwarder has received what it accepts
+pub took-still : (rows : List Row) (trace new : Trace) (n : ℕ) → Distinct trace.relay_traces → Still rows trace → Follows (Receives (take n (pending HOUSE rows))) trace new
+    → Still (took_row n ∷ rows) new
+took-still rows trace new n apart s follows =
+    let h = receives trace new n (pending HOUSE rows) s.recorded s.waits follows in
+    let own = rows_of HOUSE rows in
+    let same : rows_of HOUSE (took_row n ∷ rows) ≡ took_row n ∷ own = own-more (took_row n) rows refl in
+    let split : map note-in s.recorded.payloads ≡ map note-in h.heard ++ map note-in h.left.payloads =
+    ap (map note-in) h.split ∙ map-append note-in h.heard h.left.payloads in
+    record {
+      recorded = h.left;
+      channels = s.channels;
+      waits =
+          subst (λ (rs : List Row). Waits new (pending_down rs) h.left) (sym same)
+          (subst (λ (bytes : List ℕ). Waits new (drop n bytes) h.left) (sym (append-nil (pending_down own))) h.waits);
+      seen = heard-all s.channels (map note-in h.left.payloads) h.heard trace new apart h.goes (subst (λ notes. Seen s.channels trace.relay_traces notes) split s.seen);
     }
 
 -- a run goes on after what the forwarder accepts, once it has received it

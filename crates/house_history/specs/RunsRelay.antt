@@ -1,7 +1,7 @@
 -- What a run of the program with a forwarder does for its relays and for the requests of its
 -- clients: all that house_forward's laws say of any calls, of the calls that the run hands to it.
-use Rattle.std.specs.Prelude.{◌≡◌, ◌≢◌, ◌⊎◌, ◌≤◌, ◌<◌, ◌^◌, ℕ, Bool, true, false, List, [], ◌∷◌, ◌++◌, ◌==◌, get_or, length, slice_get, IfSome, IsTrue, Option, Some, None}
-use Rattle.std.specs.List.{All, AllPairs, filter_map}
+use Rattle.std.specs.Prelude.{◌≡◌, ◌≢◌, ◌⊎◌, ◌≤◌, ◌<◌, ◌+◌, ◌-◌, ◌*◌, ◌^◌, ℕ, Bool, true, false, List, [], ◌∷◌, ◌++◌, ◌==◌, get_or, length, slice_get, IfSome, IsTrue, Option, Some, None}
+use Rattle.std.specs.List.{All, AllPairs, filter_map, sum_by}
 use Rattle.ssh_grammar.specs.SpellMessage.{close}
 use Rattle.ssh_grammar.specs.declared.numbers.TheConstants.{CHANNEL_CLOSE}
 use Rattle.mux_outside.specs.House.{HouseState}
@@ -15,6 +15,7 @@ use Rattle.mux_outside.specs.declared.house_mark.HouseMark.TheVariants.{HouseOrd
 use Rattle.mux_outside.specs.declared.mark.Mark.{Mark}
 use Rattle.mux_outside.specs.declared.mark.Mark.TheVariants.{House, Joins}
 use Rattle.mux_outside.specs.declared.order.Order.TheVariants as order
+use Rattle.mux_outside.specs.declared.own_streams.OwnStream.{OwnStream}
 use Rattle.mux_outside.specs.declared.piece.TheConstants.{LONGEST_PIECE}
 use Rattle.mux_outside.specs.declared.start_ask.StartAsk.{StartAsk}
 use Rattle.mux_outside.specs.declared.starts.Starts.{Starts}
@@ -28,8 +29,9 @@ use Rattle.mux_history.specs.Rows.{Row, is_lost, rows_of}
 use Rattle.mux_engine.specs.Called.{calls_in}
 use Rattle.mux_engine.specs.Places.{listeners_in, own_in}
 use Rattle.mux_engine.specs.Run.{IsRun, setting_of}
-use Rattle.house_relay.specs.Acts.{RelayAct, adjusted, behind, delivered, read, received_close, received_eof, replies, sent, sent_close, sent_eof, socket_has_ended, taken_data, took}
+use Rattle.house_relay.specs.Acts.{RelayAct, adjusted, behind, delivered, read, received_close, received_eof, replies, sent, sent_close, sent_eof, socket_has_ended, taken, taken_data, took}
 use Rattle.house_relay.specs.Relay.{is_broken}
+use Rattle.house_relay.specs.declared.TheConstants.{WINDOW}
 use Rattle.house_relay.specs.declared.line.Live.{Live as LiveState}
 use Rattle.house_relay.specs.declared.line.ChannelState.TheVariants.{Live}
 use Rattle.house_forward.specs.Causes.{AnswerHasCause, AwaitsReply, CancelsAsked, EndsAsked, EndsCancel, ForwarderIsAtRest, IsGrant, IsRefused, IsServed}
@@ -39,7 +41,7 @@ use Rattle.house_forward.specs.Connects.{connects_in, still_to_connect, taken_in
 use Rattle.house_forward.specs.ForwarderEvents.{Answers, Asks, ForwarderEvent, Happen, Leave, Replies, Requests, Unlistens}
 use Rattle.house_forward.specs.Forwardings.{first_of, forwarding_request_of, listeners_of}
 use Rattle.house_forward.specs.Greeting.{GreetsOnce, sent_in}
-use Rattle.house_forward.specs.Laws.{IsBounded, Rests}
+use Rattle.house_forward.specs.Laws.{KeepsWindow, Rests}
 use Rattle.house_forward.specs.Numbers.{made_by_mark, open_streams, relay_channels_of}
 use Rattle.house_forward.specs.Opening.{IsOneJoined, IsOpenOf, is_open, openers_in, openers_left, opens_in}
 use Rattle.house_forward.specs.RelayTraces.{Life, Trace, first_trace, taken_in}
@@ -92,18 +94,46 @@ abbrev pub HasItsSocket : List Mark → Life → Type 0
 HasItsSocket journal l = IfSome l.own (λ own. is_own_stream own.number ≡ true
     → IsOfSocket journal own.number l.acts)
 
+-- What waits for the socket of one relay.
+--
+-- - No more data was delivered in its channel than a window, and the room that was given back.
+-- - At most a window and what is left of the dialog's replies wait for its socket.
+pub record StaysInWindow (l : Life) : Type 0 where
+  pub delivers : KeepsWindow l.acts
+  pub waits : length l.relay.queue.waiting
+      ≤ WINDOW + (length (replies l.dials l.acts) - taken l.acts)
+
+-- the replies of a dialog: 2 bytes for its methods, and 10 for its outcome
+abbrev pub longest_replies : ℕ
+longest_replies = 12
+
+-- at most so many bytes wait for one own stream: 2,097,164
+abbrev pub longest_own_queue : ℕ
+longest_own_queue = WINDOW + longest_replies
+
+-- how many bytes wait for the stream of a relay, while it is open
+abbrev pub waiting_if : Option OwnStream → ℕ → ℕ
+waiting_if None size = 0
+waiting_if (Some own) size = size
+
+abbrev pub waiting_for : Life → ℕ
+waiting_for l = waiting_if l.own (length l.relay.queue.waiting)
+
 -- At each moment of a run.
 --
 -- - Each relay carries its bytes, also one of which nothing is left.
 -- - What a relay read and has as accepted are the bytes that its own stream gave and accepted.
--- - While the server keeps to a channel's window, at most that window and what is left of the
---   dialog's replies wait for its socket.
+-- - At most a window and what is left of the dialog's replies wait for its socket, whatever the
+--   server sends.
+-- - For all own streams that are open at most so many times 2,097,164 bytes wait.
 -- - The streams of the relays are exactly the own streams that the journal leaves open. No two
 --   relays have one stream, and no two have one channel number.
 pub record CarriesAll (run : ForwarderRun) : Type 0 where
   pub relays : AtEachMoment run (λ earlier trace. All CarriesBytes (trace.relay_traces ++ trace.past))
   pub sockets : AtEachMoment run (λ earlier trace. All (HasItsSocket earlier) trace.relay_traces)
-  pub bounded : AtEachMoment run (λ earlier trace. All IsBounded (trace.relay_traces ++ trace.past))
+  pub bounded : AtEachMoment run (λ earlier trace. All StaysInWindow (trace.relay_traces ++ trace.past))
+  pub bounded_in_all : AtEachMoment run (λ earlier trace.
+      sum_by waiting_for trace.relay_traces ≤ length (own_in earlier) * longest_own_queue)
   pub streams : AtEachMoment run (λ earlier trace.
       open_streams trace.relay_traces ≡ numbers_of (own_in earlier))
   pub apart : AtEachMoment run (λ earlier trace.
