@@ -1,5 +1,5 @@
 -- How long the replies to a dialog are: that to its methods has two bytes, and the last ten at most.
-use Rattle.std.proofs.Common.{◌≡◌, ◌∙◌, refl, sym, ap, arith, ℕ, ◌+◌, ◌≤◌, Bool, true, false, Option, Some, None, List, [], ◌∷◌, ◌++◌, length, length-append}
+use Rattle.std.proofs.Common.{◌≡◌, refl, ap, arith, ℕ, ◌≤◌, Bool, true, false, Option, Some, None, List, [], ◌∷◌, length, length-append}
 use Rattle.std.specs.Prelude.{◌==◌, if◌then◌else◌, slice_index}
 use Rattle.std.specs.List.{concat, list_any}
 use Rattle.ssh_fields.specs.Fields.{split_at, take_u8}

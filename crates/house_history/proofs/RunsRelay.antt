@@ -140,7 +140,7 @@ sum-few (l ∷ ls) all =
 
     go : (o : Option OwnStream) → sum_by waiting_for ls ≤ length (open_streams ls) * longest_own_queue
         → waiting_if o (length l.relay.queue.waiting) + sum_by waiting_for ls ≤ length (cons_option (number_of o) (open_streams ls)) * longest_own_queue
-    go None rest = rest
+    go None rest = omega (arith, rest)
     go (Some own) rest = omega (arith, rest, fits)
 
 -- ---- a run whose calls lead on
@@ -341,21 +341,21 @@ runs-relay {T} May recorded has now left starts policy pid turns before start se
     let set : Setting = by_lists policy pid run.choices.picks run.choices.replies in
     let of : ForwarderRun = record { setting = set; starts = starts; journal = run.wire.journal } in
     let windowed : AtEachMoment of (λ earlier trace. AllLives Windowed trace) = λ earlier trace moment. (
-        let ran : Ran policy pid run.choices.picks run.choices.replies run.wire.journal = record {
-          lawful = run.wire.of_wire.lawful;
-          asked = run.wire.of_wire.asked;
-          waits = run.marks.written.waits;
-          speaks = run.marks.written.speaks;
-          answered = run.marks.answered;
-          others = run.wire.own_streams.others;
-          after = run.marks.after_end;
-          rows = run.log.rows;
-          is_log = run.log.is_log;
-          fresh = run.log.fresh;
-        } in
-        windows policy pid run.choices.picks run.choices.replies earlier starts trace
-        (ran-till policy pid run.choices.picks run.choices.replies moment.later earlier (subst (Ran policy pid run.choices.picks run.choices.replies) moment.are ran)) moment.reached
-        ) in
+    let ran : Ran policy pid run.choices.picks run.choices.replies run.wire.journal = record {
+      lawful = run.wire.of_wire.lawful;
+      asked = run.wire.of_wire.asked;
+      waits = run.marks.written.waits;
+      speaks = run.marks.written.speaks;
+      answered = run.marks.answered;
+      others = run.wire.own_streams.others;
+      after = run.marks.after_end;
+      rows = run.log.rows;
+      is_log = run.log.is_log;
+      fresh = run.log.fresh;
+    } in
+    windows policy pid run.choices.picks run.choices.replies earlier starts trace
+    (ran-till policy pid run.choices.picks run.choices.replies moment.later earlier (subst (Ran policy pid run.choices.picks run.choices.replies) moment.are ran)) moment.reached
+    ) in
     let others-till : (earlier : List Mark) (trace : Trace) → IsMoment of earlier trace → Throughout IsOfOthers earlier =
     λ earlier trace moment. throughout-till IsOfOthers moment.later earlier (subst (Throughout IsOfOthers) moment.are run.wire.own_streams.others) in
     record {

@@ -1,7 +1,7 @@
 -- No more data is delivered in a channel of the forwarder than a window and the room that was given
 -- back, at each moment of a run: also after a row ended the connection.
 use Rattle.std.proofs.Common.{◌≡◌, ◌≤◌, ◌+◌, ℕ, Bool, true, false, Option, Some, None, List, [], ◌∷◌, ◌++◌, refl, sym, ap, ◌∙◌, subst, arith, map, take, length, length-append, inl, inr}
-use Rattle.std.specs.Prelude.{◌⊎◌, find, if◌then◌else◌, not, MatchBool, Result, Ok, Err}
+use Rattle.std.specs.Prelude.{find, if◌then◌else◌, not, Result, Ok, Err}
 use Rattle.std.proofs.lemmas.List.{map-append}
 use Rattle.ssh_grammar.specs.Messages.{Message as Said}
 use Rattle.ssh_grammar.specs.ReadMessage.{read_message as reading}
@@ -23,11 +23,11 @@ use Rattle.mux_outside.specs.declared.order.Order.{Order}
 use Rattle.mux_outside.specs.declared.order.Order.TheVariants as order
 use Rattle.mux_outside.specs.declared.starts.Starts.{Starts}
 use Rattle.mux_history.specs.Channels.{Channel, is_number}
-use Rattle.mux_history.specs.Journal.{IsLawful, is_accepted, items_in, log_of_journal}
+use Rattle.mux_history.specs.Journal.{IsLawful, items_in, log_of_journal}
 use Rattle.mux_history.specs.Log.{Setting, makes_next, more_all, more_of, next_row}
 use Rattle.mux_history.specs.Pending.{pending}
 use Rattle.mux_history.specs.Policy.{Policy}
-use Rattle.mux_history.specs.Promises.{IsCut, SpeaksInTime, Throughout, WaitsAt, is_asked}
+use Rattle.mux_history.specs.Promises.{IsCut, SpeaksInTime, Throughout, WaitsAt}
 use Rattle.mux_history.specs.Right.{AreFresh}
 use Rattle.mux_history.specs.Rows.{Item, Row}
 use Rattle.mux_history.specs.Settings.{by_lists}
@@ -39,7 +39,7 @@ use Rattle.mux_engine.specs.AfterEnd.{AfterEnd}
 use Rattle.mux_engine.specs.Answers.{AnswersOpen}
 use Rattle.mux_engine.specs.Called.{calls_at, calls_in, if_own}
 use Rattle.mux_engine.specs.Places.{IsOfOthers}
-use Rattle.house_relay.specs.Acts.{Confirms, Delivers, Other, Reads, ReceivesClose, ReceivesEof, Refuses, RelayAct, Takes, adjusted, delivered}
+use Rattle.house_relay.specs.Acts.{Confirms, Delivers, Other, Reads, ReceivesClose, ReceivesEof, Refuses, RelayAct, Takes, delivered}
 use Rattle.house_relay.specs.Next.{sends_of}
 use Rattle.house_relay.specs.Relay.{answered_in, delivers, delivers_in, received_in, sent_act}
 use Rattle.house_relay.specs.declared.TheConstants.{WINDOW}
@@ -49,11 +49,11 @@ use Rattle.house_relay.specs.declared.relay.Outgoing.{Outgoing}
 use Rattle.house_relay.specs.declared.relay.Outgoing.TheVariants as outgoing
 use Rattle.house_relay.specs.declared.relay.Relay.{Relay}
 use Rattle.house_relay.specs.declared.relay.Socket.{Socket}
-use Rattle.house_forward.specs.Forwardings.{has_listener, has_request, served_at}
+use Rattle.house_forward.specs.Forwardings.{has_request, served_at}
 use Rattle.house_forward.specs.Going.{GetsOn, TakesOn, act_of_sending}
 use Rattle.house_forward.specs.Heard.{act_received}
 use Rattle.house_forward.specs.Laws.{KeepsWindow}
-use Rattle.house_forward.specs.RelayTraces.{Follows, Life, Listens, MakesOne, MarksIn, OffersOne, OneAtMost, OpensFor, OrdersIn, ReceivesMessage, ReceivesOpen, ReceivesReading, RelayGoesBy, RelayReceivesAt, SendsBy, Speaks, StepsBy, Trace, TraceReaches, TurnsTo, are_full, first_life_in, first_trace, has_channel, has_stream, has_words, kept_in, made_life, relay_act_of, stepped, with_relay_traces}
+use Rattle.house_forward.specs.RelayTraces.{Follows, Life, Listens, MakesOne, MarksIn, OpensFor, OrdersIn, ReceivesMessage, ReceivesOpen, ReceivesReading, RelayGoesBy, RelayReceivesAt, SendsBy, Speaks, StepsBy, Trace, TraceReaches, TurnsTo, are_full, first_life_in, first_trace, has_channel, has_stream, has_words, made_life, relay_act_of, stepped, with_relay_traces}
 use Rattle.house_forward.specs.declared.forwarding.Forwarding.{Forwarding}
 use Rattle.house_forward.specs.declared.link.LinkStep.{LinkStep}
 use Rattle.house_forward.specs.declared.link.LinkStep.TheVariants as step
@@ -63,7 +63,7 @@ use Rattle.house_history.proofs.Lists.{Each, each-behind, each-front}
 use Rattle.house_history.proofs.Calm.{Distinct, distinct-of, heard-one, note-as, note-reads, seen-same, split}
 use Rattle.house_history.proofs.Fitting.{Entry}
 use Rattle.house_history.proofs.Going.{Still, still-of}
-use Rattle.house_history.proofs.Marks.{Here, Inv, Journey, Past, Split, journeys, names-others, reach-split}
+use Rattle.house_history.proofs.Marks.{Here, Inv, Past, Split, journeys, names-others, reach-split}
 use Rattle.house_history.proofs.Notes.{BoundView, Does, Note, note-of}
 use Rattle.house_history.proofs.ReceivedRows.{heard-row}
 use Rattle.house_history.proofs.Receiving.{ReceivesAll, receives}
