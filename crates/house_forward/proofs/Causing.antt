@@ -598,7 +598,7 @@ after-greeting forwarder_events old new k e =
 
 -- ---- a request
 
--- one that has a request to say is to be listened for by the server
+-- one that has a request to send is to be listened for by the server
 asks-there : (s : Stage) (a : Forwarding) (forwarder_events : List ForwarderEvent) (closing : Bool) → requests_at s closing ≡ true → StageFits s a forwarder_events
     → listens_here a.kind ≡ false
 asks-there (ToListen host) a forwarder_events closing e h = cc

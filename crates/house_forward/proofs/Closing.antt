@@ -543,7 +543,7 @@ gets-right calls t bytes old before a b s p is (Offered remote window maximum) e
 gets-right calls t bytes old before a b s p is (Live live) e h = same-gets calls bytes a b p h.0 h.1
 gets-right calls t bytes old before a b s p is Over e h = same-gets calls bytes a b p h.0 h.1
 
--- ---- one is joined
+-- ---- one is accepted
 
 no_channel_left-caused : (calls : List HouseCall) (joins t : ℕ) (r : Relay) → HasNoChannelLeft t r → HasNoChannel calls (Some (new_stream t))
     → Caused calls (joined_life joins t r)

@@ -16,7 +16,7 @@ use Rattle.house_forward.specs.declared.link.Link.{Link}
 use Rattle.house_forward.specs.declared.rules.Ends.{Ends}
 use Rattle.house_forward.specs.declared.rules.ListenRules.{ListenRules}
 
--- ---- asks
+-- ---- requests
 
 refused-if : (b : Bool) (rules : ListenRules) (opening : Bool) (ask : StartAsk) (serial : ℕ) (fs : List Forwarding) → false ≡ not b
     → ComesIf b rules opening ask serial fs fs (Now Refused)

@@ -30,7 +30,7 @@ use Rattle.house_forward.proofs.Opening.{Settles, may-later, SendsOpen, spoken}
 use Rattle.house_forward.proofs.Settling.{settles-receives, settles-takes, line-step}
 use Rattle.house_forward.proofs.Sound.{Each, All, Sound, KeptSound, Both, with-sound, all-reach, each-back, joined_life, step_of}
 
--- ---- where an OPEN is to be sent, it is for what was joined
+-- ---- where an OPEN is to be sent, it is for what was accepted
 
 abbrev pub RightFor : List HouseCall → Option OwnStream → Option ℕ → List ℕ → ℕ → Option ℕ → Type 0
 RightFor calls own nth host port None = IsJoinedFor calls own nth (ConnectsTo host port)
@@ -141,7 +141,7 @@ gets-right calls (Offered remote window maximum) free bytes a b e h s s' same ri
 gets-right calls (Live live) free bytes a b e h s s' same right = subst (Right calls a.own a.joined) (sym (h.0 ∙ e)) right
 gets-right calls Over free bytes a b e h s s' same right = subst (Right calls a.own a.joined) (sym (h.0 ∙ e)) right
 
--- ---- one is joined
+-- ---- one is accepted
 
 no_channel_left-right : (calls : List HouseCall) (joins t : ℕ) (r : Relay) → HasNoChannelLeft t r → Right calls (Some (new_stream t)) (Some joins) r.line
 no_channel_left-right calls joins t r h = none-right calls (Some (new_stream t)) (Some joins) r.line (ap (λ (x : Relay). may_open x.line) h)

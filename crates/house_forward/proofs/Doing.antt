@@ -30,7 +30,7 @@ use Rattle.house_forward.specs.declared.forwarding.Forwarding.{Forwarding}
 use Rattle.house_forward.specs.declared.forwarder_state.Stage.{Stage}
 use Rattle.house_forward.specs.declared.forwarder_state.Stage.TheVariants.{Control, Proxy}
 
--- ---- one deed, or none
+-- ---- one event, or none
 
 one : (forwarder_event : ForwarderEvent) (forwarder_events : List ForwarderEvent) (old new : Trace) → Leave forwarder_events old.forwarding_state → OnForwardingState (Does forwarder_event) old new
     → Leave (forwarder_event ∷ forwarder_events) new.forwarding_state

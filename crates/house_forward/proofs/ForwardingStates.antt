@@ -146,7 +146,7 @@ receives-reply success port fs asks fs' asks' all serials refused requests waiti
     same-forwarding_states (forwarding_state_of rules greeted fs' asks') (reply_received success port (forwarding_state_of rules greeted fs asks))
     refl refl all serials refused requests waiting done
 
--- ---- asks
+-- ---- requests
 
 -- a request gets its answer
 pub gives-answer : (client id : ℕ) (reply : HouseReply) (o : Option (ℕ × ℕ × HouseReply)) (relays : Relays) (framer : FramerState) (stage : Stage)

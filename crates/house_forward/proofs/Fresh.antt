@@ -86,7 +86,7 @@ joined-at Local dialogs_full f t r e = asking t r f.connect_host f.connect_port 
 joined-at Remote dialogs_full f t r e = asking t r f.connect_host f.connect_port e
 joined-at Dynamic dialogs_full f t r e = dialing dialogs_full t r e
 
--- that of a socket that is joined
+-- that of a socket that is accepted
 pub joined : (full dialogs_full : Bool) (f : Option Forwarding) (t : ℕ) (r : Relay) → IsRelayJoined full dialogs_full f t r → Begins t r
 joined true dialogs_full f t r e = no_channel_left t r e
 joined false dialogs_full None t r e = no_channel_left t r e

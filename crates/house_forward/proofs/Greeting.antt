@@ -37,7 +37,7 @@ greets (Replies success port) = false
 greets (Listens host port number) = false
 greets (Unlistens l) = false
 
--- whether all the deeds leave it as it was
+-- whether all the events leave it as it was
 abbrev Silent : List ForwarderEvent → Type 0
 Silent [] = Unit {0}
 Silent (forwarder_event ∷ forwarder_events) = (greets forwarder_event ≡ false) × Silent forwarder_events
@@ -181,7 +181,7 @@ says-greeting bytes old new e h =
     subst (λ (b : Bool). SendsBy b (find has_request old.forwarding_state.all) bytes old new) e h in
     (greets.0, ap (λ (c : Trace). c.forwarding_state.greeted) greets.1)
 
--- a call says one thing, or nothing
+-- a call sends one thing, or nothing
 is-said : (call : HouseCall) → (sent_on call ≡ []) ⊎ ((bytes : List ℕ) × (call ≡ Marks (HouseSaid bytes)))
 is-said (IsBegun starts) = inl refl
 is-said (Marks HouseIn) = inl refl

@@ -1,4 +1,4 @@
--- Of each socket that was joined one OPEN is sent at most.
+-- Of each socket that was accepted one OPEN is sent at most.
 use Rattle.std.proofs.Common.{◌≡◌, ◌≢◌, ◌∙◌, refl, sym, ap, subst, inl, inr, arith, ℕ, zero, suc, ◌+◌, ◌<◌, ◌≤◌, Bool, true, false, cond, List, [], ◌∷◌, ◌++◌, append_assoc, length, length-append, get_or, map, filter, Option, Some, None}
 use Rattle.std.specs.Prelude.{◌==◌, not, nat_le, if◌then◌else◌, find, Result, Ok, Err}
 use Rattle.std.specs.List.{All, AllPairs}
@@ -254,7 +254,7 @@ marks-total n (HouseAnswer client id reply) old new h =
     let all = same-total n old new (ap (λ (c : Trace). c.relay_traces) h.2) in omega (arith, all)
 marks-total n (HouseOrder o number) old new h = let all = orders-total n o number old new h in omega (arith, all)
 
--- ---- how many were joined
+-- ---- how many were accepted
 
 joins-at : (n : ℕ) (m : Message) (old new : Trace) → RelayReceivesAt n m old new → new.joins ≡ old.joins
 joins-at n m old new (inl h) = ap (λ (c : Trace). c.joins) h.2
@@ -510,7 +510,7 @@ reach-recorded (call ∷ calls) old new h =
 pub each-is-recorded : EachIsRecorded
 each-is-recorded calls trace h = reach-recorded calls first_trace trace h
 
--- ---- each was joined
+-- ---- each was accepted
 
 was-joined : (calls : List HouseCall) (own : Option OwnStream) (socket : Option ℕ) (so : Forwarding → Type 0)
     → IsJoinedFor calls own socket so → IsOneJoined calls socket

@@ -1,4 +1,4 @@
--- What is known of forwardings and asks by what happened, and what keeps it.
+-- What is known of forwardings and requests by what happened, and what keeps it.
 use Rattle.std.proofs.Common.{◌≡◌, ◌∙◌, refl, sym, ap, subst, arith, ℕ, ◌<◌, ◌≤◌, Bool, true, false, List, [], ◌∷◌, ◌++◌, map, Option, Some, None, inl, inr}
 use Rattle.std.specs.Prelude.{◌⊎◌, ◌==◌, if◌then◌else◌}
 use Rattle.std.specs.List.{All, list_any}

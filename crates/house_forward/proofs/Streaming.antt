@@ -1,4 +1,4 @@
--- What the relays read and took is what their streams gave and took.
+-- What the relays read and wrote is what their streams gave and accepted.
 use Rattle.std.proofs.Common.{◌≡◌, ◌∙◌, refl, sym, ap, subst, ℕ, Bool, true, false, List, [], ◌∷◌, ◌++◌, append_assoc, Option, Some, None}
 use Rattle.std.specs.Prelude.{◌==◌, if◌then◌else◌, IfSome}
 use Rattle.std.specs.List.{All}
@@ -36,7 +36,7 @@ use Rattle.house_forward.proofs.Keeping.{stays-heard, stays-after}
 use Rattle.house_forward.proofs.Passing.{Passes, Untouched, Orders, pass-all}
 use Rattle.house_forward.proofs.Sound.{Each}
 
--- ---- what a step reads and takes
+-- ---- what a step reads and writes
 
 -- what is received and sent in the channel adds nothing to these bytes
 record IsOfSocket (f : List RelayAct → List ℕ) : Type 0 where
@@ -144,7 +144,7 @@ took-more s [] call = append-nil (took_call s call)
 took-more s (c ∷ calls) call =
     ap (λ bs. took_call s c ++ bs) (took-more s calls call) ∙ sym (append_assoc (took_call s c) (took_in s calls) (took_call s call))
 
--- a call in which so much was given and taken
+-- a call in which so much was given and accepted
 of-more : (calls : List HouseCall) (call : HouseCall) (t : ℕ) (old new : List RelayAct) → read new ≡ read old ++ got_call t call
     → took new ≡ took old ++ took_call t call → IsOfStream calls t old → IsOfStream (calls ++ call ∷ []) t new
 of-more calls call t old new e f h = record {
@@ -203,7 +203,7 @@ fed-acts : (calls : List HouseCall) (o : Option OwnStream) (s : Socket) (old new
 fed-acts calls None s old new e f h = λ is. (let its = h is in record { reads = e ∙ its.reads; takes = f ∙ its.takes })
 fed-acts calls (Some own) s old new e f h = of-acts calls own.number old new e f h
 
--- where its socket stays, and nothing is read or taken
+-- where its socket stays, and nothing is read or accepted
 fed-on : (calls : List HouseCall) (so : Relay → Relay → Type 0) (act : RelayAct) (a b : Life) → RelayGoesBy so act a b
     → b.relay.socket ≡ a.relay.socket → read (act ∷ a.acts) ≡ read a.acts → took (act ∷ a.acts) ≡ took a.acts → Fed calls a → Fed calls b
 fed-on calls so act a b h same e f p =
@@ -249,7 +249,7 @@ takes-fed calls t bytes (Some own) s s' acts is h =
     of-more calls (TakesBytes t bytes) own.number acts (Takes bytes ∷ acts) (sym (append-nil (read acts)))
     (ap (λ bs. took acts ++ bs) (sym (was-taken t own.number bytes is))) h
 
--- a step of a stream gives and takes nothing
+-- a step of a stream gives and accepts nothing
 silent-step : (call : HouseCall) (s : LinkStep) (t n : ℕ) → Orders call s t → Silent n call
 silent-step call (step.Pause b) t n h =
     record { gives = ap (got_call n) h.2; takes = ap (took_call n) h.2 }

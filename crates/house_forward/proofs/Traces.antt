@@ -219,7 +219,7 @@ says-by bytes old new (Some i) e one spelled h = λ framer stage forwarding_stat
           (with-swept most trace old (set old i (record x { relay = r })) framer stage forwarding_state is went.relay_traces went.are),
     )
 
--- the first relay that has something to send says it
+-- the first relay that has something to send sends it
 pub says : (bytes : List ℕ) (old new : List Link) (framer : FramerState) (stage : Stage) (forwarding_state : ForwardingState) → forwarding_state.greeted ≡ true
     → find has_request forwarding_state.all ≡ None → list_any has_sending old ≡ true
     → IfSome (find has_sending old) (λ l. bytes ≡ framed (relay_sent_by l.relay))
@@ -454,7 +454,7 @@ forwarding_state-becomes to old new e = λ most trace is. (
 
 -- ---- what happens to sockets
 
--- one is joined at the listener of a forwarding
+-- one is accepted at the listener of a forwarding
 pub joins : (l t : ℕ) (old new : List Link) (framer : FramerState) (stage : Stage) (forwarding_state : ForwardingState)
     → Joins (find (has_listener l) forwarding_state.all) t old new
     → GoesFurther (Follows (Turns (Joined l t))) (held old framer stage forwarding_state) (held new framer stage forwarding_state)
@@ -574,7 +574,7 @@ ends t old = λ framer stage forwarding_state most trace is. (
   stepped-on step.End t old framer stage forwarding_state most trace is,
 )
 
--- one takes bytes, or is connected
+-- one accepts bytes, or is connected
 pub is-writable : (t : ℕ) (old : List Link)
     → LinksGo (Follows (Turns (Writable t))) old (map (link_after step.Writable t) old)
 is-writable t old = λ framer stage forwarding_state most trace is. (
@@ -632,7 +632,7 @@ takes-by t bytes old new framer stage forwarding_state (Some i) e nothing h = λ
           (with-links most (n + most) trace old (set old i (record x { relay = r })) framer stage forwarding_state is went.relay_traces went.are),
     )
 
--- one took bytes
+-- one accepted bytes
 pub takes : (t : ℕ) (bytes : List ℕ) (old new : List Link) (framer : FramerState) (stage : Stage) (forwarding_state : ForwardingState)
     → (position (is_of t) old ≡ None → bytes ≡ [])
     → RelayGoesAt (position (is_of t) old) (TakesOf bytes) old new → TakesFurther t bytes (held old framer stage forwarding_state) (held new framer stage forwarding_state)

@@ -65,7 +65,7 @@ pub record Wants (d : ForwardingState) : Type 0 where
   pub said : Said d.requests d.all
   once : Once d.requests
 
--- ---- asks go on
+-- ---- requests go on
 
 abbrev Keeps : List Waiting → List Waiting → ℕ → Type 0
 Keeps ws more n = Closer ws n → Closer more n

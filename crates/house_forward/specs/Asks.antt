@@ -71,7 +71,7 @@ settled serial opening at outcome waiting = map (settle_one serial opening at ou
 abbrev pub counted : ℕ → ℕ
 counted at = min (at + 1) (2 ^ 64 - 1)
 
--- all asks about a forwarding are refused
+-- all requests about a forwarding are refused
 abbrev pub refused : ℕ → ℕ → List Waiting → List Waiting
 refused serial at waiting =
     settled serial false (counted at) Refused (settled serial true at Refused waiting)

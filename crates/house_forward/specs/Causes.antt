@@ -1,4 +1,4 @@
--- Why asks get their replies and answers, by what happened before.
+-- Why requests get their replies and answers, by what happened before.
 use Rattle.std.specs.Prelude.{◌≡◌, ◌≢◌, ◌⊎◌, ◌≤◌, ℕ, Bool, true, false, ◌==◌, ◌&&◌, List, [], ◌∷◌, ◌++◌, drop, find, IfSome, Option, Some, None}
 use Rattle.std.specs.List.{All, AllPairs, list_any, Contains}
 use Rattle.mux_outside.specs.Streams.{among, without}
@@ -317,7 +317,7 @@ EachRefused = (client id : ℕ) (opening : Bool) (ask : StartAsk) (old new : For
 
 -- ---- at rest
 
--- there is no request to say, no listener to order or to close, and no answer to give
+-- there is no request to send, no listener to order or to close, and no answer to give
 pub record ForwarderIsAtRest (d : ForwardingState) : Type 0 where
   pub says : find has_request d.all ≡ None
   pub orders : next_of d.waiting d.all ≡ None

@@ -64,7 +64,7 @@ forwarding_state_of rules greeted forwardings asks = record {
   done = asks.done;
 }
 
--- ---- asks
+-- ---- requests
 
 -- its forwardings as the start sees them
 abbrev pub standing_at : ForwardingState → Standing
@@ -181,7 +181,7 @@ pub record ChangesList (old new : Forwardings) : Type 0 where
   pub requests : new.requests ≡ old.requests
   pub refused : new.refused ≡ old.refused
 
--- its forwardings and asks go on so, whatever else it has
+-- its forwardings and requests go on so, whatever else it has
 abbrev pub ForwardingsGo : (ForwardingState → ForwardingState → Type 0) → Forwardings → Asks → Forwardings → Asks → Type 0
 ForwardingsGo so forwardings asks forwardings' asks' = (rules : ListenRules) (greeted : Bool)
     → so (forwarding_state_of rules greeted forwardings asks) (forwarding_state_of rules greeted forwardings' asks')

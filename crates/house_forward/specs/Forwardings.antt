@@ -148,7 +148,7 @@ pub record IsAskedFor (ends : Ends) (serial : ℕ) (start : Option ℕ) (f : For
   pub open_yet : f.closing ≡ false
   pub start_is : f.start ≡ start
 
--- ---- asks
+-- ---- requests
 
 -- the forwarding that listens there, asked or live
 abbrev pub standing : Ends → List Forwarding → Option Forwarding
@@ -400,7 +400,7 @@ ComesIf true rules opening ask serial old new asked = (asked ≡ Now Refused) ×
 ComesIf false rules opening ask serial old new asked = (ends : Ends) × AreEnds rules ask ends
     × (asked ≡ comes_of_ends opening serial ends old) × EndsLeave opening serial ends old new
 
--- one is refused whose client has an open ask with its id, or while as many asks wait as may
+-- one is refused whose client has an open request with its id, or while as many wait as may
 abbrev pub ComesUnless : Bool → ListenRules → Bool → StartAsk → ℕ → List Forwarding → List Forwarding → Asked → Type 0
 ComesUnless true rules opening ask serial old new asked = (asked ≡ Now Refused) × (new ≡ old)
 ComesUnless false rules opening ask serial old new asked =

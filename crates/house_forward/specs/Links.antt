@@ -146,7 +146,7 @@ channels links = length (filter is_channel links)
 abbrev pub is_full : List Link → Bool
 is_full links = nat_le MOST_CHANNELS (channels links)
 
--- whether a dialog is to say its end
+-- whether a dialog is still to name its end
 abbrev pub dials : ChannelState → Bool
 dials (Dialing dialog) = true
 dials (Asked host port version) = false
@@ -241,7 +241,7 @@ obeyed (order.Close t) links = map (link_after Close t) links
 
 -- ---- sayings
 
--- whether its relay has something to say
+-- whether its relay has something to send
 abbrev pub has_sending : Link → Bool
 has_sending l = is_some (sends_of l.relay)
 

@@ -99,7 +99,7 @@ abbrev pub without_closed : Option ℕ → List ℕ → List ℕ
 without_closed None there = there
 without_closed (Some t) there = without t there
 
--- the streams that are open after the calls, where these were open before: those that were joined
+-- the streams that are open after the calls, where these were open before: those that were accepted
 -- or connected since, and not closed
 abbrev pub streams_open_after : List ℕ → List HouseCall → List ℕ
 streams_open_after there [] = there

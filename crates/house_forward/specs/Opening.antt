@@ -58,7 +58,7 @@ joins_by (Receives bytes) = 0
 joins_by (Turns happening) = joins_by_turn happening
 joins_by (Takes t bytes) = 0
 
--- how many sockets were joined
+-- how many sockets were accepted
 abbrev pub joins_in : List HouseCall → ℕ
 joins_in [] = 0
 joins_in (call ∷ calls) = joins_by call + joins_in calls
@@ -76,7 +76,7 @@ may_open Over = false
 abbrev pub still_to_open : List Life → ℕ
 still_to_open relay_traces = length (filter (λ l. may_open l.relay.line) relay_traces)
 
--- no more OPENs are sent, or still to be, than sockets were joined
+-- no more OPENs are sent, or still to be, than sockets were accepted
 abbrev pub OneOpenAtMost : Type 0
 OneOpenAtMost = (calls : List HouseCall) (trace : Trace) → TraceReaches first_trace calls trace
     → opens_in calls + still_to_open trace.relay_traces ≤ joins_in calls
@@ -122,13 +122,13 @@ abbrev pub EachIsRecorded : Type 0
 EachIsRecorded = (calls : List HouseCall) (trace : Trace) (reaches : TraceReaches first_trace calls trace)
     → length (openers_in calls first_trace trace reaches) ≡ opens_in calls
 
--- it is one of those that were joined
+-- it is one of those that were accepted
 pub record IsOneJoined (calls : List HouseCall) (socket : Option ℕ) : Type 0 where
   pub number : ℕ
   pub is : socket ≡ Some number
   pub joined : number < joins_in calls
 
--- each OPEN that is sent, or still to be, is of a socket that was joined
+-- each OPEN that is sent, or still to be, is of a socket that was accepted
 abbrev pub EachWasJoined : Type 0
 EachWasJoined = (calls : List HouseCall) (trace : Trace) (reaches : TraceReaches first_trace calls trace)
     → All (IsOneJoined calls)
@@ -149,7 +149,7 @@ pub record IsCallBefore (calls : List HouseCall) (call : HouseCall) (trace : Tra
   pub are : calls ≡ before ++ call ∷ behind
   pub reached : TraceReaches first_trace before trace
 
--- this socket was joined at the listener of a forwarding of which this is so, and it is this
+-- this socket was accepted at the listener of a forwarding of which this is so, and it is this
 -- stream, while that is open
 pub record IsJoinedFor (calls : List HouseCall) (own : Option OwnStream) (socket : Option ℕ)
     (so : Forwarding → Type 0) : Type 0 where
@@ -178,13 +178,13 @@ pub record ConnectsTo (host : List ℕ) (port : ℕ) (f : Forwarding) : Type 0 w
 abbrev pub IsDynamic : Forwarding → Type 0
 IsDynamic f = f.kind ≡ Dynamic
 
--- the dialog of a socket that was joined at a dynamic forwarding asked for this end
+-- the dialog of a socket that was accepted at a dynamic forwarding asked for this end
 pub record IsDialed (calls : List HouseCall) (l : Life) (host : List ℕ) (port : ℕ) : Type 0 where
   pub joined : IsJoinedFor calls l.own l.joined IsDynamic
   pub asks : outcome_in (read l.acts) ≡ Connects host port
 
 -- what is sent is the OPEN of direct-tcpip of one of the relays, to where the forwarding connects
--- at whose listener its socket was joined, or to the end that its dialog asked for
+-- at whose listener its socket was accepted, or to the end that its dialog asked for
 pub record IsOpenOf (calls : List HouseCall) (relay_traces : List Life) (bytes : List ℕ) : Type 0 where
   pub before : List Life
   pub life : Life

@@ -9,7 +9,7 @@ use Rattle.house_forward.specs.declared.asks.Waiting.{Waiting}
 use Rattle.house_forward.specs.declared.forwarding.Forwarding.{Forwarding}
 use Rattle.house_forward.specs.declared.link.Link.{Link}
 
--- it has greeted, and neither a forwarding nor a relay has something to say
+-- it has greeted, and neither a forwarding nor a relay has something to send
 abbrev pub sends_none : Bool → List Forwarding → List Link → Bool
 sends_none greeted forwardings links =
     greeted && (not (is_some (find has_request forwardings)) && not (list_any has_sending links))

@@ -61,7 +61,7 @@ use Rattle.house_forward.specs.declared.rules.TheConstants.{MOST_CHANNELS, MOST_
 use Rattle.mux_outside.specs.declared.greeting.TheConstants.{GREETING}
 
 -- a relay; its stream, while it is open; whether it began with a dialog; which of the sockets that
--- were joined is its own, if one is, by how many were joined before; where its socket is to be
+-- were accepted is its own, if one is, by how many were accepted before; where its socket is to be
 -- connected, if the server opened it; and what happened in it, the newest first
 pub record Life : Type 0 where
   pub relay : Relay
@@ -71,8 +71,8 @@ pub record Life : Type 0 where
   pub to : Option (List ℕ × ℕ)
   pub acts : List RelayAct
 
--- the relays that there are, and those of which nothing is left; how many sockets were joined; what
--- was received and isn't read yet; how it is read; and what the forwarder has besides
+-- the relays that there are, and those of which nothing is left; how many sockets were accepted;
+-- what was received and isn't read yet; how it is read; and what the forwarder has besides
 pub record Trace : Type 0 where
   pub relay_traces : List Life
   pub past : List Life
@@ -138,7 +138,7 @@ channels_in relay_traces = length (filter (λ l. counts l.relay.line) relay_trac
 abbrev pub are_full : List Life → Bool
 are_full relay_traces = nat_le MOST_CHANNELS (channels_in relay_traces)
 
--- of how many a dialog is to say the end
+-- of how many a dialog is still to name the end
 abbrev pub dialogs_in : List Life → ℕ
 dialogs_in relay_traces = length (filter (λ l. dials l.relay.line) relay_traces)
 
@@ -214,7 +214,7 @@ stepped step t l = if has_stream t l then record l {
   acts = relay_act_of step ∷ l.acts;
 } else l
 
--- one relay more, for a socket that is joined at the listener of a forwarding, after so many
+-- one relay more, for a socket that is accepted at the listener of a forwarding, after so many
 -- others, with a stream that no other has: for an end that this names or a dialog will, or for none
 pub record JoinsOne (f : Option Forwarding) (t joins : ℕ) (old new : List Life) : Type 0 where
   pub relay : Relay
@@ -231,7 +231,7 @@ pub record JoinsOne (f : Option Forwarding) (t joins : ℕ) (old new : List Life
     acts = [];
   } ∷ []
 
--- what happened to a listener or a stream, after so many sockets that were joined
+-- what happened to a listener or a stream, after so many sockets that were accepted
 abbrev pub TurnsTo : Happening → ℕ → List Forwarding → List Life → List Life → Type 0
 TurnsTo (Joined l t) joins all old new = JoinsOne (find (has_listener l) all) t joins old new
 TurnsTo (Got t bytes) joins all old new =
@@ -240,7 +240,7 @@ TurnsTo (End t) joins all old new = new ≡ map (stepped step.End t) old
 TurnsTo (Writable t) joins all old new = new ≡ map (stepped step.Writable t) old
 TurnsTo (Failed t) joins all old new = new ≡ map (stepped step.Failed t) old
 
--- how many sockets were joined then
+-- how many sockets were accepted then
 abbrev pub joins_after : Happening → ℕ → ℕ
 joins_after (Joined l t) joins = joins + 1
 joins_after (Got t bytes) joins = joins
@@ -256,7 +256,7 @@ Speaks bytes old new = (bytes ≡ framed (relay_sent_by old.relay))
     × RelayGoesBy RelaySendsOn (act_of_sending (sends_of old.relay) old.relay) old new
 
 -- where the forwarder has not greeted it does; else the first forwarding that has a request sends
--- it; else the first relay that has something to send says that
+-- it; else the first relay that has something to send sends that
 abbrev pub SendsBy : Bool → Option Forwarding → List ℕ → Trace → Trace → Type 0
 SendsBy false first bytes old new =
     (bytes ≡ GREETING.now) × (new ≡ with_forwarding_state (greeting_sent old.forwarding_state) old)
@@ -517,7 +517,7 @@ abbrev pub held : List Link → FramerState → Stage → ForwardingState → He
 held links framer stage forwarding_state =
     record { links = links; framer = framer; stage = stage; forwarding_state = forwarding_state }
 
--- by what the house has
+-- by what the forwarder has
 abbrev pub forwarder_held_of : Relays → FramerState → Stage → ListenRules → Bool → Forwardings → Asks → Held
 forwarder_held_of relays framer stage rules greeted forwardings asks =
     held relays.all.items framer stage (forwarding_state_of rules greeted forwardings asks)

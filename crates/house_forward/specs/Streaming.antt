@@ -1,4 +1,4 @@
--- What the streams gave and took, by the calls.
+-- What the streams gave and accepted, by the calls.
 use Rattle.std.specs.Prelude.{◌≡◌, ◌==◌, ℕ, if◌then◌else◌, List, [], ◌∷◌, ◌++◌, IfSome, Some}
 use Rattle.std.specs.List.{All}
 use Rattle.mux_outside.specs.HouseCalls.{HouseCall, Happening, Begins, Marks, Receives, Turns, Takes}
@@ -38,7 +38,7 @@ abbrev pub took_in : ℕ → List HouseCall → List ℕ
 took_in s [] = []
 took_in s (call ∷ calls) = took_call s call ++ took_in s calls
 
--- what was read and taken is what this stream gave and took since a call brought it
+-- what was read and written is what this stream gave and accepted since a call brought it
 pub record IsOfStream (calls : List HouseCall) (t : ℕ) (acts : List RelayAct) : Type 0 where
   pub before : List HouseCall
   pub birth : HouseCall

@@ -132,7 +132,7 @@ impl Asks {
         self.done = at.saturating_add(1);
     }
 
-    /// All asks about a forwarding are refused.
+    /// All requests about a forwarding are refused.
     pub fn refuse(&mut self, forwarding: u64)
         ensures waiting { self.new.waiting.items
             ≡ refused forwarding self.old.done self.old.waiting.items }

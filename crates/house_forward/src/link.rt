@@ -72,7 +72,7 @@ impl Link {
         self.has_number(stream) && self.relay.stream() == Some(stream)
     }
 
-    /// Whether its stream has this number and takes no more bytes.
+    /// Whether its stream has this number and accepts no more bytes.
     pub fn is_finished(&self, stream: u64) -> bool
         ensures { result ≡ finishes stream self.now.stream }
     {
@@ -137,7 +137,7 @@ impl Link {
         self.relay.line.counts()
     }
 
-    /// Whether a dialog is to say the end of its channel.
+    /// Whether a dialog is still to name the end of its channel.
     pub fn is_dialog(&self) -> bool
         ensures { result ≡ is_dialog self.now }
     {
@@ -161,7 +161,7 @@ impl Link {
         }
     }
 
-    /// Whether its relay has something to say.
+    /// Whether its relay has something to send.
     pub fn has_sending(&self) -> bool
         ensures { result ≡ has_sending self.now }
     {

@@ -351,7 +351,7 @@ impl Relays {
 
     // ---- what is sent and received
 
-    /// Puts what the first relay that has something to send says into the piece.
+    /// Puts what the first relay with something to send sends into the piece.
     pub fn send(&mut self, into: &mut Piece) -> Result<bool, OutOfMemory>
         ensures fits { SendsFits result into.new }
         ensures exact { OnOk result
@@ -372,7 +372,7 @@ impl Relays {
         Ok(said)
     }
 
-    // What the first that has something to send says.
+    // What the first that has something to send sends.
     fn send_at(&mut self, i: usize, into: &mut Piece) -> Result<bool, OutOfMemory>
         requires { position has_sending self.old.all.items ≡ Some i }
         ensures fits { SendsFits result into.new }

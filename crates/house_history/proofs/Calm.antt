@@ -283,7 +283,7 @@ seen-kept hs notes relay_traces s = by_swept (kept-views relay_traces s.entries 
 seen-left : (hs : List Channel) (notes : List Note) (old new : Trace) (relay_traces : List Life) → new ≡ with_relay_traces relay_traces old → Seen hs relay_traces notes → Seen hs new.relay_traces notes
 seen-left hs notes old new relay_traces e s = subst (λ (c : Trace). Seen hs c.relay_traces notes) (sym e) (seen-kept hs notes relay_traces s)
 
--- ---- one more is joined
+-- ---- one more is accepted
 
 free-views : (n : ℕ) (relay_traces : List Life) (es : List Entry) → AreViews relay_traces es → list_any (has_channel n) relay_traces ≡ false → AreFree n es
 free-views n [] [] a h = tt
@@ -296,7 +296,7 @@ free-views n (l ∷ ls) (e ∷ es) a h =
 free-orphans : (n : ℕ) (es : List Entry) → Each Unnumbered es → AreFree n es
 free-orphans n es u = each-of Unnumbered (λ (e : Entry). has n e.0 ≡ false) (λ e h. ap (λ (o : Option ℕ). has n o) h) es u
 
--- a channel of one that is joined is not opened yet
+-- a channel of one that is accepted is not opened yet
 none-view : (line : ChannelState) → (r : Relay) → r.line ≡ line → ViewOf line [] NoChannel → ViewOf r.line [] NoChannel
 none-view line r e i = subst (λ (l : ChannelState). ViewOf l [] NoChannel) (sym e) i
 

@@ -1,5 +1,5 @@
 -- The calls that the marks of a journal have: of its first marks they are the first, and of the own
--- streams they tell what the marks tell.
+-- streams they record what the marks record.
 use Rattle.std.proofs.Common.{◌≡◌, ℕ, Bool, true, false, List, [], ◌∷◌, ◌++◌, map, Option, Some, None, cond, refl, sym, ap, ◌∙◌, arith, append_assoc, append-nil}
 use Rattle.std.specs.Prelude.{◌==◌, not, ◌≤◌, ◌+◌, if◌then◌else◌, length}
 use Rattle.std.specs.Option.{option_to_list}

@@ -149,7 +149,7 @@ reach-split (one ∷ calls) more a c h =
     let s = reach-split calls more h.0 c h.2 in
     record { middle = s.middle; first = (h.0, h.1, s.first); rest = s.rest }
 
--- calls that are calm leave the run and its house going on
+-- calls that are calm leave the run and its forwarder going on
 pub record Calmed (rows : List Row) (trace new : Trace) : Type 0 where
   pub goes : (recorded : Recorded) → Going rows trace recorded → Going rows new recorded
   pub still : Still rows trace → Still rows new
@@ -394,7 +394,7 @@ module _ (policy : Policy) (pid : ℕ) (picks : List ℕ) (given : List HouseRep
       after-is (House (HouseTook size)) before new (took-step setting rows trace new size recorded apart g follows)
       (after-so setting before (House (HouseTook size)) trace new (bytes-same (House (HouseTook size)) before refl) forwarding_state.greeted said)
 
-  -- ---- the forwarder speaks
+  -- ---- the forwarder sends
 
   said-mark : (before : List Mark) (bytes : List ℕ) (trace new : Trace) (recorded : Recorded) → OneMore before (House (HouseSaid bytes)) trace new → Going (log_of_journal setting before) trace recorded → SentSo trace.forwarding_state.greeted (bytes_of HOUSE before)
       → Inv setting (House (HouseSaid bytes) ∷ before) new
@@ -581,7 +581,7 @@ module _ (policy : Policy) (pid : ℕ) (picks : List ℕ) (given : List HouseRep
       Past p.ended p.kept (λ after. past-still before mark trace new other one ended after.0 (still after.1))
   next heard before mark trace new other one (Here recorded g said) = step heard before mark trace new recorded other one g said
 
-  -- ---- the forwarder is let in
+  -- ---- the forwarder is admitted
 
   first-own : List Row
   first-own = plain_row (Admit HOUSE) HOUSE [] (frame_answer (Greets VERSION) ∷ []) ∷ []
@@ -615,7 +615,7 @@ module _ (policy : Policy) (pid : ℕ) (picks : List ℕ) (given : List HouseRep
     phase = (no-grant, record { channels = refl; asked = refl; forwardings = refl; silent = refl });
   }
 
-  -- the forwarder began with some forwardings, and then it is let in
+  -- the forwarder began with some forwardings, and then it is admitted
   let-in : (starts : Starts) (trace : Trace) → TraceReaches first_trace (Begins starts ∷ []) trace → Inv setting (House HouseIn ∷ []) trace
   let-in starts trace reached =
       let c = calms first-own (Begins starts ∷ []) first_trace trace (tt, tt) (record { relay_traces = tt; past = tt }) reached in
@@ -700,7 +700,7 @@ module _ (policy : Policy) (pid : ℕ) (picks : List ℕ) (given : List HouseRep
   ends-unlost journal trace (Past ended kept still) = kept
   ends-unlost journal trace (Here recorded g said) = in-kept (rows_of HOUSE (log_of_journal setting journal)) g.inside
 
-  -- ---- a forwarder that was not let in has no rows
+  -- ---- a forwarder that was not admitted has no rows
 
   Nobody : List Row → Type 0
   Nobody rows = rows_of HOUSE rows ≡ []

@@ -76,7 +76,7 @@ trace-greets (TakesBytes t bytes ∷ calls) old new e h = trace-greets calls h.0
 abbrev pub NoneOfHouse : List HouseMark → Type 0
 NoneOfHouse asks = (id : ℕ) → list_any (is_deferred HOUSE id) asks ≡ false
 
--- it asks nothing, whoever says it
+-- it asks nothing, whoever sends it
 abbrev Mild : Outgoing → Type 0
 Mild (Body body) = (k : ℕ) (reply : HouseReply) → reading_asks k reply (read_control body) ≡ []
 Mild outgoing = Unit {0}

@@ -231,10 +231,10 @@ pub record ConnectsRight (run : ForwarderRun) : Type 0 where
 
 -- ---- requests
 
--- What the requests to open and close get, and what is said and closed for them.
+-- What the requests to open and close get, and what is sent and closed for them.
 --
 -- - At each moment it is known what happened: it is what the forwarder's marks and the server's
---   replies tell, in order.
+--   replies record, in order.
 -- - A request that is granted at once is for a forwarding that has a listener, or that the server
 --   granted. One that is refused at once has a cause of the rules. A later reply has its cause in
 --   what happened since the request.

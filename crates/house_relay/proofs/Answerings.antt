@@ -51,7 +51,7 @@ one-more (Some version) host port a true acts s =
     last Confirmed = ap (λ n. grant_of (Some n)) (sym s.1)
     last (Refused reason) = ap (λ n. dialog_refusal_of (Some n) reason) (sym s.1)
 
--- what the socket is to take then
+-- what the socket is to be given then
 record Answered (r : Relay) (more : List ℕ) (a : OpenAnswer) (dials : Bool) (acts : List RelayAct) : Type 0 where
   pub whole : took acts ++ (r.queue.waiting ++ more) ≡ replies_if dials (read acts) a ++ delivered acts
   pub size : length (r.queue.waiting ++ more) ≡ length (replies_if dials (read acts) a) - taken acts

@@ -169,7 +169,7 @@ line-more Over dials acts piece same settled other s =
       settled = settled-more dials (read acts) piece same settled;
     }
 
--- what hasn't ended has said no end
+-- what hasn't ended has named no end
 unsaid : (r : Relay) (dials : Bool) (acts : List RelayAct) → r.ended ≡ false → RelayRepresents dials acts r
     → IsTrue (sent_eof acts) → ⊥
 unsaid r dials acts going s said = clash (socket_has_ended acts) (sym s.ends ∙ going) (s.last said).0

@@ -77,7 +77,7 @@ silent-in (Offered remote window maximum) r e = offered r.socket e
 silent-in (Live live) r e = live-silent r live e
 silent-in Over r e = tt
 
--- it has nothing to say
+-- it has nothing to send
 pub silent : (r : Relay) → sends_of r ≡ None → SilentIn r.line r
 silent r e = silent-in r.line r e
 

@@ -8,7 +8,7 @@ use Rattle.socks_dialog.specs.Socks.{socks}
 use Rattle.socks_dialog.specs.declared.outcome.Outcome.{Outcome}
 use Rattle.socks_dialog.specs.declared.outcome.Outcome.TheVariants.{Wants, Connects, Breaks}
 
--- the socket gave bytes, or its end, or took bytes of those that waited for it, or failed; the OPEN
+-- the socket gave bytes, or its end, or accepted some of those that waited, or failed; the OPEN
 -- was confirmed, or refused for a reason; data was delivered in the channel; EOF or CLOSE was
 -- received there; data, room for so many bytes, EOF or CLOSE was sent there; or nothing of this
 pub data RelayAct : Type 0 where
@@ -33,7 +33,7 @@ read [] = []
 read (Reads bytes ∷ acts) = read acts ++ bytes
 read (_ ∷ acts) = read acts
 
--- all data said in the channel
+-- all data sent in the channel
 abbrev pub sent : List RelayAct → List ℕ
 sent [] = []
 sent (SendsData bytes ∷ acts) = sent acts ++ bytes
@@ -155,11 +155,11 @@ behind dials acts = behind_if dials (read acts)
 abbrev pub held : Bool → List RelayAct → List ℕ
 held dials acts = drop (length (sent acts)) (behind dials acts)
 
--- what the socket is to take: the replies, and then what was delivered
+-- what the socket is to be given: the replies, and then what was delivered
 abbrev pub to_take : Bool → List RelayAct → List ℕ
 to_take dials acts = replies dials acts ++ delivered acts
 
--- that of it which the socket didn't take
+-- that of it which the socket didn't accept
 abbrev pub waiting : Bool → List RelayAct → List ℕ
 waiting dials acts = drop (taken acts) (to_take dials acts)
 

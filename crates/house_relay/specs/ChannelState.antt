@@ -88,7 +88,7 @@ ends live = record live { eof_sent = true }
 abbrev pub grants : ℕ → LiveState → LiveState
 grants n live = record live { owed = live.owed - n }
 
--- too much room isn't taken
+-- too much room isn't accepted
 abbrev pub receives_room : ℕ → LiveState → LiveState
 receives_room n live =
     if nat_lt (live.room + n) (2 ^ 32) then record live { room = live.room + n } else live

@@ -26,7 +26,7 @@ fresh_relay number line socket = record {
   queue = empty_queue;
 }
 
--- a channel whose end a dialog is to say, of which nothing was read yet
+-- a channel whose end a dialog is to name, of which nothing was read yet
 abbrev pub fresh_dialing : ChannelState
 fresh_dialing = Dialing new_dialog
 

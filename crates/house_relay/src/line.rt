@@ -50,7 +50,7 @@ pub enum ChannelState {
         window: u32,
         maximum: u32,
     },
-    /// Both sides may speak.
+    /// Both sides may send.
     Live(Live),
     /// It has ended.
     Over,

@@ -34,7 +34,7 @@ pub enum Socket {
     Closed,
 }
 
-/// What a relay says next.
+/// What a relay sends next.
 #[derive(Clone, Copy, PartialEq, Eq)]
 pub enum Outgoing {
     Open,
@@ -58,9 +58,9 @@ pub struct Relay {
     pub socket: Socket,
     /// Whether the socket has given its end.
     pub ended: bool,
-    /// Read from the socket, and not said in the channel.
+    /// Read from the socket, and not sent in the channel.
     pub held: Queue,
-    /// Heard in the channel, and not taken by the socket.
+    /// Received in the channel, and not accepted by the socket.
     pub queue: Queue,
 }
 
@@ -79,7 +79,7 @@ impl Relay {
         }
     }
 
-    /// A socket that was joined, and is to be a channel to this end.
+    /// A socket that was accepted, and is to be a channel to this end.
     pub fn joined(alloc: Global, number: u32, stream: u64, host: Text, port: u32) -> Relay
         ensures stands { RelayRepresents false [] result }
         ensures exact { result
@@ -97,7 +97,7 @@ impl Relay {
         )
     }
 
-    /// A socket that was joined, whose client requests the channel's end in a dialog.
+    /// A socket that was accepted, whose client requests the channel's end in a dialog.
     pub fn dynamic(alloc: Global, number: u32, stream: u64) -> Relay
         ensures stands { RelayRepresents true [] result }
         ensures exact { result
@@ -111,7 +111,7 @@ impl Relay {
         )
     }
 
-    /// A socket that was joined, and for which there is no channel.
+    /// A socket that was accepted, and for which there is no channel.
     pub fn no_channel_left(alloc: Global, number: u32, stream: u64) -> Relay
         ensures stands { RelayRepresents false [] result }
         ensures exact { result ≡ fresh_relay number ChannelState.Over (Socket.NoChannelLeft stream) }

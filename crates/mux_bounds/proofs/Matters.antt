@@ -107,7 +107,7 @@ treat-room policy pid pick before item admitted = absurd (not-admit (treat polic
 
 -- ---- all rows
 
--- a row closes nothing again, and lets in only below the limit
+-- a row closes nothing again, and admits only below the limit
 pub record FewMore (before : List Row) (row : Row) : Type 0 where
   pub stay : StayClosed before row
   pub room : Room before row

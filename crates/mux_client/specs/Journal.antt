@@ -98,7 +98,7 @@ Answers WriteFault asks marks = Unit {0}
 Answers ServerFailed asks marks = Unit {0}
 Answers OutOfMemory asks marks = Unit {0}
 
--- the streams that take no bytes for now: stream 0, or none
+-- the streams that accept no bytes for now: stream 0, or none
 abbrev pub held_streams : Bool → List ℕ
 held_streams true = 0 ∷ []
 held_streams false = []

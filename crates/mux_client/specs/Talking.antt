@@ -30,7 +30,7 @@ pub record AcceptsNone (old new : Seen) : Type 0 where
   pub listeners : new.listeners ≡ old.listeners
   pub own : new.own ≡ old.own
 
--- where stream 0 takes no bytes for now it is one of these, and else none is
+-- where stream 0 accepts no bytes for now it is one of these, and else none is
 abbrev pub IsHeld : List ℕ → Type 0
 IsHeld held = (held ≡ []) ⊎ (held ≡ 0 ∷ [])
 

@@ -21,7 +21,7 @@ use std::marker::Model;
 pub struct Client {
     alloc: Global,
     framer: Framer,
-    /// What the master didn't take yet.
+    /// What the master didn't accept yet.
     queue: Queue,
     stage: TalkStage,
 }

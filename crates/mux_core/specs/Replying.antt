@@ -6,7 +6,7 @@ use Rattle.mux_history.specs.Keys.{learns_port}
 use Rattle.forward_rules.specs.State as kept
 use Rattle.forward_rules.specs.Step.{answered, cancel_answered}
 
--- the server must say which port it chose, and doesn't
+-- the server must name the port that it chose, and doesn't
 abbrev pub misses_port : Global → List ℕ → Bool
 misses_port (Forward key) rest = learns_port key && not (length rest == 4)
 misses_port what rest = false

@@ -40,7 +40,7 @@ pub enum Delivery {
     Broke(Break),
 }
 
-// The server must say which port it chose, and doesn't.
+// The server must name the port that it chose, and doesn't.
 fn misses_port(request: Request<'_>, rest: &[u8]) -> bool
     ensures { result ≡ misses_port (grammar_request_of request.entry) rest.now }
 {

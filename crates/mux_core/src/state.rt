@@ -127,7 +127,7 @@ impl Core {
         })
     }
 
-    /// A client comes: whether it is let in.
+    /// A client comes: whether it is admitted.
     pub fn admit(&mut self, client: u64) -> Result<bool, OutOfMemory>
         ensures stands { IfOk result (λ let_in. AdmitsOn self.old self.new client let_in) }
         ensures policy { self.new.policy ≡ self.old.policy }

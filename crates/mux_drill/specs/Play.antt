@@ -27,7 +27,7 @@ abbrev pub speaks : Said → Bool
 speaks said = not (is_empty said.rest)
 
 -- whether what is outside lets a turn happen: a client comes where it listens and a number is left,
--- an open stream speaks or ends, and the server ends where all was read
+-- an open stream gives bytes or ends, and the server ends where all was read
 abbrev pub may_happen : Turn → Seen → List (List ℕ) → Bool
 may_happen (Accepted c) seen unread =
     seen.listens && (nat_lt 0 c && (c - 1 == seen.last && nat_lt seen.last LAST_CLIENT))

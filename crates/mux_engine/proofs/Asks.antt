@@ -52,7 +52,7 @@ none-asked (HouseTook n ∷ marks) each = absurd each.0
 none-asked (HouseAnswer client id reply ∷ marks) each = absurd each.0
 none-asked (HouseOrder order number ∷ marks) each = absurd each.0
 
--- all of them are asks
+-- all of them are requests
 pub all-asks : (P : ℕ → Type 0) (marks : List HouseMark) → EachAsked P marks → ask_marks_in marks ≡ marks
 all-asks P [] each = refl
 all-asks P (HouseAsked client id opening ask reply ∷ marks) each = ap (λ l. HouseAsked client id opening ask reply ∷ l) (all-asks P marks each.1)
@@ -174,7 +174,7 @@ module _ (P : ℕ → Type 0) where
       let grown : Grows (log s ps rs marks) (log s ps rs (mark ∷ marks)) = grows-all s.core.policy s.pid ps rs (log s ps rs marks) (items_in marks mark) (mark-speaks marks mark p) in
       subst (EachAsked P) (append_cancel_left (asks_of_rows (log s ps rs marks)) grown.more g.asks (sym grown.is ∙ (ap asks_of_rows (sym (log-same s s' ps rs (mark ∷ marks) same_policy same_pid)) ∙ g.asked [] []))) grown.each
 
--- the first of what the rows of a mark ask are asks
+-- the first of what the rows of a mark ask are requests
 pub begins-asked : (P : ℕ → Type 0) (s : State) (ps : List ℕ) (rs : List HouseReply) (mark : Mark) (marks : List Mark) (asks : List HouseMark) → SentBy P mark → BeginsWithAsked (asks_of_rows (log s ps rs marks)) asks (asks_of_rows (log s ps rs (mark ∷ marks))) → EachAsked P asks
 begins-asked P s ps rs mark marks asks p b =
     let grown : Grows P (log s ps rs marks) (log s ps rs (mark ∷ marks)) = grows-all P s.core.policy s.pid ps rs (log s ps rs marks) (items_in marks mark) (mark-speaks P marks mark p) in

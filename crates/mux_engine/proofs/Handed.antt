@@ -1,4 +1,5 @@
--- What a call of wait makes of all that holds while a wire is served, with what was taken in behind it.
+-- What a call of wait makes of all that holds while a wire is served, with the event applied after
+-- it.
 use Rattle.std.proofs.Common.{◌≡◌, ◌≤◌, ◌<◌, ◌+◌, ℕ, Bool, true, false, not, ◌||◌, List, [], ◌∷◌, ◌++◌, length, drop, Option, Some, None, refl, sym, ap, ◌∙◌, subst, inl, inr, ◌⊎◌, cond, arith, append_assoc, MatchResult, OnOk}
 use Rattle.std.specs.Prelude.{◌==◌, filter, IsTrue, Result, Ok, Err}
 use Rattle.std.specs.Option.{option_map}
@@ -130,7 +131,7 @@ drop-all : (xs : List HouseMark) → drop (length xs) xs ≡ []
 drop-all [] = refl
 drop-all (x ∷ xs) = drop-all xs
 
--- asks change nothing else of what is known of a forwarder
+-- requests change nothing else of what is known of a forwarder
 pub after-asks : (asks : List HouseMark) (known : Known) → SameHouse known (known_after asks known)
 after-asks [] known = record { present = refl; ordering = refl; listeners = refl; streams = refl }
 after-asks (HouseAsked client id opening ask reply ∷ asks) known = let r = after-asks asks (record known { asks = _ }) in record { present = r.present; ordering = r.ordering; listeners = r.listeners; streams = r.streams }
@@ -175,7 +176,7 @@ module _ {May : HouseReply → Type 0} {Rest : Resting} {before : Option (List H
     event-there : (e : Event) → IsEventOf e t bytes → EventAt (now-waiting v a.none a.admitted a.live a.offered a.receives a.all_noted a.rests) a.live e (seen-then t bytes) (given + 1)
     event-there e next = event-at v a.none a.admitted a.live a.offered a.receives a.all_noted a.rests t bytes e w.are w.fits w.own_fits next
 
-    -- the engine took in an event
+    -- the engine applied an event
     pub turn-applies : {A E : Type 0} (r : Result A E) (e : Event) → IsEventOf e t bytes → (s' : State) (asks : List HouseMark) (recorded recorded' : Option (List HouseMark)) (known known' : Known) (seen'' : Seen) → now.recorded ≡ recorded → now.asks ≡ known.asks → now.let_in ≡ known.present
         → Applied r May e s s' asks recorded recorded' known known' seen' seen'' → MatchResult r (λ x. Serving May Rest before (noted recorded' known' (now.calls ++ calls_of asks)) policy pid start seen'' held failed (given + 1) (0 ∷ here s') s') (λ x. Promised May Rest before recorded' policy pid start seen''.recorded (given + 1))
     turn-applies r e next s' asks recorded recorded' known known' seen'' same_recorded same_asks same_present h =
@@ -313,7 +314,7 @@ turn-housed (Ok x) May {seen = seen} {seen' = seen'} {own = own} {failed = faile
     (ap (λ (y : Seen). y.listeners) h.seen_is ∙ ap (λ (y : Seen). y.listeners) w.seen_is) (ap (λ (y : Seen). y.own) h.seen_is ∙ ap (λ (y : Seen). y.own) w.seen_is) (ap (λ (y : Seen). y.streams) h.seen_is ∙ ap (λ (y : Seen). y.streams) w.seen_is) (ap (λ (y : Seen). y.last_own) h.seen_is ∙ ap (λ (y : Seen). y.last_own) w.seen_is)
 turn-housed (Err x) May w e next s' asks recorded recorded' known known' seen'' h housed = tt
 
--- all but its asks stays
+-- all but its requests stays
 pub turn-house : {A E : Type 0} (r : Result A E) (May : HouseReply → Type 0) (e : Event) (s s' : State) (asks : List HouseMark) (recorded recorded' : Option (List HouseMark)) (known known' : Known) (seen seen' : Seen) → Applied r May e s s' asks recorded recorded' known known' seen seen' → OnOk r (SameHouse known known')
 turn-house (Ok x) May e s s' asks recorded recorded' known known' seen seen' h = subst (SameHouse known) (sym h.known_is) (after-asks asks known)
 turn-house (Err x) May e s s' asks recorded recorded' known known' seen seen' h = tt
@@ -381,7 +382,7 @@ alone-as known known' same alone = record {
   streams = λ out. same.streams ∙ alone.streams (sym same.present ∙ out);
 }
 
--- of what is recorded, it keeps whether it is there and its asks
+-- of what is recorded, it keeps whether it is there and its requests
 pub record SameAsks (known known' : Known) : Type 0 where
   pub present : known'.present ≡ known.present
   pub asks : known'.asks ≡ known.asks
@@ -468,7 +469,7 @@ turn-own-housed {seen = seen} {seen' = seen'} {own = own} {failed = failed} {que
     subst (λ (k : Known). Housed k seen' own') (sym e) (subst (λ (l : List ℕ). Housed (known_after_own_turn o known) seen' l) (sym f)
     (subst (λ (x : Seen). Housed (known_after_own_turn o known) x (own_received o own)) (sym w.seen_is) (own-housed o known seen own all (want_of s) bytes t h w.own_fits next)))
 
--- where a stream only takes bytes again
+-- where a stream only accepts bytes again
 pub room-housed : {seen seen' : Seen} {own failed : List ℕ} {queue : ℕ → List ℕ} {s : State} {t : Turn} {bytes : List ℕ} → HasWaited seen seen' own failed queue s t bytes → (k : ℕ) → t ≡ turn.Writable k → (known : Known) → Housed known seen own → Housed known seen' own
 room-housed {seen = seen} {own = own} {failed = failed} {queue = queue} {s = s} {bytes = bytes} w k is known h =
     let all : List ℕ = s.waiting ++ filter (waits_for_own queue failed) own in

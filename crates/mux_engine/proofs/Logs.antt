@@ -108,7 +108,7 @@ no-wish : (b c : Bool) → (not (b && false) && c) ≡ c
 no-wish true c = refl
 no-wish false c = refl
 
--- it wishes nothing
+-- it requests nothing
 pub lost-listens : (policy : Policy) (pid : ℕ) (picks : List ℕ) (replies : List HouseReply) (k : ℕ) (marks : List Mark) → k ≢ 0 → is_own_stream k ≡ false → (let set : Setting = by_lists policy pid picks replies in listens (log_of_journal set (WriteFails k ∷ marks)) ≡ listens (log_of_journal set marks))
 lost-listens policy pid picks replies k marks nz client = ap listens (lost-log policy pid picks replies k marks nz client) ∙ by_made (makes_next rows (Gone k))
   where

@@ -93,7 +93,7 @@ rows-go-on {policy = policy} {pid = pid} {s = s} v live picks later =
     let rs : List HouseReply = v.replies ++ later in
     sym (some-end (log_of_journal (by_lists policy pid ps rs) v.journal)) ∙ ap is_some (ap run_end_of (sym (log-is s policy pid ps rs v.journal v.policy_is v.pid_is)) ∙ (sym (v.stands.at picks later).rows.ended_is ∙ live))
 
--- where the wire accepts clients only as the engine does, they may be let in then
+-- where the wire accepts clients only as the engine does, they may be accepted then
 pub may-let-in : {May : HouseReply → Type 0} {Rest : Resting} {before : Option (List HouseMark)} {now : Side} {policy : Policy} {pid : ℕ} {start : Option (List Mark)} {seen : Seen} {held failed : List ℕ} {given : ℕ} {todo : List ℕ} {s : State} (v : Serving May Rest before now policy pid start seen held failed given todo s)
     → AcceptsAs seen s → seen.listens ≡ true → (picks : List ℕ) (later : List HouseReply) → MayLetIn (log_of_journal (by_lists policy pid (v.picked ++ picks) (v.replies ++ later)) v.journal)
 may-let-in {policy = policy} {pid = pid} {s = s} v accepts l picks later = record {
@@ -214,7 +214,7 @@ receives-before {s = s} {marks = marks} {closed = closed} st s' mark p r picked'
     let new = st'.at [] [] in
     old.rows.listening_is ∙ log-listens (by_lists s.core.policy s.pid (picked' ++ []) (replies' ++ [])) mark marks (ap Rattle.mux_history.specs.Promises.listens (sym (log-same s s' (picked' ++ []) (replies' ++ []) (mark ∷ marks) g h)) ∙ (sym new.rows.listening_is ∙ l))
 
--- a client that is lost wishes nothing
+-- a client that is lost requests nothing
 pub listening-lost : {picked : List ℕ} {replies : List HouseReply} {s : State} {marks : List Mark} {closed : List ℕ} (st : Stands picked replies s marks closed) (s' : State) (k : ℕ) (p : List ℕ) (r : List HouseReply)
     → s'.core.policy ≡ s.core.policy → s'.pid ≡ s.pid → Stands (picked ++ p) (replies ++ r) s' (WriteFails k ∷ marks) closed → k ≢ 0 → is_own_stream k ≡ false → s'.listening ≡ s.listening
 listening-lost {picked} {replies} {s} {marks} st s' k p r g h st' nz client =

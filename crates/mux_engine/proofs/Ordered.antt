@@ -290,7 +290,7 @@ order-lost {seen = seen} {given = given} v inside live order n recorded' marks' 
     cut-here (order-done v inside live order (Some n) recorded' made own noted recorded) recorded' marks' (given + 1) []
     (e ∙ ap (λ (t : Option (List Mark)). option_map (λ (m : List Mark). m ++ House (HouseOrder order (Some n)) ∷ []) t) (sym (carried-recorded order (Some n) seen))) (records-none recorded') refl (omega arith)
 
--- its asks and whether it is there stay
+-- its requests and whether it is there stay
 pub record SameSide (old new : Known) : Type 0 where
   pub asks : new.asks ≡ old.asks
   pub present : new.present ≡ old.present

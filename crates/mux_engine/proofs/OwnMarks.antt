@@ -56,7 +56,7 @@ module _ {May : HouseReply → Type 0} {Rest : Resting} {before : Option (List H
       by_failed false e = refl
       by_failed true e = true-false (sym (v.failed_are k is found e) ∙ sound)
 
-  -- it took bytes
+  -- it accepted bytes
   pub own-takes : (n : ℕ) (bytes : List ℕ) (seen' : Seen) → is_finished k seen.own ≡ false → among k failed ≡ false → now.unnoted ≡ [] → AreBytes bytes → 0 < length bytes → WroteFits (wrote.Took n) (length bytes) → AcceptsAs seen s → seen' ≡ seen_after_write (wrote.Took n) k bytes seen → Serving May Rest before (calling now (call.Takes k (take n bytes) ∷ [])) policy pid start seen' held failed given todo s
   own-takes n bytes seen' unfinished unfailed none are some fits accepts e =
       let mark : Mark = Takes k (take n bytes) seen.listens in

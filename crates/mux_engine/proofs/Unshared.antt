@@ -103,7 +103,7 @@ module _ (policy : Policy) (pid : ℕ) (picks : List ℕ) (given : List HouseRep
           (of-mark setting k client before (sym (adds-up setting before takes.1 k client)) mark takes.0)
           (subst (λ r. IsFront (given_to k (log_of_journal setting before)) (given_to k r)) (sym e) (gives-more setting k (log_of_journal setting before) (take n (items_in before mark))))
 
-      -- asks take nothing
+      -- requests accept nothing
       house-mark : (m : HouseMark) (before : List Mark) → (IsCut setting before rows → IsFront (taken_by k before) (given_to k rows)) → Throughout (TakesFront setting) (House m ∷ before) → (b : Bool) → MatchBool b (IsCut setting before rows) ((n : ℕ) × (rows ≡ more_all setting (log_of_journal setting before) (take n (house_items before m)))) → IsFront (taken_by k (House m ∷ before)) (given_to k rows)
       house-mark m before earlier takes true cut = subst (λ (l : List ℕ). IsFront l (given_to k rows)) (sym (append-nil (taken_by k before))) (earlier cut)
       house-mark m before earlier takes false (n, e) = one (House m) before takes n e

@@ -64,7 +64,7 @@ worked-none w f = record { keeps = keeps-none w f; calls = well-none w.calls }
 pub worked-own-none : (w : WireState) (f : Faults) → WorkedOwn w w f f
 worked-own-none w f = record { works = worked-none w f; no_fault = no-fault-none f }
 
--- ---- what holds whatever came of a call
+-- ---- what holds whatever the outcome of a call
 
 pub works-any : {A E : Type 0} {n : ℕ} {old new : WireState} {f f' : Faults} (r : Result A E) → Worked n old new f f' → Works n r old new f f'
 works-any {n = n} {old} {new} r w = record { keeps = w.keeps; calls = counts-well n r old.calls new.calls w.calls }

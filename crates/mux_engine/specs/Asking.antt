@@ -33,7 +33,7 @@ pub record Unheeded (May : HouseReply → Type 0) (e : Event) (s : State)
   pub cut : (mark : Mark) → MarkRecords e mark → CutsShort May recorded recorded' s mark
   pub seen_is : seen' ≡ seen
 
--- all asks were noted; or there was no memory for the event, or to note all of them
+-- all requests were noted; or there was no memory for the event, or to note all of them
 abbrev pub Applied : {A E : Type 0} → Result A E → (HouseReply → Type 0) → Event → State → State
     → List HouseMark → Option (List HouseMark) → Option (List HouseMark) → Known → Known → Seen
     → Seen → Type 0

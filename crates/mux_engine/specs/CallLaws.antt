@@ -38,8 +38,8 @@ abbrev pub IsRecordedAll : Type 0
 IsRecordedAll = (setting : Setting) (journal : List Mark) (t : ℕ) → is_own_stream t ≡ true
     → bytes_took t (calls_in setting journal) ≡ taken_by t journal
 
--- a worked journal: a stream that was joined and gives "hello", and one that the forwarder ordered,
--- which is connected and fails
+-- a worked journal: a stream that was accepted and gives "hello", and one that the forwarder
+-- ordered, which is connected and fails
 abbrev pub OwnStreamsAreCalled : Type 0
 OwnStreamsAreCalled = (setting : Setting) → calls_in setting (reverse own_streams)
     ≡ Turns (Joined 9223372036854775808 9223372036854775809)

@@ -11,7 +11,7 @@ use crate::room::Lists;
 use mux_outside::{FileError, House, HouseMark, Order, Wire};
 use ssh_fields::{OutOfMemory, Text};
 
-// The number that was made. Want of memory is no refusal.
+// The number that was made. Running out of memory is no refusal.
 fn made_by(made: Result<u64, FileError>) -> Result<Option<u64>, OutOfMemory>
     ensures { IsMade made result }
 {

@@ -149,7 +149,7 @@ pub fn stop_accepting<W: Wire, H: House>(engine: &Engine, wire: &mut W)
 
 // Offers each stream what waits for it: the server's last, since a client that is lost leaves its
 // farewell to it. The forwarder was handed what waits for it before. Where clients are accepted no
-// more, none is once a client can read the answer to its wish.
+// more, none is once a client can read the answer to its request.
 pub fn flush<W: Wire, H: House>(
     engine: &mut Engine,
     wire: &mut W,

@@ -141,7 +141,7 @@ body_stops body = elim (read_control body) [ Err fault ↦ false | Ok c ↦ is_s
 
 -- ---- what the forwarder replies later
 
--- an item after which the client speaks to the server
+-- an item after which the client is in proxy mode
 abbrev pub proxies_by : Outgoing → Bool
 proxies_by (Body body) = body_proxies body
 proxies_by (Payload p) = true

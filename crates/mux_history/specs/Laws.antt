@@ -31,7 +31,7 @@ OthersStay =
     (k : ℕ) (row : Row) (before : List Row) → (row.client == k) ≡ false
     → rows_of k (row ∷ before) ≡ rows_of k before
 
--- a client's channels, forwardings and asks are those of all that are its own
+-- a client's channels, forwardings and requests are those of all that are its own
 pub record IsLocal (k : ℕ) (rows : List Row) : Type 0 where
   pub channels : channels_of (rows_of k rows) ≡ filter (λ x. x.client == k) (channels_of rows)
   pub forwardings : forwardings_of (rows_of k rows)

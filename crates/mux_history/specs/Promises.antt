@@ -111,7 +111,7 @@ WaitsAt setting before (Waits waiting want streams shown) =
     WaitsRight setting before waiting want streams
 WaitsAt setting before _ = Unit {0}
 
--- the forwarder speaks only while fewer than 4,194,304 bytes wait for the server, and when it was
+-- the forwarder sends only while fewer than 4,194,304 bytes wait for the server, and when it was
 -- handed all that it is sent as a client
 pub record SpeaksRight (setting : Setting) (before : List Mark) : Type 0 where
   pub room : length (pending 0 (log_of_journal setting before)) < READING_STOPS_AT
@@ -210,7 +210,8 @@ abbrev pub is_asked : HouseMark → Bool
 is_asked (HouseAsked client id opening ask given) = true
 is_asked mark = false
 
--- the log without some of the newest items of the last mark, where asks count to the mark before
+-- the log without some of the newest items of the last mark, where requests count to the mark
+-- before
 abbrev pub IsCut : Setting → List Mark → List Row → Type 0
 IsCut setting [] rows = rows ≡ []
 IsCut setting (House mark ∷ before) rows = let earlier = IsCut setting before rows in

@@ -61,7 +61,7 @@ MattersGoOn = OverRight (λ setting rows. ForEach MattersStep rows)
 abbrev pub unreplied : List Row → List Ask
 unreplied rows = drop (length (replies rows)) (asks rows)
 
--- after a row: a request that is sent joins at the end, a reply takes the first
+-- after a row: a request that is sent comes last, a reply takes the first
 abbrev pub next_unreplied : Row → List Ask → List Ask
 next_unreplied row before =
     drop (length (reply_in row.item)) (before ++ asks_of row.client (is_sent row) (wanted_by row))

@@ -86,7 +86,7 @@ alive_check = hello ++ hex (codes "00000008 10000004 00000007")
 abbrev pub two_alive_checks : List Mark
 two_alive_checks = Accepts 1 ∷ Accepts 2 ∷ bytewise 1 2 alive_check ++ Ends 0 ∷ []
 
--- one client speaks version 3
+-- one client sends version 3
 abbrev pub another_version : List Mark
 another_version =
     Accepts 1 ∷ Accepts 2 ∷ Gets 1 (hex (codes "00000008 00000001 00000003"))

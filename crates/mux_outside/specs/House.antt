@@ -36,7 +36,7 @@ pub record Known : Type 0 where
   pub asks : List OpenAsk
   pub ordering : Option Order
 
--- whether it has nothing to say, nothing to order and nothing to answer
+-- whether it has nothing to send, nothing to order and nothing to answer
 pub record Quiet : Type 0 where
   pub says : Bool
   pub orders : Bool
@@ -150,12 +150,12 @@ known_after_ask reply client id opening known =
 abbrev pub is_ask : ℕ → ℕ → OpenAsk → Bool
 is_ask client id ask = (ask.client == client) && (ask.id == id)
 
--- whether one of the open asks is an opening one or a closing one with this client and id
+-- whether one of the open requests is an opening one or a closing one with this client and id
 abbrev pub has_ask : ℕ → ℕ → Bool → List OpenAsk → Bool
 has_ask client id true asks = list_any (λ a. is_ask client id a && a.opening) asks
 has_ask client id false asks = list_any (λ a. is_ask client id a && not a.opening) asks
 
--- the open asks without the first that has this client and id
+-- the open requests without the first that has this client and id
 abbrev pub without_ask : ℕ → ℕ → List OpenAsk → List OpenAsk
 without_ask client id [] = []
 without_ask client id (ask ∷ asks) =

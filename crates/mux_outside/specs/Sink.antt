@@ -1,4 +1,4 @@
--- What a sink has taken of the bytes that it was given.
+-- What a sink has accepted of the bytes that it was given.
 use Rattle.std.specs.Prelude.{◌≡◌, ℕ, List, ◌++◌, Result, Ok, Err, Option, Some, None}
 use Rattle.mux_outside.specs.declared.file_error.FileError.{FileError}
 use Rattle.mux_outside.specs.declared.file_error.FileError.TheVariants.{Failed, OutOfMemory}
@@ -24,7 +24,7 @@ TakesRecorded answer None (Some now) bytes = ⊥
 TakesRecorded answer (Some before) None bytes = ⊥
 TakesRecorded answer (Some before) (Some now) bytes = Takes answer before now bytes
 
--- a sink in memory takes all bytes or none
+-- a sink in memory accepts all bytes or none
 abbrev pub TakesOrNothing : Result (Unit {0}) FileError → List ℕ → List ℕ → List ℕ → Type 0
 TakesOrNothing (Ok x) before now bytes = now ≡ before ++ bytes
 TakesOrNothing (Err e) before now bytes = now ≡ before

@@ -16,7 +16,7 @@ use crate::starts::Starts;
 use crate::streams::Streams;
 use ssh_fields::OutOfMemory;
 
-/// What a client asks of the master's own forwardings (PROTOCOL.mux, MUX_C_OPEN_FWD and
+/// What a client requests of the master's own forwardings (PROTOCOL.mux, MUX_C_OPEN_FWD and
 /// MUX_C_CLOSE_FWD).
 #[derive(Clone, Copy)]
 pub struct FwdAsk<'a> {
@@ -76,7 +76,7 @@ pub trait House: Asks {
     ghost begun: { Self → Type 0 };
 
     /// Whether there is a forwarder at all. Where there is none, it is only asked. The first piece
-    /// that one says is the greeting.
+    /// that one sends is the greeting.
     fn present(&self) -> bool
         ensures present { result ≡ (Self.state self.now).known.present }
         ensures fresh { fresh self.now → IsFresh (Self.state self.now) }

@@ -41,7 +41,7 @@ use Rattle.mux_peers.proofs.Saids.{after-served}
 use Rattle.mux_peers.proofs.Steps.{served-of}
 use Rattle.mux_peers.proofs.Stood.{own_row, not_lost, or_true, out_is}
 
--- ---- a client speaks to the server exactly where it stands so
+-- ---- a client is in proxy mode exactly where it stands so
 
 mode-proxies : (c : Control) → is_proxied (standing_in (after_control c)) ≡ is_proxy c
 mode-proxies (Proxy id) = refl

@@ -31,7 +31,7 @@ is_read Proxied = true
 is_read Unread = false
 is_read (Lost why) = false
 
--- the client speaks to the server
+-- the client is in proxy mode
 abbrev pub is_proxied : Standing → Bool
 is_proxied Proxied = true
 is_proxied _ = false

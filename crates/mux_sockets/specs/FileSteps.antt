@@ -2,7 +2,7 @@
 use Rattle.std.specs.Prelude.{◌≡◌, ◌≢◌, ℕ, List, [], ◌∷◌, Option, Some, None, option_map, bit_and, ◌⊎◌}
 use Rattle.mux_sockets.specs.declared.socket_files.SocketFile.{SocketFile}
 
--- a call on the file system, with what came of it
+-- a call on the file system, with its outcome
 pub data FileStep : Type 0 where
   -- what stands at a path was looked up
   Found : List ℕ → Option SocketFile → FileStep

@@ -118,8 +118,8 @@ fn private_socket<F: SocketFiles>(files: &mut F, path: &str) -> io::Result<F::So
     Ok(socket)
 }
 
-// Has a socket of this name listen: the file that it is. Its mode is what it was given, whatever
-// the umask.
+// Has a socket of this name listen: the file that it is. It fails where the umask took from its
+// mode.
 fn listen_at<F: SocketFiles>(
     files: &mut F,
     name: &str,

@@ -110,7 +110,7 @@ impl<R: Files + Net + Drop> SocketFiles for SystemFiles<R> {
     }
 }
 
-// What the system tells of a file.
+// What the system reports of a file.
 fn file_of(found: fs::Metadata) -> SocketFile {
     SocketFile {
         dev: found.dev(),

@@ -12,7 +12,7 @@ use Rattle.mux_peers.proofs.Heeding.{records_none}
 use Rattle.mux_state.specs.State.{State}
 use Rattle.mux_state.specs.Stands.{GoesAlone, GoesOn, Stands, log, setting}
 
--- ---- more rows only add asks
+-- ---- more rows only add requests
 
 pub record AsksMore (before now : List Row) : Type 0 where
   pub more : List Asked
@@ -41,7 +41,7 @@ none-more xs (a ∷ more) e = absurd (omega (arith, e, length-append xs (a ∷ m
 
 -- ---- an event
 
--- as many asks, so the same
+-- as many requests, so the same
 same-asks : (s new : State) (mark : Mark) (picked : List ℕ) (given : List HouseReply) (marks : List Mark) (closed : List ℕ) (old : Stands picked given s marks closed) (now : Stands picked given new (mark ∷ marks) closed) → new.pid ≡ s.pid → new.core.policy ≡ s.core.policy
     → (picks : List ℕ) (replies : List HouseReply) → asks_of_rows (log new (picked ++ picks) (given ++ replies) (mark ∷ marks)) ≡ asks_of_rows (log s (picked ++ picks) (given ++ replies) marks)
 same-asks s new mark picked given marks closed old now pid pol picks replies =

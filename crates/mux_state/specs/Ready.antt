@@ -1,4 +1,4 @@
--- What an engine keeps so that every event can be taken in.
+-- What an engine keeps so that every event can be applied.
 use Rattle.std.specs.Prelude.{◌≡◌, ℕ, true, false, List, Option, None, map}
 use Rattle.ssh_grammar.specs.declared.framing.Framing.TheVariants.{Proxy}
 use Rattle.mux_outside.specs.Streams.{among}

@@ -32,7 +32,7 @@ pub record HouseIsClient : Type 0 where
       → AreTwins (Takes HOUSE bytes accepts ∷ marks) (House (HouseTook n) ∷ marks)
 
 -- what it was asked and what it ordered leave all as it was, and so do its listeners, and its streams
--- where they end, fail or take bytes
+-- where they end, fail or accept bytes
 pub record OwnIsSilent : Type 0 where
   pub asked : (marks : List Mark) (client id : ℕ) (opening : Bool) (ask : StartAsk)
       (reply : HouseReply) → AreTwins marks (House (HouseAsked client id opening ask reply) ∷ marks)

@@ -1,4 +1,4 @@
--- What a master leaves of its wire and its house, from what was opened and served.
+-- What a master leaves of its wire and its forwarder, from what was opened and served.
 use Rattle.std.proofs.Common.{◌≡◌, inr, ℕ, Bool, true, false, List, [], ◌++◌, Option, Some, None, Result, Ok, Err, refl, sym, ap, subst, ◌∙◌}
 use Rattle.std.proofs.lemmas.List.{append-nil}
 use Rattle.std.specs.Prelude.{IsTrue, option_map}

@@ -237,7 +237,7 @@ only-memory endings.StartRefused h = absurd cc
 only-memory endings.MasterRefused h = absurd cc
 only-memory endings.MasterBroke h = absurd cc
 
--- a house begins somehow, as is due
+-- a forwarder begins somehow, as is due
 pub some-begun : (here : ListenPermit) (by : Option Recorded) (So : Starts → Type 0) → ((starts : Starts) → So starts) → Begun here by So
 some-begun here None So h = let none : Starts = record { asks = []; gateway = false; must = false; here = here } in record { starts = none; permitted = refl; due = tt; so = h none }
 some-begun here (Some recorded) So h = record { starts = starts_due here (all_rows recorded); permitted = refl; due = refl; so = h (starts_due here (all_rows recorded)) }

@@ -1,4 +1,4 @@
--- Which endings and statuses may come of words.
+-- Which endings and statuses words may have.
 use Rattle.std.specs.Prelude.{◌≡◌, ◌⊎◌, ◌&&◌, ◌||◌, Bool, true, false, IsTrue, Result, Ok, Err}
 use Rattle.std.specs.Bool.{OnFalse}
 use Rattle.conf_rules.specs.declared.causes.Cause.TheVariants.{ReadFault, RunFault}
@@ -59,8 +59,8 @@ abbrev pub IsAskDue : Result Asks ResolveError → Ending → Type 0
 IsAskDue (Ok what) ending = IsTrue (ends_client ending)
 IsAskDue (Err e) ending = ending ≡ BadLine e
 
--- The ending is that of the outcome. Want of memory is free, and a fault has its count; where the
--- outcome isn't known, it is some ending of such a command.
+-- The ending is that of the outcome. Running out of memory is free, and a fault has its count;
+-- where the outcome isn't known, it is some ending of such a command.
 abbrev pub IsDue : Known → Ending → Type 0
 IsDue known NoMemory = Unit
 IsDue known (BadLine (At file line ReadFault)) = IsTrue (looks known)

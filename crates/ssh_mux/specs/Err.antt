@@ -1,4 +1,4 @@
--- What the standard error has taken.
+-- What the standard error has accepted.
 use Rattle.std.specs.Prelude.{◌≡◌, ℕ, Bool, true, false, IsTrue, List, ◌⊎◌, Option, Result, Ok, Err}
 use Rattle.conf_rules.specs.Diagnostics.{Ending, BadWords, BadLine, BadListing, ServerBroke, NoMemory, line_of}
 use Rattle.conf_rules.specs.Recorded.{Recorded}

@@ -1,4 +1,4 @@
--- What the standard output has taken.
+-- What the standard output has accepted.
 use Rattle.std.specs.Prelude.{◌≡◌, ℕ, List, Option, Result, Ok, Err}
 use Rattle.std.specs.Bool.{OnFalse}
 use Rattle.conf_rules.specs.CommandOutcome.{Writes, Drills, Joins}

@@ -33,7 +33,7 @@ module _ (words : List Bytes) (facts : Facts) (before : World) where
   abbrev pub machine_before : Option Machine
   machine_before = machine before.files.recorded before.commands.recorded facts
 
-  -- what is known to come of the words: where the machine is recorded all, and else what they ask
+  -- what is known of the words' outcome: where the machine is recorded all, and else what they ask
   -- for
   abbrev pub known : Known
   known = of_words machine_before words

@@ -127,11 +127,11 @@ pub record IsUnserved (before now : Option (List HouseMark)) (start : Option (Li
   pub same_wire : seen.recorded ≡ start
   pub same_house : now ≡ before
 
--- a run that keeps its promises, and its very end; `Rest` is whether a house is present, and what
--- is so of it right before a wait; `stands` are the calls that it represents before the run, and
--- `last` is what it is after the run; `before` and `now` are what it recorded, `start` what the wire
--- did, and `seen` what is seen of it in the end; `refused` is the forwarding of the start that was
--- refused, if none may be
+-- a run that keeps its promises, and its very end; `Rest` is whether a forwarder is present, and
+-- what is so of it right before a wait; `stands` are the calls that it represents before the run,
+-- and `last` is what it is after the run; `before` and `now` are what it recorded, `start` what the
+-- wire did, and `seen` what is seen of it in the end; `refused` is the forwarding of the start that
+-- was refused, if none may be
 pub record IsShared (May : HouseReply → Type 0) (Rest : Resting)
     (stands : List HouseCall → Type 0) (last : HouseState) (policy : Policy) (pid turns : ℕ)
     (before now : Option (List HouseMark)) (start : Option (List Mark)) (seen : Seen)
@@ -164,8 +164,8 @@ SharesWith May Rest stands policy pid turns house house' wire wire' result =
     Shares May Rest stands house' policy pid turns house.recorded house'.recorded wire.seen.recorded
     wire'.seen (refusal_after house house') result
 
--- the same of what comes of words: only a master serves, with a house that begins as is due by what
--- is told of files and commands, and that may listen where its permissions say
+-- the same of the words' outcome: only a master serves, with a forwarder that begins as is due by
+-- what is recorded of files and commands, and that may listen where its permissions say
 abbrev pub SharesFor : {T : Type 0} → (HouseReply → Type 0) → (T → HouseState) → Known
     → Option Recorded → ℕ → ℕ → Sockets → Sockets → Result Status MeantEnding → Type 0
 SharesFor May state known by pid turns old new result =
@@ -217,8 +217,8 @@ ServesWith May Rest stands policy pid turns before after status =
     before.wire.seen.recorded after.wire.seen (refusal_after before.house after.house) status
     before.err.recorded after.err.recorded before.err.faults after.err.faults
 
--- the same of what comes of words: only a master serves, with a house that begins as is due by what
--- is told of files and commands, and that may listen where its permissions say
+-- the same of the words' outcome: only a master serves, with a forwarder that begins as is due by
+-- what is recorded of files and commands, and that may listen where its permissions say
 abbrev pub ServesFor : {T : Type 0} → (HouseReply → Type 0) → (T → HouseState) → Known
     → Option Recorded → ℕ → ℕ → World → World → Status → Type 0
 ServesFor May state known by pid turns before after status =
@@ -301,7 +301,7 @@ pub record CountsFor (housed : Bool) (turns : ℕ) (status : Status) (old new : 
   pub waited : OnFalse housed (WaitsFor turns status old.calls new.calls)
   pub idle : turns ≡ 0 → OnFalse housed (IdleCause status faults faults')
 
--- what a master of which this is known leaves of its wire and its house
+-- what a master of which this is known leaves of its wire and its forwarder
 pub record MasterLeaves {T : Type 0} (May : HouseReply → Type 0) (state : T → HouseState)
     (known : Known) (by : Option Recorded) (pid turns : ℕ) (result : Result Status MeantEnding)
     (old new : Sockets) : Type 0 where

@@ -18,7 +18,7 @@ use ssh_grammar::{Breach, Side};
 enum State {
     /// One side has opened it, with its own window and maximum; the other hasn't answered.
     Opened { by: Side, window: u32, maximum: u32 },
-    /// Both sides may speak.
+    /// Both sides may send.
     Confirmed { up: Account, down: Account },
 }
 
@@ -234,7 +234,7 @@ impl Ledger {
         }
     }
 
-    /// How many bytes of data the receiver of a direction takes for now. Before the CONFIRMATION
+    /// How many bytes of data the receiver of a direction accepts for now. Before the CONFIRMATION
     /// that is the opener's window towards the opener, and nothing the other way.
     pub fn room(&self, way: Side) -> u32
         ensures exact { (x : Channel) → Stands self.now x → result ≡ room way x }

@@ -43,8 +43,8 @@ impl ForwarderState {
         }
     }
 
-    /// For how many marks room is needed at most, where so many forwardings, relays and asks may
-    /// come.
+    /// For how many marks room is needed at most, where so many forwardings, relays and requests
+    /// may come.
     pub fn most_due(&self, forwardings: usize, relays: usize, asks: usize) -> Option<usize>
         ensures { IfSome result (λ n. n ≡ most_due_in self.now forwardings relays asks) }
     {

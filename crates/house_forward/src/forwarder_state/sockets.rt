@@ -50,7 +50,7 @@ impl ForwarderState {
         }
     }
 
-    // A socket was joined at a listener.
+    // A socket was accepted at a listener.
     #[tactic(auto, using(crate::proofs::Changes::streams_more))]
     fn joined(&mut self, listener: u64, stream: u64) -> Result<(), OutOfMemory>
         requires ordering { self.old.ordering ≡ None }
@@ -73,7 +73,7 @@ impl ForwarderState {
         Ok(())
     }
 
-    // The relay of a socket that was joined at a listener.
+    // The relay of a socket that was accepted at a listener.
     fn relay_of(&self, listener: u64, number: u32, stream: u64) -> Result<Relay, OutOfMemory>
         ensures joined { IfOk result (λ r. IsRelayJoined (is_full self.now.relays.all.items)
             (has_full_dialogs self.now.relays.all.items)
@@ -122,7 +122,7 @@ impl ForwarderState {
     }
 }
 
-// The relay of a socket that was joined at the listener of a forwarding, where the forwarder has
+// The relay of a socket that was accepted at the listener of a forwarding, where the forwarder has
 // all dialogs that it may have or not.
 fn joined_at(
     alloc: Global,
@@ -145,7 +145,8 @@ fn joined_at(
     }
 }
 
-// The relay of a socket whose dialog is to say the end, where there is room for one more or not.
+// The relay of a socket whose dialog is still to name the end, where there is room for one more or
+// not.
 fn dialed(alloc: Global, dialogs_full: bool, number: u32, stream: u64) -> Relay
     ensures dialed { IsDialed dialogs_full stream result }
     ensures number { result.number ≡ number }

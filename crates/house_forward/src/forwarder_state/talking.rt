@@ -20,7 +20,7 @@ use ssh_fields::{Cursor, OutOfMemory};
 use ssh_grammar::numbers::S_PROXY;
 
 impl ForwarderState {
-    /// Puts the next thing that it has to say into the piece.
+    /// Puts the next thing that it has to send into the piece.
     pub fn send(&mut self, into: &mut Piece) -> Result<bool, OutOfMemory>
         requires { self.old.ordering ≡ None }
         ensures fits { SendsFits result into.new }

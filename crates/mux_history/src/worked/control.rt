@@ -19,7 +19,7 @@ pub fn each_client_is_answered_its_own_alive_check()
     ensures end { run_end_of (run two_alive_checks) ≡ Some ended.ServerEnd }
 {}
 
-/// A client that speaks version 3 is dropped, and another goes on.
+/// A client that sends version 3 is dropped, and another goes on.
 pub fn another_version_is_dropped()
     ensures loss { losses (run another_version) ≡ (1, Some (why.Version 3)) ∷ [] }
     ensures down { recorded 1 (run another_version) ≡ hello }

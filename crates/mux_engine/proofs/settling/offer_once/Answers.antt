@@ -181,7 +181,7 @@ returns-in_ok-event-in-Failed-clause-silence g c = λ nz.
     accepts-then (g.W.Wire.state c.args.wire.now).seen (g.W.Wire.state c.write.new.self).seen c.args.engine.now c.event.new.self c.requires.silence (places-write wrote.Failed k c.queue_of-bytes.result.now _ _ (seen-is c.in-Failed.ensures.state)).silence (f.client nz)
     (listening-lost v.stands c.event.new.self k on.picks on.replies f.policy f.pid on.stands nz client)
 
--- ---- the engine, and what it can take more
+-- ---- the engine, and what it can still apply
 
 pub returns-then-is_empty-clause-engine : goal.returns-then-is_empty-clause-engine
 returns-then-is_empty-clause-engine g c = offered-none _ _ _
