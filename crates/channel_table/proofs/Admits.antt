@@ -9,7 +9,7 @@ use Rattle.indexmap.specs.IndexMap.{IndexMap, get}
 use Rattle.mux_history.specs.declared.limits.TheConstants.{MAX_CHANNELS, NUMBERS_END}
 use Rattle.channel_table.specs.declared.channel.Refused.TheVariants.{Full}
 use Rattle.channel_table.specs.Entries.{TableEntry, changed_at, channel_count_of, entry_at, freed, full_refusal, has_remote, holder_of, number_of_own, own_entry, remote_entry, unless, with_ledger, entry_with_own, with_remote}
-use Rattle.channel_table.specs.Indices.{Agrees, AreInOrder, is_index_key, listed, channel_numbers_of, owner_at, owner_in, pair_eq, paired, remote_at, remote_in}
+use Rattle.channel_table.specs.Indices.{ChannelNumbers, Agrees, AreInOrder, is_index_key, listed, channel_numbers_of, owner_at, owner_in, pair_eq, paired, remote_at, remote_in}
 use Rattle.channel_table.proofs.Inverse.{IsInverse-drop, IsInverse-move, IsInverse-put, IsInverse-same}
 use Rattle.channel_table.proofs.Steps.{AreDistinct-append, AreDistinct-changed, AreDistinct-without, Keeps, numbers-append, numbers-changed, numbers-others, numbers-without}
 use Rattle.channel_table.proofs.Counts.{few-append, few-changed, few-freed}
@@ -47,7 +47,7 @@ Keeps-with_remote s = record { number = λ _. refl; client = λ _. refl }
 pub Keeps-with_ledger : (ledger : Ledger) → Keeps (with_ledger ledger)
 Keeps-with_ledger ledger = record { number = λ _. refl; client = λ _. refl }
 
-module _ {S T U : Type 0} (own own' : IndexMap (ℕ × ℕ) ℕ S) (remote remote' : IndexMap ℕ ℕ T) (clients clients' : IndexMap ℕ (List ℕ) U) where
+module _ {S T U : Type 0} (own own' : IndexMap (ℕ × ℕ) ℕ S) (remote remote' : IndexMap ℕ ℕ T) (clients clients' : IndexMap ℕ ChannelNumbers U) where
   -- ---- admissions
 
   orders-append : (xs : List TableEntry) (x : TableEntry) → AreInOrder clients xs → ((k : ℕ) → listed (get nat_eq clients' k) ≡ (if nat_eq x.channel.client k then listed (get nat_eq clients k) ++ x.number ∷ [] else listed (get nat_eq clients k))) → AreInOrder clients' (xs ++ x ∷ [])
