@@ -3,7 +3,7 @@ use Rattle.std.specs.Prelude.{◌≡◌, ◌==◌, ℕ, if◌then◌else◌, Lis
 use Rattle.std.specs.List.{All}
 use Rattle.mux_outside.specs.HouseCalls.{HouseCall, Happening, Begins, Marks, Receives, Turns, Takes}
 use Rattle.mux_outside.specs.HouseCalls.{Joined, Got, End, Writable, Failed}
-use Rattle.house_relay.specs.Acts.{RelayAct, read, took}
+use Rattle.house_relay.specs.Acts.{RelayAct, read, socket_accepted}
 use Rattle.house_forward.specs.RelayTraces.{Trace, TraceReaches, first_trace}
 use Rattle.house_forward.specs.Numbers.{made_by}
 
@@ -46,7 +46,7 @@ pub record IsOfStream (calls : List HouseCall) (t : ℕ) (acts : List RelayAct) 
   pub are : calls ≡ before ++ birth ∷ since
   pub brings : made_by birth ≡ Some t
   pub reads : read acts ≡ got_in t since
-  pub takes : took acts ≡ took_in t since
+  pub takes : socket_accepted acts ≡ took_in t since
 
 -- this is so of each relay and its stream
 abbrev pub EachHasItsStream : Type 0

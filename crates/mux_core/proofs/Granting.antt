@@ -17,7 +17,7 @@ use Rattle.mux_history.proofs.Finds.{find-no, find-yes}
 use Rattle.mux_history.proofs.CurrentSteps.{is_on}
 use Rattle.mux_history.proofs.Sends.{and-left, and-right}
 use Rattle.forward_rules.specs.State.{Forward}
-use Rattle.forward_rules.specs.Step.{answered, change_first_forward, is_asked_at}
+use Rattle.forward_rules.specs.Step.{forward_answered, change_first_forward, is_asked_with_key}
 use Rattle.forward_rules.specs.Stands.{AreFit, AreTwoPlaces, HasAt, IsAwaited, Places}
 use Rattle.forward_rules.specs.Stands as stands
 use Rattle.mux_core.proofs.Alike.{AreAlike, StaysAt, alike-first, few-alike, has-map, order-alike, ranked-alike, two-map}
@@ -176,7 +176,7 @@ replied-sooner k j own own' next same at late =
 
 -- ---- all of it
 
-pub granted-fit : (k : ℕ) (rest : List ℕ) (key : Key) (fs : List Forward) (gs : List Forwarding) (own own' : ℕ → Places) (lost : ℕ → Bool) → AreFit fs gs own lost → Replies k own own' → lost k ≡ false → slice_get (own k).asked (own k).replied ≡ Some (record { client = k; what = full.Forward key }) → AreFit (answered k key (Some (u32_at 0 rest)) fs) (filter is_on (map (after k (own k).replied (Succeeds rest)) gs)) own' lost
+pub granted-fit : (k : ℕ) (rest : List ℕ) (key : Key) (fs : List Forward) (gs : List Forwarding) (own own' : ℕ → Places) (lost : ℕ → Bool) → AreFit fs gs own lost → Replies k own own' → lost k ≡ false → slice_get (own k).asked (own k).replied ≡ Some (record { client = k; what = full.Forward key }) → AreFit (forward_answered k key (Some (u32_at 0 rest)) fs) (filter is_on (map (after k (own k).replied (Succeeds rest)) gs)) own' lost
 granted-fit k rest key fs gs own own' lost fit next here asked =
     subst (λ hs. AreFit fs' hs own' lost) (sym (ap (filter is_on) (granted-all k place rest key own gs fit.awaited asked) ∙ on-all (map (granted k place rest) gs) (on-granted k place rest gs (on-listed fs gs fit.listed)))) (record {
       listed = granted-listed k place rest key (own k) fs gs fit.listed (waits-for k own gs fit.awaited) fit.two refl asked (asked-there k key fs gs own lost fit here asked);
@@ -192,7 +192,7 @@ granted-fit k rest key fs gs own own' lost fit next here asked =
     place = (own k).replied
 
     fs' : List Forward
-    fs' = change_first_forward (is_asked_at k key) (is_granted (u32_at 0 rest)) fs
+    fs' = change_first_forward (is_asked_with_key k key) (is_granted (u32_at 0 rest)) fs
 
-    alike : AreAlike fs (change_first_forward (is_asked_at k key) (is_granted (u32_at 0 rest)) fs)
-    alike = alike-first (is_asked_at k key) (is_granted (u32_at 0 rest)) (λ f. record { client = refl; cancel = refl }) fs
+    alike : AreAlike fs (change_first_forward (is_asked_with_key k key) (is_granted (u32_at 0 rest)) fs)
+    alike = alike-first (is_asked_with_key k key) (is_granted (u32_at 0 rest)) (λ f. record { client = refl; cancel = refl }) fs

@@ -1,7 +1,7 @@
 -- The turns of steps are turns that a wire may give.
 use Rattle.std.proofs.Common.{◌≡◌, refl, sym, ap, subst, ℕ, ◌+◌, ◌-◌, ◌<◌, ◌≤◌, Bool, true, false, ◌&&◌, ◌==◌, nat_lt, List, [], ◌∷◌, ◌++◌, length, take, slice_index, IsTrue, not, arith, lit<, length-take}
 use Rattle.std.proofs.lemmas.Grind.{common_steps}
-use Rattle.conf_rules.specs.Texts.{is_empty}
+use Rattle.conf_rules.specs.Texts.{is_empty_list}
 use Rattle.mux_outside.specs.OwnStreams.{is_silent}
 use Rattle.mux_outside.specs.Seen.{Seen}
 use Rattle.mux_outside.specs.Streams.{among}
@@ -89,7 +89,7 @@ piece_short bytes some =
     (bounds.0, omega (arith, bounds.1))
 
 -- a stream that sends has bytes
-pub speaks_some : (bytes : List ℕ) → not (is_empty bytes) ≡ true → 0 < length bytes
+pub speaks_some : (bytes : List ℕ) → not (is_empty_list bytes) ≡ true → 0 < length bytes
 speaks_some [] e = cc
 speaks_some (x ∷ xs) e = omega arith
 

@@ -16,7 +16,7 @@ use Rattle.mux_history.specs.Log.{Setting, more_all, more_of, makes_next, next_r
 use Rattle.mux_history.specs.Settings.{by_lists}
 use Rattle.mux_history.specs.Right.{AreFresh, IsRight}
 use Rattle.mux_history.specs.Journal.{IsLawful, house_items, is_own_stream, items_in, log_of_journal, taken_by, bytes_taken_in}
-use Rattle.mux_history.specs.Promises.{IsCut, IsFront, TakesFront, Throughout, is_asked}
+use Rattle.mux_history.specs.Promises.{IsCut, IsFront, TakesFront, Throughout, is_house_request}
 use Rattle.mux_history.proofs.Journals.{logs-right}
 use Rattle.mux_history.proofs.Written.{adds-up}
 use Rattle.mux_bounds.specs.Bounds.{IsLog}
@@ -110,7 +110,7 @@ module _ (policy : Policy) (pid : ℕ) (picks : List ℕ) (given : List HouseRep
 
       cut-begins : (journal : List Mark) → Throughout (TakesFront setting) journal → IsCut setting journal rows → IsFront (taken_by k journal) (given_to k rows)
       cut-begins [] takes cut = (given_to k rows, refl)
-      cut-begins (House m ∷ before) takes cut = house-mark m before (λ c. cut-begins before takes.1 c) takes (is_asked m) cut
+      cut-begins (House m ∷ before) takes cut = house-mark m before (λ c. cut-begins before takes.1 c) takes (is_house_request m) cut
       cut-begins (Waits waiting want streams shown ∷ before) takes (n, e) = one (Waits waiting want streams shown) before takes n e
       cut-begins (Accepts j ∷ before) takes (n, e) = one (Accepts j) before takes n e
       cut-begins (Gets j bytes ∷ before) takes (n, e) = one (Gets j bytes) before takes n e

@@ -20,13 +20,13 @@ bytes_got t [] = []
 bytes_got t (one ∷ calls) = got_by t one ++ bytes_got t calls
 
 -- the bytes of a stream that were reported to it as accepted, by a call and by all of them
-abbrev pub took_by : ℕ → HouseCall → List ℕ
-took_by t (call.Takes stream bytes) = if stream == t then bytes else []
-took_by t _ = []
+abbrev pub accepted_by_call : ℕ → HouseCall → List ℕ
+accepted_by_call t (call.Takes stream bytes) = if stream == t then bytes else []
+accepted_by_call t _ = []
 
 abbrev pub bytes_took : ℕ → List HouseCall → List ℕ
 bytes_took t [] = []
-bytes_took t (one ∷ calls) = took_by t one ++ bytes_took t calls
+bytes_took t (one ∷ calls) = accepted_by_call t one ++ bytes_took t calls
 
 -- it is given what a stream of its own gave: all of it, once and in that order
 abbrev pub IsGivenAll : Type 0

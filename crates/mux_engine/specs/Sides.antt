@@ -16,8 +16,8 @@ use Rattle.mux_outside.specs.declared.mark.Mark.{Mark}
 use Rattle.mux_outside.specs.declared.mark.Mark.TheVariants.{House}
 use Rattle.mux_history.specs.declared.ended.Ended.{Ended}
 use Rattle.mux_history.specs.declared.limits.TheConstants.{HOUSE}
-use Rattle.mux_history.specs.Promises.{is_asked, is_empty}
-use Rattle.mux_state.specs.State.{State}
+use Rattle.mux_history.specs.Promises.{is_house_request, is_empty}
+use Rattle.mux_state.specs.State.{EngineState}
 use Rattle.mux_engine.specs.Turns.{failed_received, held_received, own_received}
 use Rattle.mux_engine.specs.declared.room.Lists.{Lists}
 
@@ -36,7 +36,7 @@ house_marks (mark ∷ before) = house_marks before ++ house_mark mark
 
 -- its requests
 abbrev pub ask_marks_in : List HouseMark → List HouseMark
-ask_marks_in marks = filter is_asked marks
+ask_marks_in marks = filter is_house_request marks
 
 -- ---- a forwarder and what is noted of it
 
@@ -60,12 +60,12 @@ noting unnoted recorded known calls = record {
 }
 
 -- all of it is noted
-abbrev pub noted : Option (List HouseMark) → Known → List HouseCall → Side
-noted recorded known calls = noting [] recorded known calls
+abbrev pub all_marks_noted : Option (List HouseMark) → Known → List HouseCall → Side
+all_marks_noted recorded known calls = noting [] recorded known calls
 
 -- one that was not admitted yet
 abbrev pub outside : Option (List HouseMark) → Known → List HouseCall → Side
-outside recorded known calls = record (noted recorded known calls) { let_in = false }
+outside recorded known calls = record (all_marks_noted recorded known calls) { let_in = false }
 
 -- how a forwarder is right before a wait: it has nothing to order and nothing to answer, and it is
 -- at rest where more is read; and no forwarding of the start was refused where none may be
@@ -124,7 +124,7 @@ pub record SameSockets (old new : Seen) : Type 0 where
   pub silence : new.listens ≡ true → old.listens ≡ true
 
 -- and the same are blocked
-pub record SameStreams (old new : Seen) : Type 0 where
+pub record SameStreamsSeen (old new : Seen) : Type 0 where
   pub places : SameSockets old new
   pub blocked : new.blocked ≡ old.blocked
 
@@ -203,7 +203,7 @@ AnsweredOr true old new = length new.known.asks < length old.known.asks
 AnsweredOr false old new = AnsweredNothing old new
 
 -- it had nothing to send, and nothing changed
-pub record SentNothing (old new : HouseState) (seen seen' : Seen) (s s' : State) : Type 0 where
+pub record SentNothing (old new : HouseState) (seen seen' : Seen) (s s' : EngineState) : Type 0 where
   pub same : OffersSame old new
   pub says : new.quiet.says ≡ true
   pub engine : s' ≡ s

@@ -4,7 +4,7 @@ ghost use Rattle.mux_state.specs.Events.{here};
 ghost use Rattle.mux_state.specs.State.{queue_in};
 ghost use Rattle.mux_engine.specs.Rests.{HasNoneToClose, StaysReady};
 ghost use Rattle.mux_engine.specs.Serving.{CanBeOffered, CanTakeMore, IsOfferedTo, IsRunServed, OffersOn, ServesOn, StaysOrFails, StaysServed};
-ghost use Rattle.mux_engine.specs.Sides.{SameSockets, SameStreams};
+ghost use Rattle.mux_engine.specs.Sides.{SameSockets, SameStreamsSeen};
 ghost use Rattle.mux_engine.specs.SilentAnswers.{AcceptsAs};
 ghost use Rattle.mux_engine.specs.Wires.{IsIdleWire, NoFault, Works};
 
@@ -137,7 +137,7 @@ pub fn stop_accepting<W: Wire, H: House>(engine: &Engine, wire: &mut W)
     ensures receives { engine.now.ended ≡ None
         → (W.state wire.new).seen.listens ≡ engine.now.listening }
     ensures silence { AcceptsAs (W.state wire.new).seen engine.now }
-    ensures streams { SameStreams (W.state wire.old).seen (W.state wire.new).seen }
+    ensures streams { SameStreamsSeen (W.state wire.old).seen (W.state wire.new).seen }
     ensures wire { IsIdleWire (W.state wire.old) (W.state wire.new) (W.faults wire.old)
         (W.faults wire.new) }
 {

@@ -259,9 +259,9 @@ pub record IsNewTo (known : Known) (number : ℕ) : Type 0 where
   pub no_stream : is_one number known.streams ≡ false
 
 -- which number may be reported
-abbrev pub NumberFits : Option ℕ → Known → Type 0
-NumberFits None known = Unit {0}
-NumberFits (Some number) known = IsNewTo known number
+abbrev pub HouseNumberFits : Option ℕ → Known → Type 0
+HouseNumberFits None known = Unit {0}
+HouseNumberFits (Some number) known = IsNewTo known number
 
 -- what was ordered has this number from now on
 abbrev pub with_number : Option Order → Option ℕ → Known → Known

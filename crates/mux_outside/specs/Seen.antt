@@ -49,8 +49,8 @@ nothing_seen = record {
 }
 
 -- the same but for what is recorded
-abbrev pub untold : Seen → Seen
-untold seen = record seen { recorded = None }
+abbrev pub without_record : Seen → Seen
+without_record seen = record seen { recorded = None }
 
 -- what it shows of itself at a wait, beside the open streams
 abbrev pub shown_of : Seen → Shown

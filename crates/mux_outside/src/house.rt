@@ -4,7 +4,7 @@ ghost use Rattle.mux_outside.specs.declared.house.HouseReply.{HouseReply as TheR
 ghost use Rattle.mux_outside.specs.House.{HouseState as TheState, Gave, GaveOr, IsBlank, IsFresh, OffersSame, recorded_more};
 ghost use Rattle.mux_outside.specs.House.{ask_marks, known_after_ask, AnswerFits, answer_marks, known_after_answer, gives_none};
 ghost use Rattle.mux_outside.specs.House.{SendsFits, sends_marks, sends_nothing, takes_marks};
-ghost use Rattle.mux_outside.specs.House.{OrderFits, order_marks, known_after_order, NumberFits, ordered_marks, known_after_ordered};
+ghost use Rattle.mux_outside.specs.House.{OrderFits, order_marks, known_after_order, HouseNumberFits, ordered_marks, known_after_ordered};
 ghost use Rattle.mux_outside.specs.House.{OwnTurnFits, known_after_own_turn, has_waiting, queue_after_took};
 ghost use Rattle.mux_outside.specs.HouseCalls.{HouseCall as TheCall, Begins, Receives, HandsOn, Takes, Turns, happening_of};
 ghost use Rattle.mux_outside.specs.Greeting.{GreetsFirst};
@@ -140,7 +140,7 @@ pub trait House: Asks {
     /// The number of what was ordered, and none where that failed.
     fn ordered(&mut self, number: Option<u64>)
         requires ordering { IsSome (Self.state self.old).known.ordering }
-        requires fits { NumberFits number (Self.state self.old).known }
+        requires fits { HouseNumberFits number (Self.state self.old).known }
         ensures gave { Gave (ordered_marks (Self.state self.old).known.ordering number)
             (known_after_ordered number) (Self.state self.old) (Self.state self.new) };
 

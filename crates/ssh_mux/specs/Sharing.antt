@@ -32,10 +32,10 @@ use Rattle.ssh_mux.specs.declared.status.Status.{Status}
 use Rattle.ssh_mux.specs.declared.status.Status.TheVariants.{Done, Config, Outside, Write}
 use Rattle.ssh_mux.specs.declared.status.Status.TheVariants.{Open, Transport, Broke, Spent, StartRefused, Memory}
 use Rattle.ssh_mux.specs.Answers.{may_share, serves_house, so_far}
-use Rattle.ssh_mux.specs.Ending.{shown}
+use Rattle.ssh_mux.specs.Ending.{ending_shown}
 use Rattle.ssh_mux.specs.Err.{Reports}
 use Rattle.ssh_mux.specs.Here.{here_of}
-use Rattle.ssh_mux.specs.Outcomes.{Known, Certain, Master}
+use Rattle.ssh_mux.specs.Outcomes.{KnownCommand, Certain, Master}
 use Rattle.ssh_mux.specs.Starts.{BeganWith, Begun, BegunRests, MustsAs, must_for}
 use Rattle.ssh_mux.specs.World.{Sockets, World}
 use Rattle.conf_rules.specs.declared.command.Permissions.{Permissions}
@@ -68,7 +68,7 @@ OpensSome transport status before now = OpensBy transport before now
 
 -- the same of the outcome of words: but for a drill, of which `IsDrill` says it, only a master
 -- opens the wire, and none after a fault
-abbrev pub OpensOnce : Known → Status → Option (List OpenCall) → Option (List OpenCall) → Type 0
+abbrev pub OpensOnce : KnownCommand → Status → Option (List OpenCall) → Option (List OpenCall) → Type 0
 OpensOnce (Certain (Opens control transport permits)) Outside before now = now ≡ before
 OpensOnce (Certain (Opens control transport permits)) status before now =
     OpensAt control transport status before now
@@ -97,17 +97,17 @@ no_permissions = record {
 }
 
 -- the permissions of a master: what is none permits nothing
-abbrev pub permissions_in : Known → Permissions
+abbrev pub permissions_in : KnownCommand → Permissions
 permissions_in (Certain (Opens control transport permits)) = permits
 permissions_in (Master transport permits) = permits
 permissions_in known = no_permissions
 
 -- the policy of a master
-abbrev pub policy_in : Known → Policy
+abbrev pub policy_in : KnownCommand → Policy
 policy_in known = policy_of (permissions_in known)
 
 -- where the own forwardings of a master may listen on this machine
-abbrev pub here_in : Known → ListenPermit
+abbrev pub here_in : KnownCommand → ListenPermit
 here_in known = here_of (permissions_in known).here
 
 -- how the end of a run is recorded
@@ -166,7 +166,7 @@ SharesWith May Rest stands policy pid turns house house' wire wire' result =
 
 -- the same of the words' outcome: only a master serves, with a forwarder that begins as is due by
 -- what is recorded of files and commands, and that may listen where its permissions say
-abbrev pub SharesFor : {T : Type 0} → (HouseReply → Type 0) → (T → HouseState) → Known
+abbrev pub SharesFor : {T : Type 0} → (HouseReply → Type 0) → (T → HouseState) → KnownCommand
     → Option Recorded → ℕ → ℕ → Sockets → Sockets → Result Status MeantEnding → Type 0
 SharesFor May state known by pid turns old new result =
     OnTrue (may_share known (so_far result)) (Begun (here_in known) by (λ starts. SharesWith May
@@ -178,7 +178,7 @@ abbrev pub RecordsEnd :
     Result Status MeantEnding → Status → Option (List ℕ) → Option (List ℕ) → ℕ → ℕ → Type 0
 RecordsEnd (Ok due) status err err' faults faults' = (status ≡ due) × (err' ≡ err)
 RecordsEnd (Err ending) status err err' faults faults' =
-    Reports status (shown ending) err err' faults faults'
+    Reports status (ending_shown ending) err err' faults faults'
 
 -- a run that keeps its promises, and the line of its very end
 pub record IsShareServed (May : HouseReply → Type 0) (Rest : Resting)
@@ -219,7 +219,7 @@ ServesWith May Rest stands policy pid turns before after status =
 
 -- the same of the words' outcome: only a master serves, with a forwarder that begins as is due by
 -- what is recorded of files and commands, and that may listen where its permissions say
-abbrev pub ServesFor : {T : Type 0} → (HouseReply → Type 0) → (T → HouseState) → Known
+abbrev pub ServesFor : {T : Type 0} → (HouseReply → Type 0) → (T → HouseState) → KnownCommand
     → Option Recorded → ℕ → ℕ → World → World → Status → Type 0
 ServesFor May state known by pid turns before after status =
     OnTrue (may_share known status) (Begun (here_in known) by (λ starts. ServesWith May
@@ -303,7 +303,7 @@ pub record CountsFor (housed : Bool) (turns : ℕ) (status : Status) (old new : 
 
 -- what a master of which this is known leaves of its wire and its forwarder
 pub record MasterLeaves {T : Type 0} (May : HouseReply → Type 0) (state : T → HouseState)
-    (known : Known) (by : Option Recorded) (pid turns : ℕ) (result : Result Status MeantEnding)
+    (known : KnownCommand) (by : Option Recorded) (pid turns : ℕ) (result : Result Status MeantEnding)
     (old new : Sockets) : Type 0 where
   -- the wire was opened once
   pub opened : OpensOnce known (so_far result) old.wire.openings new.wire.openings

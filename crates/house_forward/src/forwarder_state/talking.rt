@@ -10,7 +10,7 @@ ghost use Rattle.proxy_frames.specs.Steps.{pushed};
 ghost use Rattle.ssh_fields.specs.Fields.{take_u32};
 ghost use Rattle.house_forward.specs.State.{held_in, HasSent, KnowsSame, StaysKnown};
 
-use super::{ForwarderState, Stage};
+use super::{ForwarderStage, ForwarderState};
 use crate::forwarding::ForwardingRequest;
 use crate::outgoing;
 use crate::receiving::receive;
@@ -115,14 +115,14 @@ impl ForwarderState {
             (held_in self.old) (held_in self.new))) }
     {
         match self.stage {
-            Stage::Control => {
+            ForwarderStage::Control => {
                 if grants(self.framer.content()) {
-                    self.stage = Stage::Proxy;
+                    self.stage = ForwarderStage::Proxy;
                     self.framer.switch(Framing::Proxy);
                 }
                 Ok(())
             }
-            Stage::Proxy => receive(
+            ForwarderStage::Proxy => receive(
                 self.alloc,
                 self.framer.content(),
                 &mut self.forwardings,
