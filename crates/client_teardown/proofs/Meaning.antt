@@ -42,14 +42,14 @@ sent_for b c d o = elim b as (λ _. List (List ℕ)) [
 same-farewell : (e : TableEntry) (x : Channel) → EntryFits e x → farewell_of e ≡ leave_channel x
 same-farewell e x fits = by_case (is_open_confirmed e.ledger) refl
   where
-    by_case : (b : Bool) → is_open_confirmed e.ledger ≡ b → sent_for (is_open_confirmed e.ledger) (account.sent_close e.ledger) (is_up e.channel.by) e.channel.remote ≡ sent_for (is_confirmed x) (any_by Up is_closes x.acts) (is_up x.by) x.remote
+    by_case : (b : Bool) → is_open_confirmed e.ledger ≡ b → sent_for (is_open_confirmed e.ledger) (account.has_sent_close e.ledger) (is_up e.channel.by) e.channel.remote ≡ sent_for (is_confirmed x) (any_by Up is_closes x.acts) (is_up x.by) x.remote
     by_case true h =
-        ap (λ b. sent_for b (account.sent_close e.ledger) (is_up e.channel.by) e.channel.remote) h
+        ap (λ b. sent_for b (account.has_sent_close e.ledger) (is_up e.channel.by) e.channel.remote) h
         ∙ (ap (λ c. sent_for true c (is_up e.channel.by) e.channel.remote) (said-is e.ledger.state x fits.ledger)
         ∙ (ap (λ o. sent_for true (any_by Up is_closes x.acts) (is_up x.by) o) fits.remote
         ∙ ap (λ b. sent_for b (any_by Up is_closes x.acts) (is_up x.by) x.remote) (sym h ∙ so-confirmed e x fits)))
     by_case false h =
-        ap (λ b. sent_for b (account.sent_close e.ledger) (is_up e.channel.by) e.channel.remote) h
+        ap (λ b. sent_for b (account.has_sent_close e.ledger) (is_up e.channel.by) e.channel.remote) h
         ∙ (ap (λ by. sent_for false (any_by Up is_closes x.acts) (is_up by) e.channel.remote) fits.by
         ∙ (ap (λ o. sent_for false (any_by Up is_closes x.acts) (is_up x.by) o) fits.remote
         ∙ ap (λ b. sent_for b (any_by Up is_closes x.acts) (is_up x.by) x.remote) (sym h ∙ so-confirmed e x fits)))
@@ -101,18 +101,18 @@ pub cancels-sent : (k : ℕ) (fs : List Forward) (gs : List Forwarding) → AreF
 cancels-sent k [] [] fit = refl
 cancels-sent k [] (g ∷ gs) fit = absurd fit
 cancels-sent k (f ∷ fs) [] fit = absurd fit
-cancels-sent k (f ∷ fs) (g ∷ gs) fit = by_case (cancels-sent k fs gs fit.1) (forwards.is_of k f) refl
+cancels-sent k (f ∷ fs) (g ∷ gs) fit = by_case (cancels-sent k fs gs fit.1) (forwards.is_forward_of k f) refl
   where
-    mine : (g.client == k) ≡ forwards.is_of k f
+    mine : (g.client == k) ≡ forwards.is_forward_of k f
     mine = ap (λ i. i == k) (sym fit.0.client)
 
-    by_case : forward_farewells k fs ≡ flat_map leave_forwarding (client_forwardings_of k gs) → (b : Bool) → forwards.is_of k f ≡ b → forward_farewells k (f ∷ fs) ≡ flat_map leave_forwarding (client_forwardings_of k (g ∷ gs))
+    by_case : forward_farewells k fs ≡ flat_map leave_forwarding (client_forwardings_of k gs) → (b : Bool) → forwards.is_forward_of k f ≡ b → forward_farewells k (f ∷ fs) ≡ flat_map leave_forwarding (client_forwardings_of k (g ∷ gs))
     by_case ih true h =
-        ap (flat_map farewell_cancel_of) (filter-yes (forwards.is_of k) f fs h)
+        ap (flat_map farewell_cancel_of) (filter-yes (forwards.is_forward_of k) f fs h)
         ∙ (ap (λ ps. ps ++ forward_farewells k fs) (same-cancel f g fit.0) ∙ (ap (λ ps. leave_forwarding g ++ ps) ih
         ∙ sym (ap (flat_map leave_forwarding) (filter-yes (λ (h : Forwarding). h.client == k) g gs (mine ∙ h)))))
     by_case ih false h =
-        ap (flat_map farewell_cancel_of) (filter-no (forwards.is_of k) f fs h)
+        ap (flat_map farewell_cancel_of) (filter-no (forwards.is_forward_of k) f fs h)
         ∙ (ih ∙ sym (ap (flat_map leave_forwarding) (filter-no (λ (h : Forwarding). h.client == k) g gs (mine ∙ h))))
 
 pub farewells-sent : (k : ℕ) (es : List TableEntry) (xs : List Channel) (fs : List Forward) (gs : List Forwarding) → ChannelsFit es xs → AreForwardsListed fs gs

@@ -32,7 +32,7 @@ SendsFarewell payloads up up' = up'.waiting ≡ up.waiting ++ joined (map frame_
 -- server's open without an answer
 abbrev pub farewell_for : Channel → Ledger → List (List ℕ)
 farewell_for c ledger = elim (is_open_confirmed ledger) [
-  | true ↦ elim (account.sent_close ledger) [ true ↦ [] | false ↦ to_number c.remote close ]
+  | true ↦ elim (account.has_sent_close ledger) [ true ↦ [] | false ↦ to_number c.remote close ]
   | false ↦ elim (is_up c.by)
       [ true ↦ [] | false ↦ to_number c.remote (λ s. open_failure s CONNECT_FAILED client_is_gone) ]
 ]
@@ -50,13 +50,13 @@ farewell_cancel_of f = elim (f.live && is_none f.cancel) [ true ↦ cancel_forwa
 
 -- of a client's forwardings, in order of asking
 abbrev pub forward_farewells : ℕ → List Forward → List (List ℕ)
-forward_farewells k fs = flat_map farewell_cancel_of (filter (forwards.is_of k) fs)
+forward_farewells k fs = flat_map farewell_cancel_of (filter (forwards.is_forward_of k) fs)
 
 -- ---- what stays in the table
 
 -- CLOSE is sent, where the channel is confirmed
 abbrev pub entry_after_close : TableEntry → TableEntry
-entry_after_close e = record e { ledger = account.left e.ledger }
+entry_after_close e = record e { ledger = account.ledger_after_close e.ledger }
 
 -- in a channel of this client
 abbrev pub left_entry : ℕ → TableEntry → TableEntry

@@ -22,7 +22,7 @@ shown_mode_of modes.Master = options.Master
 shown_mode_of modes.Client = options.Client
 
 -- the effect of a word
-abbrev pub act_of : WordAct → options.Act
+abbrev pub act_of : WordAct → options.WordAct
 act_of (acts.Chooses mode) = options.Chooses (shown_mode_of mode)
 act_of (acts.Reads from) = options.Reads from
 act_of (acts.Asks line) = options.Asks line

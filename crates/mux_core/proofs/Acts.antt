@@ -26,7 +26,7 @@ use Rattle.channel_table.proofs.EntryFits.{Goes, changed-fit}
 -- what is known of the ledger after it
 pub record ActsOn (way : Side) (a : Act) (old new : Ledger) (over : Bool) : Type 0 where
   pub goes : LedgerGoesOn old new way a
-  pub ends : (x : Channel) → ledger.Stands new x → over ≡ both_closed x
+  pub ends : (x : Channel) → ledger.LedgerRepresents new x → over ≡ both_closed x
   pub confirmed : is_open_confirmed new ≡ is_open_confirmed old
   pub fine : is_fails a ≡ false
 

@@ -131,12 +131,12 @@ given-fits e0 s w m l x pend confirms fits = record {
   own = fits.own;
   number = fits.number;
   remote = refl;
-  ledger = stands-named x.own x.number (Some s) l (with_act Down (Confirms w m) x) (subst (λ (d : Side). ledger.Stands l (with_act d (Confirms w m) x)) (ap other_side (up-is x.by (ap is_up (sym fits.by) ∙ and-left (is_up e0.channel.by) (not (is_open_confirmed e0.ledger)) pend))) (confirms x fits.ledger));
+  ledger = stands-named x.own x.number (Some s) l (with_act Down (Confirms w m) x) (subst (λ (d : Side). ledger.LedgerRepresents l (with_act d (Confirms w m) x)) (ap other_side (up-is x.by (ap is_up (sym fits.by) ∙ and-left (is_up e0.channel.by) (not (is_open_confirmed e0.ledger)) pend))) (confirms x fits.ledger));
   held = fits.held;
 }
 
 -- and closed by the master
-pub closed-fits : (e0 : TableEntry) (s w m : ℕ) (l : Ledger) (x : Channel) → waits e0.channel e0.ledger ≡ true → IsConfirmed e0.ledger l w m → is_open_confirmed l ≡ true → EntryFits e0 x → EntryFits (confirm_remote s (account.left l) e0) (with_act Up Closes (given s w m x))
+pub closed-fits : (e0 : TableEntry) (s w m : ℕ) (l : Ledger) (x : Channel) → waits e0.channel e0.ledger ≡ true → IsConfirmed e0.ledger l w m → is_open_confirmed l ≡ true → EntryFits e0 x → EntryFits (confirm_remote s (account.ledger_after_close l) e0) (with_act Up Closes (given s w m x))
 closed-fits e0 s w m l x pend confirms so fits =
     let first = given-fits e0 s w m l x pend confirms fits in
     let none : x.acts ≡ [] = fresh-acts e0.ledger.state x fits.ledger (not-false (is_open_confirmed e0.ledger) (and-right (is_up e0.channel.by) (not (is_open_confirmed e0.ledger)) pend)) in

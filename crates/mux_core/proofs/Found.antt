@@ -102,7 +102,7 @@ remote-sole s e f two h = two.remote s h
 
 -- ---- a confirmed channel of a client
 
-pub stands-confirmed : (l : Ledger) (x : Channel) → ledger.Stands l x → is_open_confirmed l ≡ is_confirmed x
+pub stands-confirmed : (l : Ledger) (x : Channel) → ledger.LedgerRepresents l x → is_open_confirmed l ≡ is_confirmed x
 stands-confirmed l x stands = by_state l.state stands
   where
     by_state : (st : State) → IsStateOf st x → is_answered st ≡ is_confirmed x

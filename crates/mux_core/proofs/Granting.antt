@@ -136,15 +136,15 @@ stays-at k j place later rest g past = record {
     joined : (a : ℕ) → (a == k) ≡ true → (a == j) ≡ true → (k == j) ≡ true
     joined a p q = grind (arith, nat_tests)
 
-    by_case : ((g.client == j) && stands.is_asked_at later g) ≡ true → (b : Bool) → asks_at k place g ≡ b → (((granted k place rest g).client == j) && stands.is_asked_at later (granted k place rest g)) ≡ true
+    by_case : ((g.client == j) && stands.request_waits_at later g) ≡ true → (b : Bool) → asks_at k place g ≡ b → (((granted k place rest g).client == j) && stands.request_waits_at later (granted k place rest g)) ≡ true
     by_case h true a =
         let client = joined g.client (and-left (g.client == k) _ a) (and-left (g.client == j) _ h) in
         let at = and-right (is_none g.live) (g.request == place) (and-right (g.client == k) _ a) in
         let then_ = and-right (is_none g.live) (g.request == later) (and-right (g.client == j) _ h) in
         absurd (clash g.request place later at then_ (past client))
-    by_case h false a = ap (λ (x : Forwarding). (x.client == j) && stands.is_asked_at later x) (granted-at k place rest g false a) ∙ h
+    by_case h false a = ap (λ (x : Forwarding). (x.client == j) && stands.request_waits_at later x) (granted-at k place rest g false a) ∙ h
 
-    by_leaving : ((g.client == j) && stands.is_leaving_at later g) ≡ true → (b : Bool) → (let x : Forwarding = elim b as (λ _. Forwarding) [ true ↦ record g { live = Some (bound g.key rest) } | false ↦ g ] in ((x.client == j) && stands.is_leaving_at later x) ≡ true)
+    by_leaving : ((g.client == j) && stands.cancel_waits_at later g) ≡ true → (b : Bool) → (let x : Forwarding = elim b as (λ _. Forwarding) [ true ↦ record g { live = Some (bound g.key rest) } | false ↦ g ] in ((x.client == j) && stands.cancel_waits_at later x) ≡ true)
     by_leaving h true = h
     by_leaving h false = h
 
@@ -165,7 +165,7 @@ waits-for k own (g ∷ gs) all = ((λ mine. own-of k own g mine all.0), waits-fo
 
 -- a forwarding was asked at the place of the reply
 pub asked-there : (k : ℕ) (key : Key) (fs : List Forward) (gs : List Forwarding) (own : ℕ → Places) (lost : ℕ → Bool) → AreFit fs gs own lost → lost k ≡ false → slice_get (own k).asked (own k).replied ≡ Some (record { client = k; what = full.Forward key }) → is_some (find (asks_at k (own k).replied) gs) ≡ true
-asked-there k key fs gs own lost fit here asked = find-passes (asks_at k (own k).replied) gs ∙ (sym (find-any (λ (g : Forwarding). g.client == k) (stands.is_asked_at (own k).replied) gs) ∙ fit.each k here (own k).replied (record { client = k; what = full.Forward key }) (omega arith) asked)
+asked-there k key fs gs own lost fit here asked = find-passes (asks_at k (own k).replied) gs ∙ (sym (find-any (λ (g : Forwarding). g.client == k) (stands.request_waits_at (own k).replied) gs) ∙ fit.each k here (own k).replied (record { client = k; what = full.Forward key }) (omega arith) asked)
 
 -- what has no reply afterwards had none before
 pub replied-sooner : (k j : ℕ) (own own' : ℕ → Places) → Replies k own own' → (k == j) ≡ true → (at : ℕ) → (own' j).replied ≤ at → (own k).replied < at

@@ -26,7 +26,7 @@ use Rattle.mux_core.proofs.Leaves.{AllDiffer, Differ, Leaving}
 
 -- the entry with CLOSE sent, where it may be
 abbrev closing : TableEntry → TableEntry
-closing e = record e { ledger = account.left e.ledger }
+closing e = record e { ledger = account.ledger_after_close e.ledger }
 
 keeps-left : (k : ℕ) → KeepsNumbers (left_entry k)
 keeps-left k e = elim (e.channel.client == k) as (λ b. ((elim b as (λ _. TableEntry) [ true ↦ closing e | false ↦ e ]).number ≡ e.number) × ((elim b as (λ _. TableEntry) [ true ↦ closing e | false ↦ e ]).channel ≡ e.channel)) [ true ↦ (refl, refl) | false ↦ (refl, refl) ]

@@ -122,7 +122,7 @@ served-known k (c ∷ cs) h = by_case (served-known k cs) (c.number == k) refl c
     by_case ih false n d e = ap (λ b. b || is_member_known cs k) n ∙ ih (sym (ap (λ b. (b && not c.lost) || is_member_served cs k) n) ∙ h)
 
 -- the table has the new channel
-opened-table : (s : CoreState) (k n c w m : ℕ) (what : Opens) (p : List ℕ) (l : Ledger) (rows : List Row) → CoreRepresents s rows → AreBytes p → n < 4294967296 → read_summary p ≡ Ok (Open what c w m) → IsNumberFree s.channels n → find (has_own k c) s.channels ≡ None → channel_count_of s.channels k < MAX_CHANNELS → is_open_confirmed l ≡ false → ((x : Channel) → IsSideBegun Up w m x → ledger.Stands l x) → TableFits (s.channels ++ own_entry n k c l ∷ []) (held_of (sent_as k p (sends_payload (with_sender p n)) ∷ rows))
+opened-table : (s : CoreState) (k n c w m : ℕ) (what : Opens) (p : List ℕ) (l : Ledger) (rows : List Row) → CoreRepresents s rows → AreBytes p → n < 4294967296 → read_summary p ≡ Ok (Open what c w m) → IsNumberFree s.channels n → find (has_own k c) s.channels ≡ None → channel_count_of s.channels k < MAX_CHANNELS → is_open_confirmed l ≡ false → ((x : Channel) → IsSideBegun Up w m x → ledger.LedgerRepresents l x) → TableFits (s.channels ++ own_entry n k c l ∷ []) (held_of (sent_as k p (sends_payload (with_sender p n)) ∷ rows))
 opened-table s k n c w m what p l rows st bytes small e free unused room waits begins = record {
   fit = subst (ChannelsFit (s.channels ++ own_entry n k c l ∷ [])) (sym held) (more-fit (own_entry n k c l) channel fits s.channels (held_of rows) st.channels.fit);
   apart = apart-append (own_entry n k c l) s.channels st.channels.apart (two-new s.channels n k c l free unused);
@@ -162,7 +162,7 @@ opened-table s k n c w m what p l rows st bytes small e free unused room waits b
         ∙ (filter-append is_channel_held (held_of rows) (record { client = k; by = Up; own = Some c; number = reading (with_sender p n) summary_sender_of None; remote = None; window = w; maximum = m; acts = [] } ∷ [])
         ∙ ap (λ ys. ys ++ record { client = k; by = Up; own = Some c; number = reading (with_sender p n) summary_sender_of None; remote = None; window = w; maximum = m; acts = [] } ∷ []) (held-held rows)))
 
-pub goes-up : (s : CoreState) (k n c w m : ℕ) (what : Opens) (p : List ℕ) (l : Ledger) (up : QueueState) (new : CoreState) (rows : List Row) → CoreRepresents s rows → is_member_served s.clients k ≡ true → AreBytes p → read_summary p ≡ Ok (Open what c w m) → open_verdict s k c what ≡ None → IsNumberFree s.channels n → find (has_own k c) s.channels ≡ None → nat_lt (channel_count_of s.channels k) MAX_CHANNELS ≡ true → is_open_confirmed l ≡ false → ((x : Channel) → IsSideBegun Up w m x → ledger.Stands l x) → new ≡ record s { channels = s.channels ++ own_entry n k c l ∷ [] } → CoreSendsIn s new k p n up (with_bytes (frame_payload (with_sender p n)) up) verdict.Sent rows
+pub goes-up : (s : CoreState) (k n c w m : ℕ) (what : Opens) (p : List ℕ) (l : Ledger) (up : QueueState) (new : CoreState) (rows : List Row) → CoreRepresents s rows → is_member_served s.clients k ≡ true → AreBytes p → read_summary p ≡ Ok (Open what c w m) → open_verdict s k c what ≡ None → IsNumberFree s.channels n → find (has_own k c) s.channels ≡ None → nat_lt (channel_count_of s.channels k) MAX_CHANNELS ≡ true → is_open_confirmed l ≡ false → ((x : Channel) → IsSideBegun Up w m x → ledger.LedgerRepresents l x) → new ≡ record s { channels = s.channels ++ own_entry n k c l ∷ [] } → CoreSendsIn s new k p n up (with_bytes (frame_payload (with_sender p n)) up) verdict.Sent rows
 goes-up s k n c w m what p l up new rows st serves bytes e judges free unused room waits begins after =
     let small : n < 4294967296 = let b = free.below in omega arith in
     let few : channel_count_of s.channels k < MAX_CHANNELS = grind (arith, nat_tests) in

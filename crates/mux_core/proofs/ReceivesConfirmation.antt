@@ -121,7 +121,7 @@ confirmation-given s new n r w m p up c l l' rows st looks here pend free small 
     (known-altered s sh.entry.number r l' st.known.channels)
     (after ∙ ap (λ (i : ℕ). let u : CoreState = record s { channels = changed_at i (confirm_remote r l') s.channels } in u) (sym sh.number)))
 
-pub confirmation-lost : (s new : CoreState) (n r w m : ℕ) (p p' : List ℕ) (up up' : QueueState) (c : table.Channel) (l l' : Ledger) (rows : List Row) → CoreRepresents s rows → channel_for s.channels n ≡ Some (c, l) → is_lost_in s.clients c.client ≡ true → waits c l ≡ true → is_some (number_of_remote s.channels r) ≡ false → r < 4294967296 → IsConfirmed l l' w m → is_open_confirmed l' ≡ true → is_open_confirmed (account.left l') ≡ true → up'.waiting ≡ up.waiting ++ frame_payload (close r) → new ≡ client_settled (record s { channels = changed_at n (confirm_remote r (account.left l')) s.channels }) c.client → read_summary p ≡ Ok (Confirmation n r w m) → ReceivesAs new p p' up up' (heard.Lost c.client) rows (dest rows p)
+pub confirmation-lost : (s new : CoreState) (n r w m : ℕ) (p p' : List ℕ) (up up' : QueueState) (c : table.Channel) (l l' : Ledger) (rows : List Row) → CoreRepresents s rows → channel_for s.channels n ≡ Some (c, l) → is_lost_in s.clients c.client ≡ true → waits c l ≡ true → is_some (number_of_remote s.channels r) ≡ false → r < 4294967296 → IsConfirmed l l' w m → is_open_confirmed l' ≡ true → is_open_confirmed (account.ledger_after_close l') ≡ true → up'.waiting ≡ up.waiting ++ frame_payload (close r) → new ≡ client_settled (record s { channels = changed_at n (confirm_remote r (account.ledger_after_close l')) s.channels }) c.client → read_summary p ≡ Ok (Confirmation n r w m) → ReceivesAs new p p' up up' (heard.Lost c.client) rows (dest rows p)
 confirmation-lost s new n r w m p p' up up' c l l' rows st looks lost pend free small confirms so left-so sent after e =
     let sh = shown-entry s.channels n c l st.channels.apart looks in
     let x = holds s n sh.entry rows st sh.found in
@@ -129,14 +129,14 @@ confirmation-lost s new n r w m p p' up up' c l l' rows st looks lost pend free 
     let none = is-free s.channels r free in
     let gives : IsConfirmed sh.entry.ledger l' w m = subst (λ (a : Ledger). IsConfirmed a l' w m) (sym sh.ledger) confirms in
     subst (λ (d : table.Channel). ReceivesAs new p p' up up' (heard.Lost d.client) rows (dest rows p)) sh.channel
-    (passes-row s new sh.entry.channel.client p p' (Confirmation n r w m) (changed_at sh.entry.number (confirm_remote r (account.left l')) s.channels) up up' rows st (subst (λ (d : table.Channel). is_lost_in s.clients d.client ≡ true) (sym sh.channel) lost) e
+    (passes-row s new sh.entry.channel.client p p' (Confirmation n r w m) (changed_at sh.entry.number (confirm_remote r (account.ledger_after_close l')) s.channels) up up' rows st (subst (λ (d : table.Channel). is_lost_in s.clients d.client ≡ true) (sym sh.channel) lost) e
     (quiet-confirmed sh.entry.channel.client n r w m p (for_lost (rows_of sh.entry.channel.client rows) (Confirmation n r w m)) e refl)
     (dest-confirmation rows n r w m p (Some x.channel) None e (pending-is sh.entry n rows true waiting x) (none-live s r rows st none) ∙ ap ToClient (sym x.fits.client))
     (sent ∙ ap (λ ys. up.waiting ++ ys) (sym (append-nil (frame_payload (close r)))))
-    (subst (TableFits (changed_at sh.entry.number (confirm_remote r (account.left l')) s.channels)) (sym (closed-channels sh.entry.channel.client n r w m p (for_lost (rows_of sh.entry.channel.client rows) (Confirmation n r w m)) rows e small refl))
-    (confirmed-table (closes r) s n r w m (account.left l') sh.entry rows st sh.found none small waiting left-so (λ y fits. subst (EntryFits (confirm_remote r (account.left l') sh.entry)) (sym (close-it r w m y fits.held)) (closed-fits sh.entry r w m l' y waiting gives so fits)) (close-others r)))
-    (known-altered s sh.entry.number r (account.left l') st.known.channels)
-    (after ∙ (ap (λ (i : ℕ). client_settled (record s { channels = changed_at i (confirm_remote r (account.left l')) s.channels }) c.client) (sym sh.number) ∙ ap (λ (d : table.Channel). client_settled (record s { channels = changed_at sh.entry.number (confirm_remote r (account.left l')) s.channels }) d.client) (sym sh.channel))))
+    (subst (TableFits (changed_at sh.entry.number (confirm_remote r (account.ledger_after_close l')) s.channels)) (sym (closed-channels sh.entry.channel.client n r w m p (for_lost (rows_of sh.entry.channel.client rows) (Confirmation n r w m)) rows e small refl))
+    (confirmed-table (closes r) s n r w m (account.ledger_after_close l') sh.entry rows st sh.found none small waiting left-so (λ y fits. subst (EntryFits (confirm_remote r (account.ledger_after_close l') sh.entry)) (sym (close-it r w m y fits.held)) (closed-fits sh.entry r w m l' y waiting gives so fits)) (close-others r)))
+    (known-altered s sh.entry.number r (account.ledger_after_close l') st.known.channels)
+    (after ∙ (ap (λ (i : ℕ). client_settled (record s { channels = changed_at i (confirm_remote r (account.ledger_after_close l')) s.channels }) c.client) (sym sh.number) ∙ ap (λ (d : table.Channel). client_settled (record s { channels = changed_at sh.entry.number (confirm_remote r (account.ledger_after_close l')) s.channels }) d.client) (sym sh.channel))))
 
 pub idle-ledger : (c : table.Channel) (l : Ledger) → waits c l ≡ true → is_open_confirmed l ≡ false
 idle-ledger c l pend = not-false (is_open_confirmed l) (and-right (is_up c.by) (not (is_open_confirmed l)) pend)

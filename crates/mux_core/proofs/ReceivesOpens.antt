@@ -120,7 +120,7 @@ opened-held k r w m what p rows nonzero e =
         ap (λ y. elim (x.client == k) as (λ _. Channel) [ true ↦ y | false ↦ x ]) (reading-ok p (Open what r w m) (λ g. with_down g x) x e)
         ∙ (elim (x.client == k) as (λ b. (elim b as (λ _. Channel) [ true ↦ x | false ↦ x ]) ≡ x) [ true ↦ refl | false ↦ refl ])
 
-pub open-given : (s new : CoreState) (k n r w m : ℕ) (what : Opens) (p : List ℕ) (l : Ledger) (up : QueueState) (rows : List Row) → CoreRepresents s rows → is_some (number_of_remote s.channels r) ≡ false → owner_for what s.forwards ≡ Some k → nat_lt (channel_count_of s.channels k) MAX_CHANNELS ≡ true → r < 4294967296 → IsNumberFree s.channels n → is_open_confirmed l ≡ false → ((x : Channel) → IsSideBegun Down w m x → ledger.Stands l x) → new ≡ record s { channels = s.channels ++ remote_entry n k r l ∷ [] } → read_summary p ≡ Ok (Open what r w m) → ReceivesAs new p p up up (heard.Client k 0) rows (dest rows p)
+pub open-given : (s new : CoreState) (k n r w m : ℕ) (what : Opens) (p : List ℕ) (l : Ledger) (up : QueueState) (rows : List Row) → CoreRepresents s rows → is_some (number_of_remote s.channels r) ≡ false → owner_for what s.forwards ≡ Some k → nat_lt (channel_count_of s.channels k) MAX_CHANNELS ≡ true → r < 4294967296 → IsNumberFree s.channels n → is_open_confirmed l ≡ false → ((x : Channel) → IsSideBegun Down w m x → ledger.LedgerRepresents l x) → new ≡ record s { channels = s.channels ++ remote_entry n k r l ∷ [] } → read_summary p ≡ Ok (Open what r w m) → ReceivesAs new p p up up (heard.Client k 0) rows (dest rows p)
 open-given s new k n r w m what p l up rows st free owner room small fresh waits begins after e =
     let none = is-free s.channels r free in
     let serves = owned s k what rows st owner in

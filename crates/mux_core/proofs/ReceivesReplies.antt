@@ -95,13 +95,13 @@ all-answered cs k true fs (Some r) all = all-moved cs k r (filter (λ f. not (is
 all-answered cs k false fs (Some r) all = all-moved cs k r fs all
 
 served-success : (cs : List MemberState) (k : ℕ) (what : full.Global) (rest : List ℕ) (fs : List Forward) → AllByRecursion (λ f. is_member_served cs f.client ≡ true) fs → AllByRecursion (λ f. is_member_served cs f.client ≡ true) (after_success k what rest fs)
-served-success cs k (full.Forward key) rest fs all = all-first (λ f. is_member_served cs f.client ≡ true) (forwards.is_asked_at k key) _ (λ f h. h) fs all
+served-success cs k (full.Forward key) rest fs all = all-first (λ f. is_member_served cs f.client ≡ true) (forwards.is_asked_with_key k key) _ (λ f h. h) fs all
 served-success cs k (full.Cancel key) rest fs all = all-answered cs k true fs (first_cancel (is_leaving_with_key k key) fs) all
 served-success cs k full.KeepAlive rest fs all = all
 served-success cs k full.OtherName rest fs all = all
 
 served-failure : (cs : List MemberState) (k : ℕ) (what : full.Global) (fs : List Forward) → AllByRecursion (λ f. is_member_served cs f.client ≡ true) fs → AllByRecursion (λ f. is_member_served cs f.client ≡ true) (after_failure k what fs)
-served-failure cs k (full.Forward key) fs all = all-without (λ f. is_member_served cs f.client ≡ true) (forwards.is_asked_at k key) fs all
+served-failure cs k (full.Forward key) fs all = all-without (λ f. is_member_served cs f.client ≡ true) (forwards.is_asked_with_key k key) fs all
 served-failure cs k (full.Cancel key) fs all = all-answered cs k false fs (first_cancel (is_leaving_with_key k key) fs) all
 served-failure cs k full.KeepAlive fs all = all
 served-failure cs k full.OtherName fs all = all

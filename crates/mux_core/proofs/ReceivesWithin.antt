@@ -70,21 +70,21 @@ holds s n e0 rows st h = by_found (holder rows n) refl (subst (λ o. FoundFit o 
     by_found None e f = absurd (subst (FoundFit (Some e0)) e f)
     by_found (Some x) e f = record { channel = x; is = e; fits = subst (FoundFit (Some e0)) e f }
 
-pub breaks : (s new : CoreState) (n : ℕ) (a : Act) (p p' : List ℕ) (up : QueueState) (e0 : TableEntry) (b : Breach) (rows : List Row) → CoreRepresents s rows → find (shown_at n) s.channels ≡ Some e0 → ((x : Channel) → ledger.Stands e0.ledger x → breach Down a x ≡ Some b) → is_failing a ≡ false → read_summary p ≡ Ok (Within n a) → ReceivesAs new p p' up up (heard.Broke (broke.Channel n b)) rows (dest rows p)
+pub breaks : (s new : CoreState) (n : ℕ) (a : Act) (p p' : List ℕ) (up : QueueState) (e0 : TableEntry) (b : Breach) (rows : List Row) → CoreRepresents s rows → find (shown_at n) s.channels ≡ Some e0 → ((x : Channel) → ledger.LedgerRepresents e0.ledger x → breach Down a x ≡ Some b) → is_failing a ≡ false → read_summary p ≡ Ok (Within n a) → ReceivesAs new p p' up up (heard.Broke (broke.Channel n b)) rows (dest rows p)
 breaks s new n a p p' up e0 b rows st h broken plain e =
     let x = holds s n e0 rows st h in
     subst (ReceivesAs new p p' up up (heard.Broke (broke.Channel n b)) rows)
     (sym (dest-within rows n a p e plain ∙ (ap (λ (o : Option Channel). elim o as (λ _. Dest) [ None ↦ Breaks (broke.NoChannel n) | Some x ↦ elim (breach Down a x) as (λ _. Dest) [ Some b ↦ Breaks (broke.Channel n b) | None ↦ ToClient x.client ] ]) x.is ∙ ap (λ (o : Option Breach). elim o as (λ _. Dest) [ Some b ↦ Breaks (broke.Channel n b) | None ↦ ToClient x.channel.client ]) (broken x.channel x.fits.ledger))))
     (record { sent = refl; to = refl })
 
-pub goes-to : (s : CoreState) (n : ℕ) (a : Act) (p : List ℕ) (e0 : TableEntry) (rows : List Row) → CoreRepresents s rows → find (shown_at n) s.channels ≡ Some e0 → ((x : Channel) → ledger.Stands e0.ledger x → breach Down a x ≡ None) → is_failing a ≡ false → read_summary p ≡ Ok (Within n a) → dest rows p ≡ ToClient e0.channel.client
+pub goes-to : (s : CoreState) (n : ℕ) (a : Act) (p : List ℕ) (e0 : TableEntry) (rows : List Row) → CoreRepresents s rows → find (shown_at n) s.channels ≡ Some e0 → ((x : Channel) → ledger.LedgerRepresents e0.ledger x → breach Down a x ≡ None) → is_failing a ≡ false → read_summary p ≡ Ok (Within n a) → dest rows p ≡ ToClient e0.channel.client
 goes-to s n a p e0 rows st h fine plain e =
     let x = holds s n e0 rows st h in
     dest-within rows n a p e plain ∙ (ap (λ (o : Option Channel). elim o as (λ _. Dest) [ None ↦ Breaks (broke.NoChannel n) | Some x ↦ elim (breach Down a x) as (λ _. Dest) [ Some b ↦ Breaks (broke.Channel n b) | None ↦ ToClient x.client ] ]) x.is ∙ (ap (λ (o : Option Breach). elim o as (λ _. Dest) [ Some b ↦ Breaks (broke.Channel n b) | None ↦ ToClient x.channel.client ]) (fine x.channel x.fits.ledger) ∙ ap ToClient (sym x.fits.client)))
 
 -- ---- to a client that is served
 
-pub delivers : (s new : CoreState) (n : ℕ) (a : Act) (p : List ℕ) (up : QueueState) (e0 : TableEntry) (l : Ledger) (over : Bool) (rows : List Row) → CoreRepresents s rows → is_member_served s.clients e0.channel.client ≡ true → find (shown_at n) s.channels ≡ Some e0 → ((x : Channel) → ledger.Stands e0.ledger x → breach Down a x ≡ None) → ActsOn Down a e0.ledger l over → is_failing a ≡ false → new ≡ record s { channels = acted e0.number l over s.channels } → read_summary p ≡ Ok (Within n a) → ReceivesAs new p (with_recipient p (unwrap_or e0.channel.own 0)) up up (heard.Client e0.channel.client 0) rows (dest rows p)
+pub delivers : (s new : CoreState) (n : ℕ) (a : Act) (p : List ℕ) (up : QueueState) (e0 : TableEntry) (l : Ledger) (over : Bool) (rows : List Row) → CoreRepresents s rows → is_member_served s.clients e0.channel.client ≡ true → find (shown_at n) s.channels ≡ Some e0 → ((x : Channel) → ledger.LedgerRepresents e0.ledger x → breach Down a x ≡ None) → ActsOn Down a e0.ledger l over → is_failing a ≡ false → new ≡ record s { channels = acted e0.number l over s.channels } → read_summary p ≡ Ok (Within n a) → ReceivesAs new p (with_recipient p (unwrap_or e0.channel.own 0)) up up (heard.Client e0.channel.client 0) rows (dest rows p)
 delivers s new n a p up e0 l over rows st serves h fine acts plain after e =
     subst (ReceivesAs new p (with_recipient p (unwrap_or e0.channel.own 0)) up up (heard.Client e0.channel.client 0) rows) (sym (goes-to s n a p e0 rows st h fine plain e)) recorded
   where
@@ -119,7 +119,7 @@ delivers s new n a p up e0 l over rows st serves h fine acts plain after e =
 
 -- ---- to a client that is lost
 
-pub passes-by : (s new : CoreState) (n : ℕ) (a : Act) (p p' : List ℕ) (up : QueueState) (e0 : TableEntry) (l : Ledger) (over : Bool) (rows : List Row) → CoreRepresents s rows → is_lost_in s.clients e0.channel.client ≡ true → find (shown_at n) s.channels ≡ Some e0 → ((x : Channel) → ledger.Stands e0.ledger x → breach Down a x ≡ None) → ActsOn Down a e0.ledger l over → is_failing a ≡ false → new ≡ client_settled (record s { channels = acted e0.number l over s.channels }) e0.channel.client → read_summary p ≡ Ok (Within n a) → ReceivesAs new p p' up up (heard.Lost e0.channel.client) rows (dest rows p)
+pub passes-by : (s new : CoreState) (n : ℕ) (a : Act) (p p' : List ℕ) (up : QueueState) (e0 : TableEntry) (l : Ledger) (over : Bool) (rows : List Row) → CoreRepresents s rows → is_lost_in s.clients e0.channel.client ≡ true → find (shown_at n) s.channels ≡ Some e0 → ((x : Channel) → ledger.LedgerRepresents e0.ledger x → breach Down a x ≡ None) → ActsOn Down a e0.ledger l over → is_failing a ≡ false → new ≡ client_settled (record s { channels = acted e0.number l over s.channels }) e0.channel.client → read_summary p ≡ Ok (Within n a) → ReceivesAs new p p' up up (heard.Lost e0.channel.client) rows (dest rows p)
 passes-by s new n a p p' up e0 l over rows st lost h fine acts plain after e =
     subst (ReceivesAs new p p' up up (heard.Lost e0.channel.client) rows) (sym (goes-to s n a p e0 rows st h fine plain e)) recorded
   where
@@ -155,20 +155,20 @@ entry-known s n e0 known h = found-of (λ e. is_member_known s.clients e.channel
 
 -- ---- by what the core looks up
 
-pub delivers-for : (s new : CoreState) (n : ℕ) (a : Act) (p : List ℕ) (up : QueueState) (c : table.Channel) (l l' : Ledger) (over : Bool) (rows : List Row) → CoreRepresents s rows → channel_for s.channels n ≡ Some (c, l) → is_lost_in s.clients c.client ≡ false → ((x : Channel) → ledger.Stands l x → breach Down a x ≡ None) → ActsOn Down a l l' over → is_failing a ≡ false → new ≡ record s { channels = acted n l' over s.channels } → read_summary p ≡ Ok (Within n a) → ReceivesAs new p (with_recipient p (unwrap_or c.own 0)) up up (heard.Client c.client 0) rows (dest rows p)
+pub delivers-for : (s new : CoreState) (n : ℕ) (a : Act) (p : List ℕ) (up : QueueState) (c : table.Channel) (l l' : Ledger) (over : Bool) (rows : List Row) → CoreRepresents s rows → channel_for s.channels n ≡ Some (c, l) → is_lost_in s.clients c.client ≡ false → ((x : Channel) → ledger.LedgerRepresents l x → breach Down a x ≡ None) → ActsOn Down a l l' over → is_failing a ≡ false → new ≡ record s { channels = acted n l' over s.channels } → read_summary p ≡ Ok (Within n a) → ReceivesAs new p (with_recipient p (unwrap_or c.own 0)) up up (heard.Client c.client 0) rows (dest rows p)
 delivers-for s new n a p up c l l' over rows st looks here fine acts plain after e =
     let sh = shown-entry s.channels n c l st.channels.apart looks in
     let serves = known-served sh.entry.channel.client s.clients (entry-known s n sh.entry st.known.channels sh.found) (subst (λ (d : table.Channel). is_lost_in s.clients d.client ≡ false) (sym sh.channel) here) in
     subst (λ (d : table.Channel). ReceivesAs new p (with_recipient p (unwrap_or d.own 0)) up up (heard.Client d.client 0) rows (dest rows p)) sh.channel
-    (delivers s new n a p up sh.entry l' over rows st serves sh.found (subst (λ m. (x : Channel) → ledger.Stands m x → breach Down a x ≡ None) (sym sh.ledger) fine) (subst (λ m. ActsOn Down a m l' over) (sym sh.ledger) acts) plain (after ∙ ap (λ (i : ℕ). let u : CoreState = record s { channels = acted i l' over s.channels } in u) (sym sh.number)) e)
+    (delivers s new n a p up sh.entry l' over rows st serves sh.found (subst (λ m. (x : Channel) → ledger.LedgerRepresents m x → breach Down a x ≡ None) (sym sh.ledger) fine) (subst (λ m. ActsOn Down a m l' over) (sym sh.ledger) acts) plain (after ∙ ap (λ (i : ℕ). let u : CoreState = record s { channels = acted i l' over s.channels } in u) (sym sh.number)) e)
 
-pub passes-for : (s new : CoreState) (n : ℕ) (a : Act) (p p' : List ℕ) (up : QueueState) (c : table.Channel) (l l' : Ledger) (over : Bool) (rows : List Row) → CoreRepresents s rows → channel_for s.channels n ≡ Some (c, l) → is_lost_in s.clients c.client ≡ true → ((x : Channel) → ledger.Stands l x → breach Down a x ≡ None) → ActsOn Down a l l' over → is_failing a ≡ false → new ≡ client_settled (record s { channels = acted n l' over s.channels }) c.client → read_summary p ≡ Ok (Within n a) → ReceivesAs new p p' up up (heard.Lost c.client) rows (dest rows p)
+pub passes-for : (s new : CoreState) (n : ℕ) (a : Act) (p p' : List ℕ) (up : QueueState) (c : table.Channel) (l l' : Ledger) (over : Bool) (rows : List Row) → CoreRepresents s rows → channel_for s.channels n ≡ Some (c, l) → is_lost_in s.clients c.client ≡ true → ((x : Channel) → ledger.LedgerRepresents l x → breach Down a x ≡ None) → ActsOn Down a l l' over → is_failing a ≡ false → new ≡ client_settled (record s { channels = acted n l' over s.channels }) c.client → read_summary p ≡ Ok (Within n a) → ReceivesAs new p p' up up (heard.Lost c.client) rows (dest rows p)
 passes-for s new n a p p' up c l l' over rows st looks lost fine acts plain after e =
     let sh = shown-entry s.channels n c l st.channels.apart looks in
     subst (λ (d : table.Channel). ReceivesAs new p p' up up (heard.Lost d.client) rows (dest rows p)) sh.channel
-    (passes-by s new n a p p' up sh.entry l' over rows st (subst (λ (d : table.Channel). is_lost_in s.clients d.client ≡ true) (sym sh.channel) lost) sh.found (subst (λ m. (x : Channel) → ledger.Stands m x → breach Down a x ≡ None) (sym sh.ledger) fine) (subst (λ m. ActsOn Down a m l' over) (sym sh.ledger) acts) plain (after ∙ (ap (λ (i : ℕ). client_settled (record s { channels = acted i l' over s.channels }) c.client) (sym sh.number) ∙ ap (λ (d : table.Channel). client_settled (record s { channels = acted sh.entry.number l' over s.channels }) d.client) (sym sh.channel))) e)
+    (passes-by s new n a p p' up sh.entry l' over rows st (subst (λ (d : table.Channel). is_lost_in s.clients d.client ≡ true) (sym sh.channel) lost) sh.found (subst (λ m. (x : Channel) → ledger.LedgerRepresents m x → breach Down a x ≡ None) (sym sh.ledger) fine) (subst (λ m. ActsOn Down a m l' over) (sym sh.ledger) acts) plain (after ∙ (ap (λ (i : ℕ). client_settled (record s { channels = acted i l' over s.channels }) c.client) (sym sh.number) ∙ ap (λ (d : table.Channel). client_settled (record s { channels = acted sh.entry.number l' over s.channels }) d.client) (sym sh.channel))) e)
 
-pub within-delivered : (s mid new : CoreState) (n : ℕ) (a : Act) (p p' : List ℕ) (up : QueueState) (c : table.Channel) (l l' : Ledger) (over : Bool) (h : recorded.Delivery) (rows : List Row) → CoreRepresents s rows → channel_for s.channels n ≡ Some (c, l) → ((x : Channel) → ledger.Stands l x → breach Down a x ≡ None) → ActsOn Down a l l' over → is_failing a ≡ false → mid ≡ record s { channels = acted n l' over s.channels } → DeliversAs (is_lost_in mid.clients c.client) mid new c p p' h → read_summary p ≡ Ok (Within n a) → ReceivesAs new p p' up up h rows (dest rows p)
+pub within-delivered : (s mid new : CoreState) (n : ℕ) (a : Act) (p p' : List ℕ) (up : QueueState) (c : table.Channel) (l l' : Ledger) (over : Bool) (h : recorded.Delivery) (rows : List Row) → CoreRepresents s rows → channel_for s.channels n ≡ Some (c, l) → ((x : Channel) → ledger.LedgerRepresents l x → breach Down a x ≡ None) → ActsOn Down a l l' over → is_failing a ≡ false → mid ≡ record s { channels = acted n l' over s.channels } → DeliversAs (is_lost_in mid.clients c.client) mid new c p p' h → read_summary p ≡ Ok (Within n a) → ReceivesAs new p p' up up h rows (dest rows p)
 within-delivered s mid new n a p p' up c l l' over h rows st looks fine acts plain is goes e =
     by_case (is_lost_in s.clients c.client) refl (subst (λ (u : CoreState). DeliversAs (is_lost_in u.clients c.client) u new c p p' h) is goes)
   where

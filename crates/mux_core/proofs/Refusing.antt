@@ -140,7 +140,7 @@ idle-cancel k place g own h w = w.either (none-is g.live (and-left (is_none g.li
 
 waits-not : (k j place later : ℕ) (own : Places) (g : Forwarding) → ((k == j) ≡ true → place < later) → asks_at k place g ≡ true → IsAwaited own g → WaitsNot j later g
 waits-not k j place later own g past h w = record {
-  asked = never ((g.client == j) && stands.is_asked_at later g) (λ t.
+  asked = never ((g.client == j) && stands.request_waits_at later g) (λ t.
       clash g.request place later (and-right (is_none g.live) (g.request == place) (and-right (g.client == k) _ h)) (and-right (is_none g.live) (g.request == later) (and-right (g.client == j) _ t)) (past (joined g.client (and-left (g.client == k) _ h) (and-left (g.client == j) _ t))));
   leaving = ap (λ o. (g.client == j) && is_number o later) (idle-cancel k place g own h w) ∙ no-one (g.client == j);
 }

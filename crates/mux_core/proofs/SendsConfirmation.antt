@@ -107,7 +107,7 @@ taken-fits e0 c w m l x pend confirms fits = record {
   own = refl;
   remote = fits.remote;
   number = ap (λ b. elim b as (λ _. Option ℕ) [ true ↦ Some e0.number | false ↦ None ]) (or-true (is_up e0.channel.by));
-  ledger = stands-named (Some c) (Some e0.number) x.remote l (with_act Up (Confirms w m) x) (subst (λ (d : Side). ledger.Stands l (with_act d (Confirms w m) x)) (ap other_side (down-is x.by (ap is_up (sym fits.by) ∙ not-up e0 pend))) (confirms x fits.ledger));
+  ledger = stands-named (Some c) (Some e0.number) x.remote l (with_act Up (Confirms w m) x) (subst (λ (d : Side). ledger.LedgerRepresents l (with_act d (Confirms w m) x)) (ap other_side (down-is x.by (ap is_up (sym fits.by) ∙ not-up e0 pend))) (confirms x fits.ledger));
   held = fits.held;
 }
 

@@ -81,22 +81,22 @@ pub not-yours : (s : CoreState) (k r : ℕ) (a : Act) (p : List ℕ) (up : Queue
 not-yours s k r a p up rows st none fine e =
     dropped-row s k 0 p up (why.NotYours r) rows (said-within s.policy k r 0 a (rows_of k rows) p e fine ∙ ap (on_confirmed p r a) (nobodys s k r rows st none))
 
-pub breaks-account : (s : CoreState) (k r n : ℕ) (l : Ledger) (a : Act) (p : List ℕ) (up : QueueState) (b : Breach) (rows : List Row) → CoreRepresents s rows → confirmed_for s.channels k r ≡ Some (n, l) → ((x : Channel) → ledger.Stands l x → breach Up a x ≡ Some b) → is_failing a ≡ false → read_summary p ≡ Ok (Within r a) → CoreSendsIn s s k p 0 up up (verdict.Drop (why.Channel r b)) rows
+pub breaks-account : (s : CoreState) (k r n : ℕ) (l : Ledger) (a : Act) (p : List ℕ) (up : QueueState) (b : Breach) (rows : List Row) → CoreRepresents s rows → confirmed_for s.channels k r ≡ Some (n, l) → ((x : Channel) → ledger.LedgerRepresents l x → breach Up a x ≡ Some b) → is_failing a ≡ false → read_summary p ≡ Ok (Within r a) → CoreSendsIn s s k p 0 up up (verdict.Drop (why.Channel r b)) rows
 breaks-account s k r n l a p up b rows st found broken fine e =
     let c = confirmed-entry s.channels k r n l st.channels.apart found in
     let t = theirs s k r n l rows st c in
-    dropped-row s k 0 p up (why.Channel r b) rows (said-within s.policy k r 0 a (rows_of k rows) p e fine ∙ (ap (on_confirmed p r a) t.is ∙ ap (on_breach p r) (broken t.channel (subst (λ m. ledger.Stands m t.channel) c.ledger t.fits.ledger))))
+    dropped-row s k 0 p up (why.Channel r b) rows (said-within s.policy k r 0 a (rows_of k rows) p e fine ∙ (ap (on_confirmed p r a) t.is ∙ ap (on_breach p r) (broken t.channel (subst (λ m. ledger.LedgerRepresents m t.channel) c.ledger t.fits.ledger))))
 
 -- ---- one that is sent
 
 pub takes-within : (k r : ℕ) (a : Act) (p : List ℕ) → read_summary p ≡ Ok (Within r a) → takes_number (bare_row (Says k (Payload p) None) k (sends_payload p)) ≡ false
 takes-within k r a p e = ap is_some (reading-ok p (Within r a) summary_sender_of None e)
 
-pub is-sent : (s new : CoreState) (k r n : ℕ) (l l' : Ledger) (over : Bool) (a : Act) (p : List ℕ) (up : QueueState) (rows : List Row) → CoreRepresents s rows → is_member_served s.clients k ≡ true → confirmed_for s.channels k r ≡ Some (n, l) → ((x : Channel) → ledger.Stands l x → breach Up a x ≡ None) → ActsOn Up a l l' over → is_failing a ≡ false → new ≡ record s { channels = acted n l' over s.channels } → read_summary p ≡ Ok (Within r a) → CoreSendsIn s new k p 0 up (with_bytes (frame_payload p) up) verdict.Sent rows
+pub is-sent : (s new : CoreState) (k r n : ℕ) (l l' : Ledger) (over : Bool) (a : Act) (p : List ℕ) (up : QueueState) (rows : List Row) → CoreRepresents s rows → is_member_served s.clients k ≡ true → confirmed_for s.channels k r ≡ Some (n, l) → ((x : Channel) → ledger.LedgerRepresents l x → breach Up a x ≡ None) → ActsOn Up a l l' over → is_failing a ≡ false → new ≡ record s { channels = acted n l' over s.channels } → read_summary p ≡ Ok (Within r a) → CoreSendsIn s new k p 0 up (with_bytes (frame_payload p) up) verdict.Sent rows
 is-sent s new k r n l l' over a p up rows st serves found fine acts plain after e =
     let c = confirmed-entry s.channels k r n l st.channels.apart found in
     let t = theirs s k r n l rows st c in
-    let does : sent_payload s.policy k (rows_of k rows) 0 p ≡ sends_payload p = said-within s.policy k r 0 a (rows_of k rows) p e plain ∙ (ap (on_confirmed p r a) t.is ∙ ap (on_breach p r) (fine t.channel (subst (λ m. ledger.Stands m t.channel) c.ledger t.fits.ledger))) in
+    let does : sent_payload s.policy k (rows_of k rows) 0 p ≡ sends_payload p = said-within s.policy k r 0 a (rows_of k rows) p e plain ∙ (ap (on_confirmed p r a) t.is ∙ ap (on_breach p r) (fine t.channel (subst (λ m. ledger.LedgerRepresents m t.channel) c.ledger t.fits.ledger))) in
     let is : IsServed k (look rows) = served (look rows) k s.clients st.clients.each serves in
     let stands : CoreRepresents new (bare_row (Says k (Payload p) None) k (sends_payload p) ∷ rows) = subst (λ u. CoreRepresents u (bare_row (Says k (Payload p) None) k (sends_payload p) ∷ rows)) (ap (λ i. let u : CoreState = record s { channels = acted i l' over s.channels } in u) c.number ∙ sym after) (within-stands s k r n a p l l' over rows st is e c (subst (λ m. ActsOn Up a m l' over) (sym c.ledger) acts)) in
     subst (λ o. SendsRow s new (bare_row (Says k (Payload p) None) k o) 0 up (with_bytes (frame_payload p) up) verdict.Sent rows) (sym does) (record {

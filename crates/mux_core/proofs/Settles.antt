@@ -122,10 +122,10 @@ lost-matters s k rows table fit lost =
     channels : any_of is_channel_held (held_of (rows_of k rows)) ≡ not (channel_count_of s.channels k == 0)
     channels = any-held (channels_of (rows_of k rows)) ∙ ap (λ n. not (n == 0)) (ap length (sym (held-local k rows)) ∙ count-fit k s.channels (held_of rows) table.fit)
 
-    requests : nat_lt (length (replies (rows_of k rows))) (length (wanted_requests (rows_of k rows))) ≡ not (length (filter (answers.is_of k) s.asks) == 0)
+    requests : nat_lt (length (replies (rows_of k rows))) (length (wanted_requests (rows_of k rows))) ≡ not (length (filter (answers.is_request_of k) s.asks) == 0)
     requests =
-        below (length (replies (rows_of k rows))) (length (wanted_requests (rows_of k rows))) (length (filter (answers.is_of k) s.asks)) (fit.each k).awaited
-        (ap (λ q. length (filter (answers.is_of k) q)) fit.waiting ∙ (ap length (sym (fit.each k).waiting) ∙ length-drop (length (replies (rows_of k rows))) (wanted_requests (rows_of k rows))))
+        below (length (replies (rows_of k rows))) (length (wanted_requests (rows_of k rows))) (length (filter (answers.is_request_of k) s.asks)) (fit.each k).awaited
+        (ap (λ q. length (filter (answers.is_request_of k) q)) fit.waiting ∙ (ap length (sym (fit.each k).waiting) ∙ length-drop (length (replies (rows_of k rows))) (wanted_requests (rows_of k rows))))
 
 -- ---- who is known
 
@@ -168,10 +168,10 @@ known-settle s k known elsewhere = by_left (has_left s k) refl
     by_left : (b : Bool) → has_left s k ≡ b → AreKnown (client_settled s k)
     by_left true h = subst (λ b. AreKnown (record s { clients = clients_kept k b s.clients })) (sym h) known
     by_left false h =
-        let none = neither (not (channel_count_of s.channels k == 0)) (not (length (filter (answers.is_of k) s.asks) == 0)) h in
+        let none = neither (not (channel_count_of s.channels k == 0)) (not (length (filter (answers.is_request_of k) s.asks) == 0)) h in
         subst (λ b. AreKnown (record s { clients = clients_kept k b s.clients })) (sym h) (record {
           channels = all-both (λ (e : TableEntry). is_channel_of k e ≡ false) (λ (e : TableEntry). is_member_known s.clients e.channel.client ≡ true) (λ (e : TableEntry). is_member_known (filter (is_other k) s.clients) e.channel.client ≡ true) (λ e a b. known-without k e.channel.client s.clients a b) s.channels (none-of (is_channel_of k) s.channels none.0) known.channels;
-          asks = all-both (λ (a : Ask). answers.is_of k a ≡ false) (λ (a : Ask). is_member_known s.clients a.client ≡ true) (λ (a : Ask). is_member_known (filter (is_other k) s.clients) a.client ≡ true) (λ a x y. known-without k a.client s.clients x y) s.asks (none-of (answers.is_of k) s.asks none.1) known.asks;
+          asks = all-both (λ (a : Ask). answers.is_request_of k a ≡ false) (λ (a : Ask). is_member_known s.clients a.client ≡ true) (λ (a : Ask). is_member_known (filter (is_other k) s.clients) a.client ≡ true) (λ a x y. known-without k a.client s.clients x y) s.asks (none-of (answers.is_request_of k) s.asks none.1) known.asks;
           forwards = all-both (λ (f : Forward). (f.client == k) ≡ false) (λ (f : Forward). is_member_served s.clients f.client ≡ true) (λ (f : Forward). is_member_served (filter (is_other k) s.clients) f.client ≡ true) (λ f a b. served-without k f.client s.clients a b) s.forwards elsewhere known.forwards;
         })
 

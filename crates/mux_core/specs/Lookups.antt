@@ -34,7 +34,7 @@ acted n l over es = filter (entry_stays_in n over) (changed_at n (with_ledger l)
 
 pub record PutsLedger (old new : CoreState) (n : ℕ) (l : Ledger) : Type 0 where
   pub over : Bool
-  pub closed : (x : history.Channel) → ledger.Stands l x → over ≡ ledger.both_closed x
+  pub closed : (x : history.Channel) → ledger.LedgerRepresents l x → over ≡ ledger.both_closed x
   pub after : new ≡ record old { channels = acted n l over old.channels }
 
 -- ---- the channel for which a number stands

@@ -59,7 +59,7 @@ not-out (row ∷ own) l r =
 -- ---- the arrow: the server's payload goes to a client that is here
 
 record ReceivedOne (p : List ℕ) (core2 : CoreState) (up2 : QueueState) (rows : List Row) (row : Row) (x y : ClientState) : Type 0 where
-  here : stands.is_lost x.peer.standing ≡ false
+  here : stands.is_standing_lost x.peer.standing ≡ false
   in_rows : ReceivedRow p (part core2 y.peer up2) rows row
 
 -- one of them that goes on so
@@ -70,7 +70,7 @@ heard-one pid picks given p p' k n core0 core1 core2 cs up up1 up2 rows x y fit 
     let t : IsTo core1 k n p p' up up1 rows = is-to core1 k n p p' up up1 rows (dest rows p) refl (receives rows (fit.core live)).row in
     let j : ℕ = x.peer.number in
     let lost : is_lost (rows_of j rows) ≡ false = subst (λ i. is_lost (rows_of i rows) ≡ false) (sym num) t.here in
-    let in-it : stands.is_lost x.peer.standing ≡ false = ap stands.is_lost f.peer.standing_is ∙ (sym (out_is (rows_of j rows)) ∙ not-out (rows_of j rows) lost f.unrefused) in
+    let in-it : stands.is_standing_lost x.peer.standing ≡ false = ap stands.is_standing_lost f.peer.standing_is ∙ (sym (out_is (rows_of j rows)) ∙ not-out (rows_of j rows) lost f.unrefused) in
     record {
       here = in-it;
       in_rows = heard-client pid picks given p p' core0 core1 x.peer (part core2 y.peer up2) up up1 n rows (record { core = fit.core; peer = f.peer; up = fit.up }) live in-it

@@ -58,23 +58,23 @@ stands-proxies (Body body) = read-proxies (read_control body)
 stands-proxies (Payload p) = refl
 stands-proxies (BadFraming fault) = refl
 
-kept-proxies : (s next : Standing) → stands.is_lost (keep_lost s next) ≡ false → is_proxied (keep_lost s next) ≡ is_proxied next
+kept-proxies : (s next : Standing) → stands.is_standing_lost (keep_lost s next) ≡ false → is_proxied (keep_lost s next) ≡ is_proxied next
 kept-proxies Awaited next l = refl
 kept-proxies Greeted next l = refl
 kept-proxies Proxied next l = refl
 kept-proxies Unread next l = refl
 kept-proxies (Lost why) next l = absurd (cc)
 
-pub proxied-is : (own : List Row) → is_run_over own ≡ false → stands.is_lost (standing_of own) ≡ false → in_proxy own ≡ is_proxied (standing_of own)
+pub proxied-is : (own : List Row) → is_run_over own ≡ false → stands.is_standing_lost (standing_of own) ≡ false → in_proxy own ≡ is_proxied (standing_of own)
 proxied-is [] live here = refl
 proxied-is (row ∷ own) live here = by_fate row.fate (or-left (is_end row.fate) (is_run_over own) live) here (λ h. proxied-is own (or-right (is_end row.fate) (is_run_over own) live) h)
   where
-    by_item : (item : Item) → stands.is_lost (standing_by item (standing_of own)) ≡ false → (stands.is_lost (standing_of own) ≡ false → in_proxy own ≡ is_proxied (standing_of own)) → (elim item as (λ _. Bool) [ Says k outgoing given ↦ proxies_by outgoing | _ ↦ in_proxy own ]) ≡ is_proxied (standing_by item (standing_of own))
+    by_item : (item : Item) → stands.is_standing_lost (standing_by item (standing_of own)) ≡ false → (stands.is_standing_lost (standing_of own) ≡ false → in_proxy own ≡ is_proxied (standing_of own)) → (elim item as (λ _. Bool) [ Says k outgoing given ↦ proxies_by outgoing | _ ↦ in_proxy own ]) ≡ is_proxied (standing_by item (standing_of own))
     by_item (Says k x given) l ih = sym (kept-proxies (standing_of own) (stands_by x) l ∙ stands-proxies x)
     by_item (Gone k) l ih = absurd (cc)
     by_item item l ih = ih l
 
-    by_fate : (f : Fate) → is_end f ≡ false → stands.is_lost (elim f as (λ _. Standing) [ Drop cause ↦ Lost (Some cause) | Refused ↦ Lost None | Goes ↦ standing_by row.item (standing_of own) | End cause ↦ keep_lost (standing_of own) Unread ]) ≡ false → (stands.is_lost (standing_of own) ≡ false → in_proxy own ≡ is_proxied (standing_of own))
+    by_fate : (f : Fate) → is_end f ≡ false → stands.is_standing_lost (elim f as (λ _. Standing) [ Drop cause ↦ Lost (Some cause) | Refused ↦ Lost None | Goes ↦ standing_by row.item (standing_of own) | End cause ↦ keep_lost (standing_of own) Unread ]) ≡ false → (stands.is_standing_lost (standing_of own) ≡ false → in_proxy own ≡ is_proxied (standing_of own))
         → in_proxy (row ∷ own) ≡ is_proxied (elim f as (λ _. Standing) [ Drop cause ↦ Lost (Some cause) | Refused ↦ Lost None | Goes ↦ standing_by row.item (standing_of own) | End cause ↦ keep_lost (standing_of own) Unread ])
     by_fate Goes e l ih = by_item row.item l ih
     by_fate (Drop cause) e l ih = absurd (cc)
@@ -130,7 +130,7 @@ stands-house k id given fw down Goes own g = refl
 stands-house k id given fw down (Drop cause) own g = refl
 stands-house k id given fw down f own g = absurd g
 
-greets-house : (f : Fate) (own : List Row) (s : Standing) → GoesOrDrops f → (stands.is_lost s ≡ false → client_has_greeted own ≡ is_greeted s) → stands.is_lost (standing_received f s) ≡ false → client_has_greeted own ≡ is_greeted (standing_received f s)
+greets-house : (f : Fate) (own : List Row) (s : Standing) → GoesOrDrops f → (stands.is_standing_lost s ≡ false → client_has_greeted own ≡ is_greeted s) → stands.is_standing_lost (standing_received f s) ≡ false → client_has_greeted own ≡ is_greeted (standing_received f s)
 greets-house Goes own s g h l = h l
 greets-house (Drop cause) own s g h l = absurd (cc)
 greets-house f own s g h l = absurd g
@@ -164,10 +164,10 @@ module _ (id : ℕ) (given : HouseReply) (c : CoreState) (peer : PeerState) (up 
   fs = frames answer
 
   -- the row, but for the bound of the queue
-  outcome-of : (rows : List Row) → PartFits rows (part c peer up) → is_run_over rows ≡ false → stands.is_lost peer.standing ≡ false → house_sends (rows_of peer.number rows) id given ≡ says answer
+  outcome-of : (rows : List Row) → PartFits rows (part c peer up) → is_run_over rows ≡ false → stands.is_standing_lost peer.standing ≡ false → house_sends (rows_of peer.number rows) id given ≡ says answer
   outcome-of rows fits live here =
       house-outcome (rows_of peer.number rows) (is_proxied peer.standing) id given
-      (proxied-is (rows_of peer.number rows) (ended-part peer.number rows live) (ap stands.is_lost (sym fits.peer.standing_is) ∙ here) ∙ ap is_proxied (sym fits.peer.standing_is))
+      (proxied-is (rows_of peer.number rows) (ended-part peer.number rows live) (ap stands.is_standing_lost (sym fits.peer.standing_is) ∙ here) ∙ ap is_proxied (sym fits.peer.standing_is))
       ∙ ap says (sym is)
 
   recorded-of : (own : List Row) → all_recorded (bare_row (HouseSays peer.number id given) peer.number (says answer)) own ≡ frames answer
@@ -184,7 +184,7 @@ module _ (id : ℕ) (given : HouseReply) (c : CoreState) (peer : PeerState) (up 
         let form : next_row (by_lists policy pid picks replies) rows (HouseSays k id given) ≡ row =
         ap (λ (o : Outcome). row_of (HouseSays k id given) k o own) (outcome-of rows fits live here)
         ∙ row-on (HouseSays k id given) k (says answer) own (frames answer) refl refl (recorded-of own) (ap (λ n. overflow n (frames answer)) wait ∙ fit) in
-        let unlost : is_lost own ≡ false = not_lost own (out_is own ∙ (ap stands.is_lost (sym fits.peer.standing_is) ∙ here)) in
+        let unlost : is_lost own ≡ false = not_lost own (out_is own ∙ (ap stands.is_standing_lost (sym fits.peer.standing_is) ∙ here)) in
         subst (IsAnswered k id given (part c mid up) rows) (sym form) (record {
           item_is = refl;
           client_is = refl;
@@ -209,7 +209,7 @@ module _ (id : ℕ) (given : HouseReply) (c : CoreState) (peer : PeerState) (up 
         let b : Row = house_row k id given (frames answer) in
         let down : List (List ℕ) = frames_that_fit (waiting_down own) (frames answer) in
         let q : Row = made (HouseSays k id given) k [] [] down (Drop cause) in
-        let unlost : is_lost own ≡ false = not_lost own (out_is own ∙ (ap stands.is_lost (sym fits.peer.standing_is) ∙ here)) in
+        let unlost : is_lost own ≡ false = not_lost own (out_is own ∙ (ap stands.is_standing_lost (sym fits.peer.standing_is) ∙ here)) in
         let st : CoreRepresents c (b ∷ rows) = house-stands c k id given (frames answer) rows (fits.core live) fits.peer.admitted unlost in
         let served = after-served c k b rows st refl refl fits.peer.admitted unlost in
         let gone : Leaves c2 q up up2 rows = (subst (λ j. LeavesRecorded c c2 j up up2) (ap (λ (t : PeerState). t.number) recorded) leaves) rows b down cause st served refl refl refl refl in

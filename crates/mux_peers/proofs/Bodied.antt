@@ -76,8 +76,8 @@ by-drop o cause e q = subst (λ (f : Fate). elim f as (λ _. Type 0) [ Drop caus
 
 -- ---- before the row
 
-unlost : (peer : PeerState) (c : CoreState) (up : QueueState) (rows : List Row) → PartFits rows (part c peer up) → stands.is_lost peer.standing ≡ false → is_lost (rows_of peer.number rows) ≡ false
-unlost peer c up rows fits here = not_lost (rows_of peer.number rows) (out_is (rows_of peer.number rows) ∙ (ap stands.is_lost (sym fits.peer.standing_is) ∙ here))
+unlost : (peer : PeerState) (c : CoreState) (up : QueueState) (rows : List Row) → PartFits rows (part c peer up) → stands.is_standing_lost peer.standing ≡ false → is_lost (rows_of peer.number rows) ≡ false
+unlost peer c up rows fits here = not_lost (rows_of peer.number rows) (out_is (rows_of peer.number rows) ∙ (ap stands.is_standing_lost (sym fits.peer.standing_is) ∙ here))
 
 said-row : (pid : ℕ) (given : Option HouseReply) (body : List ℕ) (rows : List Row) (old : Part) (d : Decision) → IsDecided pid given body rows old d
     → row_of (Says old.peer.number (Body body) given) old.peer.number (sent_body pid old.peer.number given (client_has_greeted (rows_of old.peer.number rows)) body) (rows_of old.peer.number rows) ≡ row_of (Says old.peer.number (Body body) given) old.peer.number (outcome_of d) (rows_of old.peer.number rows)

@@ -39,7 +39,7 @@ stands-heard p k ups fw down Goes own g = refl
 stands-heard p k ups fw down (Drop cause) own g = refl
 stands-heard p k ups fw down f own g = absurd g
 
-greets-heard : (f : Fate) (own : List Row) (s : Standing) → GoesOrDrops f → (stands.is_lost s ≡ false → client_has_greeted own ≡ is_greeted s) → stands.is_lost (standing_received f s) ≡ false → client_has_greeted own ≡ is_greeted (standing_received f s)
+greets-heard : (f : Fate) (own : List Row) (s : Standing) → GoesOrDrops f → (stands.is_standing_lost s ≡ false → client_has_greeted own ≡ is_greeted s) → stands.is_standing_lost (standing_received f s) ≡ false → client_has_greeted own ≡ is_greeted (standing_received f s)
 greets-heard Goes own s g h l = h l
 greets-heard (Drop cause) own s g h l = absurd (cc)
 greets-heard f own s g h l = absurd g
@@ -94,7 +94,7 @@ receives-full fs cause c c2 peer mid peer' up up2 recorded full left leaves = re
       let wait : waiting_down own ≡ length peer.queue = ap length (sym h.peer.queue_is) in
       let down : List (List ℕ) = frames_that_fit (waiting_down own) fs in
       let q : Row = made (Heard p) k o.sent [] down (Drop cause) in
-      let here : is_lost own ≡ false = not_lost own (out_is own ∙ (ap stands.is_lost (sym h.peer.standing_is) ∙ h.here)) in
+      let here : is_lost own ≡ false = not_lost own (out_is own ∙ (ap stands.is_standing_lost (sym h.peer.standing_is) ∙ h.here)) in
       let goes : loses (bare_row (Heard p) k o) ≡ false = ap (λ (f : Fate). loses (made (Heard p) k o.sent [] o.recorded f)) h.ends in
       let served = after-served c k (bare_row (Heard p) k o) rows h.core refl goes h.peer.admitted here in
       let gone : Leaves c2 q up up2 rows = (subst (λ j. LeavesRecorded c c2 j up up2) (ap (λ (t : PeerState). t.number) recorded) leaves) rows (bare_row (Heard p) k o) down cause h.core served refl h.ends goes refl in

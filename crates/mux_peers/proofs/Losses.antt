@@ -70,7 +70,7 @@ gone-loses c c' peer peer' up up' num standing queue leaves = record {
       let fw : List (List ℕ) = farewell (gone k) own in
       let row : Row = made (Gone k) k [] fw [] Goes in
       let st : CoreRepresents c rows = fits.core live in
-      let unlost : is_lost own ≡ false = not_lost own (out_is own ∙ (ap stands.is_lost (sym fits.peer.standing_is) ∙ here)) in
+      let unlost : is_lost own ≡ false = not_lost own (out_is own ∙ (ap stands.is_standing_lost (sym fits.peer.standing_is) ∙ here)) in
       let left : Leaves c' (gone k) up up' rows = leaves rows (gone k) st (served-of c rows k st fits.peer.admitted unlost) refl refl refl refl refl in
       let mine : rows_of peer'.number (row ∷ rows) ≡ row ∷ own = ap (λ j. rows_of j (row ∷ rows)) num ∙ own_row k row rows refl in
       subst (λ (r : Row). PartFits (r ∷ rows) (part c' peer' up')) (sym (gone-row policy pid picks given k rows)) (record {

@@ -180,7 +180,7 @@ body-more May before recorded policy pid picks given k mode all picked used asks
     let rows' : List Row = rows_sent policy pid picks given k rows r.says in
     let own : List Row = rows_of k rows' in
     let on : ReadsOn all mode now rows' r.says = r.reads read in
-    let here : stands.is_lost now.peer.standing ≡ false = read-here now.peer.standing read in
+    let here : stands.is_standing_lost now.peer.standing ≡ false = read-here now.peer.standing read in
     let mine : rows_of now.peer.number rows' ≡ own = ap (λ j. rows_of j rows') r.number in
     let greets : client_has_greeted (rows_of now.peer.number rows') ≡ is_greeted now.peer.standing = r.fits.peer.greeted_is here in
     let dec : Decides pid now.peer.number (client_has_greeted (rows_of now.peer.number rows')) body by.given d = subst (λ b. Decides pid now.peer.number b body by.given d) (sym greets) by.decides in
@@ -215,8 +215,8 @@ fault-runs policy pid picks given k mode all picked used asks rows core core' up
     let rows' : List Row = rows_sent policy pid picks given k rows r.says in
     let own : List Row = rows_of k rows' in
     let on : ReadsOn all mode now rows' r.says = r.reads read in
-    let here : stands.is_lost now.peer.standing ≡ false = read-here now.peer.standing read in
-    let out : is_out own ≡ false = out_is own ∙ (ap stands.is_lost (sym (r.fits.peer.standing_is ∙ ap (λ j. standing_of (rows_of j rows')) r.number)) ∙ here) in
+    let here : stands.is_standing_lost now.peer.standing ≡ false = read-here now.peer.standing read in
+    let out : is_out own ≡ false = out_is own ∙ (ap stands.is_standing_lost (sym (r.fits.peer.standing_is ∙ ap (λ j. standing_of (rows_of j rows')) r.number)) ∙ here) in
     let last = rows-last policy pid picks given k rows r.says x on.live out in
     let row : Row = row_of (Says k x None) k (drops (why.BadFrame fault)) own in
     let done0 = faults rows' r.fits on.live here in

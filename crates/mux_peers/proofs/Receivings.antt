@@ -123,7 +123,7 @@ no-number p row e = ap (λ (item : Rattle.mux_history.specs.Rows.Item). Rattle.m
     and-no false = refl
 
 pub heard-client : (pid : ℕ) (picks : List ℕ) (given : List HouseReply) (p p' : List ℕ) (core0 core1 : CoreState) (peer : PeerState) (new : Part) (up up1 : QueueState) (n : ℕ) (rows : List Row)
-    → PartFits rows (part core0 peer up) → is_run_over rows ≡ false → stands.is_lost peer.standing ≡ false → CoreReceivesOn core0 core1 p p' up up1 (heard.Client peer.number n) → ReceivesRecorded (recorded_by (heard.Client peer.number n) p') (part core1 peer up1) new
+    → PartFits rows (part core0 peer up) → is_run_over rows ≡ false → stands.is_standing_lost peer.standing ≡ false → CoreReceivesOn core0 core1 p p' up up1 (heard.Client peer.number n) → ReceivesRecorded (recorded_by (heard.Client peer.number n) p') (part core1 peer up1) new
     → ReceivedRow p new rows (next_row (by_lists core0.policy pid picks given) rows (Heard p))
 heard-client pid picks given p p' core0 core1 peer new up up1 n rows fits live here receives recorded =
     let k : ℕ = peer.number in

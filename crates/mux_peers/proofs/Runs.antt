@@ -41,7 +41,7 @@ map-last f (y ∷ xs) x = ap (λ l. f y ∷ l) (map-last f xs x)
 
 -- ---- a saying of a client that is read makes a row
 
-pub read-here : (s : Standing) → is_read s ≡ true → stands.is_lost s ≡ false
+pub read-here : (s : Standing) → is_read s ≡ true → stands.is_standing_lost s ≡ false
 read-here Awaited e = refl
 read-here Greeted e = refl
 read-here Proxied e = refl
@@ -67,16 +67,16 @@ rows-last policy pid picks given k rows says x live out =
 abbrev ShowsRead : Fate → Outgoing → Standing → Type 0
 ShowsRead f x s = is_read s ≡ true → (is_end f ≡ false) × (s ≡ stands_by x)
 
-shows-read : (f : Fate) (k : ℕ) (x : Outgoing) (given : Option HouseReply) (s s' : Standing) → stands.is_lost s ≡ false → s' ≡ standing_step f (Says k x given) s → ShowsRead f x s'
+shows-read : (f : Fate) (k : ℕ) (x : Outgoing) (given : Option HouseReply) (s s' : Standing) → stands.is_standing_lost s ≡ false → s' ≡ standing_step f (Says k x given) s → ShowsRead f x s'
 shows-read Goes k x given s s' here e r = (refl, e ∙ kept_here s (stands_by x) here)
 shows-read (Drop cause) k x given s s' here e r = absurd (let d : false ≡ true = sym (ap is_read e) ∙ r in cc)
 shows-read Refused k x given s s' here e r = absurd (let d : false ≡ true = sym (ap is_read e) ∙ r in cc)
 shows-read (End cause) k x given s s' here e r = absurd (let d : false ≡ true = sym (ap is_read (e ∙ kept_here s Unread here)) ∙ r in cc)
 
-shows-out : (f : Fate) (k : ℕ) (x : Outgoing) (given : Option HouseReply) (s s' : Standing) → stands.is_lost s ≡ false → s' ≡ standing_step f (Says k x given) s → is_read s' ≡ false → ((is_end f ≡ true) ⊎ (stands.is_lost s' ≡ true)) ⊎ (is_read (stands_by x) ≡ false)
+shows-out : (f : Fate) (k : ℕ) (x : Outgoing) (given : Option HouseReply) (s s' : Standing) → stands.is_standing_lost s ≡ false → s' ≡ standing_step f (Says k x given) s → is_read s' ≡ false → ((is_end f ≡ true) ⊎ (stands.is_standing_lost s' ≡ true)) ⊎ (is_read (stands_by x) ≡ false)
 shows-out Goes k x given s s' here e r = inr (sym (ap is_read (e ∙ kept_here s (stands_by x) here)) ∙ r)
-shows-out (Drop cause) k x given s s' here e r = inl (inr (ap stands.is_lost e))
-shows-out Refused k x given s s' here e r = inl (inr (ap stands.is_lost e))
+shows-out (Drop cause) k x given s s' here e r = inl (inr (ap stands.is_standing_lost e))
+shows-out Refused k x given s s' here e r = inl (inr (ap stands.is_standing_lost e))
 shows-out (End cause) k x given s s' here e r = inl (inl refl)
 
 -- ---- the mode
@@ -158,8 +158,8 @@ frame-runs policy pid picks given k mode all picked picked' used used' asks asks
     let row : Row = next_row (by_lists policy pid picks given) rows' (sent_item k x) in
     let on : ReadsOn all mode now rows' r.says = r.reads read in
     let stood : s ≡ standing_of own = r.fits.peer.standing_is ∙ ap (λ j. standing_of (rows_of j rows')) r.number in
-    let here : stands.is_lost s ≡ false = read-here s read in
-    let out : is_out own ≡ false = out_is own ∙ (ap stands.is_lost (sym stood) ∙ here) in
+    let here : stands.is_standing_lost s ≡ false = read-here s read in
+    let out : is_out own ≡ false = out_is own ∙ (ap stands.is_standing_lost (sym stood) ∙ here) in
     let last : rows_sent policy pid picks given k rows (r.says ++ x ∷ []) ≡ row ∷ rows' = rows-last policy pid picks given k rows r.says x on.live out in
     let mine : rows_of new.peer.number (row ∷ rows') ≡ row ∷ own = ap (λ j. rows_of j (row ∷ rows')) one.number ∙ own_row k row rows' one.client_is in
     let stands' : new.peer.standing ≡ standing_step row.fate (Says k x one.reply) s =
@@ -189,7 +189,7 @@ frame-runs policy pid picks given k mode all picked picked' used used' asks asks
             none = elim (shows-out row.fate k x one.reply s new.peer.standing here stands' e) [
               | inl w ↦ inl (elim w [
                 | inl t ↦ inl (ap is_run_over last ∙ ap (λ b. b || is_run_over rows') t)
-                | inr t ↦ inr (ap (λ l. is_out (rows_of new.peer.number l)) last ∙ (out_is (rows_of new.peer.number (row ∷ rows')) ∙ (ap stands.is_lost (sym one.fits.peer.standing_is) ∙ t)))
+                | inr t ↦ inr (ap (λ l. is_out (rows_of new.peer.number l)) last ∙ (out_is (rows_of new.peer.number (row ∷ rows')) ∙ (ap stands.is_standing_lost (sym one.fits.peer.standing_is) ∙ t)))
               ])
               | inr t ↦ inr (ap (λ m. (parse m rest).says) (mode-stops s content read t) ∙ ap (λ (p : Parsed). p.says) (parse-stopped rest))
             ];
@@ -200,7 +200,7 @@ frame-runs policy pid picks given k mode all picked picked' used used' asks asks
     }
   where
     -- the run neither ended by the row nor was the client lost by it
-    by_shown : {P : Type 0} (row : Row) (rows' : List Row) (was : Bool) → is_run_over rows' ≡ false → stands.is_lost new.peer.standing ≡ false → (is_end row.fate || is_run_over rows') ≡ false → ((is_end row.fate ≡ true) ⊎ (stands.is_lost new.peer.standing ≡ true)) ⊎ (is_read (stands_by (sending_in (parse_mode_of now.peer.standing) content)) ≡ false)
+    by_shown : {P : Type 0} (row : Row) (rows' : List Row) (was : Bool) → is_run_over rows' ≡ false → stands.is_standing_lost new.peer.standing ≡ false → (is_end row.fate || is_run_over rows') ≡ false → ((is_end row.fate ≡ true) ⊎ (stands.is_standing_lost new.peer.standing ≡ true)) ⊎ (is_read (stands_by (sending_in (parse_mode_of now.peer.standing) content)) ≡ false)
         → (is_read (stands_by (sending_in (parse_mode_of now.peer.standing) content)) ≡ false → P) → P
     by_shown row rows' was live h l (inl (inl t)) f = absurd (let d : true ≡ false = sym (ap (λ b. b || is_run_over rows') t) ∙ l in cc)
     by_shown row rows' was live h l (inl (inr t)) f = absurd (let d : true ≡ false = sym t ∙ h in cc)

@@ -94,14 +94,14 @@ pub record Before (core0 : CoreState) (peer : PeerState) (up : QueueState) (rows
   pub live : is_run_over rows ≡ false
   pub proxied : peer.standing ≡ Proxied
 
-here-of : (core0 : CoreState) (peer : PeerState) (up : QueueState) (rows : List Row) → Before core0 peer up rows → stands.is_lost peer.standing ≡ false
-here-of core0 peer up rows b = ap stands.is_lost b.proxied
+here-of : (core0 : CoreState) (peer : PeerState) (up : QueueState) (rows : List Row) → Before core0 peer up rows → stands.is_standing_lost peer.standing ≡ false
+here-of core0 peer up rows b = ap stands.is_standing_lost b.proxied
 
 unlost : (core0 : CoreState) (peer : PeerState) (up : QueueState) (rows : List Row) → Before core0 peer up rows → is_lost (rows_of peer.number rows) ≡ false
-unlost core0 peer up rows b = not_lost (rows_of peer.number rows) (out_is (rows_of peer.number rows) ∙ (ap stands.is_lost (sym b.fits.peer.standing_is) ∙ here-of core0 peer up rows b))
+unlost core0 peer up rows b = not_lost (rows_of peer.number rows) (out_is (rows_of peer.number rows) ∙ (ap stands.is_standing_lost (sym b.fits.peer.standing_is) ∙ here-of core0 peer up rows b))
 
 -- so the core serves it
-pub served-before : (core0 : CoreState) (peer : PeerState) (up : QueueState) (rows : List Row) → Before core0 peer up rows → core.is_served core0.clients peer.number ≡ true
+pub served-before : (core0 : CoreState) (peer : PeerState) (up : QueueState) (rows : List Row) → Before core0 peer up rows → core.is_member_served core0.clients peer.number ≡ true
 served-before core0 peer up rows b = served-of core0 rows peer.number (b.fits.core b.live) b.fits.peer.admitted (unlost core0 peer up rows b)
 
 -- what is known of the core's answer: the number, and the outcome as far as it goes
@@ -136,7 +136,7 @@ said-on pid picks given p core0 core1 peer peer' up up1 pick tk rows fs b a ends
 
 -- ---- it goes on, and what it records doesn't fit
 
-pub after-served : (core1 : CoreState) (k : ℕ) (row : Row) (rows : List Row) → CoreRepresents core1 (row ∷ rows) → row.client ≡ k → loses row ≡ false → any_of is_admit (rows_of k rows) ≡ true → is_lost (rows_of k rows) ≡ false → core.is_served core1.clients k ≡ true
+pub after-served : (core1 : CoreState) (k : ℕ) (row : Row) (rows : List Row) → CoreRepresents core1 (row ∷ rows) → row.client ≡ k → loses row ≡ false → any_of is_admit (rows_of k rows) ≡ true → is_lost (rows_of k rows) ≡ false → core.is_member_served core1.clients k ≡ true
 after-served core1 k row rows st c keeps admitted here =
     served-of core1 (row ∷ rows) k st
     (ap (any_of is_admit) (own_row k row rows c) ∙ (ap (λ b. is_admit row || b) admitted ∙ or_true (is_admit row)))
@@ -188,7 +188,7 @@ said-drops pid picks given p core0 core1 core2 peer peer' up up1 up2 pick tk row
     let o : Outcome = sent_payload core0.policy k own pick p in
     let q : Row = made (said k p) k o.sent [] [] (Drop cause) in
     let st : CoreRepresents core1 rows = subst (λ (s : CoreState). CoreRepresents s rows) (sym same) (b.fits.core b.live) in
-    let served : core.is_served core1.clients k ≡ true = subst (λ (s : CoreState). core.is_served s.clients k ≡ true) (sym same) (served-before core0 peer up rows b) in
+    let served : core.is_member_served core1.clients k ≡ true = subst (λ (s : CoreState). core.is_member_served s.clients k ≡ true) (sym same) (served-before core0 peer up rows b) in
     let left : Leaves core2 q up1 up2 rows = leaves rows q st served refl refl unsent refl refl in
     let fw : List (List ℕ) = farewell q own in
     let is : next_row (by_lists core0.policy pid picks given) rows (said k p) ≡ made (said k p) k o.sent fw [] (Drop cause) =

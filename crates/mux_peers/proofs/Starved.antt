@@ -148,9 +148,9 @@ asked-row policy pid picks given k mode all picked used asks rows core up now he
     let rows' : List Row = rows_sent policy pid picks given k rows r.says in
     let own : List Row = rows_of k rows' in
     let on : ReadsOn all mode now rows' r.says = r.reads read in
-    let here : stands.is_lost now.peer.standing ≡ false = read-here now.peer.standing read in
+    let here : stands.is_standing_lost now.peer.standing ≡ false = read-here now.peer.standing read in
     let mine : rows_of now.peer.number rows' ≡ own = ap (λ j. rows_of j rows') r.number in
-    let out : is_out own ≡ false = out_is own ∙ (ap stands.is_lost (sym (r.fits.peer.standing_is ∙ ap standing_of mine)) ∙ here) in
+    let out : is_out own ≡ false = out_is own ∙ (ap stands.is_standing_lost (sym (r.fits.peer.standing_is ∙ ap standing_of mine)) ∙ here) in
     let greets : client_has_greeted own ≡ is_greeted now.peer.standing = ap client_has_greeted (sym mine) ∙ r.fits.peer.greeted_is here in
     let asked : true ≡ (client_has_greeted own && body_asks body) = sym (ap (λ (b : Bool). b && body_asks body) greets ∙ ask) in
     let row-is = body-row policy pid picks given k rows' body (Some reply) asked (reply-after used (reply ∷ []) rows rows' given r.given_is next) in

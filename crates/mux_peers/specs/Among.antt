@@ -35,7 +35,7 @@ ArePeersApart (c ∷ cs) = (is_present cs c.peer.number ≡ false) × ArePeersAp
 
 pub record AllFit (rows : List Row) (c : CoreState) (cs : List ClientState) (queue : QueueState) :
     Type 0 where
-  pub core : is_run_over rows ≡ false → core.Stands c rows
+  pub core : is_run_over rows ≡ false → core.CoreRepresents c rows
   pub each : EachFits rows cs
   pub apart : ArePeersApart cs
   pub up : queue.waiting ≡ pending_up rows
@@ -74,7 +74,7 @@ KeepReading [] ds = ds ≡ []
 KeepReading (c ∷ cs) [] = ⊥
 KeepReading (c ∷ cs) (d ∷ ds) =
     ((d.peer.number ≡ c.peer.number)
-    × (stands.is_lost d.peer.standing ≡ false → (d.peer.standing ≡ c.peer.standing)
+    × (stands.is_standing_lost d.peer.standing ≡ false → (d.peer.standing ≡ c.peer.standing)
     × (d.rest ≡ c.rest))) × KeepReading cs ds
 
 -- the client of a number goes on so with what is noted, where it is here; the losses are noted

@@ -33,7 +33,7 @@ pub record IsDecided (pid : ℕ) (given : Option HouseReply) (body : List ℕ) (
     (old : Part) (d : Decision) : Type 0 where
   pub fits : PartFits rows old
   pub live : is_run_over rows ≡ false
-  pub here : stands.is_lost old.peer.standing ≡ false
+  pub here : stands.is_standing_lost old.peer.standing ≡ false
   pub answers : reading_answer pid old.peer.number given (client_has_greeted (rows_of old.peer.number rows))
       (read_control body) ≡ outcome_of d
   pub stops : (client_has_greeted (rows_of old.peer.number rows) && body_stops body) ≡ is_stops d.effect

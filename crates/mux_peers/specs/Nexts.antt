@@ -54,7 +54,7 @@ pub record NextBody (May : HouseReply → Type 0) (before now : Option (List Ask
 abbrev pub FaultBy : BadFrame → Part → RunChange → Part → RunChange → Type 0
 FaultBy fault old heard new heard' =
     (rows : List Row) → PartFits rows old → is_run_over rows ≡ false
-    → stands.is_lost old.peer.standing ≡ false
+    → stands.is_standing_lost old.peer.standing ≡ false
     → DoesBody new heard heard' rows
     (row_of (Says old.peer.number (BadFraming fault) None) old.peer.number
     (drops (why.BadFrame fault)) (rows_of old.peer.number rows))

@@ -18,10 +18,10 @@ received_bare k p o = bare_row (Heard p) k o
 -- sends; the client isn't lost, and the row goes on and records these frames
 pub record IsPayloadReceived (fs : List (List ℕ)) (p : List ℕ) (o : Outcome) (rows : List Row) (old : Part) :
     Type 0 where
-  pub core : core.Stands old.core (received_bare old.peer.number p o ∷ rows)
+  pub core : core.CoreRepresents old.core (received_bare old.peer.number p o ∷ rows)
   pub peer : PeerFits (rows_of old.peer.number rows) old.peer.standing old.peer.queue
   pub up : old.up.waiting ≡ pending_up rows ++ joined (map frame_payload o.sent)
-  pub here : stands.is_lost old.peer.standing ≡ false
+  pub here : stands.is_standing_lost old.peer.standing ≡ false
   pub ends : o.ends ≡ Goes
   pub recorded : all_recorded (received_bare old.peer.number p o) (rows_of old.peer.number rows) ≡ fs
 

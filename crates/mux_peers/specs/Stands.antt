@@ -96,6 +96,6 @@ pub record PeerFits (own : List Row) (standing : Standing) (queue : List ℕ) : 
 -- while the run goes on the shared connection represents the rows; the client and what waits for
 -- the server always do
 pub record PartFits (rows : List Row) (p : Part) : Type 0 where
-  pub core : is_run_over rows ≡ false → core.Stands p.core rows
+  pub core : is_run_over rows ≡ false → core.CoreRepresents p.core rows
   pub peer : PeerFits (rows_of p.peer.number rows) p.peer.standing p.peer.queue
   pub up : p.up.waiting ≡ pending_up rows

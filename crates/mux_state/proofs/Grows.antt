@@ -75,7 +75,7 @@ here_in rows k = not (is_out (rows_of k rows))
 served-numbers : (rows : List Row) (cs : List ClientState) → EachFits rows cs → served_in cs ≡ filter (here_in rows) (numbers cs)
 served-numbers rows [] each = refl
 served-numbers rows (c ∷ cs) each =
-    let lost : stands.is_lost c.peer.standing ≡ is_out (rows_of c.peer.number rows) = ap stands.is_lost each.0.peer.standing_is ∙ sym (out_is (rows_of c.peer.number rows)) in
+    let lost : stands.is_standing_lost c.peer.standing ≡ is_out (rows_of c.peer.number rows) = ap stands.is_standing_lost each.0.peer.standing_is ∙ sym (out_is (rows_of c.peer.number rows)) in
     ap (λ b. cond b (served_in cs) (c.peer.number ∷ served_in cs)) lost
     ∙ (ap (λ l. cond (is_out (rows_of c.peer.number rows)) l (c.peer.number ∷ l)) (served-numbers rows cs each.1)
     ∙ turned (is_out (rows_of c.peer.number rows)) c.peer.number (filter (here_in rows) (numbers cs)))

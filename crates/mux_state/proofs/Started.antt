@@ -10,7 +10,7 @@ use Rattle.mux_state.specs.Stands.{BytesFit, EachReads, RowsFit, ServerReads, Re
 use Rattle.mux_state.proofs.Lists.{true_false}
 
 pub record IsStarted (s : EngineState) : Type 0 where
-  pub core_stands : core.Stands s.core []
+  pub core_stands : core.CoreRepresents s.core []
   pub server_is : s.server ≡ new_server
   pub nobody : HasNobody s
   pub listens_yet : s.listening ≡ true

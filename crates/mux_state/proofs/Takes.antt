@@ -119,7 +119,7 @@ reads-took t n bytes accepts marks (c ∷ cs) each = by_head (c.peer.number == t
 
 -- ---- all of it
 
-idle : (c : Rattle.mux_core.specs.State.CoreState) (t n : ℕ) (rows : List Row) → core.Stands c rows → core.Stands c (took_row t n ∷ rows)
+idle : (c : Rattle.mux_core.specs.State.CoreState) (t n : ℕ) (rows : List Row) → core.CoreRepresents c rows → core.CoreRepresents c (took_row t n ∷ rows)
 idle c t n rows st = idle-stays c (took_row t n) rows st record { plain = record { item = tt; up = refl; farewell = refl }; keeps = refl; admits = refl }
 
 up-server : (n : ℕ) (rows : List Row) (q : List ℕ) (b : Bool) → b ≡ true → q ≡ pending_up rows → drop n q ≡ drop (elim b as (λ _. ℕ) [ true ↦ n | false ↦ 0 ]) (pending_up rows ++ [])

@@ -13,5 +13,5 @@ returns c = record {
       let rows : List Row = log c.args.self.now (picked ++ picks) (given ++ replies) marks in
       let v = (st.at picks replies).rows in
       let live : is_run_over rows ≡ false = sym (some-end rows) ∙ ap is_some (sym v.ended_is ∙ none) in
-      c.open_matters.ensures rows (subst (λ (s : EngineState). core.Stands s.core rows) (sym c.self.view_is) (v.fit.core live));
+      c.open_matters.ensures rows (subst (λ (s : EngineState). core.CoreRepresents s.core rows) (sym c.self.view_is) (v.fit.core live));
 }
