@@ -82,7 +82,7 @@ impl Forwardings {
     // One of those asked for at the start is refused, if one is meant.
     fn refuse_start(&mut self, start: Option<usize>)
         ensures { self.new ≡ record self.old {
-          all_requests_refused = first_refused self.old.refused start;
+          refused = first_refused self.old.refused start;
         } }
     {
         if self.refused.is_none() {

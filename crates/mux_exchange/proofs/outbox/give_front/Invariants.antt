@@ -6,5 +6,5 @@ use Rattle.mux_exchange.proofs.outbox.give_front.Given as goal
 abbrev pub invariant-loop : goal.invariant-loop
 invariant-loop g l =
     (l.count ≤ length l.bytes)
-    × Appends (g.W.Channel.contents l.initial.to) (g.W.Channel.contents l.to) (take l.count l.bytes)
-    × (g.W.Channel.remaining l.to ≡ g.W.Channel.remaining l.initial.to)
+    × Appends (g.W.ByteChannel.contents l.initial.to) (g.W.ByteChannel.contents l.to) (take l.count l.bytes)
+    × (g.W.ByteChannel.remaining l.to ≡ g.W.ByteChannel.remaining l.initial.to)
