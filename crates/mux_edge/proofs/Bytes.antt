@@ -7,7 +7,7 @@ use Rattle.indexmap.specs.IndexMap.{get}
 use Rattle.mux_outside.specs.declared.turn.Turn.{Turn}
 use Rattle.mux_outside.specs.declared.turn.Turn.TheVariants.{Accepted, Got, End, Writable, Failed, Joined, NoMemory}
 use Rattle.mux_edge.specs.Entries.{EntriesStay, IsConnected}
-use Rattle.mux_edge.specs.Recorded.{LosesBytes, LosesNone, RecordsRead, ReportsLost, SocketsStay, accepted, at_entry, is_opened, of_socket, recorded_at, reported, socket_of}
+use Rattle.mux_edge.specs.Recorded.{LosesBytes, LosesNone, RecordsRead, ReportsLost, SocketsStay, accepted, at_entry, of_socket, recorded_at, reported, socket_of}
 use Rattle.mux_edge.specs.StreamTable.{Touches}
 use Rattle.mux_edge.specs.declared.stream.Stream.{Stream}
 use Rattle.mux_edge.specs.declared.table.StreamTable.{StreamTable}

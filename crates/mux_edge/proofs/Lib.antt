@@ -1,4 +1,5 @@
 mod Bytes
+mod Few
 mod Own
 mod Passes
 mod Rows

@@ -1,5 +1,5 @@
 -- How many streams are the master's own, after one is added or closed.
-use Rattle.std.proofs.Common.{◌≡◌, ◌≤◌, ◌<◌, ◌+◌, ◌∙◌, ℕ, Bool, true, false, cond, List, [], ◌∷◌, Option, None, Some, eqb, nat_eq, length, filter, position, swap_remove, refl, sym, ap, arith}
+use Rattle.std.proofs.Common.{◌≡◌, ◌≤◌, ◌<◌, ◌+◌, ◌∙◌, ℕ, Bool, true, false, cond, List, [], ◌∷◌, Option, None, Some, nat_eq, length, filter, position, swap_remove, refl, sym, ap, arith}
 use Rattle.std.specs.List.{sum_by}
 use Rattle.std.specs.Map.{keys_of}
 use Rattle.std.proofs.lemmas.List.{length-map}
@@ -62,3 +62,7 @@ module _ {X : Type 0} where
   few_after_remove most t old new removed few =
       let same : own new ≡ own (swap_remove_entry t old) = ap own removed in
       omega (arith, same, own_after_remove t old (position t (keys_of old)) refl, few)
+
+-- at most as many as may be are so by the limit that stayed
+pub few_at : (most limit count : ℕ) → limit ≡ most → count ≤ most → count ≤ limit
+few_at most limit count same few = omega (arith, same, few)

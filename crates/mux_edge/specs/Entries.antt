@@ -4,7 +4,6 @@ use Rattle.indexmap.specs.IndexMap.{IndexMap, get, keys}
 use Rattle.mux_outside.specs.OwnStreams.{is_own}
 use Rattle.mux_outside.specs.declared.turn.Turn.{Turn}
 use Rattle.mux_outside.specs.declared.turn.Turn.TheVariants.{Accepted, Got, End, Writable, Failed, Joined, NoMemory}
-use Rattle.mux_edge.specs.declared.table.TheConstants.{MOST_OWN_STREAMS}
 use Rattle.mux_edge.specs.declared.table.ready.StreamEntry.{StreamEntry}
 
 -- whether a socket's stream gives nothing
@@ -29,13 +28,13 @@ module _ {U T S : Type 0} where
   abbrev pub own_streams : IndexMap ℕ (StreamEntry U T) S → ℕ
   own_streams entries = length (filter is_own (keys entries))
 
-  -- at most as many of them are as may be
-  abbrev pub HasFewOwn : IndexMap ℕ (StreamEntry U T) S → Type 0
-  HasFewOwn entries = own_streams entries ≤ MOST_OWN_STREAMS
+  -- they are at most so many
+  abbrev pub HasFewOwn : ℕ → IndexMap ℕ (StreamEntry U T) S → Type 0
+  HasFewOwn most entries = own_streams entries ≤ most
 
   -- a stream of this number may be added: one of the master's own is one more of at most so many
-  abbrev pub HasPlace : ℕ → IndexMap ℕ (StreamEntry U T) S → Type 0
-  HasPlace number entries = is_own number ≡ true → own_streams entries < MOST_OWN_STREAMS
+  abbrev pub HasPlace : ℕ → ℕ → IndexMap ℕ (StreamEntry U T) S → Type 0
+  HasPlace most number entries = is_own number ≡ true → own_streams entries < most
 
   -- a stream's socket is noted as one at which a write would wait
   abbrev pub IsBlocked : ℕ → IndexMap ℕ (StreamEntry U T) S → Type 0

@@ -8,8 +8,7 @@ use Rattle.mux_outside.specs.declared.turn.Turn.{Turn}
 use Rattle.mux_outside.specs.declared.turn.Turn.TheVariants.{Accepted, Got, End, Writable, Failed, Joined, NoMemory}
 use Rattle.mux_outside.specs.declared.turn.Want.{Want}
 use Rattle.mux_outside.specs.declared.turn.Want.TheVariants.{Read as WantsAll}
-use Rattle.mux_edge.specs.Entries.{HasFewOwn}
-use Rattle.mux_edge.specs.StreamTable.{Touches}
+use Rattle.mux_edge.specs.StreamTable.{HasFew, StaysFew, Touches}
 use Rattle.mux_edge.specs.declared.sockets.Sockets.{Sockets}
 use Rattle.mux_edge.specs.declared.numbers.StreamNumbers.{StreamNumbers}
 use Rattle.mux_edge.specs.declared.table.ready.Ready.{Ready}
@@ -39,10 +38,15 @@ TouchesAlone number None new = IsNone new
 TouchesAlone number (Some old) None = ⊥
 TouchesAlone number (Some old) (Some new) = Touches number old.table new.table
 
--- the master's own streams stay within their limit, where sockets are open
+-- the master's own streams are within their limit, where sockets are open
+abbrev pub HaveFew : {C U T : Type 0} → Option (Sockets C U T) → Type 0
+HaveFew sockets = IfSome sockets (λ s. HasFew s.table)
+
+-- open sockets stay open. The limit of the master's own streams stays, and they stay within it
 abbrev pub StayFew : {C U T : Type 0} → Option (Sockets C U T) → Option (Sockets C U T) → Type 0
-StayFew old new =
-    IfSome old (λ s. HasFewOwn s.table.entries) → IfSome new (λ s. HasFewOwn s.table.entries)
+StayFew None new = IsNone new
+StayFew (Some old) None = ⊥
+StayFew (Some old) (Some new) = StaysFew old.table new.table
 
 -- a turn of a read of this stream
 abbrev pub IsTurnOf : ℕ → Turn → Type 0

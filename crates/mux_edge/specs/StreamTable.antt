@@ -1,5 +1,5 @@
 -- What a call leaves of a table of sockets, and the outcome of a read of a stream.
-use Rattle.std.specs.Prelude.{◌≡◌, ◌≢◌, ◌≤◌, ◌⊎◌, ◌==◌, ◌&&◌, ◌||◌, ℕ, Bool, true, List, length, Option, Some, IsNone, IsSome}
+use Rattle.std.specs.Prelude.{◌≡◌, ◌≢◌, ◌≤◌, ◌⊎◌, ◌==◌, ◌&&◌, ◌||◌, ◌-◌, ◌/◌, ℕ, min, max, Bool, true, List, length, Option, Some, IsNone, IsSome}
 use Rattle.mio.specs.declared.event.event.Event.{Event}
 use Rattle.mio.specs.Event.{event_token, is_error, is_writable, is_write_closed}
 use Rattle.mux_outside.specs.declared.turn.Turn.{Turn}
@@ -7,14 +7,29 @@ use Rattle.mux_outside.specs.declared.turn.Turn.TheVariants.{Got, End}
 use Rattle.mux_edge.specs.Entries.{HasEntry, HasFewOwn, IsDoubted, IsHeld, IsNoted, IsSilent, MayPass, OthersStay, StopsShort}
 use Rattle.mux_exchange.specs.Exchange.{most_read}
 use Rattle.mux_edge.specs.Ready.{IsReadyFull}
+use Rattle.mux_edge.specs.declared.table.TheConstants.{KEPT_DESCRIPTORS, MOST_OWN_STREAMS}
 use Rattle.mux_edge.specs.declared.table.StreamTable.{StreamTable}
+
+-- how many streams of its own a master may have that has so many descriptors
+abbrev pub own_streams_among : ℕ → ℕ
+own_streams_among descriptors =
+    min MOST_OWN_STREAMS (max (descriptors - KEPT_DESCRIPTORS) (descriptors / 4))
+
+-- the master's own streams are at most as many as may be, which is never more than 512
+abbrev pub HasFew : {U T : Type 0} → StreamTable U T → Type 0
+HasFew table = (table.most_own ≤ MOST_OWN_STREAMS) × HasFewOwn table.most_own table.entries
+
+-- their limit stays, and they stay within it
+abbrev pub StaysFew : {U T : Type 0} → StreamTable U T → StreamTable U T → Type 0
+StaysFew old new = (new.most_own ≡ old.most_own)
+    × (HasFewOwn old.most_own old.entries → HasFewOwn new.most_own new.entries)
 
 -- of all sockets that of this stream alone may have changed: each other stream's stays, and so does
 -- the listener of clients. The master's own streams stay within their limit
 pub record Touches {U T : Type 0} (number : ℕ) (old new : StreamTable U T) : Type 0 where
   pub others : OthersStay number old.entries new.entries
   pub listener : new.listener ≡ old.listener
-  pub few : HasFewOwn old.entries → HasFewOwn new.entries
+  pub few : StaysFew old new
 
 -- the server's socket was given all that was accepted for it, or accepts none of it for now
 abbrev pub IsHandedOn : {U T : Type 0} → StreamTable U T → Type 0

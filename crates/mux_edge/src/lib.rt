@@ -29,5 +29,6 @@ pub use socket::{Socket, TcpSocket, UnixSocket};
 pub use sockets::Sockets;
 pub use stream::Stream;
 pub use table::{
-    MOST_OWN_STREAMS, OwnListener, Ready, ReadyQueue, Shares, StreamEntry, StreamTable,
+    KEPT_DESCRIPTORS, MOST_OWN_STREAMS, OwnListener, Ready, ReadyQueue, Shares, StreamEntry,
+    StreamTable, own_streams_among,
 };

@@ -178,6 +178,7 @@ pub fn unlisten<C: Children + Drop, U: UnixSocket, T: TcpSocket>(
     listener: u64,
 )
     ensures gone { IfSome sockets.new (λ s. get nat_eq s.table.own_listeners listener ≡ None) }
+    ensures few { StayFew sockets.old sockets.new }
     ensures rest { option_map (λ s. s.table.entries) sockets.new
         ≡ option_map (λ s. s.table.entries) sockets.old }
     ensures listener { option_map (λ s. s.table.listener) sockets.new

@@ -2,12 +2,12 @@
 ghost use Rattle.std.specs.Prelude.{◌≡◌, ◌≢◌, None, OnOk, Some, nat_eq, true};
 ghost use Rattle.indexmap.specs.IndexMap.{get};
 ghost use Rattle.mux_outside.specs.declared.turn.Want.TheVariants.{WriteOnly};
-ghost use Rattle.mux_edge.specs.Entries.{HasEntry, HasFewOwn, IsBlocked, Stands};
+ghost use Rattle.mux_edge.specs.Entries.{HasEntry, IsBlocked, Stands};
 ghost use Rattle.mux_edge.specs.Names.{is_name};
 ghost use Rattle.mux_edge.specs.Recorded.{LosesNone, ReportsLost};
 ghost use Rattle.mux_edge.specs.Shares.{PassesOwn, holds_own};
 ghost use Rattle.mux_edge.specs.Sockets.{FoundFits};
-ghost use Rattle.mux_edge.specs.StreamTable.{Touches};
+ghost use Rattle.mux_edge.specs.StreamTable.{StaysFew, Touches};
 ghost use Rattle.mux_edge.specs.declared.numbers.StreamNumbers.{StreamNumbers};
 
 use crate::children::Children;
@@ -71,7 +71,7 @@ impl<C: Children + Drop, U: UnixSocket, T: TcpSocket> Sockets<C, U, T> {
         ensures fits { FoundFits result numbers into.old into.new }
         ensures stands { Stands result self.new.table.entries }
         ensures bytes { ReportsLost U.remaining T.remaining U.contents T.contents (Some result) into.new self.old.table self.new.table }
-        ensures few { HasFewOwn self.old.table.entries → HasFewOwn self.new.table.entries }
+        ensures few { StaysFew self.old.table self.new.table }
         ensures passes { holds_own waiting.now self.old.table.shares ≡ true → PassesOwn result }
         ensures fails { want ≡ WriteOnly → self.old.table.broken ≡ true → result ≡ Turn.Failed 0 }
         ensures listener { self.new.table.listener ≡ self.old.table.listener }
@@ -106,7 +106,7 @@ impl<C: Children + Drop, U: UnixSocket, T: TcpSocket> Sockets<C, U, T> {
     // Notes what became ready, and waits for it where nothing is. A round begins.
     fn look<N: Clock>(&mut self, rt: &N, want: Want, some: bool) -> io::Result<()>
         ensures bytes { LosesNone U.remaining T.remaining U.contents T.contents self.old.table self.new.table }
-        ensures few { HasFewOwn self.old.table.entries → HasFewOwn self.new.table.entries }
+        ensures few { StaysFew self.old.table self.new.table }
         ensures listener { self.new.table.listener ≡ self.old.table.listener }
     {
         let is_busy = self.lookups.is_busy() || self.children.is_busy();

@@ -1,9 +1,9 @@
 //! The sockets of streams and listeners, and which of them are ready.
-ghost use Rattle.std.specs.Prelude.{◌≡◌, ◌≢◌, ◌≤◌, ◌↔◌, IsTrue, None, OnErr, OnOk, false, true, IfOk, IsNone, IsSome, IsSomeAnd, nat_eq};
+ghost use Rattle.std.specs.Prelude.{◌≡◌, ◌≢◌, ◌≤◌, ◌↔◌, min, IsTrue, None, OnErr, OnOk, false, true, IfOk, IsNone, IsSome, IsSomeAnd, nat_eq};
 ghost use Rattle.mux_outside.specs.OwnStreams.{is_own};
-ghost use Rattle.mux_edge.specs.Entries.{EntriesStay, HasEntry, HasFewOwn, HasPlace, IsBlocked, MayPass, own_streams};
+ghost use Rattle.mux_edge.specs.Entries.{EntriesStay, HasEntry, HasPlace, IsBlocked, MayPass, own_streams};
 ghost use Rattle.mux_edge.specs.Recorded.{KeepsSocket, SocketsStay};
-ghost use Rattle.mux_edge.specs.StreamTable.{Touches};
+ghost use Rattle.mux_edge.specs.StreamTable.{HasFew, StaysFew, Touches, own_streams_among};
 ghost use Rattle.mux_edge.specs.Transport.{passes_descriptors};
 ghost use Rattle.indexmap.specs.IndexMap.{IsUnchanged, get};
 
@@ -40,8 +40,8 @@ use std::net::Net;
 ///   system is asked again, and at the end. If that fails, what the server still sends is read first.
 /// - **Order.** What becomes ready goes after what was ready before. The system is asked again when
 ///   all of that was served at most twice.
-/// - **The master's own streams.** They are at most `MOST_OWN_STREAMS`. At that number, who connects
-///   waits in the backlog, and no connection is begun. While the server's stream is waited for, they
+/// - **The master's own streams.** They are at most `most_own`. At that number, who connects waits
+///   in the backlog, and no connection is begun. While the server's stream is waited for, they
 ///   are read no further than the clients are. That one may be read is kept while it is paused or
 ///   its connection isn't made.
 pub struct StreamTable<U: UnixSocket, T: TcpSocket> {
@@ -58,6 +58,8 @@ pub struct StreamTable<U: UnixSocket, T: TcpSocket> {
     pub joins_pause: bool,
     pub ready: ReadyQueue,
     pub shares: Shares,
+    /// how many streams of its own the master may have at a time
+    pub most_own: usize,
     /// what is read into
     pub spare: Piece,
     /// what was accepted for the server's stream, and wasn't given to its socket yet
@@ -80,32 +82,49 @@ const EVENTS: usize = 64;
 /// look-ups and files it then stays within the usual limit of 1,024 descriptors.
 pub const MOST_OWN_STREAMS: usize = 512;
 
+/// So many descriptors are kept for clients, listeners, look-ups and files.
+pub const KEPT_DESCRIPTORS: usize = 256;
+
+/// How many streams of its own a master may have that has so many descriptors: what it needn't keep,
+/// or a quarter where that is more, and never more than `MOST_OWN_STREAMS`.
+pub fn own_streams_among(descriptors: usize) -> usize
+    ensures exact { result ≡ own_streams_among descriptors }
+    ensures most { result ≤ MOST_OWN_STREAMS }
+{
+    let spare = descriptors.saturating_sub(KEPT_DESCRIPTORS);
+    spare.max(descriptors / 4).min(MOST_OWN_STREAMS)
+}
+
 impl<U: UnixSocket, T: TcpSocket> StreamTable<U, T> {
-    /// Stream 0 alone, without a listener.
+    /// Stream 0 alone, without a listener. The master may have so many streams of its own, and at
+    /// most `MOST_OWN_STREAMS`.
     pub fn alone<N: Net>(
         rt: &N,
         alloc: Global,
         stream: Stream<U, T>,
+        most_own: usize,
     ) -> io::Result<StreamTable<U, T>>
         ensures server { IfOk result (λ table. HasEntry 0 table.entries) }
         ensures deaf { IfOk result (λ table. IsNone table.listener) }
-        ensures few { IfOk result (λ table. HasFewOwn table.entries) }
+        ensures limit { IfOk result (λ table. table.most_own ≡ min most_own MOST_OWN_STREAMS) }
+        ensures few { IfOk result HasFew }
     {
-        let mut table = StreamTable::new(rt, alloc)?;
+        let mut table = StreamTable::new(rt, alloc, most_own)?;
         table.add(0, stream, false)?;
         Ok(table)
     }
 
     // No stream yet.
-    fn new<N: Net>(rt: &N, alloc: Global) -> io::Result<StreamTable<U, T>>
+    fn new<N: Net>(rt: &N, alloc: Global, most_own: usize) -> io::Result<StreamTable<U, T>>
         ensures deaf { IfOk result (λ table. IsNone table.listener) }
-        ensures few { IfOk result (λ table. HasFewOwn table.entries) }
+        ensures limit { IfOk result (λ table. table.most_own ≡ min most_own MOST_OWN_STREAMS) }
+        ensures few { IfOk result HasFew }
     {
         let poll = Poll::new(rt)?;
         let events = Events::with_capacity(alloc, EVENTS)?;
         let spare = Piece::new(alloc).map_err(|_| AllocError)?;
         let outbox = Outbox::new(alloc)?;
-        Ok(StreamTable::over(alloc, poll, events, spare, outbox))
+        Ok(StreamTable::over(alloc, poll, events, spare, outbox, most_own))
     }
 
     // No stream yet, over this.
@@ -115,9 +134,11 @@ impl<U: UnixSocket, T: TcpSocket> StreamTable<U, T> {
         events: Events,
         spare: Piece,
         outbox: Outbox,
+        most_own: usize,
     ) -> StreamTable<U, T>
         ensures deaf { IsNone result.listener }
-        ensures few { HasFewOwn result.entries }
+        ensures limit { result.most_own ≡ min most_own MOST_OWN_STREAMS }
+        ensures few { HasFew result }
     {
         StreamTable {
             poll,
@@ -129,6 +150,7 @@ impl<U: UnixSocket, T: TcpSocket> StreamTable<U, T> {
             joins_pause: false,
             ready: ReadyQueue::new(alloc),
             shares: Shares::new(),
+            most_own: most_own.min(MOST_OWN_STREAMS),
             spare,
             outbox,
             full: false,
@@ -157,7 +179,7 @@ impl<U: UnixSocket, T: TcpSocket> StreamTable<U, T> {
     // Makes a place for one more stream, with room for all that can be ready. One of the master's
     // own has none where there are as many as there may be.
     fn make_place(&mut self, number: u64) -> io::Result<()>
-        ensures place { OnOk result (HasPlace number self.new.entries) }
+        ensures place { OnOk result (HasPlace self.new.most_own number self.new.entries) }
         ensures entries { IsUnchanged self.old.entries self.new.entries }
         ensures rest { self.new
             ≡ record self.old { entries = self.new.entries; ready = self.new.ready } }
@@ -172,9 +194,9 @@ impl<U: UnixSocket, T: TcpSocket> StreamTable<U, T> {
 
     // Whether the master has as many streams of its own as it may have.
     fn has_most_own(&self) -> bool
-        ensures { IsTrue result ↔ (MOST_OWN_STREAMS ≤ own_streams self.now.entries) }
+        ensures { IsTrue result ↔ (self.now.most_own ≤ own_streams self.now.entries) }
     {
-        self.own_streams() >= MOST_OWN_STREAMS
+        self.own_streams() >= self.most_own
     }
 
     // How many streams are the master's own.
@@ -186,7 +208,7 @@ impl<U: UnixSocket, T: TcpSocket> StreamTable<U, T> {
 
     // Puts a stream into the place that was made for it.
     fn put(&mut self, number: u64, mut stream: Stream<U, T>, connecting: bool) -> io::Result<()>
-        requires place { HasPlace number self.old.entries }
+        requires place { HasPlace self.old.most_own number self.old.entries }
         ensures there { OnOk result (HasEntry number self.new.entries) }
         ensures taken { OnOk result (IsSomeAnd (get nat_eq self.new.entries number)
             (λ entry. KeepsSocket U.keeps T.keeps stream entry.stream)) }
@@ -237,6 +259,7 @@ impl<U: UnixSocket, T: TcpSocket> StreamTable<U, T> {
     /// Takes in the listener of clients.
     pub fn listen_to_clients(&mut self, mut listener: UnixListener) -> io::Result<()>
         ensures listens { OnOk result (IsSome self.new.listener) }
+        ensures few { StaysFew self.old self.new }
         ensures entries { self.new.entries ≡ self.old.entries }
     {
         self.poll
@@ -250,6 +273,7 @@ impl<U: UnixSocket, T: TcpSocket> StreamTable<U, T> {
     pub fn stop_listening(&mut self)
         ensures deaf { IsNone self.new.listener }
         ensures unpaused { self.new.pauses ≡ false }
+        ensures few { StaysFew self.old self.new }
         ensures entries { self.new.entries ≡ self.old.entries }
     {
         self.listener = None;
@@ -271,6 +295,7 @@ impl<U: UnixSocket, T: TcpSocket> StreamTable<U, T> {
     /// A round begins. Where a look-up has ended, the streams that wait for one are noted.
     pub fn begin_round(&mut self, is_one_over: bool)
         ensures sockets { SocketsStay self.old.entries self.new.entries }
+        ensures few { StaysFew self.old self.new }
         ensures outbox { self.new.outbox ≡ self.old.outbox }
         ensures listener { self.new.listener ≡ self.old.listener }
     {
@@ -298,6 +323,7 @@ impl<U: UnixSocket, T: TcpSocket> Drop for StreamTable<U, T> {
             joins_pause: _,
             ready: _,
             shares: _,
+            most_own: _,
             spare: _,
             outbox: _,
             full: _,

@@ -2,14 +2,16 @@
 ghost use Rattle.std.specs.Prelude.{◌≡◌, ◌≢◌, Err, IfOk, IsErr, IsNone, IsSome, IsUtf8, Ok, OnErr, OnOk};
 ghost use Rattle.std.specs.IoError.{error_kind};
 ghost use Rattle.std.specs.String.{string_bytes};
-ghost use Rattle.mux_edge.specs.Entries.{HasFewOwn};
+ghost use Rattle.mux_edge.specs.StreamTable.{HasFew, StaysFew};
 ghost use Rattle.mux_sockets.specs.FileSteps.{IsLaid, IsPrivate, IsUndone};
 
 use crate::control::{ControlPlace, ControlSocket, listen_beside};
 use crate::socket_files::{SocketFiles, SystemFiles};
 use crate::transport::{connect, connect_unix};
+use libc::RLIMIT_NOFILE;
+use libc::types::rlimit;
 use mio::net::UnixListener;
-use mux_edge::RealTable;
+use mux_edge::{RealTable, own_streams_among};
 use std::alloc::Global;
 use std::fs::Files;
 use std::io::ErrorKind;
@@ -35,7 +37,7 @@ pub fn open<R: Files + Net + Clone + Drop>(
 ) -> Result<(ControlSocket<R>, RealTable), Fault>
     ensures not_text { ¬ (IsUtf8 control.now) → result ≡ Err Fault.ControlSocket }
     ensures listens { IfOk result (λ opened. IsSome opened.1.listener) }
-    ensures few { IfOk result (λ opened. HasFewOwn opened.1.entries) }
+    ensures few { IfOk result (λ opened. HasFew opened.1) }
 {
     let Ok(path) = str::from_utf8(control) else {
         return Err(Fault::ControlSocket);
@@ -53,7 +55,7 @@ fn open_at<R: Files + Net + Clone + Drop>(
     transport: &[u8],
 ) -> Result<(ControlSocket<R>, RealTable), Fault>
     ensures listens { IfOk result (λ opened. IsSome opened.1.listener) }
-    ensures few { IfOk result (λ opened. HasFewOwn opened.1.entries) }
+    ensures few { IfOk result (λ opened. HasFew opened.1) }
 {
     let (socket, place, mut table) = lay(
         &mut files,
@@ -108,6 +110,7 @@ fn lay<F: SocketFiles, T: Drop, C: FnOnce() -> io::Result<T>>(
 fn take_in(socket: OwnedFd, table: &mut RealTable) -> io::Result<()>
     ensures listens { OnOk result (IsSome table.new.listener) }
     ensures entries { OnOk result (table.new.entries ≡ table.old.entries) }
+    ensures few { StaysFew table.old table.new }
 {
     let listener = net::UnixListener::from(socket);
     listener.set_nonblocking(true)?;
@@ -118,7 +121,7 @@ fn take_in(socket: OwnedFd, table: &mut RealTable) -> io::Result<()>
 pub fn join<N: Files + Net>(rt: &N, alloc: Global, control: &[u8]) -> Result<RealTable, Fault>
     ensures not_text { ¬ (IsUtf8 control.now) → IsErr result }
     ensures deaf { IfOk result (λ table. IsNone table.listener) }
-    ensures few { IfOk result (λ table. HasFewOwn table.entries) }
+    ensures few { IfOk result HasFew }
 {
     joined(rt, alloc, control).map_err(|e| fault_of(&e, Fault::Transport))
 }
@@ -127,18 +130,31 @@ pub fn join<N: Files + Net>(rt: &N, alloc: Global, control: &[u8]) -> Result<Rea
 fn joined<N: Files + Net>(rt: &N, alloc: Global, control: &[u8]) -> io::Result<RealTable>
     ensures not_text { ¬ (IsUtf8 control.now) → IsErr result }
     ensures deaf { IfOk result (λ table. IsNone table.listener) }
-    ensures few { IfOk result (λ table. HasFewOwn table.entries) }
+    ensures few { IfOk result HasFew }
 {
     let stream = connect_unix(rt, control)?;
-    RealTable::alone(rt, alloc, stream)
+    RealTable::alone(rt, alloc, stream, own_streams_among(descriptors()))
 }
 
 // The server's stream alone.
 fn connected<N: Files + Net>(rt: &N, alloc: Global, transport: &[u8]) -> io::Result<RealTable>
-    ensures { IfOk result (λ table. HasFewOwn table.entries) }
+    ensures { IfOk result HasFew }
 {
     let stream = connect(rt, alloc, transport)?;
-    RealTable::alone(rt, alloc, stream)
+    RealTable::alone(rt, alloc, stream, own_streams_among(descriptors()))
+}
+
+// How many descriptors the process may have, by its soft limit (getrlimit(2)). That answers for this
+// resource and this memory; if it didn't, none would count.
+fn descriptors() -> usize {
+    let mut limit = rlimit {
+        rlim_cur: 0,
+        rlim_max: 0,
+    };
+    match libc::getrlimit(RLIMIT_NOFILE, &mut limit) {
+        0 => usize::try_from(limit.rlim_cur).unwrap_or(usize::MAX),
+        _ => 0,
+    }
 }
 
 fn fault_of(e: &io::Error, other: Fault) -> Fault

@@ -8,8 +8,9 @@ ghost use Rattle.mux_outside.specs.Wire.{IsNewOwn, JoinFaults, MakeFaults, MayWa
 ghost use Rattle.mux_outside.specs.WireState.{nothing_called, opens_stream, seeing, state_opened, state_waited, state_written, untelling};
 ghost use Rattle.mux_outside.specs.declared.turn.Turn.TheVariants.{NoMemory};
 ghost use Rattle.mux_outside.specs.declared.turn.Want.{Want as TheWant};
-ghost use Rattle.mux_edge.specs.Entries.{HasEntry, HasFewOwn, IsFinished, IsPaused};
-ghost use Rattle.mux_edge.specs.Sockets.{StayFew, TouchesAlone, TurnRecords};
+ghost use Rattle.mux_edge.specs.Entries.{HasEntry, IsFinished, IsPaused};
+ghost use Rattle.mux_edge.specs.Sockets.{HaveFew, StayFew, TouchesAlone, TurnRecords};
+ghost use Rattle.mux_edge.specs.StreamTable.{HasFew};
 
 use crate::control::ControlSocket;
 use crate::opening::{Fault, join, open};
@@ -35,8 +36,9 @@ use std::time::Clock;
 /// A wire over the system's sockets: a Unix socket for the clients, and a Unix socket or TCP for
 /// the server. A client that fails, resets or takes its bytes slowly is that client's matter alone;
 /// while the system has no descriptors left, clients wait. The master's own listeners and streams
-/// are over TCP, and at most 512 such streams are open at a time. They listen at numeric addresses,
-/// and connect to these or to names, which `getent ahosts` looks up.
+/// are over TCP. At most 512 such streams are open at a time, and fewer where the process may have
+/// few descriptors. They listen at numeric addresses, and connect to these or to names, which
+/// `getent ahosts` looks up.
 #[derive(Drop)]
 pub struct RealWire<R: Files + Net + Processes + Clock + Clone + Drop> {
     rt: R,
@@ -76,8 +78,7 @@ impl<R: Files + Net + Processes + Clock + Clone + Drop> RealWire<R> {
     // Takes in what was opened or joined.
     fn take_in(&mut self, control: Option<ControlSocket<R>>, table: RealTable, workers: Workers<R>)
         ensures control { self.new.control ≡ control }
-        ensures few { HasFewOwn table.entries
-            → IfSome self.new.sockets (λ sockets. HasFewOwn sockets.table.entries) }
+        ensures few { HasFew table → HaveFew self.new.sockets }
         ensures listens { IsSome table.listener
             → IsSomeAnd self.new.sockets (λ sockets. IsSome sockets.table.listener) }
         ensures deaf { IsNone table.listener
@@ -93,7 +94,7 @@ impl<R: Files + Net + Processes + Clock + Clone + Drop> RealWire<R> {
     // Opens the sockets, and keeps them.
     fn open_sockets(&mut self, control: &[u8], transport: &[u8]) -> Result<(), FileError>
         ensures not_text { ¬ (IsUtf8 control.now) → IsErr result }
-        ensures few { StayFew self.old.sockets self.new.sockets }
+        ensures few { HaveFew self.old.sockets → HaveFew self.new.sockets }
         ensures named { OnOk result (IsSome self.new.control) }
         ensures listens { OnOk result
             (IsSomeAnd self.new.sockets (λ sockets. IsSome sockets.table.listener)) }
@@ -117,7 +118,7 @@ impl<R: Files + Net + Processes + Clock + Clone + Drop> RealWire<R> {
     // Joins another master, and keeps the socket to it.
     fn join_sockets(&mut self, control: &[u8]) -> Result<(), FileError>
         ensures not_text { ¬ (IsUtf8 control.now) → IsErr result }
-        ensures few { StayFew self.old.sockets self.new.sockets }
+        ensures few { HaveFew self.old.sockets → HaveFew self.new.sockets }
         ensures unnamed { OnOk result (IsNone self.new.control) }
         ensures deaf { OnOk result
             (IsSomeAnd self.new.sockets (λ sockets. IsNone sockets.table.listener)) }
@@ -237,7 +238,7 @@ impl<R: Files + Net + Processes + Clock + Clone + Drop> Wire for RealWire<R> {
 
     fn open(&mut self, control: &[u8], transport: &[u8]) -> Result<(), FileError>
         ensures not_text { ¬ (IsUtf8 control.now) → IsErr result }
-        ensures few { StayFew self.old.sockets self.new.sockets }
+        ensures few { HaveFew self.old.sockets → HaveFew self.new.sockets }
         ensures named { OnOk result (IsSome self.new.control) }
         ensures listens { OnOk result
             (IsSomeAnd self.new.sockets (λ sockets. IsSome sockets.table.listener)) }
@@ -259,7 +260,7 @@ impl<R: Files + Net + Processes + Clock + Clone + Drop> Wire for RealWire<R> {
 
     fn join(&mut self, control: &[u8]) -> Result<(), FileError>
         ensures not_text { ¬ (IsUtf8 control.now) → IsErr result }
-        ensures few { StayFew self.old.sockets self.new.sockets }
+        ensures few { HaveFew self.old.sockets → HaveFew self.new.sockets }
         ensures unnamed { OnOk result (IsNone self.new.control) }
         ensures deaf { OnOk result
             (IsSomeAnd self.new.sockets (λ sockets. IsNone sockets.table.listener)) }

@@ -3,9 +3,8 @@ ghost use Rattle.std.specs.Prelude.{◌≡◌, ◌*◌, ◌≤◌, ◌||◌, if�
 ghost use Rattle.std.specs.Duration.{as_nanos};
 ghost use Rattle.std.specs.List.{list_any};
 ghost use Rattle.mio.specs.Events.{items};
-ghost use Rattle.mux_edge.specs.Entries.{HasFewOwn};
 ghost use Rattle.mux_edge.specs.Recorded.{LosesNone, SocketsStay};
-ghost use Rattle.mux_edge.specs.StreamTable.{IsHandedOn, tells_server_takes, tells_write};
+ghost use Rattle.mux_edge.specs.StreamTable.{IsHandedOn, StaysFew, tells_server_takes, tells_write};
 
 use super::{LISTENER, OwnListener, ReadyQueue, StreamEntry, StreamTable, number_at};
 use crate::lookups::Lookups;
@@ -40,7 +39,7 @@ impl<U: UnixSocket, T: TcpSocket> StreamTable<U, T> {
         is_busy: bool,
     ) -> io::Result<()>
         ensures bytes { LosesNone U.remaining T.remaining U.contents T.contents self.old self.new }
-        ensures few { HasFewOwn self.old.entries → HasFewOwn self.new.entries }
+        ensures few { StaysFew self.old self.new }
         ensures listener { self.new.listener ≡ self.old.listener }
         ensures freed { OnOk result (list_any tells_server_takes (items self.new.events) ≡ true
             → self.new.full ≡ false) }
@@ -61,6 +60,7 @@ impl<U: UnixSocket, T: TcpSocket> StreamTable<U, T> {
     ) -> io::Result<()>
         requires handed { IsHandedOn self.old }
         ensures sockets { SocketsStay self.old.entries self.new.entries }
+        ensures few { StaysFew self.old self.new }
         ensures outbox { self.new.outbox ≡ self.old.outbox }
         ensures listener { self.new.listener ≡ self.old.listener }
         ensures freed { OnOk result (list_any tells_server_takes (items self.new.events) ≡ true

@@ -3,7 +3,7 @@ ghost use Rattle.std.specs.Prelude.{◌≡◌, ◌⊎◌, false, true, IfSome, I
 ghost use Rattle.indexmap.specs.IndexMap.{get};
 ghost use Rattle.mux_edge.specs.Entries.{EntriesStay, HasEntry, IsAwaited, IsBlocked, IsConnected, IsFinished, IsKeptBack, IsNoted, IsPaused};
 ghost use Rattle.mux_edge.specs.Recorded.{SocketsStay};
-ghost use Rattle.mux_edge.specs.StreamTable.{Touches};
+ghost use Rattle.mux_edge.specs.StreamTable.{StaysFew, Touches};
 ghost use Rattle.mux_edge.specs.Ready.{IsReadyFull};
 
 use super::StreamTable;
@@ -23,6 +23,7 @@ impl<U: UnixSocket, T: TcpSocket> StreamTable<U, T> {
     /// Listens at an address, with a listener of this number.
     pub fn listen<N: Net>(&mut self, rt: &N, number: u64, address: SocketAddr) -> io::Result<()>
         ensures there { OnOk result (IsSome (get nat_eq self.new.own_listeners number)) }
+        ensures few { StaysFew self.old self.new }
         ensures entries { self.new.entries ≡ self.old.entries }
         ensures listener { self.new.listener ≡ self.old.listener }
     {
@@ -89,6 +90,7 @@ impl<U: UnixSocket, T: TcpSocket> StreamTable<U, T> {
     /// Drops a listener.
     pub fn unlisten(&mut self, number: u64)
         ensures gone { get nat_eq self.new.own_listeners number ≡ None }
+        ensures few { StaysFew self.old self.new }
         ensures entries { self.new.entries ≡ self.old.entries }
         ensures listener { self.new.listener ≡ self.old.listener }
     {

@@ -3,9 +3,9 @@ ghost use Rattle.std.specs.Prelude.{◌≡◌, ◌≢◌, ◌<◌, length, true,
 ghost use Rattle.mux_outside.specs.Wire.{WroteFits};
 ghost use Rattle.mux_edge.specs.Sockets.{FoundFits, IsTurnOf, ServesReady};
 ghost use Rattle.mux_exchange.specs.Exchange.{IsLastWord, ReadsPiece, Sends, sent_wrote};
-ghost use Rattle.mux_edge.specs.Entries.{EntriesStay, HasEntry, HasFewOwn, IsBlocked, IsConnected, IsOpen, MayPass, Stands};
+ghost use Rattle.mux_edge.specs.Entries.{EntriesStay, HasEntry, IsBlocked, IsConnected, IsOpen, MayPass, Stands};
 ghost use Rattle.mux_edge.specs.Recorded.{RecordsRead, RecordsWrite, ReportsLost, SocketsStay, accepted, recorded_at};
-ghost use Rattle.mux_edge.specs.StreamTable.{ReadsLastWords, ReadsOnce, Touches};
+ghost use Rattle.mux_edge.specs.StreamTable.{ReadsLastWords, ReadsOnce, StaysFew, Touches};
 ghost use Rattle.mux_edge.specs.declared.numbers.StreamNumbers.{StreamNumbers};
 
 use super::StreamTable;
@@ -37,7 +37,7 @@ impl<U: UnixSocket, T: TcpSocket> StreamTable<U, T> {
         ensures kept { IfNone result (into.new ≡ into.old) }
         ensures stands { IfSome result (λ turn. Stands turn self.new.entries) }
         ensures bytes { ReportsLost U.remaining T.remaining U.contents T.contents result into.new self.old self.new }
-        ensures few { HasFewOwn self.old.entries → HasFewOwn self.new.entries }
+        ensures few { StaysFew self.old self.new }
         ensures listener { self.new.listener ≡ self.old.listener }
     {
         match ready {

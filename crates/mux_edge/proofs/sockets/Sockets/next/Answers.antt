@@ -1,5 +1,6 @@
 use Rattle.std.proofs.Common.{◌∙◌, Some, rules}
 use Rattle.mux_edge.proofs.Bytes.{none_after, none_then, of_nothing, reports_after, reports_none, sockets_kept}
+use Rattle.mux_edge.proofs.Few.{few_after}
 use Rattle.mux_edge.proofs.Passes.{passes}
 use Rattle.mux_edge.proofs.sockets.Sockets.next.Goals as goal
 
@@ -21,7 +22,7 @@ loop-preserved-then-is_round_over g c = record {
   piece = search rules;
   listener = search rules;
   bytes = none_after _ _ _ _ _ _ _ c.loop.invariant.bytes c.look.ensures.bytes;
-  few = λ h. c.look.ensures.few (c.loop.invariant.few h);
+  few = few_after c.loop.invariant.few c.look.ensures.few;
 }
 
 pub loop-preserved-in_default-take : goal.loop-preserved-in_default-take
@@ -38,7 +39,7 @@ loop-preserved g c = record {
   listener = search rules;
   bytes = none_after _ _ _ _ _ _ _ (none_then _ _ _ _ _ _ _ c.loop.invariant.bytes (search rules) (search rules))
       (of_nothing _ _ _ _ c.go_on.result _ _ _ (search rules) c.go_on.ensures.bytes);
-  few = λ h. c.go_on.ensures.few (c.loop.invariant.few h);
+  few = few_after c.loop.invariant.few c.go_on.ensures.few;
 }
 
 pub returns-then-fails_at_once-clause-bytes : goal.returns-then-fails_at_once-clause-bytes
@@ -52,10 +53,10 @@ returns-in-Some-go_on-clause-bytes g c = reports_after _ _ _ _ (Some c.in-Some-g
     (none_then _ _ _ _ _ _ _ c.loop.invariant.bytes (search rules) (search rules)) c.in-Some-go_on.ensures.bytes
 
 pub returns-in-Err-clause-few : goal.returns-in-Err-clause-few
-returns-in-Err-clause-few g c = λ h. c.look.ensures.few (c.loop.invariant.few h)
+returns-in-Err-clause-few g c = few_after c.loop.invariant.few c.look.ensures.few
 
 pub returns-in-Some-go_on-clause-few : goal.returns-in-Some-go_on-clause-few
-returns-in-Some-go_on-clause-few g c = λ h. c.go_on.ensures.few (c.loop.invariant.few h)
+returns-in-Some-go_on-clause-few g c = few_after c.loop.invariant.few c.go_on.ensures.few
 
 pub returns-clause-few : goal.returns-clause-few
 returns-clause-few g c = c.loop.invariant.few
