@@ -31,9 +31,9 @@ use Rattle.house_forward.specs.Closing.{ClosesHaveCause, socket_has_failed, IsCl
 use Rattle.house_forward.specs.Forwardings.{has_listener}
 use Rattle.house_forward.specs.Going.{act_of_sending}
 use Rattle.house_forward.specs.Heard.{received_of, act_received}
-use Rattle.house_forward.specs.Links.{IsRelayJoined, IsJoinedAt, DialsOrCloses, HasNoChannelLeft, relay_after_sending, relay_after}
+use Rattle.house_forward.specs.Links.{IsRelayJoined, IsJoinedAt, BeginsDialog, HasNoChannelLeft, relay_after_sending, relay_after}
 use Rattle.house_forward.specs.RelayTraces.{Life, Trace, RelayGoesBy, TraceReaches, first_trace}
-use Rattle.house_forward.specs.RelayTraces.{has_stream, is_stream, unmade, are_full, are_dialogs_full, link_own_after, relay_act_of, made_life}
+use Rattle.house_forward.specs.RelayTraces.{has_stream, is_stream, unmade, are_full, link_own_after, relay_act_of, made_life}
 use Rattle.house_forward.specs.Numbers.{own_stream_number}
 use Rattle.house_forward.specs.Opening.{IsCallBefore}
 use Rattle.house_forward.specs.declared.forwarding.Forwarding.{Forwarding}
@@ -559,29 +559,25 @@ asked-caused calls joins t r host port e = record {
   over = subst (λ (x : Relay). OverRight x.line x.socket (joined_life joins t r).dials []) (sym e) tt;
 }
 
-dialed-caused : (calls : List HouseCall) (joins t : ℕ) (r : Relay) (dialogs_full : Bool) → (dialogs_full ≡ true → HasNoChannel calls (Some (new_stream t)))
-    → DialsOrCloses dialogs_full t r → Caused calls (joined_life joins t r)
-dialed-caused calls joins t r true none h = no_channel_left-caused calls joins t r h (none refl)
-dialed-caused calls joins t r false none h = record {
+dialed-caused : (calls : List HouseCall) (joins t : ℕ) (r : Relay) → BeginsDialog t r → Caused calls (joined_life joins t r)
+dialed-caused calls joins t r h = record {
   broken = subst (λ (x : Relay). Cause calls (Some (new_stream t)) [] x.socket) (sym h) tt;
   over = subst (λ (x : Relay). OverRight x.line x.socket (joined_life joins t r).dials []) (sym h) tt;
 }
 
-joined-at : (calls : List HouseCall) (joins t : ℕ) (r : Relay) (f : Forwarding) (kind : ForwardingKind) (dialogs_full : Bool)
-    → (dialogs_full ≡ true → HasNoChannel calls (Some (new_stream t))) → IsJoinedAt kind dialogs_full f t r → Caused calls (joined_life joins t r)
-joined-at calls joins t r f Local dialogs_full none h = asked-caused calls joins t r f.connect_host f.connect_port h
-joined-at calls joins t r f Remote dialogs_full none h = asked-caused calls joins t r f.connect_host f.connect_port h
-joined-at calls joins t r f Dynamic dialogs_full none h = dialed-caused calls joins t r dialogs_full none h
+joined-at : (calls : List HouseCall) (joins t : ℕ) (r : Relay) (f : Forwarding) (kind : ForwardingKind) → IsJoinedAt kind f t r → Caused calls (joined_life joins t r)
+joined-at calls joins t r f Local h = asked-caused calls joins t r f.connect_host f.connect_port h
+joined-at calls joins t r f Remote h = asked-caused calls joins t r f.connect_host f.connect_port h
+joined-at calls joins t r f Dynamic h = dialed-caused calls joins t r h
 
 joined-caused : (calls : List HouseCall) (joins l t : ℕ) (trace : Trace) → IsCallBefore calls (Turns (Joined l t)) trace
-    → (full dialogs_full : Bool) (o : Option Forwarding) → are_full trace.relay_traces ≡ full → are_dialogs_full trace.relay_traces ≡ dialogs_full
-    → find (has_listener l) trace.forwarding_state.all ≡ o → (r : Relay) → IsRelayJoined full dialogs_full o t r → Caused calls (joined_life joins t r)
-joined-caused calls joins l t trace before true dialogs_full o e f g r h = no_channel_left-caused calls joins t r h
+    → (full : Bool) (o : Option Forwarding) → are_full trace.relay_traces ≡ full
+    → find (has_listener l) trace.forwarding_state.all ≡ o → (r : Relay) → IsRelayJoined full o t r → Caused calls (joined_life joins t r)
+joined-caused calls joins l t trace before true o e g r h = no_channel_left-caused calls joins t r h
     (inl (record { listener = l; stream = t; trace = trace; joined = before; its = refl; cause = inl e }))
-joined-caused calls joins l t trace before false dialogs_full None e f g r h = no_channel_left-caused calls joins t r h
-    (inl (record { listener = l; stream = t; trace = trace; joined = before; its = refl; cause = inr (inr g) }))
-joined-caused calls joins l t trace before false dialogs_full (Some x) e f g r h = joined-at calls joins t r x x.kind dialogs_full
-    (λ is. inl (record { listener = l; stream = t; trace = trace; joined = before; its = refl; cause = inr (inl (f ∙ is)) })) h
+joined-caused calls joins l t trace before false None e g r h = no_channel_left-caused calls joins t r h
+    (inl (record { listener = l; stream = t; trace = trace; joined = before; its = refl; cause = inr g }))
+joined-caused calls joins l t trace before false (Some x) e g r h = joined-at calls joins t r x x.kind h
 
 -- ---- all steps
 
@@ -633,8 +629,8 @@ caused calls = record {
     over = right-socket a.relay.line a.relay.socket (made_as number) a.dials (Other ∷ a.acts) (λ e. unmade-whole a.relay.socket is)
         (receives-other a.relay.line a.relay.socket a.dials a.acts p.over);
   };
-  joins = λ l t old now r h small. joined-caused calls old.joins l t old now (are_full old.relay_traces) (are_dialogs_full old.relay_traces) (find (has_listener l) old.forwarding_state.all)
-      refl refl refl r h;
+  joins = λ l t old now r h small. joined-caused calls old.joins l t old now (are_full old.relay_traces) (find (has_listener l) old.forwarding_state.all)
+      refl refl r h;
   offers = λ f number remote window maximum small. record { broken = tt; over = tt };
 }
 

@@ -385,16 +385,15 @@ makes-wired calls to number (Some there) dials line s e h =
     the : (x y : ConnectPlace) → Some x ≡ Some y → x ≡ y
     the x y e = cc
 
-joined-at : (kind : ForwardingKind) (dialogs_full : Bool) (f : Forwarding) (t : ℕ) (r : Relay) → IsJoinedAt kind dialogs_full f t r → offer r.line ≡ false
-joined-at Local dialogs_full f t r h = ap (λ (x : Relay). offer x.line) h
-joined-at Remote dialogs_full f t r h = ap (λ (x : Relay). offer x.line) h
-joined-at Dynamic true f t r h = ap (λ (x : Relay). offer x.line) h
-joined-at Dynamic false f t r h = ap (λ (x : Relay). offer x.line) h
+joined-at : (kind : ForwardingKind) (f : Forwarding) (t : ℕ) (r : Relay) → IsJoinedAt kind f t r → offer r.line ≡ false
+joined-at Local f t r h = ap (λ (x : Relay). offer x.line) h
+joined-at Remote f t r h = ap (λ (x : Relay). offer x.line) h
+joined-at Dynamic f t r h = ap (λ (x : Relay). offer x.line) h
 
-joined-none : (full dialogs_full : Bool) (o : Option Forwarding) (t : ℕ) (r : Relay) → IsRelayJoined full dialogs_full o t r → offer r.line ≡ false
-joined-none true dialogs_full o t r h = ap (λ (x : Relay). offer x.line) h
-joined-none false dialogs_full None t r h = ap (λ (x : Relay). offer x.line) h
-joined-none false dialogs_full (Some f) t r h = joined-at f.kind dialogs_full f t r h
+joined-none : (full : Bool) (o : Option Forwarding) (t : ℕ) (r : Relay) → IsRelayJoined full o t r → offer r.line ≡ false
+joined-none true o t r h = ap (λ (x : Relay). offer x.line) h
+joined-none false None t r h = ap (λ (x : Relay). offer x.line) h
+joined-none false (Some f) t r h = joined-at f.kind f t r h
 
 wired : (before : List HouseCall) (call : HouseCall) (old : Trace) → Apart (open_streams old.relay_traces)
     → Passes call old (Wired before) (Wired (before ++ call ∷ []))
@@ -420,7 +419,7 @@ wired before call old apart = record {
   makes = λ host port number e a s p is there.
       subst (λ (c : HouseCall). WiredTo a.to (before ++ c ∷ []) a.dials a.relay.line (made_as number)) (sym e)
       (makes-wired before (host, port) number a.to a.dials a.relay.line a.relay.socket there p);
-  joins = λ l t e r h. joined-none _ _ _ t r h;
+  joins = λ l t e r h. joined-none _ _ t r h;
 }
 
 -- ---- what is sent

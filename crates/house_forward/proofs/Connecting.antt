@@ -211,7 +211,7 @@ due-turns : (happening : Happening) (joins : ℕ) (fs : List Forwarding) (old ne
     → still_to_connect new ≡ still_to_connect old
 due-turns (Joined l t) joins fs old new h s =
     ap still_to_connect h.more
-    ∙ pick-none due old [] (joined_life joins t h.relay) (due-joined joins t h.relay (joined _ _ (find (has_listener l) fs) t h.relay h.joined).stream)
+    ∙ pick-none due old [] (joined_life joins t h.relay) (due-joined joins t h.relay (joined _ (find (has_listener l) fs) t h.relay h.joined).stream)
     ∙ ap still_to_connect (append-nil old)
 due-turns (Got t bytes) joins fs old new h s =
     most-picks due Sound (has_stream t) _ old new (λ a b x is goes. due-gets (not (are_full old)) bytes t a b x is goes) s h

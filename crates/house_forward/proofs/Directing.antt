@@ -13,9 +13,9 @@ use Rattle.house_relay.specs.declared.line.ChannelState.TheVariants.{Dialing, As
 use Rattle.house_relay.specs.declared.relay.Relay.{Relay}
 use Rattle.house_relay.specs.declared.relay.RelaySocket.TheVariants as socket
 use Rattle.house_forward.specs.Forwardings.{has_request, has_listener}
-use Rattle.house_forward.specs.Links.{IsRelayJoined, IsJoinedAt, DialsOrCloses as DialsFor, HasNoChannelLeft}
+use Rattle.house_forward.specs.Links.{IsRelayJoined, IsJoinedAt, BeginsDialog as DialsFor, HasNoChannelLeft}
 use Rattle.house_forward.specs.RelayTraces.{Life, Trace, RelayGoesBy, TraceReaches, SendsBy, first_trace}
-use Rattle.house_forward.specs.RelayTraces.{is_stream, is_socket_unmade, unmade, are_full, are_dialogs_full, link_own_after, made_life}
+use Rattle.house_forward.specs.RelayTraces.{is_stream, is_socket_unmade, unmade, are_full, link_own_after, made_life}
 use Rattle.house_forward.specs.Opening.{OpensGoRight, is_open_message, may_send_open, IsCallBefore, IsJoinedFor, IsPlainKind, ConnectsTo, IsDynamic, IsDialedEnd, IsOpenOf}
 use Rattle.house_forward.specs.Said.{framed, relay_sent_by}
 use Rattle.house_forward.specs.declared.forwarding.Forwarding.{Forwarding}
@@ -172,25 +172,24 @@ plain-right calls joins l t f r there plain e =
     subst (Right calls (Some (new_stream t)) (Some joins)) (sym (ap (λ (x : Relay). x.line) e))
     (joined-for calls joins l t f (ConnectsTo f.connect_host f.connect_port) there (record { plain = plain; to_host = refl; to_port = refl }))
 
-dynamic-right : (calls : List HouseCall) (joins l t : ℕ) (f : Forwarding) (dialogs_full : Bool) (r : Relay) → JoinedThere calls joins l t f → IsDynamic f
-    → DialsFor dialogs_full t r → Right calls (Some (new_stream t)) (Some joins) r.line
-dynamic-right calls joins l t f true r there dynamic h = no_channel_left-right calls joins t r h
-dynamic-right calls joins l t f false r there dynamic h =
+dynamic-right : (calls : List HouseCall) (joins l t : ℕ) (f : Forwarding) (r : Relay) → JoinedThere calls joins l t f → IsDynamic f
+    → DialsFor t r → Right calls (Some (new_stream t)) (Some joins) r.line
+dynamic-right calls joins l t f r there dynamic h =
     subst (Right calls (Some (new_stream t)) (Some joins)) (sym (ap (λ (x : Relay). x.line) h)) (joined-for calls joins l t f IsDynamic there dynamic)
 
-joined-at : (calls : List HouseCall) (joins l t : ℕ) (f : Forwarding) (kind : ForwardingKind) (dialogs_full : Bool) (r : Relay) → JoinedThere calls joins l t f
-    → f.kind ≡ kind → IsJoinedAt kind dialogs_full f t r → Right calls (Some (new_stream t)) (Some joins) r.line
-joined-at calls joins l t f Local dialogs_full r there e h = plain-right calls joins l t f r there (subst IsPlainKind (sym e) tt) h
-joined-at calls joins l t f Remote dialogs_full r there e h = plain-right calls joins l t f r there (subst IsPlainKind (sym e) tt) h
-joined-at calls joins l t f Dynamic dialogs_full r there e h = dynamic-right calls joins l t f dialogs_full r there e h
+joined-at : (calls : List HouseCall) (joins l t : ℕ) (f : Forwarding) (kind : ForwardingKind) (r : Relay) → JoinedThere calls joins l t f
+    → f.kind ≡ kind → IsJoinedAt kind f t r → Right calls (Some (new_stream t)) (Some joins) r.line
+joined-at calls joins l t f Local r there e h = plain-right calls joins l t f r there (subst IsPlainKind (sym e) tt) h
+joined-at calls joins l t f Remote r there e h = plain-right calls joins l t f r there (subst IsPlainKind (sym e) tt) h
+joined-at calls joins l t f Dynamic r there e h = dynamic-right calls joins l t f r there e h
 
-joined-right : (calls : List HouseCall) (l t : ℕ) (full dialogs_full : Bool) (o : Option Forwarding) (trace : Trace) (r : Relay)
-    → IsCallBefore calls (Turns (Joined l t)) trace → find (has_listener l) trace.forwarding_state.all ≡ o → IsRelayJoined full dialogs_full o t r
+joined-right : (calls : List HouseCall) (l t : ℕ) (full : Bool) (o : Option Forwarding) (trace : Trace) (r : Relay)
+    → IsCallBefore calls (Turns (Joined l t)) trace → find (has_listener l) trace.forwarding_state.all ≡ o → IsRelayJoined full o t r
     → Right calls (Some (new_stream t)) (Some trace.joins) r.line
-joined-right calls l t true dialogs_full o trace r before e h = no_channel_left-right calls trace.joins t r h
-joined-right calls l t false dialogs_full None trace r before e h = no_channel_left-right calls trace.joins t r h
-joined-right calls l t false dialogs_full (Some f) trace r before e h =
-    joined-at calls trace.joins l t f f.kind dialogs_full r (record { trace = trace; which = refl; joined = before; found = e }) refl h
+joined-right calls l t true o trace r before e h = no_channel_left-right calls trace.joins t r h
+joined-right calls l t false None trace r before e h = no_channel_left-right calls trace.joins t r h
+joined-right calls l t false (Some f) trace r before e h =
+    joined-at calls trace.joins l t f f.kind r (record { trace = trace; which = refl; joined = before; found = e }) refl h
 
 -- ---- all steps
 
@@ -225,9 +224,9 @@ aimed calls = record {
     unmade_none = not-unmade (made_life number a) (made-none number a);
   };
   joins = λ l t old now r h small. record {
-    right = joined-right calls l t (are_full old.relay_traces) (are_dialogs_full old.relay_traces) (find (has_listener l) old.forwarding_state.all) old r now refl h;
+    right = joined-right calls l t (are_full old.relay_traces) (find (has_listener l) old.forwarding_state.all) old r now refl h;
     unmade_none = not-unmade (joined_life old.joins t r)
-        (streamed r.socket t (joined (are_full old.relay_traces) (are_dialogs_full old.relay_traces) (find (has_listener l) old.forwarding_state.all) t r h).stream);
+        (streamed r.socket t (joined (are_full old.relay_traces) (find (has_listener l) old.forwarding_state.all) t r h).stream);
   };
   offers = λ f number remote window maximum small. record { right = tt; unmade_none = λ e. refl };
 }

@@ -10,7 +10,7 @@ use Rattle.house_relay.specs.declared.line.ChannelState.TheVariants.{Asked, Offe
 use Rattle.house_relay.specs.declared.relay.Relay.{Relay}
 use Rattle.house_relay.specs.declared.relay.RelaySocket.{RelaySocket}
 use Rattle.house_relay.specs.declared.relay.RelaySocket.TheVariants as socket
-use Rattle.house_forward.specs.Links.{IsRelayJoined, IsJoinedAt, DialsOrCloses, HasNoChannelLeft, dials}
+use Rattle.house_forward.specs.Links.{IsRelayJoined, IsJoinedAt, BeginsDialog, HasNoChannelLeft, dials}
 use Rattle.house_forward.specs.declared.forwarding.Forwarding.{Forwarding}
 use Rattle.house_forward.specs.declared.rules.ForwardingKind.{ForwardingKind}
 use Rattle.house_forward.specs.declared.rules.ForwardingKind.TheVariants.{Local, Remote, Dynamic}
@@ -76,18 +76,17 @@ asking : (t : ℕ) (r : Relay) (host : List ℕ) (port : ℕ)
 asking t r host port e = subst (Begins t) (sym e)
     (record { stands = asked r.number host port (socket.Open t); stream = refl; going = refl; none = refl })
 
-dialing : (dialogs_full : Bool) (t : ℕ) (r : Relay) → DialsOrCloses dialogs_full t r → Begins t r
-dialing true t r e = no_channel_left t r e
-dialing false t r e = subst (Begins t) (sym e)
+dialing : (t : ℕ) (r : Relay) → BeginsDialog t r → Begins t r
+dialing t r e = subst (Begins t) (sym e)
     (record { stands = dialed r.number (socket.Open t); stream = refl; going = refl; none = refl })
 
-joined-at : (kind : ForwardingKind) (dialogs_full : Bool) (f : Forwarding) (t : ℕ) (r : Relay) → IsJoinedAt kind dialogs_full f t r → Begins t r
-joined-at Local dialogs_full f t r e = asking t r f.connect_host f.connect_port e
-joined-at Remote dialogs_full f t r e = asking t r f.connect_host f.connect_port e
-joined-at Dynamic dialogs_full f t r e = dialing dialogs_full t r e
+joined-at : (kind : ForwardingKind) (f : Forwarding) (t : ℕ) (r : Relay) → IsJoinedAt kind f t r → Begins t r
+joined-at Local f t r e = asking t r f.connect_host f.connect_port e
+joined-at Remote f t r e = asking t r f.connect_host f.connect_port e
+joined-at Dynamic f t r e = dialing t r e
 
--- that of a socket that is accepted
-pub joined : (full dialogs_full : Bool) (f : Option Forwarding) (t : ℕ) (r : Relay) → IsRelayJoined full dialogs_full f t r → Begins t r
-joined true dialogs_full f t r e = no_channel_left t r e
-joined false dialogs_full None t r e = no_channel_left t r e
-joined false dialogs_full (Some f) t r e = joined-at f.kind dialogs_full f t r e
+-- that of a socket that is joined
+pub joined : (full : Bool) (f : Option Forwarding) (t : ℕ) (r : Relay) → IsRelayJoined full f t r → Begins t r
+joined true f t r e = no_channel_left t r e
+joined false None t r e = no_channel_left t r e
+joined false (Some f) t r e = joined-at f.kind f t r e

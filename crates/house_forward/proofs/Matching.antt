@@ -11,12 +11,12 @@ use Rattle.house_relay.specs.Relay.{RelayRepresents}
 use Rattle.house_relay.specs.Steps.{is_gone}
 use Rattle.house_relay.specs.declared.relay.Relay.{Relay}
 use Rattle.house_forward.specs.Going.{swept, without_at}
-use Rattle.house_forward.specs.Links.{is_left, link_after, has_all_channels, has_full_dialogs, is_channel, is_dialog, is_awaited, dials}
-use Rattle.house_forward.specs.RelayTraces.{Life, One, IsLife, AreRelayTraces, kept_in, first_life_in, life_stepped, are_full, are_dialogs_full}
+use Rattle.house_forward.specs.Links.{is_left, link_after, has_all_channels, is_channel, is_awaited}
+use Rattle.house_forward.specs.RelayTraces.{Life, One, IsLife, AreRelayTraces, kept_in, first_life_in, life_stepped, are_full}
 use Rattle.house_forward.specs.declared.link.Link.{Link}
 use Rattle.house_forward.specs.declared.link.LinkStep.{LinkStep}
 use Rattle.house_forward.proofs.Lists.{none-passes}
-use Rattle.house_forward.specs.declared.rules.TheConstants.{MOST_CHANNELS, MOST_DIALOGS}
+use Rattle.house_forward.specs.declared.rules.TheConstants.{MOST_CHANNELS}
 use Rattle.house_forward.proofs.Living.{is-gone, steps, not-awaited}
 
 -- ---- a place in a list
@@ -130,11 +130,6 @@ same-count most which p tests (l ∷ relay_traces) (x ∷ links) are =
 pub full-same : (most : ℕ) (relay_traces : List Life) (links : List Link) → AreRelayTraces most relay_traces links → are_full relay_traces ≡ has_all_channels links
 full-same most relay_traces links are = ap (λ n. nat_le MOST_CHANNELS n)
     (same-count most (λ l. is_counted_channel l.relay.line) is_channel (λ l x is. ap (λ (r : Relay). is_counted_channel r.line) is.relay_is) relay_traces links are)
-
-pub dialogs_full-same : (most : ℕ) (relay_traces : List Life) (links : List Link) → AreRelayTraces most relay_traces links
-    → are_dialogs_full relay_traces ≡ has_full_dialogs links
-dialogs_full-same most relay_traces links are = ap (λ n. nat_le MOST_DIALOGS n)
-    (same-count most (λ l. dials l.relay.line) is_dialog (λ l x is. ap (λ (r : Relay). dials r.line) is.relay_is) relay_traces links are)
 
 -- none is awaited
 pub none-awaited : (most : ℕ) (relay_traces : List Life) (links : List Link) → AreRelayTraces most relay_traces links

@@ -20,7 +20,7 @@ use Rattle.house_forward.specs.Forwardings.{has_request, has_listener}
 use Rattle.house_forward.specs.Going.{GetsOn, TakesOn}
 use Rattle.house_forward.specs.Links.{IsRelayJoined}
 use Rattle.house_forward.specs.RelayTraces.{Life, Trace, RelayGoesBy, One, OneAtMost, MakesOne, OrderIsAllowed, StepsBy, Speaks, Listens, TraceReaches, Follows, SendsBy, MarksIn, OrdersInTrace, TurnsTo, first_trace, with_received}
-use Rattle.house_forward.specs.RelayTraces.{has_stream, is_stream, has_channel, has_words, is_socket_unmade, are_full, are_dialogs_full, life_stepped, made_life}
+use Rattle.house_forward.specs.RelayTraces.{has_stream, is_stream, has_channel, has_words, is_socket_unmade, are_full, life_stepped, made_life}
 use Rattle.house_forward.specs.Numbers.{own_stream_number, open_streams}
 use Rattle.house_forward.specs.declared.forwarding.Forwarding.{Forwarding}
 use Rattle.house_forward.specs.declared.link.LinkStep.{LinkStep}
@@ -148,7 +148,7 @@ pub record Passes (call : HouseCall) (old : Trace) (P Q : Life → Type 0) : Typ
   pub makes : (host : List ℕ) (port : ℕ) (number : Option ℕ) → call ≡ Marks (HouseOrder (order.Connect host port) number)
       → (a : Life) → Sound a → P a → is_socket_unmade a ≡ true → a.to ≡ Some (host, port) → Q (made_life number a)
   pub joins : (l t : ℕ) → call ≡ Turns (Joined l t) → (r : Relay)
-      → IsRelayJoined (are_full old.relay_traces) (are_dialogs_full old.relay_traces) (find (has_listener l) old.forwarding_state.all) t r → Q (joined_life old.joins t r)
+      → IsRelayJoined (are_full old.relay_traces) (find (has_listener l) old.forwarding_state.all) t r → Q (joined_life old.joins t r)
 
 both-of : (P Q : Life → Type 0) (ls : List Life) → Each P ls → Each Q ls → Each (λ a. P a × Q a) ls
 both-of P Q [] h k = tt

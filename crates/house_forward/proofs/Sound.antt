@@ -31,7 +31,7 @@ use Rattle.house_forward.specs.Going.{GetsOn, TakesOn, RelaySendsOn, RelayReceiv
 use Rattle.house_forward.specs.Links.{IsRelayJoined, relay_after, dials}
 use Rattle.house_forward.specs.RelayTraces.{Life, Trace, RelayGoesBy, One, OneAtMost, MakesOne, StepsBy, Speaks, Listens, TraceReaches, Follows}
 use Rattle.house_forward.specs.RelayTraces.{RelayReceivesAt, ReceivesOpen, OpensFor, ReceivesMessage, ReceivesReading, ReceivesFrame, RelaysReceiveFrames, SendsBy, MarksIn, OrdersInTrace, TurnsTo, first_trace, is_grant, with_received, cut_off}
-use Rattle.house_forward.specs.RelayTraces.{has_stream, is_stream, has_channel, has_words, is_socket_unmade, are_full, are_dialogs_full, link_own_after, own_made, relay_act_of, life_stepped, made_life, kept_in, first_life_in, with_relay_traces}
+use Rattle.house_forward.specs.RelayTraces.{has_stream, is_stream, has_channel, has_words, is_socket_unmade, are_full, link_own_after, own_made, relay_act_of, life_stepped, made_life, kept_in, first_life_in, with_relay_traces}
 use Rattle.house_forward.specs.Numbers.{own_stream_number}
 use Rattle.house_forward.specs.declared.forwarding.Forwarding.{Forwarding}
 use Rattle.house_forward.specs.declared.forwarder_state.ForwarderStage.{ForwarderStage}
@@ -111,7 +111,7 @@ pub record Kept (Now : HouseCall → Trace → Type 0) (P : Life → Type 0) : T
       → Now (Marks (HouseOrder (order.Connect host port) number)) old → (a : Life) → P a → is_socket_unmade a ≡ true
       → P (made_life number a)
   pub joins : (l t : ℕ) (old : Trace) → Now (Turns (Joined l t)) old → (r : Relay)
-      → IsRelayJoined (are_full old.relay_traces) (are_dialogs_full old.relay_traces) (find (has_listener l) old.forwarding_state.all) t r → r.number < 2 ^ 32
+      → IsRelayJoined (are_full old.relay_traces) (find (has_listener l) old.forwarding_state.all) t r → r.number < 2 ^ 32
       → P (joined_life old.joins t r)
   pub offers : (f : Forwarding) (number remote window maximum : ℕ) → number < 2 ^ 32 → P (offered_life f number remote window maximum)
 
@@ -391,10 +391,10 @@ sound-makes number a h = record {
   stream = own-make number;
 }
 
-pub sound-joins : (full dialogs_full : Bool) (f : Option Forwarding) (joins t : ℕ) (r : Relay) → IsRelayJoined full dialogs_full f t r
+pub sound-joins : (full : Bool) (f : Option Forwarding) (joins t : ℕ) (r : Relay) → IsRelayJoined full f t r
     → Sound (joined_life joins t r)
-sound-joins full dialogs_full f joins t r h =
-    let begins = joined full dialogs_full f t r h in record { stands = begins.stands; stream = begins.stream }
+sound-joins full f joins t r h =
+    let begins = joined full f t r h in record { stands = begins.stands; stream = begins.stream }
 
 pub sound-offers : (f : Forwarding) (number remote window maximum : ℕ) → Sound (offered_life f number remote window maximum)
 sound-offers f number remote window maximum =
@@ -414,7 +414,7 @@ pub record KeptSound (Now : HouseCall → Trace → Type 0) (P : Life → Type 0
       → Now (Marks (HouseOrder (order.Connect host port) number)) old → (a : Life) → Sound a → P a → is_socket_unmade a ≡ true
       → P (made_life number a)
   pub joins : (l t : ℕ) (old : Trace) → Now (Turns (Joined l t)) old → (r : Relay)
-      → IsRelayJoined (are_full old.relay_traces) (are_dialogs_full old.relay_traces) (find (has_listener l) old.forwarding_state.all) t r → r.number < 2 ^ 32
+      → IsRelayJoined (are_full old.relay_traces) (find (has_listener l) old.forwarding_state.all) t r → r.number < 2 ^ 32
       → P (joined_life old.joins t r)
   pub offers : (f : Forwarding) (number remote window maximum : ℕ) → number < 2 ^ 32 → P (offered_life f number remote window maximum)
 
@@ -433,7 +433,7 @@ with-sound Now P k = record {
   steps = λ s t call old now causes a p is. (sound-steps s t a p.0 is, k.steps s t call old now causes a p.0 p.1 is);
   makes = λ host port number old now a p is. (sound-makes number a p.0, k.makes host port number old now a p.0 p.1 is);
   joins = λ l t old now r h small.
-      (sound-joins (are_full old.relay_traces) (are_dialogs_full old.relay_traces) (find (has_listener l) old.forwarding_state.all) old.joins t r h, k.joins l t old now r h small);
+      (sound-joins (are_full old.relay_traces) (find (has_listener l) old.forwarding_state.all) old.joins t r h, k.joins l t old now r h small);
   offers = λ f number remote window maximum small.
       (sound-offers f number remote window maximum, k.offers f number remote window maximum small);
 }
@@ -449,7 +449,7 @@ sound = record {
   takes = λ t bytes a b s is h. sound-takes bytes a b s h;
   steps = λ s t call old now causes a h is. sound-steps s t a h is;
   makes = λ host port number old now a h is. sound-makes number a h;
-  joins = λ l t old now r h small. sound-joins (are_full old.relay_traces) (are_dialogs_full old.relay_traces) (find (has_listener l) old.forwarding_state.all) old.joins t r h;
+  joins = λ l t old now r h small. sound-joins (are_full old.relay_traces) (find (has_listener l) old.forwarding_state.all) old.joins t r h;
   offers = λ f number remote window maximum small. sound-offers f number remote window maximum;
 }
 

@@ -23,10 +23,10 @@ use Rattle.house_relay.specs.declared.relay.RelaySocket.TheVariants as socket
 use Rattle.house_forward.specs.ForwardingState.{ForwardingState, greeting_sent, request_sent}
 use Rattle.house_forward.specs.Forwardings.{has_request, has_listener}
 use Rattle.house_forward.specs.Going.{RelayGoesAt, LeavesAt, Gets, GetsOn, TakesOf, TakesOn, RelaySendsOn, RelayReceivesOn, Obeys, AwaitsAt, MakesAt, MayBeFirst, swept}
-use Rattle.house_forward.specs.Links.{has_sending, has_order, is_relay_stream, is_offered, is_awaited, link_after, streams_of, Offers, Joins, has_number, is_link_number, own_stream_of, has_all_channels, has_full_dialogs, dials, ConnectsAt, made_stream, OrdersInLink, IsRelayJoined}
+use Rattle.house_forward.specs.Links.{has_sending, has_order, is_relay_stream, is_offered, is_awaited, link_after, streams_of, Offers, Joins, has_number, is_link_number, own_stream_of, has_all_channels, dials, ConnectsAt, made_stream, OrdersInLink, IsRelayJoined}
 use Rattle.house_forward.specs.Links as linking
 use Rattle.house_forward.specs.RelayTraces.{One, Trace, Held, LinksGo, GoesFurther, ForwardingStateGoes, OnForwardingState, TakesFurther, ForwarderRepresents, Follows, accepted_length_in, with_forwarding_state}
-use Rattle.house_forward.specs.RelayTraces.{RelayReceivesAt, OffersOne, RelaySendsIn, SendsBy, GivesOrder, JoinsOne, OrdersSocket, MakesOne, as_held, are_full, are_dialogs_full, is_socket_unmade, IsEndOf}
+use Rattle.house_forward.specs.RelayTraces.{RelayReceivesAt, OffersOne, RelaySendsIn, SendsBy, GivesOrder, JoinsOne, OrdersSocket, MakesOne, as_held, are_full, is_socket_unmade, IsEndOf}
 use Rattle.house_forward.specs.RelayTraces.{Life, Listens, Speaks, RelayGoesBy, IsLife, IsSocketOf, AreRelayTraces, IsTrace, OrderIsAllowed, StepsBy, TraceReaches, first_trace, with_relay_traces, first_life_in, has_channel, has_words, has_stream, is_stream, life_stepped, made_life}
 use Rattle.house_forward.specs.Said.{framed, relay_sent_by, request_payload}
 use Rattle.house_forward.specs.declared.forwarding.Forwarding.{Forwarding}
@@ -43,7 +43,7 @@ use Rattle.house_forward.proofs.Changes.{first-is}
 use Rattle.house_forward.proofs.Fresh.{offered, joined}
 use Rattle.house_forward.proofs.Lists.{none-passes, kept-set}
 use Rattle.house_forward.proofs.Living as living
-use Rattle.house_forward.proofs.Matching.{at-first, splits, both-append, none-relay_traces, goes-one, sweeps, all-step, all-more, full-same, dialogs_full-same, none-awaited, one-place}
+use Rattle.house_forward.proofs.Matching.{at-first, splits, both-append, none-relay_traces, goes-one, sweeps, all-step, all-more, full-same, none-awaited, one-place}
 use Rattle.house_forward.proofs.Queues.{rests-first}
 use Rattle.house_forward.proofs.Streams.{lacks-one}
 
@@ -460,7 +460,7 @@ pub joins : (l t : ℕ) (old new : List Link) (framer : FramerState) (stage : Fo
     → GoesFurther (Follows (Turns (Joined l t))) (as_held old framer stage forwarding_state) (as_held new framer stage forwarding_state)
 joins l t old new framer stage forwarding_state h = λ most trace is.
     let f = find (has_listener l) forwarding_state.all in
-    let begins = joined (has_all_channels old) (has_full_dialogs old) f t h.relay h.joined in
+    let begins = joined (has_all_channels old) f t h.relay h.joined in
     let none = begins.none in
     let link : Link = record { relay = h.relay; stream = Made (new_stream t) } in
     let life : Life = record { relay = h.relay; own = Some (new_stream t); dials = dials h.relay.line; joined = Some trace.joins; to = None; acts = [] } in
@@ -475,8 +475,7 @@ joins l t old new framer stage forwarding_state h = λ most trace is.
     } in
     let one : JoinsOne f t trace.joins trace.relay_traces (trace.relay_traces ++ life ∷ []) = record {
       relay = h.relay;
-      joined = subst (λ (b : Bool). IsRelayJoined b (are_dialogs_full trace.relay_traces) f t h.relay) (sym (full-same most trace.relay_traces old is.relay_traces))
-          (subst (λ (b : Bool). IsRelayJoined (has_all_channels old) b f t h.relay) (sym (dialogs_full-same most trace.relay_traces old is.relay_traces)) h.joined);
+      joined = subst (λ (b : Bool). IsRelayJoined b f t h.relay) (sym (full-same most trace.relay_traces old is.relay_traces)) h.joined;
       free = none-relay_traces most (has_channel h.relay.number) (λ l. l.relay.number == h.relay.number)
           (living.has-channel h.relay.number most) trace.relay_traces old is.relay_traces h.free;
       small = h.small;

@@ -7,7 +7,7 @@ use Rattle.mux_outside.specs.declared.order.Order.TheVariants as order
 use Rattle.mux_outside.specs.declared.own_streams.OwnStream.{OwnStream}
 use Rattle.house_relay.specs.Acts.{RelayAct, Fails, Refused, answer, read, outcome_in, waiting, socket_has_ended, received_close, was_close_sent}
 use Rattle.house_forward.specs.Forwardings.{has_listener}
-use Rattle.house_forward.specs.RelayTraces.{Life, Trace, Follows, TraceReaches, first_trace, are_full, are_dialogs_full}
+use Rattle.house_forward.specs.RelayTraces.{Life, Trace, Follows, TraceReaches, first_trace, are_full}
 use Rattle.house_forward.specs.Opening.{IsCallBefore}
 
 -- whether its socket failed
@@ -54,16 +54,16 @@ pub record IsSocketServed (dials : Bool) (acts : List RelayAct) : Type 0 where
 abbrev pub IsStream : Option OwnStream → ℕ → Type 0
 IsStream own t = IfSome own (λ o. o.number ≡ t)
 
--- it was accepted where the forwarder had all channels or dialogs that it may have, or at a
--- listener of no forwarding
+-- it was accepted where the forwarder had all channels that it may have, or at a listener of no
+-- forwarding
 pub record IsTurnedAway (calls : List HouseCall) (own : Option OwnStream) : Type 0 where
   pub listener : ℕ
   pub stream : ℕ
   pub trace : Trace
   pub joined : IsCallBefore calls (Turns (Joined listener stream)) trace
   pub its : IsStream own stream
-  pub cause : (are_full trace.relay_traces ≡ true) ⊎ ((are_dialogs_full trace.relay_traces ≡ true)
-      ⊎ (find (has_listener listener) trace.forwarding_state.all ≡ None))
+  pub cause : (are_full trace.relay_traces ≡ true)
+      ⊎ (find (has_listener listener) trace.forwarding_state.all ≡ None)
 
 -- its dialog asked for an end where the forwarder had all channels that it may have
 pub record IsTooLate (calls : List HouseCall) (own : Option OwnStream) : Type 0 where

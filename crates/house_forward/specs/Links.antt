@@ -19,7 +19,7 @@ use Rattle.house_relay.specs.declared.relay.RelaySocket.TheVariants as socket
 use Rattle.house_forward.specs.declared.forwarding.Forwarding.{Forwarding}
 use Rattle.house_forward.specs.declared.rules.ForwardingKind.{ForwardingKind}
 use Rattle.house_forward.specs.declared.rules.ForwardingKind.TheVariants.{Local, Remote, Dynamic}
-use Rattle.house_forward.specs.declared.rules.TheConstants.{MOST_CHANNELS, MOST_DIALOGS}
+use Rattle.house_forward.specs.declared.rules.TheConstants.{MOST_CHANNELS}
 use Rattle.house_forward.specs.declared.link.Link.{Link}
 use Rattle.house_forward.specs.declared.link.LinkStep.{LinkStep}
 use Rattle.house_forward.specs.declared.link.LinkStep.TheVariants.{Pause, Finish, End, Close, Writable, Failed}
@@ -155,16 +155,6 @@ dials (OfServer remote window maximum) = false
 dials (Live live) = false
 dials Over = false
 
-abbrev pub is_dialog : Link → Bool
-is_dialog l = dials l.relay.line
-
-abbrev pub dialogs : List Link → ℕ
-dialogs links = length (filter is_dialog links)
-
--- whether the forwarder has all dialogs that it may have
-abbrev pub has_full_dialogs : List Link → Bool
-has_full_dialogs links = nat_le MOST_DIALOGS (dialogs links)
-
 -- whether the forwarder's own number of a channel is this one
 abbrev pub is_number_of : ℕ → List Link → Bool
 is_number_of number links = list_any (λ l. l.relay.number == number) links
@@ -287,31 +277,29 @@ pub record Offers (f : Forwarding) (remote window maximum : ℕ) (old new : List
 abbrev pub HasNoChannelLeft : ℕ → Relay → Type 0
 HasNoChannelLeft t r = r ≡ fresh_relay r.number Over (socket.NoChannelLeft t)
 
--- a dialog is to give the channel's end; where the forwarder has all dialogs that it may have, the
--- socket is closed
-abbrev pub DialsOrCloses : Bool → ℕ → Relay → Type 0
-DialsOrCloses true t r = HasNoChannelLeft t r
-DialsOrCloses false t r = r ≡ fresh_relay r.number fresh_dialing (socket.Open t)
+-- a dialog is to give the channel's end
+abbrev pub BeginsDialog : ℕ → Relay → Type 0
+BeginsDialog t r = r ≡ fresh_relay r.number fresh_dialing (socket.Open t)
 
 -- the channel is to be to where the forwarding connects, or to where a dialog requests
-abbrev pub IsJoinedAt : ForwardingKind → Bool → Forwarding → ℕ → Relay → Type 0
-IsJoinedAt Local dialogs_full f t r =
+abbrev pub IsJoinedAt : ForwardingKind → Forwarding → ℕ → Relay → Type 0
+IsJoinedAt Local f t r =
     r ≡ fresh_relay r.number (Asked f.connect_host f.connect_port None) (socket.Open t)
-IsJoinedAt Remote dialogs_full f t r =
+IsJoinedAt Remote f t r =
     r ≡ fresh_relay r.number (Asked f.connect_host f.connect_port None) (socket.Open t)
-IsJoinedAt Dynamic dialogs_full f t r = DialsOrCloses dialogs_full t r
+IsJoinedAt Dynamic f t r = BeginsDialog t r
 
 -- the relay of an accepted socket: where the forwarder has all channels that it may have, it is
 -- closed
-abbrev pub IsRelayJoined : Bool → Bool → Option Forwarding → ℕ → Relay → Type 0
-IsRelayJoined true dialogs_full f t r = HasNoChannelLeft t r
-IsRelayJoined false dialogs_full None t r = HasNoChannelLeft t r
-IsRelayJoined false dialogs_full (Some f) t r = IsJoinedAt f.kind dialogs_full f t r
+abbrev pub IsRelayJoined : Bool → Option Forwarding → ℕ → Relay → Type 0
+IsRelayJoined true f t r = HasNoChannelLeft t r
+IsRelayJoined false None t r = HasNoChannelLeft t r
+IsRelayJoined false (Some f) t r = IsJoinedAt f.kind f t r
 
 -- one relay more, for a socket that is accepted
 pub record Joins (f : Option Forwarding) (t : ℕ) (old new : List Link) : Type 0 where
   pub relay : Relay
-  pub joined : IsRelayJoined (has_all_channels old) (has_full_dialogs old) f t relay
+  pub joined : IsRelayJoined (has_all_channels old) f t relay
   pub free : is_number_of relay.number old ≡ false
   pub small : relay.number < 2 ^ 32
   pub fresh : is_one t (streams_of old) ≡ false

@@ -57,7 +57,7 @@ use Rattle.house_forward.specs.declared.ordering.Ordering.{Ordering}
 use Rattle.house_forward.specs.declared.ordering.Ordering.TheVariants as ordering
 use Rattle.house_forward.specs.declared.relays.Relays.{Relays}
 use Rattle.house_forward.specs.declared.rules.ListenRules.{ListenRules}
-use Rattle.house_forward.specs.declared.rules.TheConstants.{MOST_CHANNELS, MOST_DIALOGS}
+use Rattle.house_forward.specs.declared.rules.TheConstants.{MOST_CHANNELS}
 use Rattle.mux_outside.specs.declared.greeting.TheConstants.{GREETING}
 
 -- a relay; its stream, while it is open; whether it began with a dialog; which of the sockets that
@@ -138,14 +138,6 @@ channels_in relay_traces = length (filter (λ l. is_counted_channel l.relay.line
 abbrev pub are_full : List Life → Bool
 are_full relay_traces = nat_le MOST_CHANNELS (channels_in relay_traces)
 
--- of how many a dialog is still to name the end
-abbrev pub dialogs_in : List Life → ℕ
-dialogs_in relay_traces = length (filter (λ l. dials l.relay.line) relay_traces)
-
--- whether they are as many as may be
-abbrev pub are_dialogs_full : List Life → Bool
-are_dialogs_full relay_traces = nat_le MOST_DIALOGS (dialogs_in relay_traces)
-
 -- its relay goes on so, and this happens in it
 pub record RelayGoesBy (so : Relay → Relay → Type 0) (act : RelayAct) (old new : Life) : Type 0 where
   pub relay : so old.relay new.relay
@@ -218,7 +210,7 @@ life_stepped step t l = if has_stream t l then record l {
 -- others, with a stream that no other has: for an end that this names or a dialog will, or for none
 pub record JoinsOne (f : Option Forwarding) (t joins : ℕ) (old new : List Life) : Type 0 where
   pub relay : Relay
-  pub joined : IsRelayJoined (are_full old) (are_dialogs_full old) f t relay
+  pub joined : IsRelayJoined (are_full old) f t relay
   pub free : list_any (has_channel relay.number) old ≡ false
   pub small : relay.number < 2 ^ 32
   pub fresh : list_any (has_stream t) old ≡ false

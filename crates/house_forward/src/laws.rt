@@ -70,9 +70,8 @@ pub fn opens_are_for_joined_sockets()
 
 /// A stream is closed in three cases alone: its socket failed; or nothing waits for it, and CLOSE
 /// went both ways in its channel, or its OPEN was refused, or its dialog broke, or its client left
-/// before that asked for an end; or there was no channel for it, since the forwarder had 256, or as
-/// many dialogs, when it was accepted, or 256 channels when its dialog asked for one, or there was
-/// no forwarding with its listener.
+/// before that asked for an end; or there was no channel for it, since the forwarder had 256 when
+/// it was accepted or when its dialog asked for one, or there was no forwarding with its listener.
 pub fn each_close_has_its_cause()
     ensures { ClosesHaveCause }
 {}

@@ -3,11 +3,11 @@ ghost use Rattle.std.specs.Prelude.{◌≡◌, ◌++◌, is_some, true, IfSome, 
 ghost use Rattle.house_relay.specs.Relay.{socket_stream_of, RelayGoesOn};
 ghost use Rattle.house_relay.specs.Steps.{made_as};
 ghost use Rattle.house_forward.specs.Heard.{received_of, act_received};
-ghost use Rattle.house_forward.specs.Links.{has_number, is_relay_stream, is_offered, is_awaited, is_left, link_after, relay_after, made_stream, link_order, has_order, has_sending, is_stream_finished, stream_number_in, stream_waiting, unless_among, is_channel, is_dialog, ConnectsAt, IsOrderOf};
+ghost use Rattle.house_forward.specs.Links.{has_number, is_relay_stream, is_offered, is_awaited, is_left, link_after, relay_after, made_stream, link_order, has_order, has_sending, is_stream_finished, stream_number_in, stream_waiting, unless_among, is_channel, ConnectsAt, IsOrderOf};
 
 use crate::two_texts::TwoTexts;
 use conn_messages::Message;
-use house_relay::{ChannelState, Relay};
+use house_relay::Relay;
 use mux_outside::{Order, OwnStream, Streams};
 use ssh_fields::OutOfMemory;
 use std::mem;
@@ -135,20 +135,6 @@ impl Link {
         ensures { result ≡ is_channel self.now }
     {
         self.relay.line.counts()
-    }
-
-    /// Whether a dialog is still to name the end of its channel.
-    pub fn is_dialog(&self) -> bool
-        ensures { result ≡ is_dialog self.now }
-    {
-        match &self.relay.line {
-            ChannelState::Dialing(_) => true,
-            ChannelState::Asked { .. }
-            | ChannelState::Opened { .. }
-            | ChannelState::Offered { .. }
-            | ChannelState::Live(_)
-            | ChannelState::Over => false,
-        }
     }
 
     /// Whether nothing is left of it.

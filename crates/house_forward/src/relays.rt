@@ -8,12 +8,12 @@ ghost use Rattle.mux_outside.specs.declared.piece.TheConstants.{LONGEST_PIECE};
 ghost use Rattle.house_forward.specs.Due.{link_due};
 ghost use Rattle.house_forward.specs.Going.{RelayGoesAt, LeavesAt, Gets, TakesOf, RelaySendsOn, RelayReceivesOn, Obeys, AwaitsAt, MakesAt, swept};
 ghost use Rattle.house_forward.specs.Said.{framed, relay_sent_by};
-ghost use Rattle.house_forward.specs.Links.{streams_of, has_number, are_distinct, is_taken, is_relay_stream, link_queue_in, queue_at, link_after, is_offered, is_awaited, is_left, has_all_channels, channels, dialogs, has_full_dialogs, is_number_of, has_order, has_sending, made_streams, obeyed, ConnectsAt};
+ghost use Rattle.house_forward.specs.Links.{streams_of, has_number, are_distinct, is_taken, is_relay_stream, link_queue_in, queue_at, link_after, is_offered, is_awaited, is_left, has_all_channels, channels, is_number_of, has_order, has_sending, made_streams, obeyed, ConnectsAt};
 
 use crate::link::{Link, LinkStep};
 use crate::outgoing;
 use crate::places::Places;
-use crate::rules::{MOST_CHANNELS, MOST_DIALOGS};
+use crate::rules::MOST_CHANNELS;
 use crate::two_texts::TwoTexts;
 use conn_messages::Message;
 use mux_outside::{Order, Piece, Streams};
@@ -73,13 +73,6 @@ impl Relays {
         ensures { result ≡ has_all_channels self.now.all.items }
     {
         channels_in(&self.all) >= MOST_CHANNELS
-    }
-
-    /// Whether it has all dialogs that it may have.
-    pub fn has_full_dialogs(&self) -> bool
-        ensures { result ≡ has_full_dialogs self.now.all.items }
-    {
-        dialogs_in(&self.all) >= MOST_DIALOGS
     }
 
     /// A number that no relay has.
@@ -438,11 +431,4 @@ fn channels_in(links: &[Link]) -> usize
     ensures { result ≡ channels links.now }
 {
     links.iter().filter(|l| l.is_channel()).count()
-}
-
-// How many dialogs are under way.
-fn dialogs_in(links: &[Link]) -> usize
-    ensures { result ≡ dialogs links.now }
-{
-    links.iter().filter(|l| l.is_dialog()).count()
 }

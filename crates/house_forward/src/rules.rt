@@ -23,9 +23,6 @@ pub const MOST_WAITING: usize = 65_536;
 /// The most channels of one client of the master.
 pub const MOST_CHANNELS: usize = 256;
 
-/// The most sockets whose dialog is under way.
-pub const MOST_DIALOGS: usize = 256;
-
 /// The last port.
 pub const LAST_PORT: u32 = 65_535;
 

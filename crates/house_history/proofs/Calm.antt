@@ -38,8 +38,8 @@ use Rattle.house_relay.specs.declared.relay.RelaySocket.{RelaySocket}
 use Rattle.house_forward.specs.Forwardings.{has_listener, served_at}
 use Rattle.house_forward.specs.Going.{GetsOn, TakesOn}
 use Rattle.house_forward.specs.Heard.{act_received, received_of}
-use Rattle.house_forward.specs.Links.{IsRelayJoined, IsJoinedAt, DialsOrCloses}
-use Rattle.house_forward.specs.RelayTraces.{Trace, Follows, RelayGoesBy, RelayReceivesAt, ReceivesMessage, ReceivesOpen, ReceivesReading, JoinsOne, Life, MakesOne, MarksIn, OffersOne, One, OneAtMost, OpensFor, OrdersInTrace, StepsBy, TurnsTo, are_dialogs_full, are_full, has_channel, has_stream, kept_in, made_life, life_stepped, with_relay_traces}
+use Rattle.house_forward.specs.Links.{IsRelayJoined, IsJoinedAt}
+use Rattle.house_forward.specs.RelayTraces.{Trace, Follows, RelayGoesBy, RelayReceivesAt, ReceivesMessage, ReceivesOpen, ReceivesReading, JoinsOne, Life, MakesOne, MarksIn, OffersOne, One, OneAtMost, OpensFor, OrdersInTrace, StepsBy, TurnsTo, are_full, has_channel, has_stream, kept_in, made_life, life_stepped, with_relay_traces}
 use Rattle.house_forward.specs.Numbers.{relay_channels_of}
 use Rattle.house_forward.specs.declared.forwarding.Forwarding.{Forwarding}
 use Rattle.house_forward.specs.declared.link.LinkStep.{LinkStep}
@@ -300,19 +300,15 @@ free-orphans n es u = each-of Unnumbered (λ (e : Entry). has n e.0 ≡ false) (
 none-view : (line : ChannelState) → (r : Relay) → r.line ≡ line → ViewOf line [] NoChannel → ViewOf r.line [] NoChannel
 none-view line r e i = subst (λ (l : ChannelState). ViewOf l [] NoChannel) (sym e) i
 
-dialed-view : (dialogs_full : Bool) (t : ℕ) (r : Relay) → DialsOrCloses dialogs_full t r → ViewOf r.line [] NoChannel
-dialed-view true t r h = none-view _ r (ap (λ (x : Relay). x.line) h) refl
-dialed-view false t r h = none-view _ r (ap (λ (x : Relay). x.line) h) (refl, (refl, refl))
+joined-at-view : (kind : ForwardingKind) (f : Forwarding) (t : ℕ) (r : Relay) → IsJoinedAt kind f t r → ViewOf r.line [] NoChannel
+joined-at-view Local f t r h = none-view _ r (ap (λ (x : Relay). x.line) h) (refl, (refl, refl))
+joined-at-view Remote f t r h = none-view _ r (ap (λ (x : Relay). x.line) h) (refl, (refl, refl))
+joined-at-view Dynamic f t r h = none-view _ r (ap (λ (x : Relay). x.line) h) (refl, (refl, refl))
 
-joined-at-view : (kind : ForwardingKind) (dialogs_full : Bool) (f : Forwarding) (t : ℕ) (r : Relay) → IsJoinedAt kind dialogs_full f t r → ViewOf r.line [] NoChannel
-joined-at-view Local dialogs_full f t r h = none-view _ r (ap (λ (x : Relay). x.line) h) (refl, (refl, refl))
-joined-at-view Remote dialogs_full f t r h = none-view _ r (ap (λ (x : Relay). x.line) h) (refl, (refl, refl))
-joined-at-view Dynamic dialogs_full f t r h = dialed-view dialogs_full t r h
-
-joined-view : (full dialogs_full : Bool) (f : Option Forwarding) (t : ℕ) (r : Relay) → IsRelayJoined full dialogs_full f t r → ViewOf r.line [] NoChannel
-joined-view true dialogs_full f t r h = none-view _ r (ap (λ (x : Relay). x.line) h) refl
-joined-view false dialogs_full None t r h = none-view _ r (ap (λ (x : Relay). x.line) h) refl
-joined-view false dialogs_full (Some f) t r h = joined-at-view f.kind dialogs_full f t r h
+joined-view : (full : Bool) (f : Option Forwarding) (t : ℕ) (r : Relay) → IsRelayJoined full f t r → ViewOf r.line [] NoChannel
+joined-view true f t r h = none-view _ r (ap (λ (x : Relay). x.line) h) refl
+joined-view false None t r h = none-view _ r (ap (λ (x : Relay). x.line) h) refl
+joined-view false (Some f) t r h = joined-at-view f.kind f t r h
 
 seen-joins : (hs : List Channel) (notes : List Note) (f : Option Forwarding) (t joins : ℕ) (old new : List Life) → JoinsOne f t joins old new → Seen hs old notes → Seen hs new notes
 seen-joins hs notes f t joins old new h s =
@@ -322,7 +318,7 @@ seen-joins hs notes f t joins old new h s =
       entries = s.entries ++ e ∷ [];
       orphans = s.orphans;
       views = views-append old (joined_life joins t h.relay ∷ []) s.entries (e ∷ []) s.views
-          (record { number = refl; view = joined-view (are_full old) (are_dialogs_full old) f t h.relay h.joined }, tt);
+          (record { number = refl; view = joined-view (are_full old) f t h.relay h.joined }, tt);
       unnumbered = s.unnumbered;
       later = subst (λ (vs : List Entry). Later hs vs notes) (sym (append-three s.entries (e ∷ []) s.orphans))
           (later-with hs n notes s.entries s.orphans (free-views n old s.entries s.views h.free) (free-orphans n s.orphans s.unnumbered) s.later);

@@ -5,7 +5,7 @@ ghost use Rattle.mux_outside.specs.House.{known_after_own_turn, queue_after_took
 ghost use Rattle.mux_outside.specs.OwnStreams.{is_one, new_stream};
 ghost use Rattle.mux_outside.specs.declared.piece.TheConstants.{LONGEST_PIECE};
 ghost use Rattle.house_forward.specs.Forwardings.{has_listener};
-ghost use Rattle.house_forward.specs.Links.{streams_of, queue_at, has_all_channels, has_full_dialogs, IsRelayJoined, IsJoinedAt, DialsOrCloses, Joins};
+ghost use Rattle.house_forward.specs.Links.{streams_of, queue_at, has_all_channels, IsRelayJoined, IsJoinedAt, Joins};
 ghost use Rattle.house_forward.specs.RelayTraces.{GoesFurther, TakesFurther, Follows};
 ghost use Rattle.mux_outside.specs.HouseCalls.{Turns, happening_of};
 ghost use Rattle.house_forward.specs.State.{held_in, known_in, quiet_in, due_in, ChangesRelays};
@@ -76,7 +76,6 @@ impl ForwarderState {
     // The relay of a socket that was accepted at a listener.
     fn relay_of(&self, listener: u64, number: u32, stream: u64) -> Result<Relay, OutOfMemory>
         ensures joined { IfOk result (λ r. IsRelayJoined (has_all_channels self.now.relays.all.items)
-            (has_full_dialogs self.now.relays.all.items)
             (find (has_listener listener) self.now.forwardings.all.items) stream r) }
         ensures number { IfOk result (λ r. r.number ≡ number) }
         ensures few { IfOk result (λ r. length r.held.waiting ≤ LONGEST_PIECE) }
@@ -86,10 +85,7 @@ impl ForwarderState {
         }
         match self.forwardings.of_listener(listener) {
             None => Ok(Relay::no_channel_left(self.alloc, number, stream)),
-            Some(forwarding) => {
-                let dialogs_full = self.relays.has_full_dialogs();
-                joined_at(self.alloc, dialogs_full, forwarding, number, stream)
-            }
+            Some(forwarding) => joined_at(self.alloc, forwarding, number, stream),
         }
     }
 
@@ -122,39 +118,23 @@ impl ForwarderState {
     }
 }
 
-// The relay of a socket that was accepted at the listener of a forwarding, where the forwarder has
-// all dialogs that it may have or not.
+// The relay of a socket that was accepted at the listener of a forwarding.
 fn joined_at(
     alloc: Global,
-    dialogs_full: bool,
     forwarding: &Forwarding,
     number: u32,
     stream: u64,
 ) -> Result<Relay, OutOfMemory>
     ensures joined { IfOk result
-        (λ r. IsJoinedAt forwarding.now.kind dialogs_full forwarding.now stream r) }
+        (λ r. IsJoinedAt forwarding.now.kind forwarding.now stream r) }
     ensures number { IfOk result (λ r. r.number ≡ number) }
     ensures few { IfOk result (λ r. length r.held.waiting ≤ LONGEST_PIECE) }
 {
     match forwarding.kind {
-        ForwardingKind::Dynamic => Ok(dialed(alloc, dialogs_full, number, stream)),
+        ForwardingKind::Dynamic => Ok(Relay::dynamic(alloc, number, stream)),
         ForwardingKind::Local | ForwardingKind::Remote => {
             let host = Text::copy(alloc, forwarding.connect_host.as_bytes())?;
             Ok(Relay::joined(alloc, number, stream, host, forwarding.connect_port))
         }
-    }
-}
-
-// The relay of a socket whose dialog is still to name the end, where there is room for one more or
-// not.
-fn dialed(alloc: Global, dialogs_full: bool, number: u32, stream: u64) -> Relay
-    ensures dialed { DialsOrCloses dialogs_full stream result }
-    ensures number { result.number ≡ number }
-    ensures few { length result.held.waiting ≤ LONGEST_PIECE }
-{
-    if dialogs_full {
-        Relay::no_channel_left(alloc, number, stream)
-    } else {
-        Relay::dynamic(alloc, number, stream)
     }
 }
