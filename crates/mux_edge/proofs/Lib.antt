@@ -1,4 +1,5 @@
 mod Bytes
+mod Hosts
 mod Own
 mod Passes
 mod Rows
