@@ -1,5 +1,9 @@
 -- Where a stream connects to: the addresses of a name, tried in turn.
-use Rattle.std.specs.Prelude.{◌≡◌, ◌-◌, ◌&&◌, not, true, false, ℕ, Bool, List, length, is_some, option_map, unwrap_or, bytes_eq}
+use Rattle.std.specs.Prelude.{◌≡◌, ◌<◌, ◌-◌, ◌&&◌, not, true, false, ℕ, Bool, List, Option, None, Some, IfSome, length, is_some, option_map, unwrap_or, bytes_eq, slice_get}
+use Rattle.std.specs.Net.Socket.{IsPlainSocket, socket_ip}
+use Rattle.std.specs.declared.net.socket_addr.SocketAddr.{SocketAddr}
+use Rattle.mux_edge.specs.Recorded.{KeepsSocket, of_socket}
+use Rattle.mux_edge.specs.declared.stream.Stream.{Stream}
 use Rattle.mux_edge.specs.declared.lookups.Known.{Known}
 use Rattle.mux_edge.specs.declared.lookups.Known.TheVariants.{Addresses, LookedUp, Nothing}
 use Rattle.mux_edge.specs.declared.targets.Target.{Target}
@@ -24,3 +28,16 @@ abbrev pub has_addresses : Known → Bool
 has_addresses Addresses = true
 has_addresses LookedUp = false
 has_addresses Nothing = false
+
+-- it is the address of a target that was tried last, with its port
+pub record IsTriedAddress (old new : Target) (to : SocketAddr) : Type 0 where
+  pub address_is : IfSome old.addresses (λ addresses.
+      slice_get addresses.items (new.tried - 1) ≡ Some (socket_ip to))
+  pub port_is : IsPlainSocket to old.port
+  pub tried_now : old.tried < new.tried
+
+-- a stream goes over a socket that was begun to such an address, where it is recorded to which
+abbrev pub ConnectsTo : {U T : Type 0} → (U → U → Type 0) → (T → T → Type 0)
+    → (T → Option SocketAddr) → (SocketAddr → Type 0) → Stream U T → Type 0
+ConnectsTo {U} {T} unix tcp target Is stream = (begun : Stream U T)
+    × IfSome (of_socket (λ _. None) target begun) Is × KeepsSocket unix tcp begun stream
