@@ -2,4 +2,5 @@ mod Bytes
 mod Hosts
 mod Own
 mod Passes
+mod Resolved
 mod Rows

@@ -1,6 +1,7 @@
 -- Where a stream connects to: the addresses of a name, tried in turn.
-use Rattle.std.specs.Prelude.{◌≡◌, ◌<◌, ◌-◌, ◌&&◌, not, true, false, ℕ, Bool, List, Option, None, Some, IfSome, length, is_some, option_map, unwrap_or, bytes_eq, slice_get}
+use Rattle.std.specs.Prelude.{◌≡◌, ◌<◌, ◌-◌, ◌&&◌, not, true, false, ℕ, Bool, List, Option, None, Some, IfSome, IsSomeAnd, length, is_some, option_map, unwrap_or, bytes_eq, slice_get}
 use Rattle.std.specs.Net.Socket.{IsPlainSocket, socket_ip}
+use Rattle.std.specs.declared.net.ip_addr.IpAddr.{IpAddr}
 use Rattle.std.specs.declared.net.socket_addr.SocketAddr.{SocketAddr}
 use Rattle.mux_edge.specs.Recorded.{KeepsSocket, of_socket}
 use Rattle.mux_edge.specs.declared.stream.Stream.{Stream}
@@ -41,3 +42,15 @@ abbrev pub ConnectsTo : {U T : Type 0} → (U → U → Type 0) → (T → T →
     → (T → Option SocketAddr) → (SocketAddr → Type 0) → Stream U T → Type 0
 ConnectsTo {U} {T} unix tcp target Is stream = (begun : Stream U T)
     × IfSome (of_socket (λ _. None) target begun) Is × KeepsSocket unix tcp begun stream
+
+-- the addresses of a name are known: a target that waits for them has exactly these, and any other
+-- stays as it is
+pub record IsResolved (name : List ℕ) (addresses : List IpAddr) (old new : Target) : Type 0 where
+  pub known : awaits old name ≡ true → IsSomeAnd new.addresses (λ found. found.items ≡ addresses)
+  pub rest : new ≡ record old { addresses = new.addresses }
+  pub others : awaits old name ≡ false → new ≡ old
+
+-- the same of the target of a number, if there is one
+abbrev pub ResolvesAt : List ℕ → List IpAddr → Option Target → Option Target → Type 0
+ResolvesAt name addresses None new = new ≡ None
+ResolvesAt name addresses (Some old) new = IsSomeAnd new (IsResolved name addresses old)

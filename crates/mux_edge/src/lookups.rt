@@ -1,6 +1,6 @@
 //! Names that are looked up, and the streams that connect to them.
 ghost use Rattle.std.specs.Prelude.{◌≡◌, ◌≢◌, ◌<◌, ◌≤◌, ◌↔◌, ℕ, length, max, None, Ok, is_some, true, IfOk, IfSome, IsErr, IsNone, IsSome, IsSomeAnd, IsTrue, OnOk, nat_eq};
-ghost use Rattle.mux_edge.specs.Targets.{ConnectsTo, IsNewTarget, IsTriedAddress, has_addresses};
+ghost use Rattle.mux_edge.specs.Targets.{ConnectsTo, IsNewTarget, IsTriedAddress, ResolvesAt, has_addresses};
 ghost use Rattle.indexmap.specs.IndexMap.{get, index_map_len};
 
 use crate::lookup::{Lookup, is_within};
@@ -257,11 +257,14 @@ impl Lookups {
 
     // Gives the addresses of a name to the streams that wait for them.
     fn resolve(&mut self, name: &[u8], addresses: &[IpAddr]) -> Result<(), AllocError>
-        ensures { self.new.running ≡ self.old.running }
+        ensures resolved { OnOk result ((n : ℕ) → ResolvesAt name.now addresses.now
+            (get nat_eq self.old.targets n) (get nat_eq self.new.targets n)) }
+        ensures running { self.new.running ≡ self.old.running }
+        ensures cache { self.new.cache ≡ self.old.cache }
     {
-        for target in self.targets.values_mut() {
-            if target.awaits(name) {
-                target.addresses = Some(Vec::from_slice(self.alloc, addresses)?);
+        for index in 0..self.targets.len() {
+            if let Some(target) = self.targets.get_index_mut(index) {
+                target.resolve(self.alloc, name, addresses)?;
             }
         }
         Ok(())

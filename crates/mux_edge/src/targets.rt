@@ -1,11 +1,12 @@
 //! Where a stream connects to by a name: the addresses of the name, tried in turn.
-ghost use Rattle.std.specs.Prelude.{◌≡◌, ◌<◌, ◌+◌, Some, OnErr, OnSome, IfNone, IfOk, IfSome, slice_get};
+ghost use Rattle.std.specs.Prelude.{◌≡◌, ◌<◌, ◌+◌, Some, OnErr, OnOk, OnSome, IfNone, IfOk, IfSome, slice_get};
 ghost use Rattle.std.specs.Net.Socket.{IsPlainSocket, socket_ip};
 ghost use Rattle.mux_edge.specs.Targets.{ConnectsTo};
 
 use crate::socket::{TcpSocket, UnixSocket};
 use crate::stream::Stream;
 use mio::{Registry, Token};
+use std::alloc::{AllocError, Global};
 use std::io;
 use std::io::ErrorKind;
 use std::net::{IpAddr, Net, SocketAddr};
@@ -21,7 +22,7 @@ pub struct Target {
 }
 
 impl Target {
-    ghost use Rattle.mux_edge.specs.Targets.{IsTriedAddress, awaits, addresses_left_of};
+    ghost use Rattle.mux_edge.specs.Targets.{IsResolved, IsTriedAddress, awaits, addresses_left_of};
 
     // The address that is tried next.
     fn next(&mut self) -> Option<SocketAddr>
@@ -57,6 +58,22 @@ impl Target {
             }
         }
         Err(io::Error::from(ErrorKind::NotFound))
+    }
+
+    /// Takes the addresses of this name, if it waits for them.
+    pub fn resolve(
+        &mut self,
+        alloc: Global,
+        name: &[u8],
+        addresses: &[IpAddr],
+    ) -> Result<(), AllocError>
+        ensures ok { OnOk result (IsResolved name.now addresses.now self.old self.new) }
+        ensures err { OnErr result (self.new ≡ self.old) }
+    {
+        if self.awaits(name) {
+            self.addresses = Some(Vec::from_slice(alloc, addresses)?);
+        }
+        Ok(())
     }
 
     /// Whether it waits for the look-up of this name.
