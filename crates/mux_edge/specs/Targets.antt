@@ -1,8 +1,10 @@
 -- Where a stream connects to: the addresses of a name, tried in turn.
-use Rattle.std.specs.Prelude.{◌≡◌, ◌<◌, ◌-◌, ◌&&◌, not, true, false, ℕ, Bool, List, Option, None, Some, IfSome, IsSomeAnd, length, is_some, option_map, unwrap_or, bytes_eq, slice_get}
+use Rattle.std.specs.Prelude.{◌≡◌, ◌<◌, ◌-◌, ◌&&◌, not, true, false, ℕ, Bool, List, [], nat_eq, Option, None, Some, IfSome, IsSomeAnd, length, is_some, option_map, unwrap_or, bytes_eq, slice_get}
 use Rattle.std.specs.Net.Socket.{IsPlainSocket, socket_ip}
 use Rattle.std.specs.declared.net.ip_addr.IpAddr.{IpAddr}
 use Rattle.std.specs.declared.net.socket_addr.SocketAddr.{SocketAddr}
+use Rattle.indexmap.specs.IndexMap.{IndexMap, get}
+use Rattle.mux_edge.specs.Names.{AddsRows, lines_of}
 use Rattle.mux_edge.specs.Recorded.{KeepsSocket, of_socket}
 use Rattle.mux_edge.specs.declared.stream.Stream.{Stream}
 use Rattle.mux_edge.specs.declared.lookups.Known.{Known}
@@ -54,3 +56,10 @@ pub record IsResolved (name : List ℕ) (addresses : List IpAddr) (old new : Tar
 abbrev pub ResolvesAt : List ℕ → List IpAddr → Option Target → Option Target → Type 0
 ResolvesAt name addresses None new = new ≡ None
 ResolvesAt name addresses (Some old) new = IsSomeAnd new (IsResolved name addresses old)
+
+module _ {S : Type 0} where
+  -- what a look-up of a name wrote is reported: the targets that wait for the name get exactly the
+  -- addresses of its rows, and any other stays as it is
+  abbrev pub ReportsRows : List ℕ → List ℕ → IndexMap ℕ Target S → IndexMap ℕ Target S → Type 0
+  ReportsRows name heard old new = (found : List IpAddr) × AddsRows (lines_of heard) [] found
+      × ((n : ℕ) → ResolvesAt name found (get nat_eq old n) (get nat_eq new n))

@@ -1,6 +1,6 @@
 //! Names that are looked up, and the streams that connect to them.
 ghost use Rattle.std.specs.Prelude.{◌≡◌, ◌≢◌, ◌<◌, ◌≤◌, ◌↔◌, ℕ, length, max, None, Ok, is_some, true, IfOk, IfSome, IsErr, IsNone, IsSome, IsSomeAnd, IsTrue, OnOk, nat_eq};
-ghost use Rattle.mux_edge.specs.Targets.{ConnectsTo, IsNewTarget, IsTriedAddress, ResolvesAt, has_addresses};
+ghost use Rattle.mux_edge.specs.Targets.{ConnectsTo, IsNewTarget, IsTriedAddress, ReportsRows, ResolvesAt, has_addresses};
 ghost use Rattle.indexmap.specs.IndexMap.{get, index_map_len};
 
 use crate::lookup::{Lookup, is_within};
@@ -184,6 +184,9 @@ impl Lookups {
     pub fn end_one(&mut self, now: Option<Instant>) -> Result<Option<u64>, AllocError>
         ensures gone { IfOk result (λ over. IfSome over
             (λ number. get nat_eq self.new.running number ≡ None)) }
+        ensures rows { IfOk result (λ over. IfSome over
+            (λ number. IsSomeAnd (get nat_eq self.old.running number) (λ lookup. ReportsRows
+            lookup.name.items lookup.heard.items self.old.targets self.new.targets))) }
         ensures none { IfOk result (λ over. IsNone over → self.new.targets ≡ self.old.targets) }
     {
         let over = self
@@ -245,7 +248,9 @@ impl Lookups {
         heard: &[u8],
         now: Option<Instant>,
     ) -> Result<(), AllocError>
-        ensures { self.new.running ≡ self.old.running }
+        ensures rows { OnOk result
+            (ReportsRows name.items heard.now self.old.targets self.new.targets) }
+        ensures running { self.new.running ≡ self.old.running }
     {
         let addresses = addresses_of(self.alloc, heard)?;
         self.resolve(name.as_slice(), addresses.as_slice())?;
@@ -278,6 +283,7 @@ impl Lookups {
         since: Instant,
     ) -> Result<(), AllocError>
         ensures few { length self.new.cache.items ≤ max MOST_CACHED (length self.old.cache.items) }
+        ensures targets { self.new.targets ≡ self.old.targets }
         ensures running { self.new.running ≡ self.old.running }
     {
         if !addresses.is_empty() && self.cache.len() < MOST_CACHED {

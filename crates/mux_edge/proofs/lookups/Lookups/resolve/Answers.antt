@@ -9,9 +9,9 @@ loop-index-init c = (refl, refl, refl, none_so_far c.args.name.now c.args.addres
 
 pub loop-index-preserved : goal.loop-index-preserved
 loop-index-preserved c = elim c.match-get_index_mut.branch [
-    in-Some+in_ok-resolve w ↦ search (rules, one_more)
+  | in-Some+in_ok-resolve w ↦ search (rules, one_more)
   | in_default w ↦ search (rules, none_there)
-  ]
+]
 
 pub returns-clause-resolved : goal.returns-clause-resolved
 returns-clause-resolved c = λ n.
