@@ -1,12 +1,13 @@
-"""The lines that tools/channel_log.py writes for the messages that pass a transport."""
+"""The lines that tools/sshmux_tools/channel_log.py writes for the messages that pass a transport."""
 
 from __future__ import annotations
 
 import re
 import unittest
 
-from channel_log import LONGEST_TEXT, ChannelLog, printable
-from plain_front.protocol import string, uint32
+from sshmux_tools.channel_log import ChannelLog
+from sshmux_tools.protocol import string, uint32
+from sshmux_tools.texts import LONGEST_TEXT, printable
 
 STAMP = re.compile(r"^\d{4}-\d\d-\d\d \d\d:\d\d:\d\d (.*), \d+\.\d s$")
 

@@ -5,7 +5,7 @@ from __future__ import annotations
 import itertools
 import unittest
 
-from plain_front.relay import EscapeFilter
+from sshmux_tools.plain_front.relay import EscapeFilter
 
 TILDE = ord("~")
 

@@ -7,16 +7,14 @@ import socket
 import struct
 import unittest
 
-import control_socket
-from control_socket import Control, Refused, control_frame, read_control_frame
-from plain_front.protocol import PORT_OF_PATH, Fields, Forwarding, Mux, SessionRequest, Unreadable
-from plain_front.protocol import string, uint32
-from plain_front.streams import Loop, Wire
-from proxy_channels import ProxyChannels, close_of, refusal_of
-from proxy_frames import (
-    LONGEST_FRAME, PADDED_SUCCESS, WAITING_BOUND, BadFrame, Message, Stream, frame, wanted_request,
-    whole_payloads,
-)  # fmt: skip
+from sshmux_tools import control_socket
+from sshmux_tools.control_socket import Refused, read_control_frame
+from sshmux_tools.plain_front.requests import Forwarding, SessionRequest
+from sshmux_tools.protocol import LONGEST_FRAME, PADDED_SUCCESS, PORT_OF_PATH, Fields, Message, Mux
+from sshmux_tools.protocol import Unreadable, control_frame, frame, string, uint32, wanted_request
+from sshmux_tools.protocol import whole_payloads
+from sshmux_tools.proxy_channels import ProxyChannels, close_of, refusal_of
+from sshmux_tools.streams import Loop, Stream, Wire
 
 
 def payloads(data: bytes) -> list[bytes]:
@@ -48,17 +46,17 @@ class ProxyFramesTest(unittest.TestCase):
     def test_lengths_that_no_frame_has(self) -> None:
         for length in (0, 1, LONGEST_FRAME + 1, 0xFFFFFFFF):
             with self.subTest(length):
-                with self.assertRaisesRegex(BadFrame, f"length {length}$"):
+                with self.assertRaisesRegex(Unreadable, f"length {length}$"):
                     payloads(uint32(length) + b"\0" * 9)
 
     def test_a_padding(self) -> None:
-        with self.assertRaisesRegex(BadFrame, "padding of length 7"):
+        with self.assertRaisesRegex(Unreadable, "padding of length 7"):
             payloads(uint32(3) + b"\7ab")
 
     def test_a_bad_frame_behind_a_good_one(self) -> None:
         found = whole_payloads(frame(b"one") + uint32(1))
         self.assertEqual(next(found), (5, 8))
-        self.assertRaises(BadFrame, next, found)
+        self.assertRaises(Unreadable, next, found)
 
     def test_requests_that_want_a_reply(self) -> None:
         for request, wanted in (
@@ -77,47 +75,47 @@ class ProxyFramesTest(unittest.TestCase):
 class StreamTest(unittest.TestCase):
     def setUp(self) -> None:
         ours, self.theirs = socket.socketpair()
-        self.selector = selectors.DefaultSelector()
-        self.stream = Stream(ours, self.selector)
-        for close in (ours.close, self.theirs.close, self.selector.close):
+        self.loop = Loop()
+        self.stream = Stream(self.loop, ours)
+        for close in (ours.close, self.theirs.close, self.loop.selector.close):
             self.addCleanup(close)
 
     def test_what_comes_and_its_end(self) -> None:
         self.stream.receive()
-        self.assertEqual((bytes(self.stream.read), self.stream.has_ended), (b"", False))
+        self.assertEqual((bytes(self.stream.incoming), self.stream.has_ended), (b"", False))
         self.theirs.sendall(b"one")
         self.stream.receive()
         self.theirs.close()
         self.stream.receive()
-        self.assertEqual((bytes(self.stream.read), self.stream.has_ended), (b"one", True))
+        self.assertEqual((bytes(self.stream.incoming), self.stream.has_ended), (b"one", True))
 
     def test_what_the_socket_does_not_take_waits(self) -> None:
-        data = bytes(range(256)) * (WAITING_BOUND // 128)
+        data = bytes(range(256)) * (Stream.MOST_WAITING // 128)
         self.stream.say(data)
-        self.assertTrue(0 < len(self.stream.waiting) < len(data))
+        self.assertTrue(0 < len(self.stream.outgoing) < len(data))
         self.stream.say(b"end")
         came = b""
         while len(came) < len(data) + 3:
             came += self.theirs.recv(1 << 20)
             self.stream.write()
-        self.assertEqual((came == data + b"end", len(self.stream.waiting)), (True, 0))
+        self.assertEqual((came == data + b"end", len(self.stream.outgoing)), (True, 0))
 
     def test_it_is_full_from_the_bound_on(self) -> None:
-        self.stream.waiting += bytes(WAITING_BOUND - 1)
+        self.stream.outgoing += bytes(Stream.MOST_WAITING - 1)
         self.assertFalse(self.stream.is_full())
-        self.stream.waiting += b"x"
+        self.stream.outgoing += b"x"
         self.assertTrue(self.stream.is_full())
 
     def test_behind_its_end_nothing_is_written(self) -> None:
         self.stream.end_writing()
         self.stream.say(b"late")
-        self.assertEqual((self.theirs.recv(9), len(self.stream.waiting)), (b"", 0))
+        self.assertEqual((self.theirs.recv(9), len(self.stream.outgoing)), (b"", 0))
 
     def test_a_reader_that_left(self) -> None:
         self.theirs.close()
         self.stream.say(b"one")
         self.stream.say(b"two")
-        self.assertEqual((self.stream.is_deaf, len(self.stream.waiting)), (True, 0))
+        self.assertEqual((self.stream.is_deaf, len(self.stream.outgoing)), (True, 0))
 
     def test_what_is_waited_for(self) -> None:
         read, write = selectors.EVENT_READ, selectors.EVENT_WRITE
@@ -125,9 +123,9 @@ class StreamTest(unittest.TestCase):
             (True, b"", False, read), (True, b"x", False, read | write),
             (False, b"x", False, write), (False, b"", False, 0), (True, b"", True, 0),
         ):  # fmt: skip
-            self.stream.waiting[:], self.stream.has_ended = waiting, ended
+            self.stream.outgoing[:], self.stream.has_ended = waiting, ended
             self.stream.watch(wants_more)
-            found = [key.events for key in self.selector.get_map().values()]
+            found = [key.events for key in self.loop.selector.get_map().values()]
             self.assertEqual(found, [wanted] if wanted else [])
 
 
@@ -145,7 +143,7 @@ class ControlFramesTest(unittest.TestCase):
         self.assertEqual(read_control_frame(self.ours), uint32(1, 4))
 
     def test_lengths_that_no_frame_has(self) -> None:
-        for length in (0, 3, control_socket.LONGEST_BODY + 1):
+        for length in (0, 3, LONGEST_FRAME + 1):
             self.theirs.sendall(uint32(length))
             with self.assertRaisesRegex(Refused, "as a control socket does"):
                 read_control_frame(self.ours)
@@ -170,11 +168,11 @@ class ControlFramesTest(unittest.TestCase):
                 self.assertEqual(self.theirs.recv(99), control_frame(1, 4))
 
     def test_an_answer(self) -> None:
-        self.theirs.sendall(control_frame(Control.ALIVE, 0, 42) + control_frame(0x80000003, 0))
-        found = control_socket.ask(self.ours, Control.ALIVE_CHECK, Control.ALIVE)
-        self.assertEqual(found, uint32(42))
+        self.theirs.sendall(control_frame(Mux.S_ALIVE, 0, 42) + control_frame(0x80000003, 0))
+        found = control_socket.ask(self.ours, Mux.ALIVE_CHECK, Mux.S_ALIVE)
+        self.assertEqual((found.uint32(), found.has_more()), (42, False))
         with self.assertRaisesRegex(Refused, "it refuses"):
-            control_socket.ask(self.ours, Control.PROXY, Control.PROXY_GRANTED)
+            control_socket.ask(self.ours, Mux.PROXY, Mux.S_PROXY)
 
 
 class FrontFramesTest(unittest.TestCase):

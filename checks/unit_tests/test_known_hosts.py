@@ -1,4 +1,4 @@
-"""Which keys tools/known_hosts.py takes for a host."""
+"""Which keys tools/sshmux_tools/known_hosts.py takes for a host."""
 
 from __future__ import annotations
 
@@ -9,7 +9,7 @@ import os
 import tempfile
 import unittest
 
-from known_hosts import KnownHosts, NotKnown, is_hash_of, matches_pattern, read_line
+from sshmux_tools.known_hosts import KnownHosts, NotKnown, is_hash_of, matches_pattern, read_line
 
 KIND, OTHER_KIND = "ssh-ed25519", "ssh-rsa"
 KEY, OTHER_KEY = b"the key", b"another"

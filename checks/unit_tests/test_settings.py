@@ -1,4 +1,4 @@
-"""What tools/ssh_settings.py reads from a listing of ssh, and how it expands values."""
+"""What tools/sshmux_tools/ssh_settings.py reads from a listing of ssh, and how it expands values."""
 
 from __future__ import annotations
 
@@ -9,7 +9,7 @@ import socket
 import unittest
 from unittest import mock
 
-from ssh_settings import NoSettings, Settings, expand
+from sshmux_tools.ssh_settings import NoSettings, Settings, expand
 
 LISTING = """\
 host box

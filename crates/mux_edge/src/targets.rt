@@ -78,7 +78,7 @@ impl Target {
 
     /// Whether it waits for the look-up of this name.
     pub fn awaits(&self, name: &[u8]) -> bool
-        ensures { result ≡ awaits self.now name.now }
+        ensures { result ≡ awaits_lookup self.now name.now }
     {
         self.addresses.is_none() && self.name.as_slice() == name
     }
