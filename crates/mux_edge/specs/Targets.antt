@@ -48,9 +48,9 @@ ConnectsTo {U} {T} unix tcp target Is stream = (begun : Stream U T)
 -- the addresses of a name are known: a target that waits for them has exactly these, and any other
 -- stays as it is
 pub record IsResolved (name : List ℕ) (addresses : List IpAddr) (old new : Target) : Type 0 where
-  pub known : awaits old name ≡ true → IsSomeAnd new.addresses (λ found. found.items ≡ addresses)
+  pub known : awaits_lookup old name ≡ true → IsSomeAnd new.addresses (λ found. found.items ≡ addresses)
   pub rest : new ≡ record old { addresses = new.addresses }
-  pub others : awaits old name ≡ false → new ≡ old
+  pub others : awaits_lookup old name ≡ false → new ≡ old
 
 -- the same of the target of a number, if there is one
 abbrev pub ResolvesAt : List ℕ → List IpAddr → Option Target → Option Target → Type 0

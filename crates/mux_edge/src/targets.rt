@@ -22,7 +22,7 @@ pub struct Target {
 }
 
 impl Target {
-    ghost use Rattle.mux_edge.specs.Targets.{IsResolved, IsTriedAddress, awaits, addresses_left_of};
+    ghost use Rattle.mux_edge.specs.Targets.{IsResolved, IsTriedAddress, awaits_lookup, addresses_left_of};
 
     // The address that is tried next.
     fn next(&mut self) -> Option<SocketAddr>
