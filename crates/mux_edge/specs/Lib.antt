@@ -1,5 +1,6 @@
 pub mod Connections
 pub mod Entries
+pub mod Hosts
 pub mod Names
 pub mod Ready
 pub mod Recorded

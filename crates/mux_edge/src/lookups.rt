@@ -1,6 +1,6 @@
 //! Names that are looked up, and the streams that connect to them.
-ghost use Rattle.std.specs.Prelude.{◌≡◌, ◌<◌, ◌≤◌, ◌↔◌, length, max, None, Ok, is_some, true, IfOk, IfSome, IsErr, IsNone, IsSomeAnd, IsTrue, OnOk, nat_eq};
-ghost use Rattle.mux_edge.specs.Targets.{IsNewTarget, has_addresses};
+ghost use Rattle.std.specs.Prelude.{◌≡◌, ◌≢◌, ◌<◌, ◌≤◌, ◌↔◌, ℕ, length, max, None, Ok, is_some, true, IfOk, IfSome, IsErr, IsNone, IsSome, IsSomeAnd, IsTrue, OnOk, nat_eq};
+ghost use Rattle.mux_edge.specs.Targets.{ConnectsTo, IsNewTarget, IsTriedAddress, ReportsRows, ResolvesAt, has_addresses};
 ghost use Rattle.indexmap.specs.IndexMap.{get, index_map_len};
 
 use crate::lookup::{Lookup, is_within};
@@ -154,6 +154,11 @@ impl Lookups {
         ensures unknown { get nat_eq self.old.targets number ≡ None → IsErr result }
         ensures waits { IsSomeAnd (get nat_eq self.old.targets number)
             (λ target. IsNone target.addresses) → (result ≡ Ok tt) × (stream.new ≡ stream.old) }
+        ensures connects { OnOk result (IfSome (get nat_eq self.old.targets number) (λ old.
+            IsSome old.addresses → IsSomeAnd (get nat_eq self.new.targets number) (λ new.
+            ConnectsTo U.keeps T.keeps T.target (IsTriedAddress old new) stream.new))) }
+        ensures rest { ((n : ℕ) → n ≢ number
+            → get nat_eq self.new.targets n ≡ get nat_eq self.old.targets n) }
         ensures running { self.new.running ≡ self.old.running }
     {
         let Some(target) = self.targets.get_mut(&number) else {
@@ -179,6 +184,9 @@ impl Lookups {
     pub fn end_one(&mut self, now: Option<Instant>) -> Result<Option<u64>, AllocError>
         ensures gone { IfOk result (λ over. IfSome over
             (λ number. get nat_eq self.new.running number ≡ None)) }
+        ensures rows { IfOk result (λ over. IfSome over
+            (λ number. IsSomeAnd (get nat_eq self.old.running number) (λ lookup. ReportsRows
+            lookup.name.items lookup.heard.items self.old.targets self.new.targets))) }
         ensures none { IfOk result (λ over. IsNone over → self.new.targets ≡ self.old.targets) }
     {
         let over = self
@@ -240,7 +248,9 @@ impl Lookups {
         heard: &[u8],
         now: Option<Instant>,
     ) -> Result<(), AllocError>
-        ensures { self.new.running ≡ self.old.running }
+        ensures rows { OnOk result
+            (ReportsRows name.items heard.now self.old.targets self.new.targets) }
+        ensures running { self.new.running ≡ self.old.running }
     {
         let addresses = addresses_of(self.alloc, heard)?;
         self.resolve(name.as_slice(), addresses.as_slice())?;
@@ -252,11 +262,14 @@ impl Lookups {
 
     // Gives the addresses of a name to the streams that wait for them.
     fn resolve(&mut self, name: &[u8], addresses: &[IpAddr]) -> Result<(), AllocError>
-        ensures { self.new.running ≡ self.old.running }
+        ensures resolved { OnOk result ((n : ℕ) → ResolvesAt name.now addresses.now
+            (get nat_eq self.old.targets n) (get nat_eq self.new.targets n)) }
+        ensures running { self.new.running ≡ self.old.running }
+        ensures cache { self.new.cache ≡ self.old.cache }
     {
-        for target in self.targets.values_mut() {
-            if target.awaits(name) {
-                target.addresses = Some(Vec::from_slice(self.alloc, addresses)?);
+        for index in 0..self.targets.len() {
+            if let Some(target) = self.targets.get_index_mut(index) {
+                target.resolve(self.alloc, name, addresses)?;
             }
         }
         Ok(())
@@ -270,6 +283,7 @@ impl Lookups {
         since: Instant,
     ) -> Result<(), AllocError>
         ensures few { length self.new.cache.items ≤ max MOST_CACHED (length self.old.cache.items) }
+        ensures targets { self.new.targets ≡ self.old.targets }
         ensures running { self.new.running ≡ self.old.running }
     {
         if !addresses.is_empty() && self.cache.len() < MOST_CACHED {
