@@ -249,7 +249,7 @@ impl RelayBench {
         self.word(b"open", end.as_bytes())
     }
 
-    // Says what it has to say next: whether there was something.
+    // Sends what it has to send next: whether there was something.
     fn says(&mut self) -> Result<bool, OutOfMemory> {
         match self.relay.says() {
             Some(outgoing) => {

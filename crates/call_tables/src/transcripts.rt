@@ -1,6 +1,6 @@
 //! Transcripts: what is sent to a core, and the outcome, byte for byte.
 //!
-//! A step of a script has a call, and behind an arrow the answer:
+//! A step of a script has a call, and after an arrow the answer:
 //!
 //! ```text
 //! admit 1 -> let in;
@@ -44,7 +44,7 @@ fn plays(alloc: Global, script: &str) -> Result<(), Fail> {
     played
 }
 
-// Plays each step of a script to a core of its own, behind the same beginning.
+// Plays each step of a script to a core of its own, after the same beginning.
 fn plays_each(alloc: Global, beginning: &str, script: &str) -> Result<(), Fail> {
     for step in script.split(';') {
         plays_behind(alloc, beginning, step)?;
@@ -52,7 +52,7 @@ fn plays_each(alloc: Global, beginning: &str, script: &str) -> Result<(), Fail> 
     Ok(())
 }
 
-// Plays a step to a core of its own, behind a beginning.
+// Plays a step to a core of its own, after a beginning.
 fn plays_behind(alloc: Global, beginning: &str, step: &str) -> Result<(), Fail> {
     let steps = format!(in alloc; "{beginning};{step}")?;
     let played = plays(alloc, steps.as_str());
@@ -153,7 +153,7 @@ impl Bench {
         Err(Fail::new(format_args!("{call}: {got}")))
     }
 
-    // Makes a call, and shows what comes of it.
+    // Makes a call, and shows its outcome.
     fn play(&mut self, call: &str) -> Result<String, Fail> {
         let mut up = Queue::new(self.alloc);
         let mut shown = self.call(call, &mut up)?;

@@ -9,7 +9,7 @@ use Rattle.indexmap.specs.IndexMap.{IndexMap, get}
 use Rattle.mux_history.specs.declared.limits.TheConstants.{MAX_CHANNELS, NUMBERS_END}
 use Rattle.channel_table.specs.declared.channel.Refused.TheVariants.{Full}
 use Rattle.channel_table.specs.Entries.{TableEntry, changed_at, channel_count_of, entry_at, freed, full_refusal, has_remote, holder_of, number_of_own, own_entry, remote_entry, unless, with_ledger, entry_with_own, with_remote}
-use Rattle.channel_table.specs.Indices.{Agrees, AreInOrder, is_index_key, listed, channel_numbers_of, owner_at, owner_in, pair_eq, paired, remote_at, remote_in}
+use Rattle.channel_table.specs.Indices.{ChannelNumbers, Agrees, AreInOrder, is_index_key, numbers_or_empty, channel_numbers_of, owner_at, owner_in, pair_eq, paired, remote_at, remote_in}
 use Rattle.channel_table.proofs.Inverse.{IsInverse-drop, IsInverse-move, IsInverse-put, IsInverse-same}
 use Rattle.channel_table.proofs.Steps.{AreDistinct-append, AreDistinct-changed, AreDistinct-without, Keeps, numbers-append, numbers-changed, numbers-others, numbers-without}
 use Rattle.channel_table.proofs.Counts.{few-append, few-changed, few-freed}
@@ -47,13 +47,13 @@ Keeps-with_remote s = record { number = λ _. refl; client = λ _. refl }
 pub Keeps-with_ledger : (ledger : Ledger) → Keeps (with_ledger ledger)
 Keeps-with_ledger ledger = record { number = λ _. refl; client = λ _. refl }
 
-module _ {S T U : Type 0} (own own' : IndexMap (ℕ × ℕ) ℕ S) (remote remote' : IndexMap ℕ ℕ T) (clients clients' : IndexMap ℕ (List ℕ) U) where
+module _ {S T U : Type 0} (own own' : IndexMap (ℕ × ℕ) ℕ S) (remote remote' : IndexMap ℕ ℕ T) (clients clients' : IndexMap ℕ ChannelNumbers U) where
   -- ---- admissions
 
-  orders-append : (xs : List TableEntry) (x : TableEntry) → AreInOrder clients xs → ((k : ℕ) → listed (get nat_eq clients' k) ≡ (if nat_eq x.channel.client k then listed (get nat_eq clients k) ++ x.number ∷ [] else listed (get nat_eq clients k))) → AreInOrder clients' (xs ++ x ∷ [])
+  orders-append : (xs : List TableEntry) (x : TableEntry) → AreInOrder clients xs → ((k : ℕ) → numbers_or_empty (get nat_eq clients' k) ≡ (if nat_eq x.channel.client k then numbers_or_empty (get nat_eq clients k) ++ x.number ∷ [] else numbers_or_empty (get nat_eq clients k))) → AreInOrder clients' (xs ++ x ∷ [])
   orders-append xs x o e k = e k ∙ (ap (λ l. cond (nat_eq x.channel.client k) (l ++ x.number ∷ []) l) (o k) ∙ sym (numbers-append k xs x))
 
-  pub Agrees-admit_own : (xs : List TableEntry) (n k c : ℕ) (ledger : Ledger) → Agrees own remote clients xs → entry_at xs n ≡ None → n < NUMBERS_END → c < 2 ^ 32 → number_of_own xs k c ≡ None → full_refusal xs k ≡ None → ((i j : ℕ) → get pair_eq own' (i, j) ≡ (if pair_eq (k, c) (i, j) then Some n else get pair_eq own (i, j))) → ((i : ℕ) → listed (get nat_eq clients' i) ≡ (if nat_eq k i then listed (get nat_eq clients i) ++ n ∷ [] else listed (get nat_eq clients i))) → Agrees own' remote clients' (xs ++ own_entry n k c ledger ∷ [])
+  pub Agrees-admit_own : (xs : List TableEntry) (n k c : ℕ) (ledger : Ledger) → Agrees own remote clients xs → entry_at xs n ≡ None → n < NUMBERS_END → c < 2 ^ 32 → number_of_own xs k c ≡ None → full_refusal xs k ≡ None → ((i j : ℕ) → get pair_eq own' (i, j) ≡ (if pair_eq (k, c) (i, j) then Some n else get pair_eq own (i, j))) → ((i : ℕ) → numbers_or_empty (get nat_eq clients' i) ≡ (if nat_eq k i then numbers_or_empty (get nat_eq clients i) ++ n ∷ [] else numbers_or_empty (get nat_eq clients i))) → Agrees own' remote clients' (xs ++ own_entry n k c ledger ∷ [])
   Agrees-admit_own xs n k c ledger a none below short unused room eo ec =
       let x = own_entry n k c ledger in
       let gone : get pair_eq own (k, c) ≡ None = own-lookup own xs k c a.distinct a.owns ∙ unused in
@@ -66,7 +66,7 @@ module _ {S T U : Type 0} (own own' : IndexMap (ℕ × ℕ) ℕ S) (remote remot
         small = small-append xs x (small-own_entry n k c ledger below short) a.small;
       }
 
-  pub Agrees-admit_remote : (xs : List TableEntry) (n k s : ℕ) (ledger : Ledger) → Agrees own remote clients xs → entry_at xs n ≡ None → n < NUMBERS_END → s < 2 ^ 32 → holder_of xs s ≡ None → full_refusal xs k ≡ None → ((i : ℕ) → get nat_eq remote' i ≡ (if nat_eq s i then Some n else get nat_eq remote i)) → ((i : ℕ) → listed (get nat_eq clients' i) ≡ (if nat_eq k i then listed (get nat_eq clients i) ++ n ∷ [] else listed (get nat_eq clients i))) → Agrees own remote' clients' (xs ++ remote_entry n k s ledger ∷ [])
+  pub Agrees-admit_remote : (xs : List TableEntry) (n k s : ℕ) (ledger : Ledger) → Agrees own remote clients xs → entry_at xs n ≡ None → n < NUMBERS_END → s < 2 ^ 32 → holder_of xs s ≡ None → full_refusal xs k ≡ None → ((i : ℕ) → get nat_eq remote' i ≡ (if nat_eq s i then Some n else get nat_eq remote i)) → ((i : ℕ) → numbers_or_empty (get nat_eq clients' i) ≡ (if nat_eq k i then numbers_or_empty (get nat_eq clients i) ++ n ∷ [] else numbers_or_empty (get nat_eq clients i))) → Agrees own remote' clients' (xs ++ remote_entry n k s ledger ∷ [])
   Agrees-admit_remote xs n k s ledger a none below short unused room er ec =
       let x = remote_entry n k s ledger in
       let gone : get nat_eq remote s ≡ None = remote-lookup remote xs s a.distinct a.remotes ∙ number-none (find (has_remote s) xs) (not-held s xs unused) in
@@ -125,7 +125,7 @@ module _ {S T U : Type 0} (own own' : IndexMap (ℕ × ℕ) ℕ S) (remote remot
 
   -- ---- a channel is freed
 
-  pub Agrees-free : (xs : List TableEntry) (n : ℕ) (x : TableEntry) → Agrees own remote clients xs → entry_at xs n ≡ Some x → ((i j : ℕ) → get pair_eq own' (i, j) ≡ (if is_index_key pair_eq (paired x.channel.client x.channel.own) (i, j) then None else get pair_eq own (i, j))) → ((i : ℕ) → get nat_eq remote' i ≡ (if is_index_key nat_eq x.channel.remote i then None else get nat_eq remote i)) → ((i : ℕ) → listed (get nat_eq clients' i) ≡ (if nat_eq x.channel.client i then filter (λ m. not (m == n)) (listed (get nat_eq clients i)) else listed (get nat_eq clients i))) → Agrees own' remote' clients' (freed n xs)
+  pub Agrees-free : (xs : List TableEntry) (n : ℕ) (x : TableEntry) → Agrees own remote clients xs → entry_at xs n ≡ Some x → ((i j : ℕ) → get pair_eq own' (i, j) ≡ (if is_index_key pair_eq (paired x.channel.client x.channel.own) (i, j) then None else get pair_eq own (i, j))) → ((i : ℕ) → get nat_eq remote' i ≡ (if is_index_key nat_eq x.channel.remote i then None else get nat_eq remote i)) → ((i : ℕ) → numbers_or_empty (get nat_eq clients' i) ≡ (if nat_eq x.channel.client i then filter (λ m. not (m == n)) (numbers_or_empty (get nat_eq clients i)) else numbers_or_empty (get nat_eq clients i))) → Agrees own' remote' clients' (freed n xs)
   Agrees-free xs n x a at eo er ec =
       record {
         distinct = AreDistinct-without n xs a.distinct;
@@ -136,11 +136,11 @@ module _ {S T U : Type 0} (own own' : IndexMap (ℕ × ℕ) ℕ S) (remote remot
         small = small-freed n xs a.small;
       }
     where
-      orders : (i : ℕ) → listed (get nat_eq clients' i) ≡ channel_numbers_of (freed n xs) i
+      orders : (i : ℕ) → numbers_or_empty (get nat_eq clients' i) ≡ channel_numbers_of (freed n xs) i
       orders i = by (nat_eq x.channel.client i) refl
         where
-          by : (b : Bool) → nat_eq x.channel.client i ≡ b → listed (get nat_eq clients' i) ≡ channel_numbers_of (freed n xs) i
+          by : (b : Bool) → nat_eq x.channel.client i ≡ b → numbers_or_empty (get nat_eq clients' i) ≡ channel_numbers_of (freed n xs) i
           by true e =
-              ec i ∙ (ap (λ b. cond b (filter (λ m. not (m == n)) (listed (get nat_eq clients i))) (listed (get nat_eq clients i))) e ∙ (ap (filter (λ m. not (m == n))) (a.orders i) ∙ sym (numbers-without i n xs)))
+              ec i ∙ (ap (λ b. cond b (filter (λ m. not (m == n)) (numbers_or_empty (get nat_eq clients i))) (numbers_or_empty (get nat_eq clients i))) e ∙ (ap (filter (λ m. not (m == n))) (a.orders i) ∙ sym (numbers-without i n xs)))
           by false e =
-              ec i ∙ (ap (λ b. cond b (filter (λ m. not (m == n)) (listed (get nat_eq clients i))) (listed (get nat_eq clients i))) e ∙ (a.orders i ∙ sym (numbers-others i n xs x a.distinct at (eqb-false x.channel.client i e))))
+              ec i ∙ (ap (λ b. cond b (filter (λ m. not (m == n)) (numbers_or_empty (get nat_eq clients i))) (numbers_or_empty (get nat_eq clients i))) e ∙ (a.orders i ∙ sym (numbers-others i n xs x a.distinct at (eqb-false x.channel.client i e))))

@@ -7,7 +7,7 @@ use Rattle.std.proofs.lemmas.Option.{none-some, same_Some}
 use Rattle.indexmap.specs.IndexMap.{IndexMap}
 use Rattle.mux_history.specs.Channels.{is_number}
 use Rattle.channel_table.specs.Entries.{AreApart, AreSound, AreTwo, TableEntry, entry_at, has_own, is_at}
-use Rattle.channel_table.specs.Indices.{Agrees, AreDistinct, owner_at, owner_in, remote_at, remote_in}
+use Rattle.channel_table.specs.Indices.{ChannelNumbers, Agrees, AreDistinct, owner_at, owner_in, remote_at, remote_in}
 use Rattle.channel_table.proofs.Agree.{own-named, remote-named}
 
 -- each is found under its number
@@ -76,7 +76,7 @@ apart (x ∷ xs) d owners remotes = (
 )
 
 -- what every table promises, as a function reads it
-pub sound-table : {S T U : Type 0} (own : IndexMap (ℕ × ℕ) ℕ S) (remote : IndexMap ℕ ℕ T) (clients : IndexMap ℕ (List ℕ) U) (xs ys : List TableEntry) → xs ≡ ys → Agrees own remote clients xs → AreSound ys
+pub sound-table : {S T U : Type 0} (own : IndexMap (ℕ × ℕ) ℕ S) (remote : IndexMap ℕ ℕ T) (clients : IndexMap ℕ ChannelNumbers U) (xs ys : List TableEntry) → xs ≡ ys → Agrees own remote clients xs → AreSound ys
 sound-table own remote clients xs ys e a =
     subst AreSound e (record {
       apart = apart xs a.distinct (λ n m q f g. same_Some n m (sym ((a.owns q.0 q.1 n).1 f) ∙ (a.owns q.0 q.1 m).1 g)) (λ n m s f g. same_Some n m (sym ((a.remotes s n).1 f) ∙ (a.remotes s m).1 g));

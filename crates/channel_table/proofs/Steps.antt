@@ -3,7 +3,7 @@ use Rattle.std.proofs.Common.{◌≡◌, ◌≢◌, ℕ, Bool, true, false, cond
 use Rattle.std.specs.Prelude.{Some, None, filter, ◌==◌}
 use Rattle.std.proofs.lemmas.Bool.{eqb-true, eqb-false, eq-eqb, ne_eqb, cases_eq}
 use Rattle.std.proofs.lemmas.Option.{none-some, same_Some}
-use Rattle.channel_table.specs.Entries.{TableEntry, changed_at, entry_at, freed, is_at, is_of}
+use Rattle.channel_table.specs.Entries.{TableEntry, changed_at, entry_at, freed, is_at, is_channel_of}
 use Rattle.channel_table.specs.Indices.{AreDistinct, channel_numbers_of}
 
 -- ---- under each number
@@ -147,19 +147,19 @@ changed-at n f z (y ∷ ys) x d at is = by (is_at n y) refl (λ rest. changed-at
 
 -- ---- for each client
 
-pub numbers-append : (k : ℕ) (xs : List TableEntry) (x : TableEntry) → channel_numbers_of (xs ++ x ∷ []) k ≡ cond (is_of k x) (channel_numbers_of xs k ++ x.number ∷ []) (channel_numbers_of xs k)
-numbers-append k [] x = elim (is_of k x) as (λ b. map (λ (y : TableEntry). y.number) (cond b (x ∷ []) []) ≡ cond b (x.number ∷ []) []) [ true ↦ refl | false ↦ refl ]
-numbers-append k (y ∷ ys) x = by (is_of k y) refl (numbers-append k ys x)
+pub numbers-append : (k : ℕ) (xs : List TableEntry) (x : TableEntry) → channel_numbers_of (xs ++ x ∷ []) k ≡ cond (is_channel_of k x) (channel_numbers_of xs k ++ x.number ∷ []) (channel_numbers_of xs k)
+numbers-append k [] x = elim (is_channel_of k x) as (λ b. map (λ (y : TableEntry). y.number) (cond b (x ∷ []) []) ≡ cond b (x.number ∷ []) []) [ true ↦ refl | false ↦ refl ]
+numbers-append k (y ∷ ys) x = by (is_channel_of k y) refl (numbers-append k ys x)
   where
-    by : (b : Bool) → is_of k y ≡ b → channel_numbers_of (ys ++ x ∷ []) k ≡ cond (is_of k x) (channel_numbers_of ys k ++ x.number ∷ []) (channel_numbers_of ys k) → channel_numbers_of (y ∷ (ys ++ x ∷ [])) k ≡ cond (is_of k x) (channel_numbers_of (y ∷ ys) k ++ x.number ∷ []) (channel_numbers_of (y ∷ ys) k)
-    by true e ih = rw e (ap (λ ns. y.number ∷ ns) ih ∙ elim (is_of k x) as (λ b. y.number ∷ cond b (channel_numbers_of ys k ++ x.number ∷ []) (channel_numbers_of ys k) ≡ cond b (y.number ∷ (channel_numbers_of ys k ++ x.number ∷ [])) (y.number ∷ channel_numbers_of ys k)) [ true ↦ refl | false ↦ refl ])
+    by : (b : Bool) → is_channel_of k y ≡ b → channel_numbers_of (ys ++ x ∷ []) k ≡ cond (is_channel_of k x) (channel_numbers_of ys k ++ x.number ∷ []) (channel_numbers_of ys k) → channel_numbers_of (y ∷ (ys ++ x ∷ [])) k ≡ cond (is_channel_of k x) (channel_numbers_of (y ∷ ys) k ++ x.number ∷ []) (channel_numbers_of (y ∷ ys) k)
+    by true e ih = rw e (ap (λ ns. y.number ∷ ns) ih ∙ elim (is_channel_of k x) as (λ b. y.number ∷ cond b (channel_numbers_of ys k ++ x.number ∷ []) (channel_numbers_of ys k) ≡ cond b (y.number ∷ (channel_numbers_of ys k ++ x.number ∷ [])) (y.number ∷ channel_numbers_of ys k)) [ true ↦ refl | false ↦ refl ])
     by false e ih = rw e ih
 
 pub numbers-without : (k n : ℕ) (xs : List TableEntry) → channel_numbers_of (freed n xs) k ≡ filter (λ m. not (m == n)) (channel_numbers_of xs k)
 numbers-without k n [] = refl
-numbers-without k n (y ∷ ys) = by (is_of k y) refl (is_at n y) refl (numbers-without k n ys)
+numbers-without k n (y ∷ ys) = by (is_channel_of k y) refl (is_at n y) refl (numbers-without k n ys)
   where
-    by : (b : Bool) → is_of k y ≡ b → (u : Bool) → is_at n y ≡ u → channel_numbers_of (freed n ys) k ≡ filter (λ m. not (m == n)) (channel_numbers_of ys k) → channel_numbers_of (freed n (y ∷ ys)) k ≡ filter (λ m. not (m == n)) (channel_numbers_of (y ∷ ys) k)
+    by : (b : Bool) → is_channel_of k y ≡ b → (u : Bool) → is_at n y ≡ u → channel_numbers_of (freed n ys) k ≡ filter (λ m. not (m == n)) (channel_numbers_of ys k) → channel_numbers_of (freed n (y ∷ ys)) k ≡ filter (λ m. not (m == n)) (channel_numbers_of (y ∷ ys) k)
     by true e true f ih = rw (f, e, f) ih
     by true e false f ih = rw (f, e, f) (ap (λ ns. y.number ∷ ns) ih)
     by false e true f ih = rw (f, e) ih
@@ -171,14 +171,14 @@ numbers-changed k n f (y ∷ ys) keeps = by (is_at n y) refl (numbers-changed k 
   where
     by : (u : Bool) → is_at n y ≡ u → channel_numbers_of (changed_at n f ys) k ≡ channel_numbers_of ys k → channel_numbers_of (elim u as (λ _. TableEntry) [ true ↦ f y | false ↦ y ] ∷ changed_at n f ys) k ≡ channel_numbers_of (y ∷ ys) k
     by true e ih =
-        let same : is_of k (f y) ≡ is_of k y = ap (λ i. i == k) (keeps.client y) in
-        ap (λ b. map (λ (z : TableEntry). z.number) (cond b (f y ∷ filter (is_of k) (changed_at n f ys)) (filter (is_of k) (changed_at n f ys)))) same
-        ∙ elim (is_of k y) as (λ b. map (λ (z : TableEntry). z.number) (cond b (f y ∷ filter (is_of k) (changed_at n f ys)) (filter (is_of k) (changed_at n f ys))) ≡ map (λ (z : TableEntry). z.number) (cond b (y ∷ filter (is_of k) ys) (filter (is_of k) ys))) [
+        let same : is_channel_of k (f y) ≡ is_channel_of k y = ap (λ i. i == k) (keeps.client y) in
+        ap (λ b. map (λ (z : TableEntry). z.number) (cond b (f y ∷ filter (is_channel_of k) (changed_at n f ys)) (filter (is_channel_of k) (changed_at n f ys)))) same
+        ∙ elim (is_channel_of k y) as (λ b. map (λ (z : TableEntry). z.number) (cond b (f y ∷ filter (is_channel_of k) (changed_at n f ys)) (filter (is_channel_of k) (changed_at n f ys))) ≡ map (λ (z : TableEntry). z.number) (cond b (y ∷ filter (is_channel_of k) ys) (filter (is_channel_of k) ys))) [
           | true ↦ ap (λ i. i ∷ channel_numbers_of (changed_at n f ys) k) (keeps.number y) ∙ ap (λ ns. y.number ∷ ns) ih
           | false ↦ ih
         ]
     by false e ih =
-        elim (is_of k y) as (λ b. map (λ (z : TableEntry). z.number) (cond b (y ∷ filter (is_of k) (changed_at n f ys)) (filter (is_of k) (changed_at n f ys))) ≡ map (λ (z : TableEntry). z.number) (cond b (y ∷ filter (is_of k) ys) (filter (is_of k) ys))) [
+        elim (is_channel_of k y) as (λ b. map (λ (z : TableEntry). z.number) (cond b (y ∷ filter (is_channel_of k) (changed_at n f ys)) (filter (is_channel_of k) (changed_at n f ys))) ≡ map (λ (z : TableEntry). z.number) (cond b (y ∷ filter (is_channel_of k) ys) (filter (is_channel_of k) ys))) [
           | true ↦ ap (λ ns. y.number ∷ ns) ih
           | false ↦ ih
         ]
@@ -192,11 +192,11 @@ numbers-others k n (y ∷ ys) x d at ne = by (is_at n y) refl (λ rest. numbers-
     by true e ih =
         let same : y ≡ x = same_Some y x (rw e at at) in
         let none : entry_at ys n ≡ None = subst (λ i. entry_at ys i ≡ None) (eqb-true y.number n e) d.0 in
-        let no : is_of k y ≡ false = ne_eqb y.channel.client k (λ q. ne (ap (λ (z : TableEntry). z.channel.client) (sym same) ∙ q)) in
+        let no : is_channel_of k y ≡ false = ne_eqb y.channel.client k (λ q. ne (ap (λ (z : TableEntry). z.channel.client) (sym same) ∙ q)) in
         rw (e, no) (ap (λ es. channel_numbers_of es k) (without-none n ys none))
     by false e ih =
         let rest = ih (rw e at at) in
-        rw e (elim (is_of k y) as (λ b. map (λ (z : TableEntry). z.number) (cond b (y ∷ filter (is_of k) (freed n ys)) (filter (is_of k) (freed n ys))) ≡ map (λ (z : TableEntry). z.number) (cond b (y ∷ filter (is_of k) ys) (filter (is_of k) ys))) [
+        rw e (elim (is_channel_of k y) as (λ b. map (λ (z : TableEntry). z.number) (cond b (y ∷ filter (is_channel_of k) (freed n ys)) (filter (is_channel_of k) (freed n ys))) ≡ map (λ (z : TableEntry). z.number) (cond b (y ∷ filter (is_channel_of k) ys) (filter (is_channel_of k) ys))) [
           | true ↦ ap (λ ns. y.number ∷ ns) rest
           | false ↦ rest
         ])

@@ -23,8 +23,8 @@ abbrev pub is_at : ℕ → TableEntry → Bool
 is_at n e = e.number == n
 
 -- it is a channel of this client
-abbrev pub is_of : ℕ → TableEntry → Bool
-is_of k e = e.channel.client == k
+abbrev pub is_channel_of : ℕ → TableEntry → Bool
+is_channel_of k e = e.channel.client == k
 
 -- the client uses this own number for it
 abbrev pub has_own : (client own : ℕ) → TableEntry → Bool
@@ -72,11 +72,11 @@ holder_of es s = option_map (λ e. e.channel.client) (find (has_remote s) es)
 
 -- how many channels a client has
 abbrev pub channel_count_of : List TableEntry → (client : ℕ) → ℕ
-channel_count_of es k = length (filter (is_of k) es)
+channel_count_of es k = length (filter (is_channel_of k) es)
 
 -- the entry of a client's channel, in the order in which they began
 abbrev pub nth_entry : List TableEntry → (client i : ℕ) → Option TableEntry
-nth_entry es k i = slice_get (filter (is_of k) es) i
+nth_entry es k i = slice_get (filter (is_channel_of k) es) i
 
 abbrev pub nth_number : List TableEntry → (client i : ℕ) → Option ℕ
 nth_number es k i = option_map (λ e. e.number) (nth_entry es k i)

@@ -3,7 +3,7 @@ use Rattle.std.specs.Prelude.{◌≡◌, ◌≤◌, ◌↔◌, ℕ, Bool, false,
 use Rattle.std.specs.List.{AllByRecursion}
 use Rattle.indexmap.specs.IndexMap.{IndexMap, get}
 use Rattle.mux_history.specs.declared.limits.TheConstants.{MAX_CHANNELS}
-use Rattle.channel_table.specs.Entries.{TableEntry, HasSmallNumbers, channel_count_of, entry_at, is_of}
+use Rattle.channel_table.specs.Entries.{TableEntry, HasSmallNumbers, channel_count_of, entry_at, is_channel_of}
 
 -- a client, and one of its own numbers
 abbrev pub paired : ℕ → Option ℕ → Option (ℕ × ℕ)
@@ -30,7 +30,7 @@ remote_at es n = remote_in (entry_at es n)
 
 -- the numbers of a client's channels, in the order in which they began
 abbrev pub channel_numbers_of : List TableEntry → (client : ℕ) → List ℕ
-channel_numbers_of es k = map (λ (e : TableEntry). e.number) (filter (is_of k) es)
+channel_numbers_of es k = map (λ (e : TableEntry). e.number) (filter (is_channel_of k) es)
 
 -- ---- the indices
 
@@ -53,14 +53,25 @@ IsOwnIndex m es = (k c n : ℕ) → (get pair_eq m (k, c) ≡ Some n) ↔ (owner
 abbrev pub IsRemoteIndex : {S : Type 0} → IndexMap ℕ ℕ S → List TableEntry → Type 0
 IsRemoteIndex m es = (s n : ℕ) → (get nat_eq m s ≡ Some n) ↔ (remote_at es n ≡ Some s)
 
+-- the numbers of a client's channels, in the order in which they began, and whether there is room
+-- for one more
+pub record ChannelNumbers : Type 0 where
+  pub items : List ℕ
+  pub has_room : Bool
+
 -- a client without channels may have no list
-abbrev pub listed : Option (List ℕ) → List ℕ
-listed None = []
-listed (Some numbers) = numbers
+abbrev pub numbers_or_empty : Option ChannelNumbers → List ℕ
+numbers_or_empty None = []
+numbers_or_empty (Some numbers) = numbers.items
+
+-- its list is there, with room for one more
+abbrev pub has_room_in : Option ChannelNumbers → Bool
+has_room_in None = false
+has_room_in (Some numbers) = numbers.has_room
 
 -- each client has the numbers of its channels, in the order in which they began
-abbrev pub AreInOrder : {S : Type 0} → IndexMap ℕ (List ℕ) S → List TableEntry → Type 0
-AreInOrder m es = (k : ℕ) → listed (get nat_eq m k) ≡ channel_numbers_of es k
+abbrev pub AreInOrder : {S : Type 0} → IndexMap ℕ ChannelNumbers S → List TableEntry → Type 0
+AreInOrder m es = (k : ℕ) → numbers_or_empty (get nat_eq m k) ≡ channel_numbers_of es k
 
 -- no two channels have one number
 abbrev pub AreDistinct : List TableEntry → Type 0
@@ -70,7 +81,7 @@ AreDistinct (e ∷ es) = (entry_at es e.number ≡ None) × AreDistinct es
 -- the indices agree with one list of channels, in which no client has too many and each number is
 -- small
 pub record Agrees {S T U : Type 0} (own : IndexMap (ℕ × ℕ) ℕ S) (remote : IndexMap ℕ ℕ T)
-    (clients : IndexMap ℕ (List ℕ) U) (es : List TableEntry) : Type 0 where
+    (clients : IndexMap ℕ ChannelNumbers U) (es : List TableEntry) : Type 0 where
   pub distinct : AreDistinct es
   pub owns : IsOwnIndex own es
   pub remotes : IsRemoteIndex remote es

@@ -15,7 +15,7 @@ pub record EntryFits (e : TableEntry) (x : history.Channel) : Type 0 where
   pub own : e.channel.own ≡ x.own
   pub number : shown_number e ≡ x.number
   pub remote : e.channel.remote ≡ x.remote
-  pub ledger : ledger.Stands e.ledger x
+  pub ledger : ledger.LedgerRepresents e.ledger x
   pub held : history.is_channel_held x ≡ true
 
 -- one by one

@@ -1,8 +1,8 @@
-ghost use Rattle.std.specs.Prelude.{◌≡◌, ◌<◌, ℕ, [], ◌∷◌, ◌++◌, length, IsSome, Some, None, OnOk, IfOk, OnErr, nat_eq, not, filter, ◌==◌, if◌then◌else◌};
+ghost use Rattle.std.specs.Prelude.{◌≡◌, ◌<◌, ℕ, [], ◌∷◌, ◌++◌, length, true, Some, None, OnOk, IfOk, OnErr, nat_eq, not, filter, ◌==◌, if◌then◌else◌};
 ghost use Rattle.indexmap.specs.IndexMap.{get};
 ghost use Rattle.channel_table.specs.Entries.{IsNumberFree};
 ghost use Rattle.channel_table.specs.Slots.{HasReadySlot};
-ghost use Rattle.channel_table.specs.Indices.{pair_eq, paired, is_index_key, listed};
+ghost use Rattle.channel_table.specs.Indices.{pair_eq, paired, has_room_in, is_index_key, numbers_or_empty};
 
 use crate::numbers::Numbers;
 use crate::slots::Slots;
@@ -10,25 +10,27 @@ use indexmap::IndexMap;
 use mux_history::limits::MAX_CHANNELS;
 use ssh_fields::OutOfMemory;
 
-/// Makes sure that a client has a list of its channels.
+/// Makes sure that a client has a list of its channels, with room for one more.
 pub fn make_list(clients: &mut IndexMap<u64, Numbers>, client: u64) -> Result<(), OutOfMemory>
-    ensures there { OnOk result (IsSome (get nat_eq clients.new client)) }
-    ensures same { (k : ℕ) → listed (get nat_eq clients.new k) ≡ listed (get nat_eq clients.old k) }
+    ensures room { OnOk result (has_room_in (get nat_eq clients.new client) ≡ true) }
+    ensures same { (k : ℕ) → numbers_or_empty (get nat_eq clients.new k) ≡ numbers_or_empty (get nat_eq clients.old k) }
 {
-    if !clients.contains_key(&client) {
-        let numbers = Numbers::new(*clients.allocator())?;
-        clients.insert(client, numbers)?;
+    if let Some(numbers) = clients.get_mut(&client) {
+        return numbers.make_room();
     }
+    let mut numbers = Numbers::new(*clients.allocator());
+    numbers.make_room()?;
+    clients.insert(client, numbers)?;
     Ok(())
 }
 
 /// Adds a number to a client's list.
 pub fn add_number(clients: &mut IndexMap<u64, Numbers>, client: u64, number: u32)
-    requires there { IsSome (get nat_eq clients.old client) }
-    requires room { length (listed (get nat_eq clients.old client)) < MAX_CHANNELS }
-    ensures { (k : ℕ) → listed (get nat_eq clients.new k) ≡ (if nat_eq client k
-        then listed (get nat_eq clients.old k) ++ number ∷ []
-        else listed (get nat_eq clients.old k)) }
+    requires room { has_room_in (get nat_eq clients.old client) ≡ true }
+    requires few { length (numbers_or_empty (get nat_eq clients.old client)) < MAX_CHANNELS }
+    ensures { (k : ℕ) → numbers_or_empty (get nat_eq clients.new k) ≡ (if nat_eq client k
+        then numbers_or_empty (get nat_eq clients.old k) ++ number ∷ []
+        else numbers_or_empty (get nat_eq clients.old k)) }
 {
     if let Some(numbers) = clients.get_mut(&client) {
         numbers.push(number);
@@ -37,9 +39,9 @@ pub fn add_number(clients: &mut IndexMap<u64, Numbers>, client: u64, number: u32
 
 /// Takes a number out of a client's list, and the list where it was the last one.
 pub fn drop_number(clients: &mut IndexMap<u64, Numbers>, client: u64, number: u32)
-    ensures { (k : ℕ) → listed (get nat_eq clients.new k) ≡ (if nat_eq client k
-        then filter (λ x. not (x == number)) (listed (get nat_eq clients.old k))
-        else listed (get nat_eq clients.old k)) }
+    ensures { (k : ℕ) → numbers_or_empty (get nat_eq clients.new k) ≡ (if nat_eq client k
+        then filter (λ x. not (x == number)) (numbers_or_empty (get nat_eq clients.old k))
+        else numbers_or_empty (get nat_eq clients.old k)) }
 {
     let Some(numbers) = clients.get_mut(&client) else {
         return;
@@ -50,7 +52,8 @@ pub fn drop_number(clients: &mut IndexMap<u64, Numbers>, client: u64, number: u3
     }
 }
 
-/// Makes sure that there are a free slot and a list for a client, and gives the slot's number.
+/// Makes sure that there are a free slot, and a list for a client with room for one more, and gives
+/// the slot's number.
 pub fn make_room(
     slots: &mut Slots,
     clients: &mut IndexMap<u64, Numbers>,
@@ -60,8 +63,8 @@ pub fn make_room(
     ensures ready { OnOk result (HasReadySlot slots.new) }
     ensures fresh { IfOk result (λ number. IsNumberFree slots.old.entries number) }
     ensures entries { slots.new.entries ≡ slots.old.entries }
-    ensures there { OnOk result (IsSome (get nat_eq clients.new client)) }
-    ensures same { (k : ℕ) → listed (get nat_eq clients.new k) ≡ listed (get nat_eq clients.old k) }
+    ensures room { OnOk result (has_room_in (get nat_eq clients.new client) ≡ true) }
+    ensures same { (k : ℕ) → numbers_or_empty (get nat_eq clients.new k) ≡ numbers_or_empty (get nat_eq clients.old k) }
 {
     slots.make_room()?;
     make_list(clients, client)?;

@@ -8,7 +8,7 @@ use Rattle.mux_history.proofs.Finds.{filter-no, filter-yes}
 use Rattle.proxy_frames.specs.Queued.{frame_length, with_reserved}
 use Rattle.proxy_frames.specs.State.{QueueState}
 use Rattle.forward_rules.specs.State.{Forward}
-use Rattle.forward_rules.specs.Step.{forward_count_of, is_of, forwards_without_client}
+use Rattle.forward_rules.specs.Step.{forward_count_of, is_forward_of, forwards_without_client}
 use Rattle.forward_rules.specs.Taking.{after_taking, first_live, is_live_of, recorded_forward_of, recorded_one_by_one}
 use Rattle.forward_rules.proofs.Taken.{taking-none, taking-one}
 use Rattle.client_teardown.specs.Leaving.{SendsFarewell, farewell_cancel_of, forward_farewells}
@@ -34,19 +34,19 @@ asked-cancel f asked = ap (λ b. elim (b && is_none f.cancel) as (λ _. List (Li
 -- all that are to be sent
 pub cancels-recorded : (k : ℕ) (fs : List Forward) → forward_farewells k fs ≡ cancels_recorded (recorded_one_by_one k fs)
 cancels-recorded k [] = refl
-cancels-recorded k (f ∷ fs) = by (is_of k f) refl f.live refl (cancels-recorded k fs)
+cancels-recorded k (f ∷ fs) = by (is_forward_of k f) refl f.live refl (cancels-recorded k fs)
   where
-    by : (b : Bool) → is_of k f ≡ b → (c : Bool) → f.live ≡ c → forward_farewells k fs ≡ cancels_recorded (recorded_one_by_one k fs) → forward_farewells k (f ∷ fs) ≡ cancels_recorded (recorded_one_by_one k (f ∷ fs))
+    by : (b : Bool) → is_forward_of k f ≡ b → (c : Bool) → f.live ≡ c → forward_farewells k fs ≡ cancels_recorded (recorded_one_by_one k fs) → forward_farewells k (f ∷ fs) ≡ cancels_recorded (recorded_one_by_one k (f ∷ fs))
     by true h true g ih =
-        ap (flat_map farewell_cancel_of) (filter-yes (is_of k) f fs h)
+        ap (flat_map farewell_cancel_of) (filter-yes (is_forward_of k) f fs h)
         ∙ (ap (λ ps. ps ++ forward_farewells k fs) (live-cancel f g) ∙ (ap (λ ps. cancel_recorded (recorded_forward_of f) ++ ps) ih
         ∙ sym (ap (λ xs. cancels_recorded (map recorded_forward_of xs)) (filter-yes (is_live_of k) f fs (ap (λ b. b && f.live) h ∙ g)))))
     by true h false g ih =
-        ap (flat_map farewell_cancel_of) (filter-yes (is_of k) f fs h)
+        ap (flat_map farewell_cancel_of) (filter-yes (is_forward_of k) f fs h)
         ∙ (ap (λ ps. ps ++ forward_farewells k fs) (asked-cancel f g) ∙ (ih
         ∙ sym (ap (λ xs. cancels_recorded (map recorded_forward_of xs)) (filter-no (is_live_of k) f fs (ap (λ b. b && f.live) h ∙ g)))))
     by false h c g ih =
-        ap (flat_map farewell_cancel_of) (filter-no (is_of k) f fs h)
+        ap (flat_map farewell_cancel_of) (filter-no (is_forward_of k) f fs h)
         ∙ (ih ∙ sym (ap (λ xs. cancels_recorded (map recorded_forward_of xs)) (filter-no (is_live_of k) f fs (ap (λ b. b && f.live) h))))
 
 -- ---- one step
@@ -97,13 +97,13 @@ pub record HasNone (k : ℕ) (fs : List Forward) : Type 0 where
 
 pub has-none : (k : ℕ) (fs : List Forward) → forward_count_of fs k ≡ 0 → HasNone k fs
 has-none k [] h = record { cancels = refl; others = refl }
-has-none k (f ∷ fs) h = by (is_of k f) refl (has-none k fs)
+has-none k (f ∷ fs) h = by (is_forward_of k f) refl (has-none k fs)
   where
-    by : (b : Bool) → is_of k f ≡ b → (forward_count_of fs k ≡ 0 → HasNone k fs) → HasNone k (f ∷ fs)
-    by true e ih = absurd (let some : suc (forward_count_of fs k) ≡ 0 = sym (ap length (filter-yes (is_of k) f fs e)) ∙ h in omega (arith, some))
+    by : (b : Bool) → is_forward_of k f ≡ b → (forward_count_of fs k ≡ 0 → HasNone k fs) → HasNone k (f ∷ fs)
+    by true e ih = absurd (let some : suc (forward_count_of fs k) ≡ 0 = sym (ap length (filter-yes (is_forward_of k) f fs e)) ∙ h in omega (arith, some))
     by false e ih =
-        let rest = ih (sym (ap length (filter-no (is_of k) f fs e)) ∙ h) in
+        let rest = ih (sym (ap length (filter-no (is_forward_of k) f fs e)) ∙ h) in
         record {
           cancels = ap (λ xs. cancels_recorded (map recorded_forward_of xs)) (filter-no (is_live_of k) f fs (ap (λ b. b && f.live) e)) ∙ rest.cancels;
-          others = filter-yes (λ g. not (is_of k g)) f fs (ap not e) ∙ ap (λ gs. f ∷ gs) rest.others;
+          others = filter-yes (λ g. not (is_forward_of k g)) f fs (ap not e) ∙ ap (λ gs. f ∷ gs) rest.others;
         }

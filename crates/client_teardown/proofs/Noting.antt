@@ -9,7 +9,7 @@ use Rattle.channel_table.specs.declared.channel.Channel.{Channel}
 use Rattle.channel_table.specs.Entries.{AreApart, TableEntry, admitted_at, at_number, changed_at, entry_at, freed, is_at, ledger_at, with_ledger}
 use Rattle.channel_table.proofs.Lookups.{none-behind}
 use Rattle.channel_table.proofs.Steps.{changed-none}
-use Rattle.client_teardown.specs.Leaving.{closing, is_open_in}
+use Rattle.client_teardown.specs.Leaving.{entry_after_close, is_open_in}
 use Rattle.client_teardown.specs.Steps.{left_at, stays_at, stays_in}
 
 -- the entry that two look-ups show
@@ -62,26 +62,26 @@ changed-as n f g (y ∷ ys) e apart at same = by (is_at n y) refl (λ rest. chan
         rw (t, at_number) (ap (λ z. z ∷ changed_at n f ys) head ∙ ap (λ zs. g y ∷ zs) (changed-none n f ys none ∙ sym (changed-none n g ys none)))
     by false t ih = rw (t, at_number) (ap (λ zs. y ∷ zs) (ih (rw t at at)))
 
-pub noted : (es : List TableEntry) (n : ℕ) (l l' : Ledger) → AreApart es → Some l ≡ ledger_at es n → l' ≡ account.left l → changed_at n (with_ledger l') es ≡ changed_at n closing es
+pub noted : (es : List TableEntry) (n : ℕ) (l l' : Ledger) → AreApart es → Some l ≡ ledger_at es n → l' ≡ account.ledger_after_close l → changed_at n (with_ledger l') es ≡ changed_at n entry_after_close es
 noted es n l l' apart h left = by (entry_at es n) refl
   where
-    by : (o : Option TableEntry) → entry_at es n ≡ o → changed_at n (with_ledger l') es ≡ changed_at n closing es
+    by : (o : Option TableEntry) → entry_at es n ≡ o → changed_at n (with_ledger l') es ≡ changed_at n entry_after_close es
     by None f = absurd (none-some l (sym (h ∙ ap (option_map (λ (e : TableEntry). e.ledger)) f)))
     by (Some e) f =
         let ledger : e.ledger ≡ l = same_Some e.ledger l (sym (h ∙ ap (option_map (λ (e : TableEntry). e.ledger)) f)) in
-        changed-as n (with_ledger l') closing es e apart f (ap (λ m. with_ledger m e) (left ∙ ap account.left (sym ledger)))
+        changed-as n (with_ledger l') entry_after_close es e apart f (ap (λ m. with_ledger m e) (left ∙ ap account.ledger_after_close (sym ledger)))
 
-pub none-noted : (es : List TableEntry) (n : ℕ) → entry_at es n ≡ None → es ≡ changed_at n closing es
-none-noted es n none = sym (changed-none n closing es none)
+pub none-noted : (es : List TableEntry) (n : ℕ) → entry_at es n ≡ None → es ≡ changed_at n entry_after_close es
+none-noted es n none = sym (changed-none n entry_after_close es none)
 
 -- ---- one channel of a client that is lost
 
-pub left-at : (es : List TableEntry) (n : ℕ) (b : Bool) → stays_at es n ≡ b → left_at n es ≡ elim b as (λ _. List TableEntry) [ true ↦ changed_at n closing es | false ↦ freed n es ]
-left-at es n b h = ap (λ c. elim c as (λ _. List TableEntry) [ true ↦ changed_at n closing es | false ↦ freed n es ]) h
+pub left-at : (es : List TableEntry) (n : ℕ) (b : Bool) → stays_at es n ≡ b → left_at n es ≡ elim b as (λ _. List TableEntry) [ true ↦ changed_at n entry_after_close es | false ↦ freed n es ]
+left-at es n b h = ap (λ c. elim c as (λ _. List TableEntry) [ true ↦ changed_at n entry_after_close es | false ↦ freed n es ]) h
 
 pub none-left_at : (es : List TableEntry) (n : ℕ) → entry_at es n ≡ None → es ≡ left_at n es
 none-left_at es n none = none-noted es n none ∙ sym (left-at es n true (ap stays_in none))
 
-pub held-left_at : (es : List TableEntry) (n : ℕ) (c : Channel) (l l' : Ledger) → AreApart es → Some c ≡ admitted_at es n → Some l ≡ ledger_at es n → l' ≡ account.left l → true ≡ is_open_in c l' → changed_at n (with_ledger l') es ≡ left_at n es
+pub held-left_at : (es : List TableEntry) (n : ℕ) (c : Channel) (l l' : Ledger) → AreApart es → Some c ≡ admitted_at es n → Some l ≡ ledger_at es n → l' ≡ account.ledger_after_close l → true ≡ is_open_in c l' → changed_at n (with_ledger l') es ≡ left_at n es
 held-left_at es n c l l' apart h g left held =
     noted es n l l' apart g left ∙ sym (left-at es n true (ap stays_in (entry-of es n c l h g) ∙ sym (held ∙ ap (is_open_in c) left)))

@@ -39,15 +39,15 @@ FarewellsAreTheHistorys =
 
 -- what a farewell makes of a channel: CLOSE is sent in one that is confirmed, and a server's open
 -- that waits has failed
-abbrev pub left : Channel → Channel
-left x = elim (is_confirmed x) [
+abbrev pub channel_after_farewell : Channel → Channel
+channel_after_farewell x = elim (is_confirmed x) [
   | true ↦ elim (any_by Up is_closes x.acts) [ true ↦ x | false ↦ with_act Up Closes x ]
   | false ↦ elim (is_up x.by) [ true ↦ x | false ↦ with_act Up Fails x ]
 ]
 
 -- of one of this client's
 abbrev pub left_by : ℕ → Channel → Channel
-left_by k x = elim (x.client == k) [ true ↦ left x | false ↦ x ]
+left_by k x = elim (x.client == k) [ true ↦ channel_after_farewell x | false ↦ x ]
 
 -- those that are held then
 abbrev pub left_channels : ℕ → List Channel → List Channel

@@ -9,9 +9,9 @@ use Rattle.mux_history.specs.Farewell.{to_number}
 use Rattle.mux_history.specs.Pending.{joined}
 use Rattle.window_ledger.specs.declared.ledger.Ledger.{Ledger}
 use Rattle.window_ledger.specs.Leaving as account
-use Rattle.window_ledger.specs.Stands.{confirmed}
+use Rattle.window_ledger.specs.Stands.{is_open_confirmed}
 use Rattle.channel_table.specs.declared.channel.Channel.{Channel}
-use Rattle.channel_table.specs.Entries.{TableEntry, changed_at, is_of}
+use Rattle.channel_table.specs.Entries.{TableEntry, changed_at, is_channel_of}
 use Rattle.conn_messages.specs.Keys.{IsShort, key_of}
 use Rattle.forward_rules.specs.State.{Forward}
 use Rattle.forward_rules.specs.Step as forwards
@@ -31,8 +31,8 @@ SendsFarewell payloads up up' = up'.waiting ≡ up.waiting ++ joined (map frame_
 -- in one channel: CLOSE where it is confirmed and the client has not sent it, OPEN_FAILURE on a
 -- server's open without an answer
 abbrev pub farewell_for : Channel → Ledger → List (List ℕ)
-farewell_for c ledger = elim (confirmed ledger) [
-  | true ↦ elim (account.sent_close ledger) [ true ↦ [] | false ↦ to_number c.remote close ]
+farewell_for c ledger = elim (is_open_confirmed ledger) [
+  | true ↦ elim (account.has_sent_close ledger) [ true ↦ [] | false ↦ to_number c.remote close ]
   | false ↦ elim (is_up c.by)
       [ true ↦ [] | false ↦ to_number c.remote (λ s. open_failure s CONNECT_FAILED client_is_gone) ]
 ]
@@ -42,7 +42,7 @@ farewell_of e = farewell_for e.channel e.ledger
 
 -- of a client's channels, in the order in which they began
 abbrev pub channel_farewells : ℕ → List TableEntry → List (List ℕ)
-channel_farewells k es = flat_map farewell_of (filter (is_of k) es)
+channel_farewells k es = flat_map farewell_of (filter (is_channel_of k) es)
 
 -- a cancel without reply of a live forwarding that no unanswered cancel means
 abbrev pub farewell_cancel_of : Forward → List (List ℕ)
@@ -50,29 +50,29 @@ farewell_cancel_of f = elim (f.live && is_none f.cancel) [ true ↦ cancel_forwa
 
 -- of a client's forwardings, in order of asking
 abbrev pub forward_farewells : ℕ → List Forward → List (List ℕ)
-forward_farewells k fs = flat_map farewell_cancel_of (filter (forwards.is_of k) fs)
+forward_farewells k fs = flat_map farewell_cancel_of (filter (forwards.is_forward_of k) fs)
 
 -- ---- what stays in the table
 
 -- CLOSE is sent, where the channel is confirmed
-abbrev pub closing : TableEntry → TableEntry
-closing e = record e { ledger = account.left e.ledger }
+abbrev pub entry_after_close : TableEntry → TableEntry
+entry_after_close e = record e { ledger = account.ledger_after_close e.ledger }
 
 -- in a channel of this client
 abbrev pub left_entry : ℕ → TableEntry → TableEntry
-left_entry k e = elim (e.channel.client == k) [ true ↦ closing e | false ↦ e ]
+left_entry k e = elim (e.channel.client == k) [ true ↦ entry_after_close e | false ↦ e ]
 
 -- it is still held: the server has not closed it yet, or has not answered the client's open
 abbrev pub is_open_in : Channel → Ledger → Bool
 is_open_in c ledger =
-    elim (confirmed ledger) [ true ↦ not (account.is_account_over ledger) | false ↦ is_up c.by ]
+    elim (is_open_confirmed ledger) [ true ↦ not (account.is_account_over ledger) | false ↦ is_up c.by ]
 
-abbrev pub is_open : TableEntry → Bool
-is_open e = is_open_in e.channel e.ledger
+abbrev pub is_channel_open : TableEntry → Bool
+is_channel_open e = is_open_in e.channel e.ledger
 
 -- it is of another client, or still held
 abbrev pub stays : ℕ → TableEntry → Bool
-stays k e = not (e.channel.client == k) || is_open e
+stays k e = not (e.channel.client == k) || is_channel_open e
 
 -- all channels, when this client is lost
 abbrev pub left_entries : ℕ → List TableEntry → List TableEntry
@@ -95,6 +95,6 @@ late_payload (CancelFailed key) = cancel_forward (key_of key)
 
 -- the CLOSE is noted in the account
 abbrev pub late_entries : Late → List TableEntry → List TableEntry
-late_entries (Confirmed number remote) es = changed_at number closing es
+late_entries (Confirmed number remote) es = changed_at number entry_after_close es
 late_entries (Forwarded key) es = es
 late_entries (CancelFailed key) es = es

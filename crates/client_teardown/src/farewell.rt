@@ -2,7 +2,7 @@ ghost use Rattle.std.specs.Prelude.{◌≡◌, ◌≤◌, ◌+◌, ◌++◌, IfS
 ghost use Rattle.channel_table.specs.Entries.{AreSound};
 ghost use Rattle.forward_rules.specs.Step.{forwards_without_client};
 ghost use Rattle.client_teardown.specs.Leaving.{SendsFarewell, channel_farewells, farewell_for, forward_farewells, is_open_in, left_entries};
-ghost use Rattle.client_teardown.specs.Steps.{farewell_at, left_at, listed, stays_at};
+ghost use Rattle.client_teardown.specs.Steps.{farewell_at, left_at, payload_list, stays_at};
 
 use crate::cancelling::cancel;
 use channel_table::{Channel, Ledger, Side, Table};
@@ -26,7 +26,7 @@ const FORWARDS_ROOM: usize = 19_712;
 
 // What is sent in a channel of a client that is lost, where anything is.
 fn farewell_for(channel: &Channel, ledger: &Ledger) -> Option<Small>
-    ensures exact { listed result ≡ farewell_for channel.now ledger.now }
+    ensures exact { payload_list result ≡ farewell_for channel.now ledger.now }
     ensures least { IfSome result (λ p. 1 ≤ length p) }
     ensures most { IfSome result (λ p. length p ≤ 31) }
 {

@@ -1,6 +1,6 @@
 ghost use Rattle.std.specs.Prelude.{◌≡◌, ◌≤◌, ◌+◌, [], ◌∷◌};
 ghost use Rattle.channel_table.specs.Entries.{changed_at};
-ghost use Rattle.client_teardown.specs.Leaving.{IsShortLate, SendsFarewell, closing, late_entries, late_payload};
+ghost use Rattle.client_teardown.specs.Leaving.{IsShortLate, SendsFarewell, entry_after_close, late_entries, late_payload};
 
 use crate::cancelling::cancel;
 use crate::message::Late;
@@ -35,7 +35,7 @@ pub fn late(table: &mut Table, message: Late<'_>, up: &mut Queue)
 
 // The client's CLOSE is noted in a channel's account.
 fn note_close(table: &mut Table, number: u32)
-    ensures { table.new ≡ changed_at number closing table.old }
+    ensures { table.new ≡ changed_at number entry_after_close table.old }
 {
     if let Some(ledger) = table.ledger_of(number) {
         table.set_ledger(number, ledger.left());

@@ -5,7 +5,7 @@ use Rattle.std.proofs.lemmas.Bool.{lt-leb}
 use Rattle.std.specs.List.{list_any}
 use Rattle.conf_rules.specs.Texts.{Bytes, onto_first}
 use Rattle.conf_rules.specs.Options.{parts_from, is_bad_part, ends_of, is_count, forward_words}
-use Rattle.conf_command.specs.Parts.{one_end, two_ends, ends_among, onto_first_part}
+use Rattle.conf_command.specs.Parts.{words_of_one_end, words_of_two_ends, ends_among, onto_first_part}
 use Rattle.conf_rules.proofs.SplitLemmas.{at}
 
 -- the parts, by whether the first byte parts them
@@ -69,25 +69,25 @@ in_part value i b inside after parts part now total h e here more state so_far =
 
 -- ---- the ends
 
-pub one_part : (one two : Bool) (parts : List Bytes) (p : Bytes) → 1 ≤ length parts → length parts < 2 → p ≡ get_or parts 0 p → one_end one p ≡ ends_among one two parts
+pub one_part : (one two : Bool) (parts : List Bytes) (p : Bytes) → 1 ≤ length parts → length parts < 2 → p ≡ get_or parts 0 p → words_of_one_end one p ≡ ends_among one two parts
 unfolding ends_among
 one_part one two (q ∷ []) p low high e = rw e refl
 one_part one two [] p low high e = absurd (omega (arith, low))
 one_part one two (q ∷ r ∷ rs) p low high e = absurd (omega (arith, high))
 
-pub two_parts : (one two : Bool) (parts : List Bytes) (b p : Bytes) → 2 ≤ length parts → length parts < 3 → b ≡ get_or parts 0 b → p ≡ get_or parts 1 p → one_end one (b ++ 58 ∷ p) ≡ ends_among one two parts
+pub two_parts : (one two : Bool) (parts : List Bytes) (b p : Bytes) → 2 ≤ length parts → length parts < 3 → b ≡ get_or parts 0 b → p ≡ get_or parts 1 p → words_of_one_end one (b ++ 58 ∷ p) ≡ ends_among one two parts
 unfolding ends_among
 two_parts one two (c ∷ q ∷ []) b p low high e f = rw (e, f) refl
 two_parts one two parts b p low high e f = absurd (omega (arith, low, high))
 
 pub three_parts : (one two : Bool) (parts : List Bytes) (p h t : Bytes) → 3 ≤ length parts → length parts < 4 → p ≡ get_or parts 0 p → h ≡ get_or parts 1 h → t ≡ get_or parts 2 t
-    → two_ends two p (h ++ 58 ∷ t) ≡ ends_among one two parts
+    → words_of_two_ends two p (h ++ 58 ∷ t) ≡ ends_among one two parts
 unfolding ends_among
 three_parts one two (q ∷ i ∷ u ∷ []) p h t low high e f g = rw (e, f, g) refl
 three_parts one two parts p h t low high e f g = absurd (omega (arith, low, high))
 
 pub four_parts : (one two : Bool) (parts : List Bytes) (b p h t : Bytes) → 4 ≤ length parts → length parts < 5 → b ≡ get_or parts 0 b → p ≡ get_or parts 1 p → h ≡ get_or parts 2 h → t ≡ get_or parts 3 t
-    → two_ends two (b ++ 58 ∷ p) (h ++ 58 ∷ t) ≡ ends_among one two parts
+    → words_of_two_ends two (b ++ 58 ∷ p) (h ++ 58 ∷ t) ≡ ends_among one two parts
 unfolding ends_among
 four_parts one two (c ∷ q ∷ i ∷ u ∷ []) b p h t low high e f g k = rw (e, f, g, k) refl
 four_parts one two parts b p h t low high e f g k = absurd (omega (arith, low, high))

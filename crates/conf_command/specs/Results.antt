@@ -6,11 +6,11 @@ use Rattle.conf_command.specs.declared.reader.WordsError.{WordsError}
 use Rattle.conf_command.specs.declared.reader.WordsError.TheVariants.{Refused, OutOfMemory}
 
 -- an error is the refusal of the reading, but memory may run out at any time
-abbrev pub Fails : WordsError → ReadCommand → Type 0
-Fails (Refused e) reading = reading ≡ Err e
-Fails OutOfMemory reading = Unit {0}
+abbrev pub CommandFails : WordsError → ReadCommand → Type 0
+CommandFails (Refused e) reading = reading ≡ Err e
+CommandFails OutOfMemory reading = Unit {0}
 
 -- what was returned is the reading, unless memory ran out
 abbrev pub GivesCommand : Result Command WordsError → ReadCommand → Type 0
 GivesCommand (Ok command) reading = reading ≡ Ok command
-GivesCommand (Err e) reading = Fails e reading
+GivesCommand (Err e) reading = CommandFails e reading

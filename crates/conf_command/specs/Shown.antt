@@ -2,27 +2,27 @@
 use Rattle.std.specs.Option.{option_copied}
 use Rattle.conf_rules.specs.Destinations.{Destination}
 use Rattle.conf_rules.specs.Options as options
-use Rattle.conf_rules.specs.Options.{Mode, Takes, Letter, Next}
-use Rattle.conf_command.specs.declared.act.Mode.{Mode as TheMode}
-use Rattle.conf_command.specs.declared.act.Mode.TheVariants as modes
-use Rattle.conf_command.specs.declared.act.Act.{Act}
-use Rattle.conf_command.specs.declared.act.Act.TheVariants as acts
+use Rattle.conf_rules.specs.Options.{CommandMode, Takes, Letter, NextWord}
+use Rattle.conf_command.specs.declared.act.CommandMode.{CommandMode as TheMode}
+use Rattle.conf_command.specs.declared.act.CommandMode.TheVariants as modes
+use Rattle.conf_command.specs.declared.act.WordAct.{WordAct}
+use Rattle.conf_command.specs.declared.act.WordAct.TheVariants as acts
 use Rattle.conf_command.specs.declared.letters.Takes.{Takes as TheTakes}
 use Rattle.conf_command.specs.declared.letters.Takes.TheVariants as takes
 use Rattle.conf_command.specs.declared.letters.Letter.{Letter as TheLetter}
 use Rattle.conf_command.specs.declared.letters.Letter.TheVariants as letters
-use Rattle.conf_command.specs.declared.options.Next.{Next as TheNext}
-use Rattle.conf_command.specs.declared.options.Next.TheVariants as nexts
+use Rattle.conf_command.specs.declared.options.NextWord.{NextWord as TheNext}
+use Rattle.conf_command.specs.declared.options.NextWord.TheVariants as nexts
 use Rattle.conf_command.specs.declared.destinations.Destination.{Destination as TheDestination}
 
 -- the mode of the program
-abbrev pub shown_mode_of : TheMode → Mode
+abbrev pub shown_mode_of : TheMode → CommandMode
 shown_mode_of modes.Listing = options.Listing
 shown_mode_of modes.Master = options.Master
 shown_mode_of modes.Client = options.Client
 
 -- the effect of a word
-abbrev pub act_of : Act → options.Act
+abbrev pub act_of : WordAct → options.WordAct
 act_of (acts.Chooses mode) = options.Chooses (shown_mode_of mode)
 act_of (acts.Reads from) = options.Reads from
 act_of (acts.Asks line) = options.Asks line
@@ -52,10 +52,10 @@ letter_of (letters.With takes) = options.With (takes_of takes)
 letter_of letters.NoLetter = options.NoLetter
 
 -- how the next word is read
-abbrev pub next_of : TheNext → Next
-next_of nexts.Free = options.Free
-next_of nexts.Ended = options.Ended
-next_of (nexts.ValueOf here takes) = options.ValueOf here (takes_of takes)
+abbrev pub shown_next_word : TheNext → NextWord
+shown_next_word nexts.Free = options.Free
+shown_next_word nexts.Ended = options.Ended
+shown_next_word (nexts.ValueOf here takes) = options.ValueOf here (takes_of takes)
 
 -- a host, and the user if one is named
 abbrev pub destination_of : TheDestination → Destination

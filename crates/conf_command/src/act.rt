@@ -3,7 +3,7 @@ use ssh_fields::Text;
 
 /// The mode of the program.
 #[derive(Clone, Copy, Drop)]
-pub enum Mode {
+pub enum CommandMode {
     Listing,
     Master,
     /// The client of a running master.
@@ -12,8 +12,8 @@ pub enum Mode {
 
 /// The effect of a word.
 #[derive(Drop)]
-pub enum Act {
-    Chooses(Mode),
+pub enum WordAct {
+    Chooses(CommandMode),
     Reads(ConfigFrom),
     Asks(AskedLine),
     Connects(Text),

@@ -1,6 +1,6 @@
 ghost use Rattle.std.specs.Prelude.{◌≡◌, ◌||◌, not};
 ghost use Rattle.conf_rules.specs.Forwardings.{host_of};
-ghost use Rattle.conf_rules.specs.Permissions.{is_alone, is_port, is_path, is_entry_host, is_entry};
+ghost use Rattle.conf_rules.specs.Permissions.{is_alone, is_entry_port, is_path_text, is_entry_host, is_entry};
 
 use crate::bytes::is_same;
 use conf_lexer::{host_of, number, split_at_last};
@@ -14,14 +14,14 @@ pub fn is_alone(text: &[u8]) -> bool
 
 // Whether a text is a star or a port.
 fn is_port(text: &[u8]) -> bool
-    ensures { result ≡ is_port text.now }
+    ensures { result ≡ is_entry_port text.now }
 {
     is_same(text, b"*") || number(text, 0, 65_535).is_some()
 }
 
 // Whether a text begins with a slash.
 fn is_path(text: &[u8]) -> bool
-    ensures { result ≡ is_path text.now }
+    ensures { result ≡ is_path_text text.now }
 {
     match text {
         [b'/', ..] => true,

@@ -1,7 +1,7 @@
 ghost use Rattle.std.specs.Prelude.{◌≡◌, ◌==◌, ◌&&◌, ◌||◌, not, ℕ, false, IfOk};
 ghost use Rattle.std.specs.List.{list_any};
 ghost use Rattle.conf_rules.specs.Options.{parts_from, is_bad_part, forward_words};
-ghost use Rattle.conf_command.specs.Parts.{one_end, two_ends, ends_among};
+ghost use Rattle.conf_command.specs.Parts.{words_of_one_end, words_of_two_ends, ends_among};
 
 use crate::bytes::joined;
 use conf_lexer::has_slash;
@@ -58,7 +58,7 @@ fn has_bad_part(parts: &[Text]) -> bool
 
 // One end, if that may be.
 fn one_end(alloc: Global, one: bool, word: Text) -> Result<Option<Texts>, OutOfMemory>
-    ensures { IfOk result (λ words. words ≡ one_end one word) }
+    ensures { IfOk result (λ words. words ≡ words_of_one_end one word) }
 {
     if !one {
         return Ok(None);
@@ -75,7 +75,7 @@ fn two_ends(
     listen: Text,
     connect: Text,
 ) -> Result<Option<Texts>, OutOfMemory>
-    ensures { IfOk result (λ words. words ≡ two_ends two listen connect) }
+    ensures { IfOk result (λ words. words ≡ words_of_two_ends two listen connect) }
 {
     if !two {
         return Ok(None);

@@ -1,8 +1,8 @@
 ghost use Rattle.std.specs.Prelude.{◌≡◌};
-ghost use Rattle.conf_rules.specs.Options.{letters, letter_among, Sets, With, OfKey, OfForward};
+ghost use Rattle.conf_rules.specs.Options.{option_letters, letter_among, Sets, With, OfKey, OfForward};
 ghost use Rattle.conf_command.specs.Shown.{letter_of};
 
-use crate::act::Mode;
+use crate::act::CommandMode;
 use conf_rules::PermitList;
 
 /// An option that has a value.
@@ -31,7 +31,7 @@ pub enum Takes {
 /// What a letter means.
 #[derive(Clone, Copy, Drop)]
 pub enum Letter {
-    Names(Mode),
+    Names(CommandMode),
     /// It sets a key to a fixed value.
     Sets {
         keyword: &'static [u8],
@@ -64,11 +64,11 @@ fn forward(keyword: &'static [u8], one: bool, two: bool) -> Letter
 
 /// The meaning of a letter.
 pub fn meaning_of(byte: u8) -> Letter
-    ensures { letter_of result ≡ letter_among letters byte }
+    ensures { letter_of result ≡ letter_among option_letters byte }
 {
     match byte {
-        b'G' => Letter::Names(Mode::Listing),
-        b'M' => Letter::Names(Mode::Master),
+        b'G' => Letter::Names(CommandMode::Listing),
+        b'M' => Letter::Names(CommandMode::Master),
         b'4' => sets(b"addressfamily", b"inet"),
         b'6' => sets(b"addressfamily", b"inet6"),
         b'A' => sets(b"forwardagent", b"yes"),

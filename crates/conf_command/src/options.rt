@@ -1,15 +1,15 @@
 ghost use Rattle.std.specs.Prelude.{◌≡◌, ℕ, List, [], ◌∷◌, ◌++◌, IfOk, OnOk};
 ghost use Rattle.conf_rules.specs.declared.asked.AskedLine.TheVariants as asks;
-ghost use Rattle.conf_rules.specs.Options.{step, forward_step, file_named, control_among, controls, control_step, sessions_named, sessions_steps, taken, with_value, by_letters, long_option, dashed, Free, Goes, ValueOf};
+ghost use Rattle.conf_rules.specs.Options.{step, forward_step, file_named, control_among, controls, control_step, sessions_named, sessions_steps, steps_of_option, with_value, by_letters, long_option, dashed, Free, Goes, ValueOf};
 ghost use Rattle.conf_rules.specs.CommandLine.{free_word, steps_from};
-ghost use Rattle.conf_command.specs.Shown.{act_of, takes_of, next_of};
+ghost use Rattle.conf_command.specs.Shown.{act_of, takes_of, shown_next_word};
 ghost use Rattle.conf_command.specs.Words.{word_steps, end_steps};
 
-use crate::act::{Act, Mode};
+use crate::act::{CommandMode, WordAct};
 use crate::bytes::is_same;
 use crate::forwardings::forward_words;
 use crate::letters::{Letter, Takes, meaning_of};
-use crate::step::{Step, Steps};
+use crate::step::{WordStep, WordSteps};
 use conf_lexer::first;
 use conf_rules::{AskedLine, ConfigFrom, MasterCommand, PermitList, Usage};
 use ssh_fields::{OutOfMemory, Text, Texts};
@@ -17,7 +17,7 @@ use std::alloc::Global;
 
 /// How the next word is read.
 #[derive(Clone, Copy, Drop)]
-pub enum Next {
+pub enum NextWord {
     /// As any word.
     Free,
     /// Never as an option.
@@ -27,10 +27,10 @@ pub enum Next {
 }
 
 // The value of an option at a word comes next.
-fn value_of(here: u64, takes: Takes) -> Next
-    ensures { next_of result ≡ ValueOf here (takes_of takes) }
+fn value_of(here: u64, takes: Takes) -> NextWord
+    ensures { shown_next_word result ≡ ValueOf here (takes_of takes) }
 {
-    Next::ValueOf { here, takes }
+    NextWord::ValueOf { here, takes }
 }
 
 /// The line of a keyword with one word.
@@ -57,16 +57,16 @@ fn forward_step(
     at: u64,
     keyword: &[u8],
     words: Option<Texts>,
-) -> Result<Step, OutOfMemory>
+) -> Result<WordStep, OutOfMemory>
     ensures { IfOk result (λ s. s ≡ forward_step at keyword.now words) }
 {
     match words {
-        None => Ok(Step::new(at, Act::Fails(Usage::BadForward))),
+        None => Ok(WordStep::new(at, WordAct::Fails(Usage::BadForward))),
         Some(words) => {
             let keyword = Text::copy(alloc, keyword)?;
-            Ok(Step::new(
+            Ok(WordStep::new(
                 at,
-                Act::Asks(AskedLine::Parts {
+                WordAct::Asks(AskedLine::Parts {
                     word: at,
                     keyword,
                     words,
@@ -109,12 +109,12 @@ fn control_named(value: &[u8]) -> Option<MasterCommand>
 }
 
 // A value that names a request to a running master, or is bad at its word.
-fn control_step(at: u64, value: &[u8]) -> Step
+fn control_step(at: u64, value: &[u8]) -> WordStep
     ensures { result ≡ control_step at (control_among controls value.now) }
 {
     match control_named(value) {
-        Some(control) => Step::new(at, Act::Controls(control)),
-        None => Step::new(at, Act::Fails(Usage::BadCommand)),
+        Some(control) => WordStep::new(at, WordAct::Controls(control)),
+        None => WordStep::new(at, WordAct::Fails(Usage::BadCommand)),
     }
 }
 
@@ -132,15 +132,15 @@ fn sessions_named(word: &[u8]) -> Option<bool>
 }
 
 // Whether sessions are permitted; a value that is neither `any` nor `none` is bad at its word.
-fn take_sessions(here: u64, at: u64, value: &[u8], steps: &mut Steps) -> Result<(), OutOfMemory>
+fn take_sessions(here: u64, at: u64, value: &[u8], steps: &mut WordSteps) -> Result<(), OutOfMemory>
     ensures { OnOk result (steps.new ≡ steps.old
         ++ sessions_steps here at (sessions_named value.now)) }
 {
     match sessions_named(value) {
-        Some(may) => steps.push(Step::new(here, Act::Sessions(may))),
+        Some(may) => steps.push(WordStep::new(here, WordAct::Sessions(may))),
         None => {
-            steps.push(Step::new(here, Act::Sessions(false)))?;
-            steps.push(Step::new(at, Act::Fails(Usage::BadEntry)))
+            steps.push(WordStep::new(here, WordAct::Sessions(false)))?;
+            steps.push(WordStep::new(at, WordAct::Fails(Usage::BadEntry)))
         }
     }
 }
@@ -152,14 +152,14 @@ fn take(
     here: u64,
     at: u64,
     value: &[u8],
-    steps: &mut Steps,
+    steps: &mut WordSteps,
 ) -> Result<(), OutOfMemory>
-    ensures { OnOk result (steps.new ≡ steps.old ++ taken (takes_of takes) here at value.now) }
+    ensures { OnOk result (steps.new ≡ steps.old ++ steps_of_option (takes_of takes) here at value.now) }
 {
     match takes {
         Takes::Key(keyword) => {
             let line = key_line(alloc, at, keyword, value)?;
-            steps.push(Step::new(at, Act::Asks(line)))
+            steps.push(WordStep::new(at, WordAct::Asks(line)))
         }
         Takes::Forward { keyword, one, two } => {
             let words = forward_words(alloc, one, two, value)?;
@@ -167,21 +167,21 @@ fn take(
         }
         Takes::Line => {
             let line = Text::copy(alloc, value)?;
-            steps.push(Step::new(at, Act::Asks(AskedLine::Line { word: at, line })))
+            steps.push(WordStep::new(at, WordAct::Asks(AskedLine::Line { word: at, line })))
         }
         Takes::File => {
             let from = file_named(alloc, value)?;
-            steps.push(Step::new(at, Act::Reads(from)))
+            steps.push(WordStep::new(at, WordAct::Reads(from)))
         }
         Takes::Transport => {
             let transport = Text::copy(alloc, value)?;
-            steps.push(Step::new(here, Act::Connects(transport)))
+            steps.push(WordStep::new(here, WordAct::Connects(transport)))
         }
         Takes::Permit(list) => {
             let entry = Text::copy(alloc, value)?;
-            steps.push(Step::new(
+            steps.push(WordStep::new(
                 here,
-                Act::Permits {
+                WordAct::Permits {
                     list,
                     word: at,
                     entry,
@@ -190,7 +190,7 @@ fn take(
         }
         Takes::Sessions => take_sessions(here, at, value, steps),
         Takes::Control => {
-            steps.push(Step::new(here, Act::Chooses(Mode::Client)))?;
+            steps.push(WordStep::new(here, WordAct::Chooses(CommandMode::Client)))?;
             steps.push(control_step(at, value))
         }
     }
@@ -202,50 +202,55 @@ fn with_value(
     takes: Takes,
     at: u64,
     rest: &[u8],
-    steps: &mut Steps,
-) -> Result<Next, OutOfMemory>
+    steps: &mut WordSteps,
+) -> Result<NextWord, OutOfMemory>
     ensures steps { OnOk result (steps.new ≡ steps.old
         ++ (with_value (takes_of takes) at rest.now).steps) }
-    ensures next { IfOk result (λ n. next_of n ≡ (with_value (takes_of takes) at rest.now).next) }
+    ensures next { IfOk result (λ n. shown_next_word n ≡ (with_value (takes_of takes) at rest.now).next) }
 {
     if rest.is_empty() {
-        return Ok(Next::ValueOf { here: at, takes });
+        return Ok(NextWord::ValueOf { here: at, takes });
     }
     take(alloc, takes, at, at, rest, steps)?;
-    Ok(Next::Free)
+    Ok(NextWord::Free)
 }
 
 // The effect of the letters of a word, up to one whose value is the rest.
-fn by_letters(alloc: Global, at: u64, word: &[u8], steps: &mut Steps) -> Result<Next, OutOfMemory>
+fn by_letters(
+    alloc: Global,
+    at: u64,
+    word: &[u8],
+    steps: &mut WordSteps,
+) -> Result<NextWord, OutOfMemory>
     ensures steps { OnOk result (steps.new ≡ steps.old ++ (by_letters at word.now).steps) }
-    ensures next { IfOk result (λ n. next_of n ≡ (by_letters at word.now).next) }
+    ensures next { IfOk result (λ n. shown_next_word n ≡ (by_letters at word.now).next) }
 {
     let mut left = word;
     while let Some((byte, rest)) = first(left) {
         match meaning_of(byte) {
-            Letter::Names(mode) => steps.push(Step::new(at, Act::Chooses(mode)))?,
+            Letter::Names(mode) => steps.push(WordStep::new(at, WordAct::Chooses(mode)))?,
             Letter::Sets { keyword, value } => {
                 let line = key_line(alloc, at, keyword, value)?;
-                steps.push(Step::new(at, Act::Asks(line)))?;
+                steps.push(WordStep::new(at, WordAct::Asks(line)))?;
             }
             Letter::With(takes) => return with_value(alloc, takes, at, rest, steps),
             Letter::NoLetter => {
-                steps.push(Step::new(at, Act::Fails(Usage::UnknownOption)))?;
-                return Ok(Next::Free);
+                steps.push(WordStep::new(at, WordAct::Fails(Usage::UnknownOption)))?;
+                return Ok(NextWord::Free);
             }
         }
         left = rest;
     }
-    Ok(Next::Free)
+    Ok(NextWord::Free)
 }
 
 // What follows two dashes: nothing ends the options.
-fn long_option(at: u64, word: &[u8], steps: &mut Steps) -> Result<Next, OutOfMemory>
+fn long_option(at: u64, word: &[u8], steps: &mut WordSteps) -> Result<NextWord, OutOfMemory>
     ensures steps { OnOk result (steps.new ≡ steps.old ++ (long_option at word.now).steps) }
-    ensures next { IfOk result (λ n. next_of n ≡ (long_option at word.now).next) }
+    ensures next { IfOk result (λ n. shown_next_word n ≡ (long_option at word.now).next) }
 {
     if word.is_empty() {
-        return Ok(Next::Ended);
+        return Ok(NextWord::Ended);
     }
     if is_same(word, b"transport") {
         return Ok(value_of(at, Takes::Transport));
@@ -262,19 +267,24 @@ fn long_option(at: u64, word: &[u8], steps: &mut Steps) -> Result<Next, OutOfMem
     if is_same(word, b"permit-here") {
         return Ok(value_of(at, Takes::Permit(PermitList::Here)));
     }
-    steps.push(Step::new(at, Act::Fails(Usage::UnknownOption)))?;
-    Ok(Next::Free)
+    steps.push(WordStep::new(at, WordAct::Fails(Usage::UnknownOption)))?;
+    Ok(NextWord::Free)
 }
 
 // What follows one dash: a lone dash is no option.
-fn dashed(alloc: Global, at: u64, word: &[u8], steps: &mut Steps) -> Result<Next, OutOfMemory>
+fn dashed(
+    alloc: Global,
+    at: u64,
+    word: &[u8],
+    steps: &mut WordSteps,
+) -> Result<NextWord, OutOfMemory>
     ensures steps { OnOk result (steps.new ≡ steps.old ++ (dashed at word.now).steps) }
-    ensures next { IfOk result (λ n. next_of n ≡ (dashed at word.now).next) }
+    ensures next { IfOk result (λ n. shown_next_word n ≡ (dashed at word.now).next) }
 {
     match first(word) {
         None => {
-            steps.push(Step::new(at, Act::Fails(Usage::UnknownOption)))?;
-            Ok(Next::Free)
+            steps.push(WordStep::new(at, WordAct::Fails(Usage::UnknownOption)))?;
+            Ok(NextWord::Free)
         }
         Some((byte, rest)) => {
             if byte == b'-' {
@@ -286,23 +296,28 @@ fn dashed(alloc: Global, at: u64, word: &[u8], steps: &mut Steps) -> Result<Next
 }
 
 // A destination.
-fn goes(alloc: Global, at: u64, word: &[u8], steps: &mut Steps) -> Result<(), OutOfMemory>
+fn goes(alloc: Global, at: u64, word: &[u8], steps: &mut WordSteps) -> Result<(), OutOfMemory>
     ensures { OnOk result (steps.new ≡ steps.old ++ step at (Goes word.now) ∷ []) }
 {
     let to = Text::copy(alloc, word)?;
-    steps.push(Step::new(at, Act::Goes(to)))
+    steps.push(WordStep::new(at, WordAct::Goes(to)))
 }
 
 // A destination, or what follows a dash.
-fn free_word(alloc: Global, at: u64, word: &[u8], steps: &mut Steps) -> Result<Next, OutOfMemory>
+fn free_word(
+    alloc: Global,
+    at: u64,
+    word: &[u8],
+    steps: &mut WordSteps,
+) -> Result<NextWord, OutOfMemory>
     ensures steps { OnOk result (steps.new ≡ steps.old ++ (free_word at word.now).steps) }
-    ensures next { IfOk result (λ n. next_of n ≡ (free_word at word.now).next) }
+    ensures next { IfOk result (λ n. shown_next_word n ≡ (free_word at word.now).next) }
 {
     match word {
         [b'-', rest @ ..] => dashed(alloc, at, rest, steps),
         _ => {
             goes(alloc, at, word, steps)?;
-            Ok(Next::Free)
+            Ok(NextWord::Free)
         }
     }
 }
@@ -310,44 +325,47 @@ fn free_word(alloc: Global, at: u64, word: &[u8], steps: &mut Steps) -> Result<N
 // What a word does, and what the next word is.
 fn word_steps(
     alloc: Global,
-    next: Next,
+    next: NextWord,
     at: u64,
     word: &[u8],
-    steps: &mut Steps,
-) -> Result<Next, OutOfMemory>
+    steps: &mut WordSteps,
+) -> Result<NextWord, OutOfMemory>
     ensures steps { OnOk result (steps.new ≡ steps.old
-        ++ (word_steps at (next_of next) word.now).steps) }
-    ensures next { IfOk result (λ n. next_of n ≡ (word_steps at (next_of next) word.now).next) }
+        ++ (word_steps at (shown_next_word next) word.now).steps) }
+    ensures next { IfOk result (λ n. shown_next_word n ≡ (word_steps at (shown_next_word next) word.now).next) }
 {
     match next {
-        Next::Free => free_word(alloc, at, word, steps),
-        Next::Ended => {
+        NextWord::Free => free_word(alloc, at, word, steps),
+        NextWord::Ended => {
             goes(alloc, at, word, steps)?;
-            Ok(Next::Ended)
+            Ok(NextWord::Ended)
         }
-        Next::ValueOf { here, takes } => {
+        NextWord::ValueOf { here, takes } => {
             take(alloc, takes, here, at, word, steps)?;
-            Ok(Next::Free)
+            Ok(NextWord::Free)
         }
     }
 }
 
 // Adds what the end of the words does, where a value is missing.
-fn end_words(next: Next, steps: &mut Steps) -> Result<(), OutOfMemory>
-    ensures { OnOk result (steps.new ≡ steps.old ++ end_steps (next_of next)) }
+fn end_words(next: NextWord, steps: &mut WordSteps) -> Result<(), OutOfMemory>
+    ensures { OnOk result (steps.new ≡ steps.old ++ end_steps (shown_next_word next)) }
 {
     match next {
-        Next::ValueOf { here, .. } => steps.push(Step::new(here, Act::Fails(Usage::NoValue))),
-        Next::Free | Next::Ended => Ok(()),
+        NextWord::ValueOf { here, .. } => steps.push(WordStep::new(
+            here,
+            WordAct::Fails(Usage::NoValue),
+        )),
+        NextWord::Free | NextWord::Ended => Ok(()),
     }
 }
 
 /// The steps of all words.
-pub fn steps_of(alloc: Global, words: &[Text]) -> Result<Steps, OutOfMemory>
+pub fn steps_of(alloc: Global, words: &[Text]) -> Result<WordSteps, OutOfMemory>
     ensures { IfOk result (λ steps. steps ≡ steps_from 1 Free words.now) }
 {
-    let mut steps = Steps::new(alloc);
-    let mut next = Next::Free;
+    let mut steps = WordSteps::new(alloc);
+    let mut next = NextWord::Free;
     for (i, word) in words.iter().enumerate() {
         next = word_steps(alloc, next, i as u64 + 1, word.as_bytes(), &mut steps)?;
     }

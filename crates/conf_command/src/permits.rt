@@ -1,10 +1,10 @@
 ghost use Rattle.std.specs.Prelude.{◌≡◌, ◌++◌, IfOk, OnOk};
-ghost use Rattle.conf_rules.specs.CommandLine.{is_of, permits_in, permits, texts_of, bad_permission};
-ghost use Rattle.conf_rules.specs.Permissions.{PermitWord, first_not_entry, bad_entry, earlier};
+ghost use Rattle.conf_rules.specs.CommandLine.{is_same_list, permits_in, permit_words, texts_of, bad_permission};
+ghost use Rattle.conf_rules.specs.Permissions.{PermitWord, first_not_entry, bad_entry, earlier_word};
 
-use crate::act::Act;
+use crate::act::WordAct;
 use crate::entries::{is_alone, is_entry};
-use crate::step::Step;
+use crate::step::WordStep;
 use conf_rules::PermitList;
 use ssh_fields::{ListOf, OutOfMemory, Text, Texts};
 use std::alloc::Global;
@@ -51,7 +51,7 @@ pub type Permits = ListOf<Permit>;
 
 // Whether a permission is of a list.
 fn is_of(wanted: PermitList, list: PermitList) -> bool
-    ensures { result ≡ is_of wanted list }
+    ensures { result ≡ is_same_list wanted list }
 {
     match (wanted, list) {
         (PermitList::Open, PermitList::Open) => true,
@@ -66,12 +66,12 @@ fn add_permit(
     all: &mut Permits,
     alloc: Global,
     wanted: PermitList,
-    step: &Step,
+    step: &WordStep,
 ) -> Result<(), OutOfMemory>
     ensures { OnOk result (all.new ≡ all.old ++ permits_in wanted step.now) }
 {
     match step.act() {
-        Act::Permits { list, word, entry } => {
+        WordAct::Permits { list, word, entry } => {
             if is_of(wanted, *list) {
                 let text = Text::copy(alloc, entry.as_bytes())?;
                 all.push(Permit::new(*word, text))?;
@@ -83,8 +83,8 @@ fn add_permit(
 }
 
 // All permissions of a list.
-fn permits_of(alloc: Global, list: PermitList, steps: &[Step]) -> Result<Permits, OutOfMemory>
-    ensures { IfOk result (λ all. all ≡ permits list steps.now) }
+fn permits_of(alloc: Global, list: PermitList, steps: &[WordStep]) -> Result<Permits, OutOfMemory>
+    ensures { IfOk result (λ all. all ≡ permit_words list steps.now) }
 {
     let mut all = Permits::new(alloc);
     for step in steps {
@@ -105,8 +105,8 @@ fn texts_of(alloc: Global, permits: &Permits) -> Result<Texts, OutOfMemory>
 }
 
 /// The texts of a list.
-pub fn texts_in(alloc: Global, list: PermitList, steps: &[Step]) -> Result<Texts, OutOfMemory>
-    ensures { IfOk result (λ texts. texts ≡ texts_of (permits list steps.now)) }
+pub fn texts_in(alloc: Global, list: PermitList, steps: &[WordStep]) -> Result<Texts, OutOfMemory>
+    ensures { IfOk result (λ texts. texts ≡ texts_of (permit_words list steps.now)) }
 {
     let permits = permits_of(alloc, list, steps)?;
     let texts = texts_of(alloc, &permits);
@@ -148,8 +148,8 @@ fn bad_entry(permits: &Permits) -> Option<u64>
 }
 
 // The word of the first bad text of a list.
-fn bad_in(alloc: Global, list: PermitList, steps: &[Step]) -> Result<Option<u64>, OutOfMemory>
-    ensures { IfOk result (λ word. word ≡ bad_entry (permits list steps.now)) }
+fn bad_in(alloc: Global, list: PermitList, steps: &[WordStep]) -> Result<Option<u64>, OutOfMemory>
+    ensures { IfOk result (λ word. word ≡ bad_entry (permit_words list steps.now)) }
 {
     let permits = permits_of(alloc, list, steps)?;
     let word = bad_entry(&permits);
@@ -159,7 +159,7 @@ fn bad_in(alloc: Global, list: PermitList, steps: &[Step]) -> Result<Option<u64>
 
 // The earlier of two words.
 fn earlier(a: Option<u64>, b: Option<u64>) -> Option<u64>
-    ensures { result ≡ earlier a b }
+    ensures { result ≡ earlier_word a b }
 {
     match (a, b) {
         (None, b) => b,
@@ -169,7 +169,7 @@ fn earlier(a: Option<u64>, b: Option<u64>) -> Option<u64>
 }
 
 /// The earliest word of a bad permission, over all lists.
-pub fn bad_permission(alloc: Global, steps: &[Step]) -> Result<Option<u64>, OutOfMemory>
+pub fn bad_permission(alloc: Global, steps: &[WordStep]) -> Result<Option<u64>, OutOfMemory>
     ensures { IfOk result (λ word. word ≡ bad_permission steps.now) }
 {
     let open = bad_in(alloc, PermitList::Open, steps)?;

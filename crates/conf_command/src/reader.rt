@@ -8,7 +8,7 @@ ghost use Rattle.conf_command.specs.declared.reader.WordsError.TheVariants as wo
 ghost use Rattle.conf_command.specs.Results.{GivesCommand};
 ghost use Rattle.conf_command.specs.Shown.{shown_mode_of};
 
-use crate::act::Mode;
+use crate::act::CommandMode;
 use crate::bytes::is_same;
 use crate::drill::drill_of;
 use crate::options::steps_of;
@@ -17,7 +17,7 @@ use crate::sound::{
     asked_of, control_in, host_in, is_about_forwardings, names_forwarding, sessions_in,
     transport_in,
 };
-use crate::step::Step;
+use crate::step::WordStep;
 use crate::walk::{first_mode, not_for_others, walk_over};
 use conf_rules::{Command, Permissions, PermitList, Usage, UsageError};
 use ssh_fields::{OutOfMemory, Text, Texts};
@@ -47,7 +47,7 @@ fn refused(word: u64, cause: Usage) -> WordsError
 }
 
 // The master's permissions.
-fn permissions_of(alloc: Global, steps: &[Step]) -> Result<Permissions, OutOfMemory>
+fn permissions_of(alloc: Global, steps: &[WordStep]) -> Result<Permissions, OutOfMemory>
     ensures { IfOk result (λ permits. permits ≡ permissions_of steps.now) }
 {
     Ok(Permissions {
@@ -62,7 +62,7 @@ fn permissions_of(alloc: Global, steps: &[Step]) -> Result<Permissions, OutOfMem
 fn master_over(
     alloc: Global,
     host: &[u8],
-    steps: &[Step],
+    steps: &[WordStep],
     transport: Text,
 ) -> Result<Command, OutOfMemory>
     ensures { IfOk result (λ command. command
@@ -77,7 +77,12 @@ fn master_over(
 
 // The master over a transport, which must be named; bad permissions are refused last, the earliest
 // word first.
-fn master_of(alloc: Global, end: u64, host: &[u8], steps: &[Step]) -> Result<Command, WordsError>
+fn master_of(
+    alloc: Global,
+    end: u64,
+    host: &[u8],
+    steps: &[WordStep],
+) -> Result<Command, WordsError>
     ensures { (n : ℕ) → end ≡ n + 1
         → GivesCommand result (master_of n host.now steps.now (transport_in None steps.now)) }
 {
@@ -91,7 +96,12 @@ fn master_of(alloc: Global, end: u64, host: &[u8], steps: &[Step]) -> Result<Com
 }
 
 // The client of a running master; forwardings must be named if the request is about them.
-fn client_of(alloc: Global, end: u64, host: &[u8], steps: &[Step]) -> Result<Command, WordsError>
+fn client_of(
+    alloc: Global,
+    end: u64,
+    host: &[u8],
+    steps: &[WordStep],
+) -> Result<Command, WordsError>
     ensures { (n : ℕ) → end ≡ n + 1
         → GivesCommand result (client_of n host.now steps.now (control_in Check steps.now)) }
 {
@@ -109,23 +119,23 @@ fn client_of(alloc: Global, end: u64, host: &[u8], steps: &[Step]) -> Result<Com
 fn mode_command(
     alloc: Global,
     end: u64,
-    mode: Mode,
+    mode: CommandMode,
     host: &[u8],
-    steps: &[Step],
+    steps: &[WordStep],
 ) -> Result<Command, WordsError>
     ensures { (n : ℕ) → end ≡ n + 1
         → GivesCommand result (mode_command n steps.now host.now (shown_mode_of mode)) }
 {
     match mode {
-        Mode::Listing => Ok(Command::List(asked_of(alloc, host, steps)?)),
-        Mode::Master => master_of(alloc, end, host, steps),
-        Mode::Client => client_of(alloc, end, host, steps),
+        CommandMode::Listing => Ok(Command::List(asked_of(alloc, host, steps)?)),
+        CommandMode::Master => master_of(alloc, end, host, steps),
+        CommandMode::Client => client_of(alloc, end, host, steps),
     }
 }
 
 // The command of sound steps; what is missing is refused at the word after the last.
 #[tactic(auto, unfolding(conf_rules::specs::CommandLine::command_of))]
-fn command_of(alloc: Global, end: u64, steps: &[Step]) -> Result<Command, WordsError>
+fn command_of(alloc: Global, end: u64, steps: &[WordStep]) -> Result<Command, WordsError>
     ensures { (n : ℕ) → end ≡ n + 1 → GivesCommand result (command_of n steps.now) }
 {
     let Some(mode) = first_mode(steps) else {
@@ -138,7 +148,7 @@ fn command_of(alloc: Global, end: u64, steps: &[Step]) -> Result<Command, WordsE
 }
 
 // The command of the steps of words, up to the first bad one.
-fn walked(alloc: Global, end: u64, steps: &[Step]) -> Result<Command, WordsError>
+fn walked(alloc: Global, end: u64, steps: &[WordStep]) -> Result<Command, WordsError>
     ensures { (n : ℕ) → end ≡ n + 1 → GivesCommand result (walked n (walk_from None false steps.now)) }
 {
     let walk = walk_over(steps);

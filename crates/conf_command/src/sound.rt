@@ -7,11 +7,11 @@ ghost use Rattle.conf_rules.specs.CommandLine.{line_in, destination_line, from_i
 ghost use Rattle.conf_rules.specs.Destinations.{destination};
 ghost use Rattle.conf_command.specs.Sound.{from_at, transport_at, step_host_at};
 
-use crate::act::Act;
+use crate::act::WordAct;
 use crate::bytes::{copied, is_same};
 use crate::destinations::destination_in;
 use crate::options::key_line;
-use crate::step::Step;
+use crate::step::WordStep;
 use conf_rules::{Asked, AskedLine, AskedLines, ConfigFrom, MasterCommand};
 use ssh_fields::{OutOfMemory, Text};
 use std::alloc::Global;
@@ -55,21 +55,21 @@ fn add_user(alloc: Global, word: u64, to: &[u8], lines: &mut AskedLines) -> Resu
 }
 
 // Adds the lines that a step gives.
-fn add_line(alloc: Global, step: &Step, lines: &mut AskedLines) -> Result<(), OutOfMemory>
+fn add_line(alloc: Global, step: &WordStep, lines: &mut AskedLines) -> Result<(), OutOfMemory>
     ensures { OnOk result (lines.new ≡ lines.old ++ line_in step.now) }
 {
     match step.act() {
-        Act::Asks(line) => {
+        WordAct::Asks(line) => {
             let line = copy_line(alloc, line)?;
             lines.push(line)
         }
-        Act::Goes(to) => add_user(alloc, step.word(), to.as_bytes(), lines),
+        WordAct::Goes(to) => add_user(alloc, step.word(), to.as_bytes(), lines),
         _ => Ok(()),
     }
 }
 
 // The lines that steps give.
-fn lines_of(alloc: Global, steps: &[Step]) -> Result<AskedLines, OutOfMemory>
+fn lines_of(alloc: Global, steps: &[WordStep]) -> Result<AskedLines, OutOfMemory>
     ensures { IfOk result (λ lines. lines ≡ flat_map line_in steps.now) }
 {
     let mut lines = AskedLines::new(alloc);
@@ -80,13 +80,13 @@ fn lines_of(alloc: Global, steps: &[Step]) -> Result<AskedLines, OutOfMemory>
 }
 
 // The files that are read after a step.
-fn from_behind(alloc: Global, from: ConfigFrom, step: &Step) -> Result<ConfigFrom, OutOfMemory>
+fn from_behind(alloc: Global, from: ConfigFrom, step: &WordStep) -> Result<ConfigFrom, OutOfMemory>
     ensures { IfOk result (λ f. f ≡ from_at from step.now.act) }
 {
     match step.act() {
-        Act::Reads(ConfigFrom::Standard) => Ok(ConfigFrom::Standard),
-        Act::Reads(ConfigFrom::Nothing) => Ok(ConfigFrom::Nothing),
-        Act::Reads(ConfigFrom::File(file)) => {
+        WordAct::Reads(ConfigFrom::Standard) => Ok(ConfigFrom::Standard),
+        WordAct::Reads(ConfigFrom::Nothing) => Ok(ConfigFrom::Nothing),
+        WordAct::Reads(ConfigFrom::File(file)) => {
             let file = Text::copy(alloc, file.as_bytes())?;
             Ok(ConfigFrom::File(file))
         }
@@ -95,7 +95,7 @@ fn from_behind(alloc: Global, from: ConfigFrom, step: &Step) -> Result<ConfigFro
 }
 
 // The files that are read: the last one named counts.
-fn from_in(alloc: Global, steps: &[Step]) -> Result<ConfigFrom, OutOfMemory>
+fn from_in(alloc: Global, steps: &[WordStep]) -> Result<ConfigFrom, OutOfMemory>
     ensures { IfOk result (λ from. from ≡ from_in Standard steps.now) }
 {
     let mut from = ConfigFrom::Standard;
@@ -109,12 +109,12 @@ fn from_in(alloc: Global, steps: &[Step]) -> Result<ConfigFrom, OutOfMemory>
 fn transport_behind(
     alloc: Global,
     transport: Option<Text>,
-    step: &Step,
+    step: &WordStep,
 ) -> Result<Option<Text>, OutOfMemory>
     ensures { IfOk result (λ t. t ≡ transport_at transport step.now.act) }
 {
     match step.act() {
-        Act::Connects(to) => {
+        WordAct::Connects(to) => {
             let to = Text::copy(alloc, to.as_bytes())?;
             Ok(Some(to))
         }
@@ -123,7 +123,7 @@ fn transport_behind(
 }
 
 /// The last transport.
-pub fn transport_in(alloc: Global, steps: &[Step]) -> Result<Option<Text>, OutOfMemory>
+pub fn transport_in(alloc: Global, steps: &[WordStep]) -> Result<Option<Text>, OutOfMemory>
     ensures { IfOk result (λ transport. transport ≡ transport_in None steps.now) }
 {
     let mut transport = None;
@@ -134,12 +134,12 @@ pub fn transport_in(alloc: Global, steps: &[Step]) -> Result<Option<Text>, OutOf
 }
 
 /// Whether sessions are permitted: the last one named counts.
-pub fn sessions_in(steps: &[Step]) -> bool
+pub fn sessions_in(steps: &[WordStep]) -> bool
     ensures { result ≡ sessions_in true steps.now }
 {
     let mut sessions = true;
     for step in steps {
-        if let Act::Sessions(may) = step.act() {
+        if let WordAct::Sessions(may) = step.act() {
             sessions = *may;
         }
     }
@@ -147,12 +147,12 @@ pub fn sessions_in(steps: &[Step]) -> bool
 }
 
 /// The request to a running master: the last one named counts.
-pub fn control_in(steps: &[Step]) -> MasterCommand
+pub fn control_in(steps: &[WordStep]) -> MasterCommand
     ensures { result ≡ control_in Check steps.now }
 {
     let mut control = MasterCommand::Check;
     for step in steps {
-        if let Act::Controls(named) = step.act() {
+        if let WordAct::Controls(named) = step.act() {
             control = *named;
         }
     }
@@ -175,17 +175,17 @@ fn is_forwarding(line: &AskedLine) -> bool
 }
 
 // Whether a step names a forwarding.
-fn asks_forwarding(step: &Step) -> bool
+fn asks_forwarding(step: &WordStep) -> bool
     ensures { result ≡ asks_forwarding step.now }
 {
     match step.act() {
-        Act::Asks(line) => is_forwarding(line),
+        WordAct::Asks(line) => is_forwarding(line),
         _ => false,
     }
 }
 
 /// Whether a forwarding is named.
-pub fn names_forwarding(steps: &[Step]) -> bool
+pub fn names_forwarding(steps: &[WordStep]) -> bool
     ensures { result ≡ list_any asks_forwarding steps.now }
 {
     steps.iter().any(|step| asks_forwarding(step))
@@ -202,11 +202,11 @@ pub fn is_about_forwardings(control: MasterCommand) -> bool
 }
 
 // The host to which a step goes.
-fn step_host_at(step: &Step) -> Option<&[u8]>
+fn step_host_at(step: &WordStep) -> Option<&[u8]>
     ensures { option_copied result ≡ step_host_at step.now.act }
 {
     match step.act() {
-        Act::Goes(to) => match destination_in(to.as_bytes()) {
+        WordAct::Goes(to) => match destination_in(to.as_bytes()) {
             None => None,
             Some(destination) => Some(destination.host),
         },
@@ -215,7 +215,7 @@ fn step_host_at(step: &Step) -> Option<&[u8]>
 }
 
 /// The host of the destination.
-pub fn host_in(steps: &[Step]) -> Option<&[u8]>
+pub fn host_in(steps: &[WordStep]) -> Option<&[u8]>
     ensures { option_copied result ≡ host_in steps.now }
 {
     for step in steps {
@@ -227,7 +227,7 @@ pub fn host_in(steps: &[Step]) -> Option<&[u8]>
 }
 
 /// What sound steps request for a host.
-pub fn asked_of(alloc: Global, host: &[u8], steps: &[Step]) -> Result<Asked, OutOfMemory>
+pub fn asked_of(alloc: Global, host: &[u8], steps: &[WordStep]) -> Result<Asked, OutOfMemory>
     ensures { IfOk result (λ asked. asked ≡ asked_of host.now steps.now) }
 {
     Ok(Asked {

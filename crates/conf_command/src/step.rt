@@ -1,30 +1,30 @@
 ghost use Rattle.std.specs.Prelude.{◌≡◌};
-ghost use Rattle.conf_rules.specs.Options.{Step as TheStep, step};
+ghost use Rattle.conf_rules.specs.Options.{WordStep as TheStep, step};
 ghost use Rattle.conf_command.specs.Shown.{act_of};
 
-use crate::act::Act;
+use crate::act::WordAct;
 use ssh_fields::ListOf;
 use std::marker::Model;
 
 /// An act and its word, counted from 1.
 #[derive(Drop)]
-pub struct Step {
+pub struct WordStep {
     word: u64,
-    act: Act,
+    act: WordAct,
 }
 
-impl Model for Step {
+impl Model for WordStep {
     ghost Value = { TheStep };
 
     ghost view = { λ s. step s.word (act_of s.act) };
 }
 
-impl Step {
+impl WordStep {
     /// An act at a word.
-    pub fn new(word: u64, act: Act) -> Step
+    pub fn new(word: u64, act: WordAct) -> WordStep
         ensures { result ≡ step word (act_of act) }
     {
-        Step { word, act }
+        WordStep { word, act }
     }
 
     /// The word.
@@ -35,7 +35,7 @@ impl Step {
     }
 
     /// What the word does.
-    pub fn act(&self) -> &Act
+    pub fn act(&self) -> &WordAct
         ensures { act_of result.now ≡ self.now.act }
     {
         &self.act
@@ -43,4 +43,4 @@ impl Step {
 }
 
 /// Steps in order.
-pub type Steps = ListOf<Step>;
+pub type WordSteps = ListOf<WordStep>;

@@ -4,44 +4,44 @@ ghost use Rattle.conf_rules.specs.CommandLine.{other_mode, or_mode, walk_from, f
 ghost use Rattle.conf_command.specs.Shown.{shown_mode_of};
 ghost use Rattle.conf_command.specs.Walks.{fault_of, mode_behind, going_behind, mode_in, is_of_master, walk_of};
 
-use crate::act::{Act, Mode};
+use crate::act::{CommandMode, WordAct};
 use crate::destinations::destination_in;
-use crate::step::Step;
+use crate::step::WordStep;
 use conf_rules::{Usage, UsageError};
 
 /// The steps before the first bad one, and its refusal if there is one.
 #[derive(Clone, Copy)]
 pub struct Walk<'a> {
-    pub sound: &'a [Step],
+    pub sound: &'a [WordStep],
     pub fault: Option<UsageError>,
 }
 
 // Whether the first mode named is another one.
-fn is_other(first: Option<Mode>, mode: Mode) -> bool
+fn is_other(first: Option<CommandMode>, mode: CommandMode) -> bool
     ensures { result ≡ other_mode (option_map shown_mode_of first) (shown_mode_of mode) }
 {
     match (first, mode) {
-        (Some(Mode::Listing), Mode::Listing) => false,
-        (Some(Mode::Master), Mode::Master) => false,
-        (Some(Mode::Client), Mode::Client) => false,
+        (Some(CommandMode::Listing), CommandMode::Listing) => false,
+        (Some(CommandMode::Master), CommandMode::Master) => false,
+        (Some(CommandMode::Client), CommandMode::Client) => false,
         (Some(_), _) => true,
         (None, _) => false,
     }
 }
 
 // Why a step is bad after this first mode, and after a destination or none.
-fn fault_of(mode: Option<Mode>, going: bool, step: &Step) -> Option<Usage>
+fn fault_of(mode: Option<CommandMode>, going: bool, step: &WordStep) -> Option<Usage>
     ensures { result ≡ fault_of (option_map shown_mode_of mode) going step.now.act }
 {
     match step.act() {
-        Act::Fails(cause) => Some(*cause),
-        Act::Chooses(chosen) => {
+        WordAct::Fails(cause) => Some(*cause),
+        WordAct::Chooses(chosen) => {
             if is_other(mode, *chosen) {
                 return Some(Usage::TwoModes);
             }
             None
         }
-        Act::Goes(to) => {
+        WordAct::Goes(to) => {
             if going {
                 return Some(Usage::TwoDestinations);
             }
@@ -55,17 +55,17 @@ fn fault_of(mode: Option<Mode>, going: bool, step: &Step) -> Option<Usage>
 }
 
 // The mode that a step names.
-fn mode_in(step: &Step) -> Option<Mode>
+fn mode_in(step: &WordStep) -> Option<CommandMode>
     ensures { option_map shown_mode_of result ≡ mode_in step.now.act }
 {
     match step.act() {
-        Act::Chooses(mode) => Some(*mode),
+        WordAct::Chooses(mode) => Some(*mode),
         _ => None,
     }
 }
 
 // The first mode after a step.
-fn mode_behind(mode: Option<Mode>, step: &Step) -> Option<Mode>
+fn mode_behind(mode: Option<CommandMode>, step: &WordStep) -> Option<CommandMode>
     ensures { option_map shown_mode_of result ≡ mode_behind (option_map shown_mode_of mode) step.now.act }
 {
     match mode {
@@ -75,17 +75,17 @@ fn mode_behind(mode: Option<Mode>, step: &Step) -> Option<Mode>
 }
 
 // Whether there is a destination after a step.
-fn going_behind(going: bool, step: &Step) -> bool
+fn going_behind(going: bool, step: &WordStep) -> bool
     ensures { result ≡ going_behind going step.now.act }
 {
     match step.act() {
-        Act::Goes(_) => true,
+        WordAct::Goes(_) => true,
         _ => going,
     }
 }
 
 /// The walk over steps up to the first bad one.
-pub fn walk_over(steps: &[Step]) -> Walk<'_>
+pub fn walk_over(steps: &[WordStep]) -> Walk<'_>
     ensures { walk_of result ≡ walk_from None false steps.now }
 {
     let mut mode = None;
@@ -108,7 +108,7 @@ pub fn walk_over(steps: &[Step]) -> Walk<'_>
 }
 
 /// The mode named first.
-pub fn first_mode(steps: &[Step]) -> Option<Mode>
+pub fn first_mode(steps: &[WordStep]) -> Option<CommandMode>
     ensures { option_map shown_mode_of result ≡ first_mode steps.now }
 {
     for step in steps {
@@ -120,17 +120,17 @@ pub fn first_mode(steps: &[Step]) -> Option<Mode>
 }
 
 // Whether a step is an option of the master.
-fn is_of_master(step: &Step) -> bool
+fn is_of_master(step: &WordStep) -> bool
     ensures { result ≡ is_of_master step.now.act }
 {
     match step.act() {
-        Act::Connects(_) | Act::Permits { .. } | Act::Sessions(_) => true,
+        WordAct::Connects(_) | WordAct::Permits { .. } | WordAct::Sessions(_) => true,
         _ => false,
     }
 }
 
 // The word of the first option of the master.
-fn first_of_master(steps: &[Step]) -> Option<u64>
+fn first_of_master(steps: &[WordStep]) -> Option<u64>
     ensures { result ≡ first_of_master steps.now }
 {
     for step in steps {
@@ -142,11 +142,11 @@ fn first_of_master(steps: &[Step]) -> Option<u64>
 }
 
 /// The word of the first option of the master where another mode was named first.
-pub fn not_for_others(steps: &[Step]) -> Option<u64>
+pub fn not_for_others(steps: &[WordStep]) -> Option<u64>
     ensures { result ≡ not_for_others (first_mode steps.now) steps.now }
 {
     match first_mode(steps) {
-        Some(Mode::Listing) | Some(Mode::Client) => first_of_master(steps),
+        Some(CommandMode::Listing) | Some(CommandMode::Client) => first_of_master(steps),
         _ => None,
     }
 }

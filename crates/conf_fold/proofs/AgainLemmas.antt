@@ -5,7 +5,7 @@ use Rattle.conf_rules.specs.declared.key.Key.{Key}
 use Rattle.conf_rules.specs.declared.value.Value.{Value}
 use Rattle.conf_rules.specs.Keys.{same_key}
 use Rattle.conf_rules.specs.Kinds.{Keeping, TheFirst, Every, Patterns, Shared, keeping}
-use Rattle.conf_rules.specs.Rows.{values_among, first_of, is_shared, shared_value, kept, is_collected}
+use Rattle.conf_rules.specs.Rows.{values_among, first_of_values, is_shared, shared_value, kept_values, is_collected}
 use Rattle.conf_options.specs.Kept.{Given, KeepsSettings}
 use Rattle.conf_rules.proofs.SameKeys.{same-key}
 use Rattle.conf_options.proofs.OfferLemmas.{among-append, kept-other}
@@ -16,7 +16,7 @@ has_key key all = list_any (λ g. same_key key g.0) all
 
 -- ---- the key itself
 
-first-stays : (vs ws : List Value) (v : Value) (more : List Value) → vs ≡ v ∷ more → first_of (vs ++ ws) ≡ first_of vs
+first-stays : (vs ws : List Value) (v : Value) (more : List Value) → vs ≡ v ∷ more → first_of_values (vs ++ ws) ≡ first_of_values vs
 first-stays vs ws v more e = rw e refl
 
 has-among : (key : Key) (all : List Given) → has_key key all ≡ true → (v : Value) × ((more : List Value) × (values_among key all ≡ v ∷ more))
@@ -27,8 +27,8 @@ has-among key (g ∷ gs) h = on (same_key key g.0) refl (has-among key gs)
     on true s later = (g.1, (values_among key gs, rw s refl))
     on false s later = let k : has_key key gs ≡ true = rw s at h in let r = later k in (r.0, (r.1.0, rw s r.1.1))
 
-first-again : (key : Key) (v : Value) (all : List Given) → has_key key all ≡ true → first_of (values_among key (all ++ (key, v) ∷ [])) ≡ first_of (values_among key all)
-first-again key v all h = let r = has-among key all h in ap first_of (among-append key all ((key, v) ∷ [])) ∙ first-stays (values_among key all) (values_among key ((key, v) ∷ [])) r.0 r.1.0 r.1.1
+first-again : (key : Key) (v : Value) (all : List Given) → has_key key all ≡ true → first_of_values (values_among key (all ++ (key, v) ∷ [])) ≡ first_of_values (values_among key all)
+first-again key v all h = let r = has-among key all h in ap first_of_values (among-append key all ((key, v) ∷ [])) ∙ first-stays (values_among key all) (values_among key ((key, v) ∷ [])) r.0 r.1.0 r.1.1
 
 -- the shared place is set by the first that sets it
 shared-again : (k key : Key) (v : Value) (all : List Given) → is_shared key ≡ true → has_key key all ≡ true → shared_value k (all ++ (key, v) ∷ []) ≡ shared_value k all
@@ -43,13 +43,13 @@ shared-again k key v (g ∷ gs) s h = on (is_shared g.0) refl (shared-again k ke
     on true e later = rw e refl
     on false e later = rw e (later (apart (same_key key g.0) refl e))
 
-kept-same : (how : Keeping) (key : Key) (v : Value) (all : List Given) → keeping key ≡ how → is_collected key ≡ false → has_key key all ≡ true → kept how key (all ++ (key, v) ∷ []) ≡ kept how key all
+kept-same : (how : Keeping) (key : Key) (v : Value) (all : List Given) → keeping key ≡ how → is_collected key ≡ false → has_key key all ≡ true → kept_values how key (all ++ (key, v) ∷ []) ≡ kept_values how key all
 kept-same TheFirst key v all e c h = first-again key v all h
 kept-same Every key v all e c h = absurd (let k : is_collected key ≡ true = rw (e, is_collected) refl in let b : true ≡ false = sym k ∙ c in cc)
 kept-same Patterns key v all e c h = absurd (let k : is_collected key ≡ true = rw (e, is_collected) refl in let b : true ≡ false = sym k ∙ c in cc)
 kept-same Shared key v all e c h = shared-again key key v all (rw (e, is_shared) refl) h
 
-kept-again : (k key : Key) (v : Value) (all : List Given) (t : Bool) → same_key k key ≡ t → is_collected key ≡ false → has_key key all ≡ true → kept (keeping k) k (all ++ (key, v) ∷ []) ≡ kept (keeping k) k all
+kept-again : (k key : Key) (v : Value) (all : List Given) (t : Bool) → same_key k key ≡ t → is_collected key ≡ false → has_key key all ≡ true → kept_values (keeping k) k (all ++ (key, v) ∷ []) ≡ kept_values (keeping k) k all
 kept-again k key v all true e c h = let same : k ≡ key = same-key k key e in rw same (kept-same (keeping key) key v all refl c h)
 kept-again k key v all false e c h = kept-other (keeping k) k key v all e
 
@@ -59,13 +59,13 @@ keeps-again settings all key v c h s = record { each = λ k. s.each k ∙ sym (k
 
 -- ---- a key whose first value counts
 
-first-front : (key : Key) (all more : List Given) (v : Value) → slice_get (first_of (values_among key all)) 0 ≡ Some v → slice_get (first_of (values_among key (all ++ more))) 0 ≡ Some v
+first-front : (key : Key) (all more : List Given) (v : Value) → slice_get (first_of_values (values_among key all)) 0 ≡ Some v → slice_get (first_of_values (values_among key (all ++ more))) 0 ≡ Some v
 first-front key all more v e = on (values_among key all) refl e
   where
-    on : (vs : List Value) → values_among key all ≡ vs → slice_get (first_of vs) 0 ≡ Some v → slice_get (first_of (values_among key (all ++ more))) 0 ≡ Some v
+    on : (vs : List Value) → values_among key all ≡ vs → slice_get (first_of_values vs) 0 ≡ Some v → slice_get (first_of_values (values_among key (all ++ more))) 0 ≡ Some v
     on [] is e = absurd cc
     on (w ∷ ws) is e = rw (among-append key all more, is) e
 
-pub value-front : (how : Keeping) (key : Key) (all more : List Given) (v : Value) → how ≡ TheFirst → slice_get (kept how key all) 0 ≡ Some v → slice_get (kept how key (all ++ more)) 0 ≡ Some v
+pub value-front : (how : Keeping) (key : Key) (all more : List Given) (v : Value) → how ≡ TheFirst → slice_get (kept_values how key all) 0 ≡ Some v → slice_get (kept_values how key (all ++ more)) 0 ≡ Some v
 value-front TheFirst key all more v e h = first-front key all more v h
 value-front how key all more v e h = absurd cc

@@ -25,14 +25,14 @@ use Rattle.conf_rules.specs.Sources.{Line, Content, Spelled, Parts, Refused, ask
 use Rattle.conf_rules.specs.Rows.{LineRow, Pass, First, Second, LinePlace, given, entry_gives, value, word_in}
 use Rattle.conf_rules.specs.Keywords.{meaning_of}
 use Rattle.conf_rules.specs.Entries.{ReadEntry, SplitWords, split, entry_of, content_entry, headed_entry, keyword_entry}
-use Rattle.conf_rules.specs.Resolution.{is_active, active_before, Effect, effect_of, no_block, counted, row_of, row_with, rows_from, first_place, is_refused, refusal_at, refusal_in, wants_second, asks_again, is_asked}
+use Rattle.conf_rules.specs.Resolution.{is_active, active_before, Effect, effect_of, no_block, line_within_limit, row_of, row_with, rows_from, first_place, is_refused, refusal_at, refusal_in, wants_second, asks_again, is_of_command_line}
 use Rattle.conf_options.specs.Kept.{Given, KeepsSettings}
 use Rattle.conf_fold.specs.declared.fold.Fold.{Fold}
 use Rattle.conf_reader.specs.declared.errors.LineError.{LineError}
 use Rattle.conf_reader.specs.declared.errors.LineError.TheVariants as line_errors
 use Rattle.conf_reader.specs.Results.{RefusesLine}
 use Rattle.conf_fold.specs.Results.{FailsLine}
-use Rattle.conf_fold.specs.FoldRepresents.{FoldRepresents, next_row, setting, collected}
+use Rattle.conf_fold.specs.FoldRepresents.{FoldRepresents, next_row, value_of_key, collected}
 use Rattle.conf_fold.specs.Begins.{asked_rows, IsEmpty, IsFoldBegun, asked_row, TakesAsked}
 use Rattle.conf_fold.proofs.SeenLemmas.{setting-value}
 use Rattle.conf_fold.proofs.EntryLemmas.{opens, bind-ok}
@@ -122,7 +122,7 @@ asked-row-says recorded pass rows place l e h =
 -- one of the command line collects nothing for a second pass
 pub asked-collected : (row : LineRow) (l : AskedLine) → row.line ≡ asked_line l → collected row ≡ []
 asked-collected row l h =
-    let is : is_asked row.line.source ≡ true = ap (λ (x : Line). is_asked x.source) h ∙ ap is_asked (asked-source l) in
+    let is : is_of_command_line row.line.source ≡ true = ap (λ (x : Line). is_of_command_line x.source) h ∙ ap is_of_command_line (asked-source l) in
     rw is refl
 
 pub plain-wants : (e : LineContent) → opens e ≡ false → asks_again (Ok e) ≡ false
@@ -134,12 +134,12 @@ plain-wants (Match cs) h = absurd cc
 
 -- ---- one line
 
-pub asked-taken : (recorded : Recorded) (fold new : Fold) (rows : List LineRow) (l : AskedLine) (e : LineContent) → FoldRepresents recorded First fold rows [] → content_entry (word_in (setting keys.IgnoreUnknown fold)) CommandLine (asked_line l).content ≡ Ok e
+pub asked-taken : (recorded : Recorded) (fold new : Fold) (rows : List LineRow) (l : AskedLine) (e : LineContent) → FoldRepresents recorded First fold rows [] → content_entry (word_in (value_of_key keys.IgnoreUnknown fold)) CommandLine (asked_line l).content ≡ Ok e
     → ((gs : List Given) → KeepsSettings fold.settings gs → KeepsSettings new.settings (gs ++ entry_gives false (Ok e))) → new ≡ record fold { settings = new.settings }
     → TakesAsked recorded rows (asked_line l) (Ok tt) new
 asked-taken recorded fold new rows l e s says keeps others =
     let here : entry_of rows (asked_line l) ≡ Ok e = asked-says rows l ∙ ap (λ v. content_entry (word_in v) CommandLine (asked_line l).content) (sym (setting-value recorded First fold rows [] keys.IgnoreUnknown s)) ∙ says in
-    let plain : opens e ≡ false = content-plain (word_in (setting keys.IgnoreUnknown fold)) (asked_line l).content e says in
+    let plain : opens e ≡ false = content-plain (word_in (value_of_key keys.IgnoreUnknown fold)) (asked_line l).content e says in
     let row = asked_row recorded rows (asked_line l) in
     let is : row ≡ row_with (asked_line l) true false (no_block (Ok e)) = asked-row-says recorded First rows (length rows) l e here in
     let gives : given row ≡ entry_gives false (Ok e) = ap given is in (
@@ -161,7 +161,7 @@ asked-refused-row : (recorded : Recorded) (rows : List LineRow) (l : AskedLine) 
 unfolding asked_with
 asked-refused-row recorded rows l c h = ap (λ (r : LineRow). r.entry) (asked-row-is recorded First rows (length rows) l) ∙ ap (λ r. (effect_of recorded First rows true r).entry) h
 
-pub asked-refused : (recorded : Recorded) (fold new : Fold) (rows : List LineRow) (l : AskedLine) (e : LineError) (number : ℕ) (d : ResolveError) → FoldRepresents recorded First fold rows [] → FailsLine e (content_entry (word_in (setting keys.IgnoreUnknown fold)) CommandLine (asked_line l).content)
+pub asked-refused : (recorded : Recorded) (fold new : Fold) (rows : List LineRow) (l : AskedLine) (e : LineError) (number : ℕ) (d : ResolveError) → FoldRepresents recorded First fold rows [] → FailsLine e (content_entry (word_in (value_of_key keys.IgnoreUnknown fold)) CommandLine (asked_line l).content)
     → number ≡ (asked_line l).number → RefusesLine e (codes "command line") number d → TakesAsked recorded rows (asked_line l) (Err d) new
 asked-refused recorded fold new rows l e number resolve_errors.OutOfMemory s f at r = tt
 asked-refused recorded fold new rows l line_errors.OutOfMemory number (resolve_errors.At file n cause) s f at r = absurd cc

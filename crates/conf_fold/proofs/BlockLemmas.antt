@@ -8,7 +8,7 @@ use Rattle.conf_rules.specs.Sources.{own_block}
 use Rattle.conf_rules.specs.Rows.{LineRow, Pass}
 use Rattle.conf_rules.specs.Resolution.{row_applies, applies_at, pass_start_of}
 use Rattle.conf_reader.specs.Blocks.{Blocks, or_none}
-use Rattle.conf_fold.specs.FoldRepresents.{open_applies, IsBlockBefore, EachBefore, entered, own_mark}
+use Rattle.conf_fold.specs.FoldRepresents.{open_applies, IsBlockBefore, EachBefore, marks_in_file, own_mark}
 
 -- ---- lists
 
@@ -103,6 +103,6 @@ one-more rows pass zero (b ∷ bs) h = refl
 one-more rows pass (suc n) (b ∷ bs) h = ap (λ xs. open_applies rows pass b ∷ xs) (one-more rows pass n bs (omega (arith, h)))
 
 pub marks-entered : (rows : List LineRow) (pass : Pass) (opens : Bool) (n : ℕ) (bs : Blocks) → (opens ≡ false → n < length bs)
-    → map (open_applies rows pass) (take n bs ++ cond opens None (or_none (slice_get bs n)) ∷ []) ≡ entered n opens (map (open_applies rows pass) bs)
+    → map (open_applies rows pass) (take n bs ++ cond opens None (or_none (slice_get bs n)) ∷ []) ≡ marks_in_file n opens (map (open_applies rows pass) bs)
 marks-entered rows pass true n bs h = map-append (open_applies rows pass) (take n bs) (None ∷ []) ∙ ap (λ xs. xs ++ true ∷ []) (sym (take-map (open_applies rows pass) n bs))
 marks-entered rows pass false n bs h = one-more rows pass n bs (h refl) ∙ (let k : suc n ≡ n + 1 = omega arith in ap (λ m. take m (map (open_applies rows pass) bs)) k)

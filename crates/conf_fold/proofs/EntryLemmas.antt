@@ -24,21 +24,21 @@ use Rattle.conf_rules.specs.declared.key_kind.KeyKind.{KeyKind}
 use Rattle.conf_rules.specs.declared.key_kind.KeyKind.TheVariants as kinds
 use Rattle.conf_rules.specs.Keywords.{meaning_of}
 use Rattle.conf_rules.specs.Entries.{ReadEntry, SplitWords, split, entry_of, keyword_entry, headed_entry, content_entry, in_file}
-use Rattle.conf_rules.specs.Resolution.{seen_at, is_asked, is_past_limit, counted, is_active, effect_of, tested, row_of}
+use Rattle.conf_rules.specs.Resolution.{seen_at, is_of_command_line, is_past_limit, line_within_limit, is_active, effect_of, tested, row_of}
 use Rattle.conf_fold.specs.declared.fold.Fold.{Fold}
 use Rattle.conf_reader.specs.declared.line.ConfLine.{ConfLine}
 use Rattle.conf_reader.specs.Blocks.{Blocks, keyword_opens_block, IsLine}
-use Rattle.conf_fold.specs.FoldRepresents.{collects, FoldRepresents, setting, entry_so_far}
+use Rattle.conf_fold.specs.FoldRepresents.{collects, FoldRepresents, value_of_key, entry_so_far}
 use Rattle.conf_fold.proofs.SeenLemmas.{setting-value}
 
 -- ---- entries
 
-pub in-any-file : (source : Source) (e : ReadEntry) → is_asked source ≡ false → in_file source e ≡ in_file UserFile e
+pub in-any-file : (source : Source) (e : ReadEntry) → is_of_command_line source ≡ false → in_file source e ≡ in_file UserFile e
 in-any-file CommandLine e h = absurd cc
 in-any-file UserFile e h = refl
 in-any-file SystemFile e h = refl
 
-pub entry-any-file : (ignored : Option Bytes) (source : Source) (keyword rest : Bytes) (words : SplitWords) (m : KeyKind) → is_asked source ≡ false → keyword_entry ignored source keyword rest words m ≡ keyword_entry ignored UserFile keyword rest words m
+pub entry-any-file : (ignored : Option Bytes) (source : Source) (keyword rest : Bytes) (words : SplitWords) (m : KeyKind) → is_of_command_line source ≡ false → keyword_entry ignored source keyword rest words m ≡ keyword_entry ignored UserFile keyword rest words m
 entry-any-file ignored source keyword rest words (kinds.Key key) h = refl
 entry-any-file ignored source keyword rest words kinds.Host h = in-any-file source _ h
 entry-any-file ignored source keyword rest words kinds.Match h = in-any-file source _ h
@@ -140,7 +140,7 @@ said-opens ignored keyword rest words kinds.Unknown e h = ignored-opens (Rattle.
 -- a line's keyword opens a block exactly where its content does
 pub entry-opens : (fold : Fold) (l : ConfLine) (e : LineContent) → entry_so_far fold l ≡ Ok e → keyword_opens_block l.keyword ≡ opens e
 unfolding entry_so_far
-entry-opens fold l e h = opens-meaning l.keyword ∙ said-opens (word_in (setting keys.IgnoreUnknown fold)) l.keyword l.rest (split l.rest) (meaning_of l.keyword) e h
+entry-opens fold l e h = opens-meaning l.keyword ∙ said-opens (word_in (value_of_key keys.IgnoreUnknown fold)) l.keyword l.rest (split l.rest) (meaning_of l.keyword) e h
 
 -- ---- what collects
 
@@ -177,5 +177,5 @@ pub row-collects : (recorded : Recorded) (pass : Pass) (rows : List LineRow) (pl
     → collects (row_of recorded entry_of rows (record { pass = pass; line = place }) line).entry ≡ collects (entry_of rows line)
 unfolding row_of
 row-collects recorded pass rows place line within =
-    effect-collects recorded pass rows (is_active rows pass line) (counted recorded entry_of rows line place)
-    ∙ ap collects (let k : counted recorded entry_of rows line place ≡ entry_of rows line = rw within refl in k)
+    effect-collects recorded pass rows (is_active rows pass line) (line_within_limit recorded entry_of rows line place)
+    ∙ ap collects (let k : line_within_limit recorded entry_of rows line place ≡ entry_of rows line = rw within refl in k)

@@ -22,9 +22,9 @@ use Rattle.conf_reader.specs.declared.line.ConfLine.{ConfLine}
 use Rattle.conf_reader.specs.declared.errors.LineError.{LineError}
 use Rattle.conf_reader.specs.declared.errors.LineError.TheVariants as line_errors
 use Rattle.conf_rules.specs.Diagnostics.{is_fault}
-use Rattle.conf_fold.specs.Results.{Evaluated}
+use Rattle.conf_fold.specs.Results.{LineEvaluated}
 use Rattle.conf_reader.specs.Blocks.{Blocks, open_behind, IsLine}
-use Rattle.conf_fold.specs.FoldRepresents.{collects, FoldRepresents, IsNextLine, next_row, FoldsEntry, block_name, fold_view_of, entry_so_far, entered, own_mark}
+use Rattle.conf_fold.specs.FoldRepresents.{collects, FoldRepresents, IsNextLine, next_row, FoldsEntry, block_name, fold_view_of, entry_so_far, marks_in_file, own_mark}
 use Rattle.conf_fold.proofs.SeenLemmas.{name-same, view-same}
 use Rattle.conf_fold.proofs.EntryLemmas.{entry-same, opens, entry-opens}
 use Rattle.conf_fold.proofs.RowLemmas.{line-active, said, row-said, or-false, More, stands-more, marks-same, marks-opened, in-pass-same, pass-idle}
@@ -33,7 +33,7 @@ use Rattle.conf_fold.proofs.RowLemmas.{line-active, said, row-said, or-false, Mo
 
 pub folds-nothing : (recorded : Recorded) (pass : Pass) (fold new : Fold) (rows : List LineRow) (blocks : Blocks) (l : ConfLine) (place : ℕ) (line : Line)
     → FoldRepresents recorded pass fold rows blocks → IsNextLine recorded pass rows blocks l place line → entry_so_far fold l ≡ Ok Nothing
-    → (l.opens ≡ false → l.depth < length fold.applies) → new ≡ record fold { applies = entered l.depth l.opens fold.applies }
+    → (l.opens ≡ false → l.depth < length fold.applies) → new ≡ record fold { applies = marks_in_file l.depth l.opens fold.applies }
     → (is_refused (next_row recorded pass rows place line).entry ≡ false) × FoldRepresents recorded pass new (rows ++ next_row recorded pass rows place line ∷ []) (open_behind l place blocks)
 unfolding opens said
 folds-nothing recorded pass fold new rows blocks l place line s n e known new-is =
@@ -163,7 +163,7 @@ no-fault b e f = let k : true ≡ false = sym e ∙ f in cc
 
 pub tests-refused : (recorded : Recorded) (pass : Pass) (fold new : Fold) (rows : List LineRow) (blocks : Blocks) (l : ConfLine) (place : ℕ) (line : Line) (cs : List Criterion) (e : LineError)
     → FoldRepresents recorded pass fold rows blocks → IsNextLine recorded pass rows blocks l place line → entry_so_far fold l ≡ Ok (Match cs)
-    → list_all (λ m. m) (take l.depth fold.applies) ≡ true → Evaluated (Err e) (verdict recorded.status (fold_view_of fold recorded.facts) cs).holds
+    → list_all (λ m. m) (take l.depth fold.applies) ≡ true → LineEvaluated (Err e) (verdict recorded.status (fold_view_of fold recorded.facts) cs).holds
     → FoldsEntry recorded pass rows blocks l place line (Err e) new
 tests-refused recorded pass fold new rows blocks l place line cs line_errors.OutOfMemory s n e a v = tt
 tests-refused recorded pass fold new rows blocks l place line cs (line_errors.Refused (causes.Token t)) s n e a v = λ f. token-refused recorded pass fold rows blocks l place line cs t s n e a v

@@ -11,12 +11,12 @@ use Rattle.conf_rules.specs.Recorded.{Recorded}
 use Rattle.conf_rules.specs.Sources.{Line}
 use Rattle.conf_rules.specs.Rows.{LineRow, Pass, First, Second, is_collected, given}
 use Rattle.conf_rules.specs.Entries.{entry_of}
-use Rattle.conf_rules.specs.Resolution.{active_before, is_active_row, is_asked, is_active, effect_of, no_block, row_with, is_refused}
+use Rattle.conf_rules.specs.Resolution.{active_before, is_active_row, is_of_command_line, is_active, effect_of, no_block, row_with, is_refused}
 use Rattle.conf_fold.specs.declared.fold.Fold.{Fold}
 use Rattle.conf_reader.specs.declared.line.ConfLine.{ConfLine}
 use Rattle.conf_options.specs.Kept.{Given, KeepsSettings}
 use Rattle.conf_reader.specs.Blocks.{Blocks, open_behind}
-use Rattle.conf_fold.specs.FoldRepresents.{collects_here, collects, collected, InFirst, InSecond, InPass, FoldRepresents, IsNextLine, next_row, entry_so_far, entered, own_mark, does_count, noted, if_counts}
+use Rattle.conf_fold.specs.FoldRepresents.{collects_here, collects, collected, InFirst, InSecond, InPass, FoldRepresents, IsNextLine, next_row, entry_so_far, marks_in_file, own_mark, does_count, activity_noted, if_counts}
 use Rattle.conf_fold.proofs.EntryLemmas.{entry-same, opens, entry-opens, line-collects, row-collects}
 use Rattle.conf_fold.proofs.RowLemmas.{here-collects, one-collected, again-line, line-active, said, row-said, or-false, collected-more, More, stands-more, marks-same, again-row, take-next, mark-at, in-pass-same, pass-idle}
 
@@ -33,7 +33,7 @@ giving pass place line active key v = record { line = line; entry = Ok (Gives ke
 -- what counts is what the row gives, and what is kept of the pass goes on
 pub record Counts (recorded : Recorded) (pass : Pass) (fold : Fold) (rows : List LineRow) (key : Key) (active : Bool) (v : Value) (row : LineRow) : Type 0 where
   pub counts : if_counts (does_count key active fold) key v ≡ given row
-  pub in_pass : InPass recorded pass (noted key active fold) (rows ++ row ∷ [])
+  pub in_pass : InPass recorded pass (activity_noted key active fold) (rows ++ row ∷ [])
 
 pub counts-none : (active again : Bool) (key : Key) (v : Value) (k : Bool) → if_counts active key v ≡ cond active (cond (again && false) [] ((key, v) ∷ [])) []
 counts-none true true key v k = refl
@@ -66,10 +66,10 @@ noted-some (Some n) None active f m b e h = absurd cc
 noted-some (Some n) (Some was) active f m b e h = refl
 
 -- where it does, in the first pass
-pub counts-first : (recorded : Recorded) (fold : Fold) (rows : List LineRow) (place : ℕ) (line : Line) (key : Key) (v : Value) (active : Bool) → is_asked line.source ≡ false → is_collected key ≡ true
+pub counts-first : (recorded : Recorded) (fold : Fold) (rows : List LineRow) (place : ℕ) (line : Line) (key : Key) (v : Value) (active : Bool) → is_of_command_line line.source ≡ false → is_collected key ≡ true
     → InFirst fold rows → Counts recorded First fold rows key active v (giving First place line active key v)
 counts-first recorded fold rows place line key v active asked h p =
-    let noted-is : noted key active fold ≡ record fold { were_active = fold.were_active ++ active ∷ [] } = rw h (noted-none fold.name (slice_get fold.were_active fold.seen) active fold p.name) in
+    let noted-is : activity_noted key active fold ≡ record fold { were_active = fold.were_active ++ active ∷ [] } = rw h (noted-none fold.name (slice_get fold.were_active fold.seen) active fold p.name) in
     let row = giving First place line active key v in
     let marks : collected row ≡ active ∷ [] = one-collected row (here-collects row asked ∙ h) in
     record {
@@ -86,11 +86,11 @@ counts-second recorded fold rows before blocks l place line key v active h p n e
     let b : LineRow = again-row recorded before rows blocks l place line n in
     let row = giving (Second before) place line active key v in
     let b-collects : collects b.entry ≡ true = row-collects recorded First (take place before) place line n.within ∙ line-collects (take place before) rows line l blocks n.is_line ∙ ap collects e ∙ h in
-    let b-here : collects_here b ≡ true = here-collects b (ap (λ (x : Line). is_asked x.source) (again-line recorded before rows blocks l place line n) ∙ n.is_line.asked) ∙ b-collects in
+    let b-here : collects_here b ≡ true = here-collects b (ap (λ (x : Line). is_of_command_line x.source) (again-line recorded before rows blocks l place line n) ∙ n.is_line.asked) ∙ b-collects in
     let was : slice_get fold.were_active fold.seen ≡ Some b.active =
     ap (λ xs. slice_get xs fold.seen) p.active ∙ ap (slice_get (flat_map collected before)) (p.seen place n.at) ∙ mark-at before place b n.again b-here in
     let again-is : active_before (Second before) place ≡ b.active = ap is_active_row n.again in
-    let noted-is : noted key active fold ≡ record fold { seen = fold.seen + 1 } = rw h (noted-some fold.name (slice_get fold.were_active fold.seen) active fold _ b.active p.name was) in
+    let noted-is : activity_noted key active fold ≡ record fold { seen = fold.seen + 1 } = rw h (noted-some fold.name (slice_get fold.were_active fold.seen) active fold _ b.active p.name was) in
     record {
       counts = rw (h, p.name, was, again-is) (counts-again active b.active key v);
       in_pass = rw noted-is (record {
@@ -128,9 +128,9 @@ alone-by true (Some m) (Some was) active f = record { original = refl; applies =
 pub folds-gives : (recorded : Recorded) (pass : Pass) (fold mid new : Fold) (rows : List LineRow) (blocks : Blocks) (l : ConfLine) (place : ℕ) (line : Line) (key : Key) (v : Value) (active : Bool)
     → FoldRepresents recorded pass fold rows blocks → IsNextLine recorded pass rows blocks l place line → entry_so_far fold l ≡ Ok (Gives key v) → (l.opens ≡ false → l.depth < length fold.applies)
     → active ≡ (list_all (λ m. m) (take l.depth fold.applies) && own_mark l.depth l.opens fold.applies)
-    → mid ≡ record fold { applies = entered l.depth l.opens fold.applies }
+    → mid ≡ record fold { applies = marks_in_file l.depth l.opens fold.applies }
     → ((gs : List Given) → KeepsSettings mid.settings gs → KeepsSettings new.settings (gs ++ if_counts (does_count key active mid) key v))
-    → new ≡ record (noted key active mid) { settings = new.settings }
+    → new ≡ record (activity_noted key active mid) { settings = new.settings }
     → (is_refused (next_row recorded pass rows place line).entry ≡ false) × FoldRepresents recorded pass new (rows ++ next_row recorded pass rows place line ∷ []) (open_behind l place blocks)
 unfolding opens said
 folds-gives recorded pass fold mid new rows blocks l place line key v active s n e known active-is mid-is keeps others =
@@ -145,14 +145,14 @@ folds-gives recorded pass fold mid new rows blocks l place line key v active s n
     ∙ ap (λ a. row_with line a (active_before pass place) (no_block (Ok (Gives key v)))) is-active in
     let in-mid : InPass recorded pass mid rows = in-pass-same recorded pass fold mid rows s.in_pass (ap (λ (f : Fold). f.name) mid-is) (ap (λ (f : Fold). f.were_active) mid-is) (ap (λ (f : Fold). f.seen) mid-is) in
     let counts : Counts recorded pass mid rows key active v row = counts-in recorded pass mid rows blocks l place line key v active (is_collected key) refl in-mid n says in
-    let alone : Alone mid (noted key active mid) = alone-by (is_collected key) mid.name (slice_get mid.were_active mid.seen) active mid in
+    let alone : Alone mid (activity_noted key active mid) = alone-by (is_collected key) mid.name (slice_get mid.were_active mid.seen) active mid in
     let kept : KeepsSettings mid.settings (flat_map given rows) = rw (ap (λ (f : Fold). f.settings) mid-is) s.keeps in
     let more : More recorded pass fold new rows blocks l place row = record {
       original = ap (λ (f : Fold). f.original) others ∙ alone.original ∙ ap (λ (f : Fold). f.original) mid-is;
       keeps = rw counts.counts at (keeps (flat_map given rows) kept);
       applies = ap (λ (f : Fold). f.applies) others ∙ alone.applies ∙ ap (λ (f : Fold). f.applies) mid-is ∙ marks-same recorded pass fold rows blocks l place row s (entry-opens fold l (Gives key v) e) known;
       again = ap (λ (f : Fold). f.asks_again) others ∙ alone.again ∙ ap (λ (f : Fold). f.asks_again) mid-is ∙ sym (or-false fold.asks_again);
-      in_pass = in-pass-same recorded pass (noted key active mid) new (rows ++ row ∷ []) counts.in_pass (ap (λ (f : Fold). f.name) others) (ap (λ (f : Fold). f.were_active) others) (ap (λ (f : Fold). f.seen) others);
+      in_pass = in-pass-same recorded pass (activity_noted key active mid) new (rows ++ row ∷ []) counts.in_pass (ap (λ (f : Fold). f.name) others) (ap (λ (f : Fold). f.were_active) others) (ap (λ (f : Fold). f.seen) others);
     } in
     (rw here refl, rw here (stands-more recorded pass fold new rows blocks l place row s n.at more))
 

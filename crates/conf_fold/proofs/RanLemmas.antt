@@ -25,7 +25,7 @@ use Rattle.conf_reader.specs.Blocks.{Blocks}
 use Rattle.conf_fold.specs.declared.fold.Fold.{Fold}
 use Rattle.conf_reader.specs.declared.errors.LineError.{LineError}
 use Rattle.conf_reader.specs.declared.errors.LineError.TheVariants as line_errors
-use Rattle.conf_reader.specs.Results.{RefusesLine, is_line_fault, refused_at}
+use Rattle.conf_reader.specs.Results.{RefusesLine, is_line_fault, resolve_error_at}
 use Rattle.conf_rules.specs.Results.{as_error}
 use Rattle.conf_fold.specs.Results.{RanUnless, breaks_line, breaks_off, FailsInLine, FailsAtLine, HasLineCause, HasRunCause, FailsLine}
 use Rattle.conf_fold.specs.FoldRepresents.{FoldRepresents, IsNextLine, next_row, entry_so_far, fold_view_of}
@@ -193,7 +193,7 @@ plain-placed (line_errors.Refused c) file number before now (resolve_errors.At f
 
 -- what was returned, reported at a place
 abbrev pub Placed : Result (Unit {0}) LineError → Bytes → ℕ → Result (Unit {0}) ResolveError
-Placed taken file number = as_error (λ e. refused_at e file number) taken
+Placed taken file number = as_error (λ e. resolve_error_at e file number) taken
 
 pub placed-ran : (taken : Result (Unit {0}) LineError) (file : Bytes) (number : ℕ) (old new : Commands) (commands : List Bytes) → RanUnless (breaks_line taken) old new commands → RanUnless (breaks_off (Placed taken file number)) old new commands
 placed-ran (Ok x) file number old new commands h = h

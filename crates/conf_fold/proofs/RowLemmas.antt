@@ -10,12 +10,12 @@ use Rattle.conf_rules.specs.Recorded.{Recorded}
 use Rattle.conf_rules.specs.Sources.{Line, block_behind}
 use Rattle.conf_rules.specs.Rows.{LineRow, Pass, First, Second, given}
 use Rattle.conf_rules.specs.Entries.{entry_of}
-use Rattle.conf_rules.specs.Resolution.{applies_at, pass_start_of, active_before, wants_second, is_asked, is_active, effect_of, row_with, row_of}
+use Rattle.conf_rules.specs.Resolution.{applies_at, pass_start_of, active_before, wants_second, is_of_command_line, is_active, effect_of, row_with, row_of}
 use Rattle.conf_fold.specs.declared.fold.Fold.{Fold}
 use Rattle.conf_reader.specs.declared.line.ConfLine.{ConfLine}
 use Rattle.conf_options.specs.Kept.{KeepsSettings}
 use Rattle.conf_reader.specs.Blocks.{Blocks, own_block_of, keyword_opens_block, open_behind, IsLine}
-use Rattle.conf_fold.specs.FoldRepresents.{open_applies, collects_here, IsBlockBefore, collects, collected, InPass, FoldRepresents, IsNextLine, next_row, entered, own_mark}
+use Rattle.conf_fold.specs.FoldRepresents.{open_applies, collects_here, IsBlockBefore, collects, collected, InPass, FoldRepresents, IsNextLine, next_row, marks_in_file, own_mark}
 use Rattle.conf_fold.proofs.BlockLemmas.{marks-kept, applies-new, each-kept, each-take, each-more, own-before, own-marked, active-marked, marks-entered}
 use Rattle.conf_fold.proofs.EntryLemmas.{line-collects, row-collects}
 
@@ -86,11 +86,11 @@ stands-more recorded pass fold new rows blocks l place row s e m = record {
 -- the marks after a line that opens no block
 pub marks-same : (recorded : Recorded) (pass : Pass) (fold : Fold) (rows : List LineRow) (blocks : Blocks) (l : ConfLine) (place : ℕ) (row : LineRow)
     → FoldRepresents recorded pass fold rows blocks → keyword_opens_block l.keyword ≡ false → (l.opens ≡ false → l.depth < length fold.applies)
-    → entered l.depth l.opens fold.applies ≡ map (open_applies (rows ++ row ∷ []) pass) (open_behind l place blocks)
+    → marks_in_file l.depth l.opens fold.applies ≡ map (open_applies (rows ++ row ∷ []) pass) (open_behind l place blocks)
 marks-same recorded pass fold rows blocks l place row s o known =
     let size : length fold.applies ≡ length blocks = ap length s.applies ∙ Rattle.std.proofs.lemmas.List.length-map blocks (open_applies rows pass) in
     let before = each-more rows pass (take l.depth blocks) (own_block_of l blocks) (each-take rows pass l.depth blocks s.before) (own-before rows pass l.opens l.depth blocks s.before) in
-    ap (entered l.depth l.opens) s.applies
+    ap (marks_in_file l.depth l.opens) s.applies
     ∙ sym (marks-entered rows pass l.opens l.depth blocks (λ c. let h = known c in omega (arith, h, size)))
     ∙ sym (marks-kept rows row pass (take l.depth blocks ++ own_block_of l blocks ∷ []) before)
     ∙ ap (λ t. map (open_applies (rows ++ row ∷ []) pass) (take l.depth blocks ++ block_behind t place (own_block_of l blocks) ∷ [])) (sym o)
@@ -109,7 +109,7 @@ marks-opened recorded pass fold rows blocks l place row s o e =
 -- ---- what is kept of a pass
 
 -- a row of a file collects where its entry does
-pub here-collects : (row : LineRow) → is_asked row.line.source ≡ false → collects_here row ≡ collects row.entry
+pub here-collects : (row : LineRow) → is_of_command_line row.line.source ≡ false → collects_here row ≡ collects row.entry
 here-collects row h = rw h refl
 
 and-none : (b c : Bool) → c ≡ false → (b && c) ≡ false
@@ -118,7 +118,7 @@ and-none false c h = refl
 
 -- a row whose entry doesn't collect
 pub none-collected : (row : LineRow) → collects row.entry ≡ false → collected row ≡ []
-none-collected row h = ap (λ t. cond t (row.active ∷ []) []) (and-none (not (is_asked row.line.source)) (collects row.entry) h)
+none-collected row h = ap (λ t. cond t (row.active ∷ []) []) (and-none (not (is_of_command_line row.line.source)) (collects row.entry) h)
 
 -- a row that does
 pub one-collected : (row : LineRow) → collects_here row ≡ true → collected row ≡ row.active ∷ []

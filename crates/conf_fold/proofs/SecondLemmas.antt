@@ -23,7 +23,7 @@ use Rattle.conf_rules.specs.Includes.{CommandLine}
 use Rattle.conf_rules.specs.Sources.{Content, Spelled, Parts, Refused, asked_line}
 use Rattle.conf_rules.specs.Kinds.{TheFirst}
 use Rattle.conf_rules.specs.Keys.{same_key}
-use Rattle.conf_rules.specs.Rows.{LineRow, First, Second, is_collected, given, entry_gives, kept, values, value, word_in}
+use Rattle.conf_rules.specs.Rows.{LineRow, First, Second, is_collected, given, entry_gives, kept_values, values, value, word_in}
 use Rattle.conf_rules.specs.Keywords.{meaning_of}
 use Rattle.conf_rules.specs.Entries.{SplitWords, split, entry_of, content_entry, headed_entry, keyword_entry}
 use Rattle.conf_rules.specs.Resolution.{host_at, active_before, is_active_row, no_block, row_with, rows_from, first_place, is_refused, refusal_at, refusal_in, wants_second}
@@ -53,8 +53,8 @@ ignored-front : (rows more : List LineRow) (p : Bytes) → word_in (value keys.I
 unfolding values
 ignored-front rows more p e =
     let here : value keys.IgnoreUnknown rows ≡ Some (Word p) = word-is (value keys.IgnoreUnknown rows) p e in
-    let there : slice_get (kept TheFirst keys.IgnoreUnknown (flat_map given rows ++ flat_map given more)) 0 ≡ Some (Word p) = value-front TheFirst keys.IgnoreUnknown (flat_map given rows) (flat_map given more) (Word p) refl here in
-    ap (λ gs. word_in (slice_get (kept TheFirst keys.IgnoreUnknown gs) 0)) (flat_map-append given rows more) ∙ ap word_in there
+    let there : slice_get (kept_values TheFirst keys.IgnoreUnknown (flat_map given rows ++ flat_map given more)) 0 ≡ Some (Word p) = value-front TheFirst keys.IgnoreUnknown (flat_map given rows) (flat_map given more) (Word p) refl here in
+    ap (λ gs. word_in (slice_get (kept_values TheFirst keys.IgnoreUnknown gs) 0)) (flat_map-append given rows more) ∙ ap word_in there
 
 keyword-free : (j : Option Bytes) (keyword rest : Bytes) (words : SplitWords) (m : KeyKind) (e : LineContent) → keyword_entry None CommandLine keyword rest words m ≡ Ok e → keyword_entry j CommandLine keyword rest words m ≡ Ok e
 keyword-free j keyword rest words kinds.Unknown e h = absurd cc

@@ -8,19 +8,19 @@ use Rattle.conf_rules.specs.Rows.{LineRow, Pass, First, Second, values, value, w
 use Rattle.conf_rules.specs.Resolution.{host_from, host_at, view_at, seen_at, name_in_pass}
 use Rattle.conf_fold.specs.declared.fold.Fold.{Fold}
 use Rattle.conf_reader.specs.Blocks.{Blocks}
-use Rattle.conf_fold.specs.FoldRepresents.{FoldRepresents, setting, host_so_far, block_name, fold_view_of}
+use Rattle.conf_fold.specs.FoldRepresents.{FoldRepresents, value_of_key, host_so_far, block_name, fold_view_of}
 
 -- ---- values
 
 -- the value of a key, by the settings and by the rows
-pub setting-value : (recorded : Recorded) (pass : Pass) (fold : Fold) (rows : List LineRow) (blocks : Blocks) (key : Key) → FoldRepresents recorded pass fold rows blocks → setting key fold ≡ value key rows
+pub setting-value : (recorded : Recorded) (pass : Pass) (fold : Fold) (rows : List LineRow) (blocks : Blocks) (key : Key) → FoldRepresents recorded pass fold rows blocks → value_of_key key fold ≡ value key rows
 unfolding values
 setting-value recorded pass fold rows blocks key s = ap (λ vs. slice_get vs 0) (s.keeps.each key)
 
 -- the host name so far
 pub host-same : (recorded : Recorded) (pass : Pass) (fold : Fold) (rows : List LineRow) (blocks : Blocks) → FoldRepresents recorded pass fold rows blocks → host_so_far fold ≡ host_at recorded.asked.original rows
 host-same recorded pass fold rows blocks s =
-    ap (λ o. host_from o (word_in (setting keys.Hostname fold))) s.original
+    ap (λ o. host_from o (word_in (value_of_key keys.Hostname fold))) s.original
     ∙ ap (λ v. host_from recorded.asked.original (word_in v)) (setting-value recorded pass fold rows blocks keys.Hostname s)
 
 -- what a Host line sees

@@ -13,9 +13,9 @@ use Rattle.conf_rules.specs.Values.{value_for}
 use Rattle.conf_rules.specs.Entries.{ReadEntry, headed_entry}
 
 -- whether what a line gives is a value of its key
-abbrev pub entry_fits : LineContent → Bool
-entry_fits (Gives key value) = fits key value
-entry_fits entry = true
+abbrev pub content_fits : LineContent → Bool
+content_fits (Gives key value) = fits key value
+content_fits entry = true
 
 -- what words give to a key
 abbrev pub value_entry : Key → Bytes → List Bytes → ReadEntry

@@ -19,7 +19,7 @@ use Rattle.conf_rules.specs.Diagnostics.{is_fault}
 use Rattle.conf_rules.specs.Sources.{Line}
 use Rattle.conf_rules.specs.Rows.{LineRow, Pass, First, Second, is_collected, values_among, word_in, number_in, but_none, given}
 use Rattle.conf_rules.specs.Entries.{entry_of, headed_entry}
-use Rattle.conf_rules.specs.Resolution.{applies_at, pass_start_of, host_from, host_at, wants_second, is_asked, is_past_limit, row_of, is_refused, refusal_at}
+use Rattle.conf_rules.specs.Resolution.{applies_at, pass_start_of, host_from, host_at, wants_second, is_of_command_line, is_past_limit, row_of, is_refused, refusal_at}
 use Rattle.conf_options.specs.Kept.{Given, KeepsSettings}
 use Rattle.conf_match.specs.Evaluated.{RecordsStatus}
 use Rattle.conf_reader.specs.declared.line.ConfLine.{ConfLine}
@@ -53,7 +53,7 @@ collects entry = false
 
 -- whether a row is one of a file and collects
 abbrev pub collects_here : LineRow → Bool
-collects_here row = not (is_asked row.line.source) && collects row.entry
+collects_here row = not (is_of_command_line row.line.source) && collects row.entry
 
 -- whether a row of a file that collects is active
 abbrev pub collected : LineRow → List Bool
@@ -143,12 +143,12 @@ Folds recorded pass rows blocks given place line (Err (At file number cause)) ne
 -- ---- what a fold shows
 
 -- the value of a key
-abbrev pub setting : Key → Fold → Option Value
-setting key fold = slice_get (values_among key fold.settings) 0
+abbrev pub value_of_key : Key → Fold → Option Value
+value_of_key key fold = slice_get (values_among key fold.settings) 0
 
 -- the host name so far
 abbrev pub host_so_far : Fold → Bytes
-host_so_far fold = host_from fold.original (word_in (setting keys.Hostname fold))
+host_so_far fold = host_from fold.original (word_in (value_of_key keys.Hostname fold))
 
 -- the name that a Host line sees
 abbrev pub block_name : Fold → Bytes
@@ -159,11 +159,11 @@ abbrev pub fold_view_of : Fold → Facts → View
 fold_view_of fold facts = record {
   original = fold.original;
   host = host_so_far fold;
-  jump = or_text [] (but_none (word_in (setting keys.ProxyJump fold)));
-  tag = or_text [] (word_in (setting keys.Tag fold));
-  port = number_in 22 (setting keys.Port fold);
-  user = word_in (setting keys.User fold);
-  «alias» = word_in (setting keys.HostKeyAlias fold);
+  jump = or_text [] (but_none (word_in (value_of_key keys.ProxyJump fold)));
+  tag = or_text [] (word_in (value_of_key keys.Tag fold));
+  port = number_in 22 (value_of_key keys.Port fold);
+  user = word_in (value_of_key keys.User fold);
+  «alias» = word_in (value_of_key keys.HostKeyAlias fold);
   facts = facts;
   last = is_some fold.name;
   name = or_text (host_so_far fold) fold.name;
@@ -171,7 +171,7 @@ fold_view_of fold facts = record {
 
 -- what a heading of a file gives after what was given so far
 unfoldable pub entry_so_far : Fold → ConfLine → Result LineContent Cause
-entry_so_far fold line = headed_entry (word_in (setting keys.IgnoreUnknown fold)) UserFile
+entry_so_far fold line = headed_entry (word_in (value_of_key keys.IgnoreUnknown fold)) UserFile
     (Says line.keyword line.rest)
 
 -- whether a value of an active line counts: one to collect only where the same line was not active
@@ -186,8 +186,8 @@ does_count key active fold = if is_collected key then (elim fold.name [
 ]) else active
 
 -- a fold that has noted whether a line was active
-abbrev pub noted : Key → Bool → Fold → Fold
-noted key active fold = if is_collected key then (elim fold.name [
+abbrev pub activity_noted : Key → Bool → Fold → Fold
+activity_noted key active fold = if is_collected key then (elim fold.name [
   | None ↦ record fold { were_active = fold.were_active ++ active ∷ [] }
   | Some name ↦ elim (slice_get fold.were_active fold.seen)
       [ None ↦ fold | Some was ↦ record fold { seen = fold.seen + 1 } ]
@@ -198,8 +198,8 @@ abbrev pub if_counts : Bool → Key → Value → List Given
 if_counts counts key value = if counts then (key, value) ∷ [] else []
 
 -- the marks of open blocks where a file is gone on with, or begun
-abbrev pub entered : ℕ → Bool → List Bool → List Bool
-entered depth opens marks = if opens then take depth marks ++ true ∷ [] else take (depth + 1) marks
+abbrev pub marks_in_file : ℕ → Bool → List Bool → List Bool
+marks_in_file depth opens marks = if opens then take depth marks ++ true ∷ [] else take (depth + 1) marks
 
 -- the mark of a line's own file
 abbrev pub own_mark : ℕ → Bool → List Bool → Bool

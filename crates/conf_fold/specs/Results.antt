@@ -24,11 +24,11 @@ GivesLineReading (Ok x) reading = reading ≡ Ok x
 GivesLineReading (Err e) reading = FailsLine e reading
 
 -- an evaluation gave what it should, unless memory or the runner failed
-abbrev pub Evaluated : Result Bool LineError → Result Bool TokenError → Type 0
-Evaluated (Ok b) holds = holds ≡ Ok b
-Evaluated (Err line_errors.OutOfMemory) holds = Unit {0}
-Evaluated (Err (line_errors.Refused (causes.Token e))) holds = holds ≡ Err e
-Evaluated (Err (line_errors.Refused cause)) holds = is_fault cause ≡ true
+abbrev pub LineEvaluated : Result Bool LineError → Result Bool TokenError → Type 0
+LineEvaluated (Ok b) holds = holds ≡ Ok b
+LineEvaluated (Err line_errors.OutOfMemory) holds = Unit {0}
+LineEvaluated (Err (line_errors.Refused (causes.Token e))) holds = holds ≡ Err e
+LineEvaluated (Err (line_errors.Refused cause)) holds = is_fault cause ≡ true
 
 -- ---- commands
 

@@ -10,7 +10,7 @@ ghost use Rattle.conf_rules.specs.Sources.{asked_line};
 ghost use Rattle.conf_rules.specs.Entries.{split, host_entry, match_entry, words_entry, key_entry, takes_keyword, unknown_entry, headed_entry, content_entry, keyword_entry};
 ghost use Rattle.conf_reader.specs.Results.{is_line_fault};
 ghost use Rattle.conf_fold.specs.Results.{GivesLineReading};
-ghost use Rattle.conf_fold.specs.Entries.{entry_fits, value_entry, spelled_entry};
+ghost use Rattle.conf_fold.specs.Entries.{content_fits, value_entry, spelled_entry};
 
 use conf_lexer::{Head, split_head, split_words};
 use conf_match::{matches_list, read_criteria};
@@ -67,7 +67,7 @@ fn split(alloc: Global, rest: &[u8]) -> Result<Texts, LineError>
 // The content of a Host line.
 fn host_entry(alloc: Global, rest: &[u8]) -> Result<LineContent, LineError>
     ensures read { GivesLineReading result (host_entry (split rest.now)) }
-    ensures fits { IfOk result (λ entry. entry_fits entry ≡ true) }
+    ensures fits { IfOk result (λ entry. content_fits entry ≡ true) }
     ensures plain { IfErr result (λ e. is_line_fault e ≡ false) }
 {
     Ok(LineContent::Host(split(alloc, rest)?))
@@ -76,7 +76,7 @@ fn host_entry(alloc: Global, rest: &[u8]) -> Result<LineContent, LineError>
 // The content of a Match line.
 fn match_entry(alloc: Global, rest: &[u8]) -> Result<LineContent, LineError>
     ensures read { GivesLineReading result (match_entry (split rest.now)) }
-    ensures fits { IfOk result (λ entry. entry_fits entry ≡ true) }
+    ensures fits { IfOk result (λ entry. content_fits entry ≡ true) }
     ensures plain { IfErr result (λ e. is_line_fault e ≡ false) }
 {
     let words = split(alloc, rest)?;
@@ -86,7 +86,7 @@ fn match_entry(alloc: Global, rest: &[u8]) -> Result<LineContent, LineError>
 // What a line says whose words alone are read.
 fn words_entry(alloc: Global, rest: &[u8]) -> Result<LineContent, LineError>
     ensures read { GivesLineReading result (words_entry (split rest.now)) }
-    ensures fits { IfOk result (λ entry. entry_fits entry ≡ true) }
+    ensures fits { IfOk result (λ entry. content_fits entry ≡ true) }
     ensures plain { IfErr result (λ e. is_line_fault e ≡ false) }
 {
     let _words = split(alloc, rest)?;
@@ -101,7 +101,7 @@ fn value_entry(
     words: &Texts,
 ) -> Result<LineContent, LineError>
     ensures read { GivesLineReading result (value_entry key rest.now words.now) }
-    ensures fits { IfOk result (λ entry. entry_fits entry ≡ true) }
+    ensures fits { IfOk result (λ entry. content_fits entry ≡ true) }
     ensures plain { IfErr result (λ e. is_line_fault e ≡ false) }
 {
     Ok(LineContent::Gives(key, read_value(alloc, key, rest, words)?))
@@ -110,7 +110,7 @@ fn value_entry(
 // What a line gives to a key.
 fn key_entry(alloc: Global, key: Key, rest: &[u8]) -> Result<LineContent, LineError>
     ensures read { GivesLineReading result (key_entry key rest.now (split rest.now)) }
-    ensures fits { IfOk result (λ entry. entry_fits entry ≡ true) }
+    ensures fits { IfOk result (λ entry. content_fits entry ≡ true) }
     ensures plain { IfErr result (λ e. is_line_fault e ≡ false) }
 {
     if key.is_raw() {
@@ -123,7 +123,7 @@ fn key_entry(alloc: Global, key: Key, rest: &[u8]) -> Result<LineContent, LineEr
 // What given words give to a key.
 fn parts_key_entry(alloc: Global, key: Key, words: &Texts) -> Result<LineContent, LineError>
     ensures read { GivesLineReading result (key_entry key [] (Ok words.now)) }
-    ensures fits { IfOk result (λ entry. entry_fits entry ≡ true) }
+    ensures fits { IfOk result (λ entry. content_fits entry ≡ true) }
     ensures plain { IfErr result (λ e. is_line_fault e ≡ false) }
 {
     if key.is_raw() {
@@ -142,7 +142,7 @@ fn unknown_entry(
     ensures read { GivesLineReading result
         (unknown_entry (takes_keyword (option_copied ignored.entry) keyword.now) keyword.now
         (split rest.now)) }
-    ensures fits { IfOk result (λ entry. entry_fits entry ≡ true) }
+    ensures fits { IfOk result (λ entry. content_fits entry ≡ true) }
     ensures plain { IfErr result (λ e. is_line_fault e ≡ false) }
 {
     if takes_keyword(alloc, ignored, keyword)? {
@@ -163,7 +163,7 @@ fn parts_unknown_entry(
     ensures read { GivesLineReading result
         (unknown_entry (takes_keyword (option_copied ignored.entry) keyword.now) keyword.now
         (Ok words.now)) }
-    ensures fits { IfOk result (λ entry. entry_fits entry ≡ true) }
+    ensures fits { IfOk result (λ entry. content_fits entry ≡ true) }
     ensures plain { IfErr result (λ e. is_line_fault e ≡ false) }
 {
     if takes_keyword(alloc, ignored, keyword)? {
@@ -182,7 +182,7 @@ pub fn file_entry(
 ) -> Result<LineContent, LineError>
     ensures read { GivesLineReading result
         (headed_entry (option_copied ignored.entry) UserFile (Says keyword.now rest.now)) }
-    ensures fits { IfOk result (λ entry. entry_fits entry ≡ true) }
+    ensures fits { IfOk result (λ entry. content_fits entry ≡ true) }
     ensures plain { IfErr result (λ e. is_line_fault e ≡ false) }
 {
     match kind_of(keyword) {
@@ -204,7 +204,7 @@ fn asked_heading(
 ) -> Result<LineContent, LineError>
     ensures read { GivesLineReading result
         (headed_entry (option_copied ignored.entry) CommandLine (Says keyword.now rest.now)) }
-    ensures fits { IfOk result (λ entry. entry_fits entry ≡ true) }
+    ensures fits { IfOk result (λ entry. content_fits entry ≡ true) }
     ensures plain { IfErr result (λ e. is_line_fault e ≡ false) }
 {
     match kind_of(keyword) {
@@ -221,7 +221,7 @@ fn asked_heading(
 fn asked_text(alloc: Global, ignored: Option<&[u8]>, line: &[u8]) -> Result<LineContent, LineError>
     ensures read { GivesLineReading result
         (spelled_entry (option_copied ignored.entry) CommandLine line.now) }
-    ensures fits { IfOk result (λ entry. entry_fits entry ≡ true) }
+    ensures fits { IfOk result (λ entry. content_fits entry ≡ true) }
     ensures plain { IfErr result (λ e. is_line_fault e ≡ false) }
 {
     match split_head(line)? {
@@ -240,7 +240,7 @@ fn asked_parts(
     ensures read { GivesLineReading result
         (keyword_entry (option_copied ignored.entry) CommandLine keyword.now [] (Ok words.now)
         (meaning_of keyword.now)) }
-    ensures fits { IfOk result (λ entry. entry_fits entry ≡ true) }
+    ensures fits { IfOk result (λ entry. content_fits entry ≡ true) }
     ensures plain { IfErr result (λ e. is_line_fault e ≡ false) }
 {
     match kind_of(keyword) {
@@ -261,7 +261,7 @@ pub fn asked_entry(
 ) -> Result<LineContent, LineError>
     ensures read { GivesLineReading result
         (content_entry (option_copied ignored.entry) CommandLine (asked_line line.now).content) }
-    ensures fits { IfOk result (λ entry. entry_fits entry ≡ true) }
+    ensures fits { IfOk result (λ entry. content_fits entry ≡ true) }
     ensures plain { IfErr result (λ e. is_line_fault e ≡ false) }
 {
     match line {

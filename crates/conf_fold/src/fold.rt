@@ -8,8 +8,8 @@ ghost use Rattle.conf_options.specs.Kept.{Given, KeepsSettings};
 ghost use Rattle.conf_reader.specs.Blocks.{Blocks};
 ghost use Rattle.conf_reader.specs.Results.{is_fault_at};
 ghost use Rattle.conf_fold.specs.Begins.{IsEmpty, IsFoldBegun, TakesAsked, Behind, SecondBegins};
-ghost use Rattle.conf_fold.specs.Entries.{entry_fits};
-ghost use Rattle.conf_fold.specs.FoldRepresents.{FoldRepresents, setting, host_so_far, block_name};
+ghost use Rattle.conf_fold.specs.Entries.{content_fits};
+ghost use Rattle.conf_fold.specs.FoldRepresents.{FoldRepresents, value_of_key, host_so_far, block_name};
 
 mod blocks;
 mod lines;
@@ -99,7 +99,7 @@ impl Fold {
 
     // Applies the content of a line of the command line, which is active.
     fn take_asked(&mut self, entry: LineContent) -> Result<(), OutOfMemory>
-        requires fits { entry_fits entry ≡ true }
+        requires fits { content_fits entry ≡ true }
         ensures keeps { OnOk result ((given : List Given) → KeepsSettings self.old.settings given
             → KeepsSettings self.new.settings (given ++ entry_gives false (Ok entry))) }
         ensures others { OnOk result (self.new ≡ record self.old { settings = self.new.settings }) }
@@ -156,7 +156,7 @@ impl Fold {
 
     // The text of a key.
     fn text(&self, key: Key) -> Option<&[u8]>
-        ensures { option_copied result ≡ word_in (setting key self.now) }
+        ensures { option_copied result ≡ word_in (value_of_key key self.now) }
     {
         self.settings.word(key)
     }

@@ -7,8 +7,8 @@ use Rattle.conf_rules.specs.Texts.{Bytes}
 use Rattle.conf_rules.specs.Words.{ReadWords, onto_word, is_escapable}
 
 -- words that are whole, the bytes of the word that is being read, and what is read from here on
-abbrev pub joined : List Bytes → Bytes → ReadWords → ReadWords
-joined words word later = later >>= λ ws. Ok (words ++ onto_word word ws)
+abbrev pub with_words_before : List Bytes → Bytes → ReadWords → ReadWords
+with_words_before words word later = later >>= λ ws. Ok (words ++ onto_word word ws)
 
 -- the byte for which a backslash and that byte stand, and what follows it, where `b` was read and
 -- these bytes follow

@@ -1,9 +1,9 @@
 ghost use Rattle.std.specs.Prelude.{◌≡◌, ℕ, ◌+◌, ◌-◌, ◌<◌, ◌≤◌, ◌^◌, length};
 ghost use Rattle.std.specs.Option.{option_map};
 ghost use Rattle.conf_rules.specs.declared.quoting.Quoting.TheVariants.{Between};
-ghost use Rattle.conf_rules.specs.Words.{is_escapable, inside, move_of, words_from, words_of};
+ghost use Rattle.conf_rules.specs.Words.{is_escapable, after_backslash, move_of, words_from, words_of};
 ghost use Rattle.conf_lexer.specs.Reading.{escaped};
-ghost use Rattle.conf_rules.specs.Results.{Gives};
+ghost use Rattle.conf_rules.specs.Results.{GivesReading};
 ghost use Rattle.conf_rules.specs.Wants.{lex_wants_memory};
 
 use crate::bytes::first;
@@ -24,7 +24,7 @@ fn is_escapable(quoting: Quoting, byte: u8) -> bool
 
 // The state of the reading after a byte that a backslash gave.
 fn inside(quoting: Quoting) -> Quoting
-    ensures { result ≡ inside quoting }
+    ensures { result ≡ after_backslash quoting }
 {
     match quoting {
         Quoting::Quoted { by, at } => Quoting::Quoted { by, at },
@@ -61,7 +61,7 @@ fn escaped(quoting: Quoting, byte: u8, after: &[u8]) -> Option<(u8, &[u8])>
 
 // All words, or none.
 fn all_words(alloc: Global, rest: &[u8]) -> Result<Texts, LexError>
-    ensures { Gives lex_wants_memory result (words_from Between 0 rest.now) }
+    ensures { GivesReading lex_wants_memory result (words_from Between 0 rest.now) }
 {
     let mut words = Texts::new(alloc);
     let mut word = Text::new(alloc);
@@ -105,7 +105,7 @@ fn all_words(alloc: Global, rest: &[u8]) -> Result<Texts, LexError>
 /// represents a quote, a backslash or a space, and a number sign at a word's start ends them. `at`
 /// of a refusal is a byte's place in `rest`.
 pub fn split_words(alloc: Global, rest: &[u8]) -> Result<Texts, LexError>
-    ensures exact { Gives lex_wants_memory result (words_of rest.now) }
+    ensures exact { GivesReading lex_wants_memory result (words_of rest.now) }
 {
     let words = all_words(alloc, rest)?;
     if words.len() == 0 {

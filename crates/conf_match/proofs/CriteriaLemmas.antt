@@ -7,8 +7,8 @@ use Rattle.conf_rules.specs.declared.criterion.Criterion.{Criterion}
 use Rattle.conf_rules.specs.declared.criterion.Named.TheVariants.{Valued, Plain, NotSupported, NoName}
 use Rattle.conf_rules.specs.declared.causes.MatchError.TheVariants.{Unknown, AllNotAlone, Unsupported}
 use Rattle.conf_rules.specs.Texts.{Bytes}
-use Rattle.conf_rules.specs.Criteria.{Spelled, spelled, ReadCriteria, criteria_from, with_criterion, plain_criterion, all_alone, unvalued, opens_all}
-use Rattle.conf_match.specs.CriterionPlace.{onto, valued, every, Goes}
+use Rattle.conf_rules.specs.Criteria.{Spelled, spelled_criterion, ReadCriteria, criteria_from, with_criterion, plain_criterion, all_alone, unvalued, opens_all}
+use Rattle.conf_match.specs.CriterionPlace.{with_criteria_before, valued_criterion, every, Goes}
 
 pub is_true : (b : Bool) → not b ≡ false → b ≡ true
 is_true true e = refl
@@ -41,63 +41,63 @@ goes_all old new words at true false n m added here last =
 
 -- ---- a word and the words after it
 
-pub of_plain : (at : ℕ) (may : Bool) (word : Bytes) (rest : List Bytes) (kind : Kind) → (spelled word).name ≡ Plain kind → criteria_from at may (word ∷ rest) ≡ unvalued at (spelled word).value (plain_criterion at may (spelled word).negated kind rest (criteria_from (at + 1) (opens_all kind) rest))
+pub of_plain : (at : ℕ) (may : Bool) (word : Bytes) (rest : List Bytes) (kind : Kind) → (spelled_criterion word).name ≡ Plain kind → criteria_from at may (word ∷ rest) ≡ unvalued at (spelled_criterion word).value (plain_criterion at may (spelled_criterion word).negated kind rest (criteria_from (at + 1) (opens_all kind) rest))
 unfolding criteria_from
 of_plain at may word [] kind e = rw (e, criteria_from) refl
 of_plain at may word (next ∷ words) kind e = rw (e, criteria_from) refl
 
-pub of_value : (at : ℕ) (may : Bool) (word : Bytes) (rest : List Bytes) (kind : Kind) (value : Bytes) → (spelled word).name ≡ Valued kind → (spelled word).value ≡ Some value → criteria_from at may (word ∷ rest) ≡ with_criterion (spelled word).negated kind value (criteria_from (at + 1) false rest)
+pub of_value : (at : ℕ) (may : Bool) (word : Bytes) (rest : List Bytes) (kind : Kind) (value : Bytes) → (spelled_criterion word).name ≡ Valued kind → (spelled_criterion word).value ≡ Some value → criteria_from at may (word ∷ rest) ≡ with_criterion (spelled_criterion word).negated kind value (criteria_from (at + 1) false rest)
 unfolding criteria_from
 of_value at may word [] kind value e v = rw (e, v, criteria_from) refl
 of_value at may word (next ∷ words) kind value e v = rw (e, v, criteria_from) refl
 
-pub of_next : (at : ℕ) (may : Bool) (word : Bytes) (rest : List Bytes) (kind : Kind) → (spelled word).name ≡ Valued kind → (spelled word).value ≡ None → criteria_from at may (word ∷ rest) ≡ valued at (spelled word).negated kind None rest
+pub of_next : (at : ℕ) (may : Bool) (word : Bytes) (rest : List Bytes) (kind : Kind) → (spelled_criterion word).name ≡ Valued kind → (spelled_criterion word).value ≡ None → criteria_from at may (word ∷ rest) ≡ valued_criterion at (spelled_criterion word).negated kind None rest
 unfolding criteria_from
 of_next at may word [] kind e v = rw (e, v, criteria_from) refl
 of_next at may word (next ∷ words) kind e v = rw (e, v, criteria_from) refl
 
-pub of_unsupported : (at : ℕ) (may : Bool) (word : Bytes) (rest : List Bytes) → (spelled word).name ≡ NotSupported → criteria_from at may (word ∷ rest) ≡ Err (Unsupported at)
+pub of_unsupported : (at : ℕ) (may : Bool) (word : Bytes) (rest : List Bytes) → (spelled_criterion word).name ≡ NotSupported → criteria_from at may (word ∷ rest) ≡ Err (Unsupported at)
 unfolding criteria_from
 of_unsupported at may word [] e = rw (e, criteria_from) refl
 of_unsupported at may word (next ∷ words) e = rw (e, criteria_from) refl
 
-pub of_no_name : (at : ℕ) (may : Bool) (word : Bytes) (rest : List Bytes) → (spelled word).name ≡ NoName → criteria_from at may (word ∷ rest) ≡ Err (Unknown at)
+pub of_no_name : (at : ℕ) (may : Bool) (word : Bytes) (rest : List Bytes) → (spelled_criterion word).name ≡ NoName → criteria_from at may (word ∷ rest) ≡ Err (Unknown at)
 unfolding criteria_from
 of_no_name at may word [] e = rw (e, criteria_from) refl
 of_no_name at may word (next ∷ words) e = rw (e, criteria_from) refl
 
 -- ---- the loop
 
-pub done : (criteria : List Criterion) (at : ℕ) (may : Bool) (left : List Bytes) (total : ReadCriteria) → left ≡ [] → onto criteria (criteria_from at may left) ≡ total → total ≡ Ok criteria
+pub done : (criteria : List Criterion) (at : ℕ) (may : Bool) (left : List Bytes) (total : ReadCriteria) → left ≡ [] → with_criteria_before criteria (criteria_from at may left) ≡ total → total ≡ Ok criteria
 unfolding criteria_from
 done criteria at may left total e so_far = sym so_far ∙ rw (e, append-nil) refl
 
 -- ---- one word, by what was read of it
 
-pub plain_word : (at : ℕ) (may : Bool) (word : Bytes) (left rest : List Bytes) (kind : Kind) (own : Spelled) → left ≡ word ∷ rest → own ≡ spelled word → own.name ≡ Plain kind → own.value ≡ None → criteria_from at may left ≡ plain_criterion at may own.negated kind rest (criteria_from (at + 1) (opens_all kind) rest)
+pub plain_word : (at : ℕ) (may : Bool) (word : Bytes) (left rest : List Bytes) (kind : Kind) (own : Spelled) → left ≡ word ∷ rest → own ≡ spelled_criterion word → own.name ≡ Plain kind → own.value ≡ None → criteria_from at may left ≡ plain_criterion at may own.negated kind rest (criteria_from (at + 1) (opens_all kind) rest)
 plain_word at may word left rest kind own e o n v =
     ap (criteria_from at may) e ∙ of_plain at may word rest kind (ap (λ (s : Spelled). s.name) (sym o) ∙ n)
     ∙ ap (λ (s : Spelled). unvalued at s.value (plain_criterion at may s.negated kind rest (criteria_from (at + 1) (opens_all kind) rest))) (sym o)
     ∙ ap (λ x. unvalued at x (plain_criterion at may own.negated kind rest (criteria_from (at + 1) (opens_all kind) rest))) v
 
-pub plain_with_value : (at : ℕ) (may : Bool) (word : Bytes) (left rest : List Bytes) (kind : Kind) (own : Spelled) (value : Bytes) → left ≡ word ∷ rest → own ≡ spelled word → own.name ≡ Plain kind → own.value ≡ Some value → criteria_from at may left ≡ Err (Unknown at)
+pub plain_with_value : (at : ℕ) (may : Bool) (word : Bytes) (left rest : List Bytes) (kind : Kind) (own : Spelled) (value : Bytes) → left ≡ word ∷ rest → own ≡ spelled_criterion word → own.name ≡ Plain kind → own.value ≡ Some value → criteria_from at may left ≡ Err (Unknown at)
 plain_with_value at may word left rest kind own value e o n v =
     ap (criteria_from at may) e ∙ of_plain at may word rest kind (ap (λ (s : Spelled). s.name) (sym o) ∙ n)
     ∙ ap (λ (s : Spelled). unvalued at s.value (plain_criterion at may s.negated kind rest (criteria_from (at + 1) (opens_all kind) rest))) (sym o)
     ∙ ap (λ x. unvalued at x (plain_criterion at may own.negated kind rest (criteria_from (at + 1) (opens_all kind) rest))) v
 
-pub value_word : (at : ℕ) (may : Bool) (word : Bytes) (left rest : List Bytes) (kind : Kind) (own : Spelled) (value : Bytes) → left ≡ word ∷ rest → own ≡ spelled word → own.name ≡ Valued kind → own.value ≡ Some value → criteria_from at may left ≡ with_criterion own.negated kind value (criteria_from (at + 1) false rest)
+pub value_word : (at : ℕ) (may : Bool) (word : Bytes) (left rest : List Bytes) (kind : Kind) (own : Spelled) (value : Bytes) → left ≡ word ∷ rest → own ≡ spelled_criterion word → own.name ≡ Valued kind → own.value ≡ Some value → criteria_from at may left ≡ with_criterion own.negated kind value (criteria_from (at + 1) false rest)
 value_word at may word left rest kind own value e o n v =
     ap (criteria_from at may) e ∙ of_value at may word rest kind value (ap (λ (s : Spelled). s.name) (sym o) ∙ n) (ap (λ (s : Spelled). s.value) (sym o) ∙ v)
     ∙ ap (λ (s : Spelled). with_criterion s.negated kind value (criteria_from (at + 1) false rest)) (sym o)
 
-pub next_word : (at : ℕ) (may : Bool) (word : Bytes) (left rest : List Bytes) (kind : Kind) (own : Spelled) → left ≡ word ∷ rest → own ≡ spelled word → own.name ≡ Valued kind → own.value ≡ None → criteria_from at may left ≡ valued at own.negated kind None rest
+pub next_word : (at : ℕ) (may : Bool) (word : Bytes) (left rest : List Bytes) (kind : Kind) (own : Spelled) → left ≡ word ∷ rest → own ≡ spelled_criterion word → own.name ≡ Valued kind → own.value ≡ None → criteria_from at may left ≡ valued_criterion at own.negated kind None rest
 next_word at may word left rest kind own e o n v =
     ap (criteria_from at may) e ∙ of_next at may word rest kind (ap (λ (s : Spelled). s.name) (sym o) ∙ n) (ap (λ (s : Spelled). s.value) (sym o) ∙ v)
-    ∙ ap (λ (s : Spelled). valued at s.negated kind None rest) (sym o)
+    ∙ ap (λ (s : Spelled). valued_criterion at s.negated kind None rest) (sym o)
 
-pub unsupported_word : (at : ℕ) (may : Bool) (word : Bytes) (left rest : List Bytes) (own : Spelled) → left ≡ word ∷ rest → own ≡ spelled word → own.name ≡ NotSupported → criteria_from at may left ≡ Err (Unsupported at)
+pub unsupported_word : (at : ℕ) (may : Bool) (word : Bytes) (left rest : List Bytes) (own : Spelled) → left ≡ word ∷ rest → own ≡ spelled_criterion word → own.name ≡ NotSupported → criteria_from at may left ≡ Err (Unsupported at)
 unsupported_word at may word left rest own e o n = ap (criteria_from at may) e ∙ of_unsupported at may word rest (ap (λ (s : Spelled). s.name) (sym o) ∙ n)
 
-pub no_name_word : (at : ℕ) (may : Bool) (word : Bytes) (left rest : List Bytes) (own : Spelled) → left ≡ word ∷ rest → own ≡ spelled word → own.name ≡ NoName → criteria_from at may left ≡ Err (Unknown at)
+pub no_name_word : (at : ℕ) (may : Bool) (word : Bytes) (left rest : List Bytes) (own : Spelled) → left ≡ word ∷ rest → own ≡ spelled_criterion word → own.name ≡ NoName → criteria_from at may left ≡ Err (Unknown at)
 no_name_word at may word left rest own e o n = ap (criteria_from at may) e ∙ of_no_name at may word rest (ap (λ (s : Spelled). s.name) (sym o) ∙ n)

@@ -11,23 +11,23 @@ use Rattle.conf_rules.specs.Criteria.{ReadCriteria, criteria_from, with_criterio
 use Rattle.conf_match.specs.declared.criteria.CriterionPlace.{CriterionPlace}
 
 -- criteria before what is read
-abbrev pub onto : List Criterion → ReadCriteria → ReadCriteria
-onto front reading = reading >>= λ cs. Ok (front ++ cs)
+abbrev pub with_criteria_before : List Criterion → ReadCriteria → ReadCriteria
+with_criteria_before front reading = reading >>= λ cs. Ok (front ++ cs)
 
 -- a criterion that has a value, with the words after it
-abbrev pub valued : ℕ → Bool → Kind → Option Bytes → List Bytes → ReadCriteria
-valued at negated kind (Some value) rest =
+abbrev pub valued_criterion : ℕ → Bool → Kind → Option Bytes → List Bytes → ReadCriteria
+valued_criterion at negated kind (Some value) rest =
     with_criterion negated kind value (criteria_from (at + 1) false rest)
-valued at negated kind None [] = Err (NoValue at)
-valued at negated kind None (next ∷ words) =
+valued_criterion at negated kind None [] = Err (NoValue at)
+valued_criterion at negated kind None (next ∷ words) =
     with_criterion negated kind next (criteria_from (at + 2) false words)
 
 -- what a step took: the criteria with what is read from the new place on are those with what was to
 -- be read
 pub record Goes (old new : List Criterion) (words : List Bytes) (at : ℕ) (place : CriterionPlace)
     (reading : ReadCriteria) : Type 0 where
-  pub read : onto old reading
-      ≡ onto new (criteria_from place.word place.may (drop place.word words))
+  pub read : with_criteria_before old reading
+      ≡ with_criteria_before new (criteria_from place.word place.may (drop place.word words))
   pub further : at < place.word
   pub within : place.word ≤ length words
 

@@ -3,8 +3,8 @@ use Rattle.std.specs.Prelude.{◌≡◌, ◌==◌, ℕ, ◌+◌, ◌≤◌, Bool
 use Rattle.conf_rules.specs.Texts.{Bytes, has}
 use Rattle.conf_rules.specs.Globs as globs
 use Rattle.conf_rules.specs.Globs.{piece_at, pieces_from, pieces_take}
-use Rattle.conf_match.specs.declared.pieces.Piece.{Piece}
-use Rattle.conf_match.specs.declared.pieces.Piece.TheVariants as pieces
+use Rattle.conf_match.specs.declared.pieces.PatternPiece.{PatternPiece}
+use Rattle.conf_match.specs.declared.pieces.PatternPiece.TheVariants as pieces
 use Rattle.conf_match.specs.declared.pieces.Syntax.{Syntax}
 use Rattle.conf_match.specs.declared.pieces.Syntax.TheVariants.{Pattern, Glob}
 
@@ -15,14 +15,14 @@ range_end (y ∷ []) = None
 range_end (y ∷ z ∷ rest) = if y == 45 then Some (z, rest) else None
 
 -- a piece as definitions see it
-abbrev pub piece_meaning : Piece → globs.Piece
+abbrev pub piece_meaning : PatternPiece → globs.Piece
 piece_meaning pieces.Any = globs.Any
 piece_meaning pieces.One = globs.One
 piece_meaning (pieces.Same b) = globs.Same b
 piece_meaning (pieces.Class negated members) = globs.Class negated members.now
 
 -- a piece, and how many more bytes it consumes
-abbrev pub with_count : Piece × ℕ → globs.Piece × ℕ
+abbrev pub with_count : PatternPiece × ℕ → globs.Piece × ℕ
 with_count p = (piece_meaning p.0, p.1)
 
 -- whether a piece is a star

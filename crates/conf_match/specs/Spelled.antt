@@ -4,5 +4,5 @@ use Rattle.conf_rules.specs.Criteria.{Spelled}
 use Rattle.conf_match.specs.declared.named.Spelled.{Spelled as TheSpelled}
 
 -- what a word is
-abbrev pub shown : TheSpelled → Spelled
-shown s = record { negated = s.negated; name = s.name; value = option_copied s.value }
+abbrev pub spelled_shown : TheSpelled → Spelled
+spelled_shown s = record { negated = s.negated; name = s.name; value = option_copied s.value }

@@ -1,8 +1,8 @@
 ghost use Rattle.std.specs.Prelude.{◌≡◌, ◌+◌, ◌<◌, ◌≤◌, length, drop, None, false};
 ghost use Rattle.conf_rules.specs.Criteria.{criteria_from, read_criteria, plain_criterion, with_criterion, opens_all};
-ghost use Rattle.conf_rules.specs.Results.{Gives};
+ghost use Rattle.conf_rules.specs.Results.{GivesReading};
 ghost use Rattle.conf_rules.specs.Wants.{match_wants_memory};
-ghost use Rattle.conf_match.specs.CriterionPlace.{AddsCriterion, TakesCriterion, valued, every};
+ghost use Rattle.conf_match.specs.CriterionPlace.{AddsCriterion, TakesCriterion, valued_criterion, every};
 
 use crate::named::{opens_all, read_word};
 use conf_rules::{Criteria, Criterion, Kind, MatchError, Named};
@@ -120,7 +120,7 @@ fn take_next(
 ) -> Result<CriterionPlace, MatchError>
     requires place { at < length words.now }
     ensures { TakesCriterion result criteria.old criteria.new words.now at
-        (valued at negated kind None (drop (at + 1) words.now)) }
+        (valued_criterion at negated kind None (drop (at + 1) words.now)) }
 {
     if at + 1 < words.len() {
         let value = words[at + 1].as_bytes();
@@ -161,7 +161,7 @@ fn take(
 /// names none, that isn't supported, whose value is missing, or an `all` that doesn't stand alone
 /// or right after `canonical` or `final`.
 pub fn read_criteria(alloc: Global, words: &Texts) -> Result<Criteria, MatchError>
-    ensures { Gives match_wants_memory result (read_criteria words.now) }
+    ensures { GivesReading match_wants_memory result (read_criteria words.now) }
 {
     let all = words.as_slice();
     let mut criteria = Criteria::new(alloc);

@@ -4,7 +4,7 @@ ghost use Rattle.conf_rules.specs.Results.{Shows};
 ghost use Rattle.conf_rules.specs.Texts.{Bytes};
 ghost use Rattle.conf_rules.specs.Patterns.{list_takes};
 ghost use Rattle.conf_rules.specs.Evaluation.{plain_verdict, criterion_verdict, verdict};
-ghost use Rattle.conf_tokens.specs.Seen.{seen};
+ghost use Rattle.conf_tokens.specs.Seen.{view_as_defined};
 ghost use Rattle.conf_match.specs.Evaluated.{takes_user, takes_local_user, Evaluated, Ran, FailsIn, HasRunnerCause, RecordsStatus, evaluation_of_token, evaluation_of_file};
 
 use crate::lists::matches_list;
@@ -57,7 +57,7 @@ fn takes(patterns: &[u8], name: &[u8]) -> bool
 
 // Whether a list of patterns takes the user, or else the local user.
 fn takes_user(patterns: &[u8], view: &View<'_>) -> Result<bool, TokenError>
-    ensures { Shows (λ holds. holds) result (takes_user (seen view.now) patterns.now) }
+    ensures { Shows (λ holds. holds) result (takes_user (view_as_defined view.now) patterns.now) }
 {
     let user = user(b'r', view)?;
     Ok(takes(patterns, user))
@@ -65,7 +65,7 @@ fn takes_user(patterns: &[u8], view: &View<'_>) -> Result<bool, TokenError>
 
 // Whether a list of patterns takes the local user.
 fn takes_local_user(patterns: &[u8], view: &View<'_>) -> Result<bool, TokenError>
-    ensures { Shows (λ holds. holds) result (takes_local_user (seen view.now) patterns.now) }
+    ensures { Shows (λ holds. holds) result (takes_local_user (view_as_defined view.now) patterns.now) }
 {
     let user = fact(b'u', &view.facts.local_user)?;
     Ok(takes(patterns, user))
@@ -79,13 +79,13 @@ fn exec<R: Runner>(
     runner: &mut R,
 ) -> Result<bool, EvalError>
     ensures holds { (status : Bytes → ℕ) → RecordsStatus (R.recorded runner.old) status
-        → Evaluated result (plain_verdict status (seen view.now) Exec value.now).holds }
+        → Evaluated result (plain_verdict status (view_as_defined view.now) Exec value.now).holds }
     ensures ran { (status : Bytes → ℕ)
         → Ran result (R.ran runner.old) (R.ran runner.new)
-        (plain_verdict status (seen view.now) Exec value.now).ran }
+        (plain_verdict status (view_as_defined view.now) Exec value.now).ran }
     ensures failed { (status : Bytes → ℕ)
         → FailsIn result (R.ran runner.old) (R.ran runner.new)
-        (plain_verdict status (seen view.now) Exec value.now).ran }
+        (plain_verdict status (view_as_defined view.now) Exec value.now).ran }
     ensures cause { HasRunnerCause result (R.faults runner.old) (R.faults runner.new) }
     ensures recorded { R.recorded runner.new ≡ R.recorded runner.old }
 {
@@ -103,13 +103,13 @@ fn plain<R: Runner>(
     runner: &mut R,
 ) -> Result<bool, EvalError>
     ensures holds { (status : Bytes → ℕ) → RecordsStatus (R.recorded runner.old) status
-        → Evaluated result (plain_verdict status (seen view.now) kind value.now).holds }
+        → Evaluated result (plain_verdict status (view_as_defined view.now) kind value.now).holds }
     ensures ran { (status : Bytes → ℕ)
         → Ran result (R.ran runner.old) (R.ran runner.new)
-        (plain_verdict status (seen view.now) kind value.now).ran }
+        (plain_verdict status (view_as_defined view.now) kind value.now).ran }
     ensures failed { (status : Bytes → ℕ)
         → FailsIn result (R.ran runner.old) (R.ran runner.new)
-        (plain_verdict status (seen view.now) kind value.now).ran }
+        (plain_verdict status (view_as_defined view.now) kind value.now).ran }
     ensures cause { HasRunnerCause result (R.faults runner.old) (R.faults runner.new) }
     ensures recorded { R.recorded runner.new ≡ R.recorded runner.old }
 {
@@ -134,13 +134,13 @@ fn one<R: Runner>(
     runner: &mut R,
 ) -> Result<bool, EvalError>
     ensures holds { (status : Bytes → ℕ) → RecordsStatus (R.recorded runner.old) status
-        → Evaluated result (criterion_verdict status (seen view.now) criterion.now).holds }
+        → Evaluated result (criterion_verdict status (view_as_defined view.now) criterion.now).holds }
     ensures ran { (status : Bytes → ℕ)
         → Ran result (R.ran runner.old) (R.ran runner.new)
-        (criterion_verdict status (seen view.now) criterion.now).ran }
+        (criterion_verdict status (view_as_defined view.now) criterion.now).ran }
     ensures failed { (status : Bytes → ℕ)
         → FailsIn result (R.ran runner.old) (R.ran runner.new)
-        (criterion_verdict status (seen view.now) criterion.now).ran }
+        (criterion_verdict status (view_as_defined view.now) criterion.now).ran }
     ensures cause { HasRunnerCause result (R.faults runner.old) (R.faults runner.new) }
     ensures recorded { R.recorded runner.new ≡ R.recorded runner.old }
 {
@@ -163,13 +163,13 @@ pub fn eval<R: Runner>(
     runner: &mut R,
 ) -> Result<bool, EvalError>
     ensures holds { (status : Bytes → ℕ) → RecordsStatus (R.recorded runner.old) status
-        → Evaluated result (verdict status (seen view.now) criteria.now).holds }
+        → Evaluated result (verdict status (view_as_defined view.now) criteria.now).holds }
     ensures ran { (status : Bytes → ℕ) → RecordsStatus (R.recorded runner.old) status
         → Ran result (R.ran runner.old) (R.ran runner.new)
-        (verdict status (seen view.now) criteria.now).ran }
+        (verdict status (view_as_defined view.now) criteria.now).ran }
     ensures failed { (status : Bytes → ℕ) → RecordsStatus (R.recorded runner.old) status
         → FailsIn result (R.ran runner.old) (R.ran runner.new)
-        (verdict status (seen view.now) criteria.now).ran }
+        (verdict status (view_as_defined view.now) criteria.now).ran }
     ensures cause { HasRunnerCause result (R.faults runner.old) (R.faults runner.new) }
     ensures recorded { R.recorded runner.new ≡ R.recorded runner.old }
 {

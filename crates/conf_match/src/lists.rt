@@ -1,7 +1,7 @@
 ghost use Rattle.std.specs.Prelude.{◌≡◌, [], ◌∷◌};
 ghost use Rattle.conf_rules.specs.Texts.{split_at_each};
 ghost use Rattle.conf_rules.specs.Patterns.{answer_of};
-ghost use Rattle.conf_match.specs.Answers.{either};
+ghost use Rattle.conf_match.specs.Answers.{either_answer};
 
 use crate::patterns::matches_pattern;
 use conf_lexer::split_at_first;
@@ -33,7 +33,7 @@ fn one(pattern: &[u8], text: &[u8]) -> ListAnswer
 
 // What two lists say together.
 fn either(first: ListAnswer, second: ListAnswer) -> ListAnswer
-    ensures { result ≡ either first second }
+    ensures { result ≡ either_answer first second }
 {
     match (first, second) {
         (ListAnswer::Denied, _) | (_, ListAnswer::Denied) => ListAnswer::Denied,

@@ -1,8 +1,8 @@
 ghost use Rattle.std.specs.Prelude.{◌≡◌};
 ghost use Rattle.std.specs.List.{list_any};
 ghost use Rattle.conf_rules.specs.Texts.{same_word};
-ghost use Rattle.conf_rules.specs.Criteria.{named, split_value, spelled, not_supported, opens_all};
-ghost use Rattle.conf_match.specs.Spelled.{shown};
+ghost use Rattle.conf_rules.specs.Criteria.{named, split_value, spelled_criterion, not_supported, opens_all};
+ghost use Rattle.conf_match.specs.Spelled.{spelled_shown};
 
 use conf_lexer::split_at_first;
 use conf_rules::{Kind, Named};
@@ -65,7 +65,7 @@ fn name_of(name: &[u8]) -> Named
 
 // A word after its exclamation mark, if it has one.
 fn split_value(negated: bool, word: &[u8]) -> Spelled<'_>
-    ensures { shown result ≡ split_value negated word.now }
+    ensures { spelled_shown result ≡ split_value negated word.now }
 {
     match split_at_first(b'=', word) {
         Some((name, value)) => Spelled {
@@ -83,7 +83,7 @@ fn split_value(negated: bool, word: &[u8]) -> Spelled<'_>
 
 /// A criterion's own word.
 pub fn read_word(word: &[u8]) -> Spelled<'_>
-    ensures { shown result ≡ spelled word.now }
+    ensures { spelled_shown result ≡ spelled_criterion word.now }
 {
     match word {
         [b'!', rest @ ..] => split_value(true, rest),

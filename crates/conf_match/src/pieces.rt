@@ -16,7 +16,7 @@ pub enum Syntax {
 
 /// What a pattern is made of.
 #[derive(Clone, Copy)]
-pub enum Piece<'a> {
+pub enum PatternPiece<'a> {
     /// A star.
     Any,
     /// A question mark.
@@ -81,7 +81,7 @@ fn class_of(bytes: &[u8], tail: usize) -> Option<(&[u8], usize)>
 }
 
 // The piece that an open bracket begins, and how many more bytes it consumes.
-fn bracketed(bytes: &[u8], tail: usize) -> (Piece<'_>, usize)
+fn bracketed(bytes: &[u8], tail: usize) -> (PatternPiece<'_>, usize)
     requires { NoneInLast tail bytes.now }
     ensures piece { with_count result ≡ bracketed bytes.now }
     ensures within { result.1 ≤ length bytes.now }
@@ -89,47 +89,47 @@ fn bracketed(bytes: &[u8], tail: usize) -> (Piece<'_>, usize)
     match bytes {
         [b'!', rest @ ..] => match class_of(rest, tail) {
             Some((members, more)) => (
-                Piece::Class {
+                PatternPiece::Class {
                     negated: true,
                     members,
                 },
                 1 + more,
             ),
-            None => (Piece::Same(b'['), 0),
+            None => (PatternPiece::Same(b'['), 0),
         },
         _ => match class_of(bytes, tail) {
             Some((members, more)) => (
-                Piece::Class {
+                PatternPiece::Class {
                     negated: false,
                     members,
                 },
                 more,
             ),
-            None => (Piece::Same(b'['), 0),
+            None => (PatternPiece::Same(b'['), 0),
         },
     }
 }
 
 // The piece that a byte begins, and how many more bytes it consumes.
-fn piece_at(syntax: Syntax, byte: u8, behind: &[u8]) -> (Piece<'_>, usize)
+fn piece_at(syntax: Syntax, byte: u8, behind: &[u8]) -> (PatternPiece<'_>, usize)
     requires { PatternFits syntax behind.now }
     ensures piece { with_count result ≡ piece_by syntax byte behind.now }
     ensures within { result.1 ≤ length behind.now }
 {
     if byte == b'*' {
-        return (Piece::Any, 0);
+        return (PatternPiece::Any, 0);
     }
     if byte == b'?' {
-        return (Piece::One, 0);
+        return (PatternPiece::One, 0);
     }
     match syntax {
         Syntax::Glob { tail } if byte == b'[' => bracketed(behind, tail),
-        _ => (Piece::Same(byte), 0),
+        _ => (PatternPiece::Same(byte), 0),
     }
 }
 
 /// The first piece, and what follows it.
-pub fn next_piece(syntax: Syntax, pattern: &[u8]) -> Option<(Piece<'_>, &[u8])>
+pub fn next_piece(syntax: Syntax, pattern: &[u8]) -> Option<(PatternPiece<'_>, &[u8])>
     requires { PatternFits syntax pattern.now }
     ensures piece { MatchOption result (pattern.now ≡ []) (λ x. pieces_by syntax pattern.now
         ≡ piece_meaning x.0 ∷ pieces_by syntax x.1.now) }
@@ -142,23 +142,23 @@ pub fn next_piece(syntax: Syntax, pattern: &[u8]) -> Option<(Piece<'_>, &[u8])>
 }
 
 /// Whether a piece is a star.
-pub fn is_any(piece: &Piece<'_>) -> bool
+pub fn is_any(piece: &PatternPiece<'_>) -> bool
     ensures { result ≡ is_any (piece_meaning piece.now) }
 {
     match piece {
-        Piece::Any => true,
+        PatternPiece::Any => true,
         _ => false,
     }
 }
 
 /// Whether a piece takes a byte.
-pub fn takes(piece: &Piece<'_>, byte: u8) -> bool
+pub fn takes(piece: &PatternPiece<'_>, byte: u8) -> bool
     ensures { result ≡ piece_takes (piece_meaning piece.now) byte }
 {
     match piece {
-        Piece::Any | Piece::One => true,
-        Piece::Same(own) => *own == byte,
-        Piece::Class { negated, members } => {
+        PatternPiece::Any | PatternPiece::One => true,
+        PatternPiece::Same(own) => *own == byte,
+        PatternPiece::Class { negated, members } => {
             if *negated {
                 !in_class(byte, members)
             } else {

@@ -8,9 +8,9 @@ use Rattle.conf_rules.specs.declared.key.Key.{Key}
 use Rattle.conf_rules.specs.declared.value.Value.{Value}
 use Rattle.conf_rules.specs.declared.value.Value.TheVariants.{Names}
 use Rattle.conf_rules.specs.declared.key.Key.TheVariants.{SendEnv}
-use Rattle.conf_rules.specs.Texts.{Bytes, behind}
+use Rattle.conf_rules.specs.Texts.{Bytes, rest_after_prefix}
 use Rattle.conf_rules.specs.Patterns.{matches}
-use Rattle.conf_rules.specs.Keys.{same_key, place}
+use Rattle.conf_rules.specs.Keys.{same_key, key_place}
 use Rattle.conf_rules.specs.Kinds.{Patterns, keeping, keeps_every}
 use Rattle.conf_rules.specs.Rows.{values_among, with_pattern, with_patterns, patterns_in}
 use Rattle.conf_rules.specs.Fits.{fits}
@@ -54,7 +54,7 @@ neither true b e = absurd cc
 neither false b e = (refl, e)
 
 one-plain : (before : List Bytes) (pattern : Bytes) → removes pattern ≡ false → with_pattern before pattern ≡ before ++ pattern ∷ []
-one-plain before pattern e = on (behind (45 ∷ []) pattern) e
+one-plain before pattern e = on (rest_after_prefix (45 ∷ []) pattern) e
   where
     on : (o : Option Bytes) → is_some o ≡ false → (elim o [ Some removing ↦ filter (λ k. not (matches removing k)) before | None ↦ before ++ pattern ∷ [] ]) ≡ before ++ pattern ∷ []
     on None e = refl
@@ -89,15 +89,15 @@ at [] i g low e = absurd (omega (arith, low))
 at (x ∷ xs) zero g low e = ap (λ y. Some y) e
 at (x ∷ xs) (suc i) g low e = at xs i g (omega (arith, low)) e
 
-pub stands : (all : List Given) (i : ℕ) (key : Key) (g : Given) → i < length all → get_or all i g ≡ g → place key ≡ place g.0 → values_among key (take i all) ≡ [] → StandsAt key all i
+pub stands : (all : List Given) (i : ℕ) (key : Key) (g : Given) → i < length all → get_or all i g ≡ g → key_place key ≡ key_place g.0 → values_among key (take i all) ≡ [] → StandsAt key all i
 stands all i key g low e p before = record { value = g.1; is = at all i g low e ∙ ap (λ k. Some (k, g.1)) (sym (same-place key g.0 p)); before = before }
 
-pub more-before : (all : List Given) (i : ℕ) (key : Key) (g : Given) → i < length all → get_or all i g ≡ g → place key ≢ place g.0 → values_among key (take i all) ≡ [] → values_among key (take (i + 1) all) ≡ []
+pub more-before : (all : List Given) (i : ℕ) (key : Key) (g : Given) → i < length all → get_or all i g ≡ g → key_place key ≢ key_place g.0 → values_among key (take i all) ≡ [] → values_among key (take (i + 1) all) ≡ []
 more-before [] i key g low e n before = absurd (omega (arith, low))
 more-before (x ∷ xs) zero key g low e n before = on (same_key key x.0) refl
   where
     on : (t : Bool) → same_key key x.0 ≡ t → cond t (x.1 ∷ []) [] ≡ []
-    on true s = absurd (n (ap place (same-key key x.0 s) ∙ ap (λ (y : Given). place y.0) e))
+    on true s = absurd (n (ap key_place (same-key key x.0 s) ∙ ap (λ (y : Given). key_place y.0) e))
     on false s = refl
 more-before (x ∷ xs) (suc i) key g low e n before =
     let more : suc i + 1 ≡ suc (i + 1) = omega arith in
@@ -109,25 +109,25 @@ more-before (x ∷ xs) (suc i) key g low e n before =
     on true b later = absurd cc
     on false b later = later b
 
-pub stands-values : (all : List Given) (place : ℕ) (key : Key) (v : Value) → slice_get all place ≡ Some (key, v) → values_among key (take place all) ≡ [] → values_among key all ≡ v ∷ values_among key (drop (suc place) all)
-stands-values [] place key v e n = absurd cc
+pub stands-values : (all : List Given) (key_place : ℕ) (key : Key) (v : Value) → slice_get all key_place ≡ Some (key, v) → values_among key (take key_place all) ≡ [] → values_among key all ≡ v ∷ values_among key (drop (suc key_place) all)
+stands-values [] key_place key v e n = absurd cc
 stands-values (g ∷ gs) zero key v e n = let is : g ≡ (key, v) = cc in rw (is, same-key-refl key) refl
-stands-values (g ∷ gs) (suc place) key v e n = on (same_key key g.0) n (stands-values gs place key v e)
+stands-values (g ∷ gs) (suc key_place) key v e n = on (same_key key g.0) n (stands-values gs key_place key v e)
   where
-    on : (t : Bool) → cond t (g.1 ∷ values_among key (take place gs)) (values_among key (take place gs)) ≡ []
-        → (values_among key (take place gs) ≡ [] → values_among key gs ≡ v ∷ values_among key (drop (suc place) gs))
-        → cond t (g.1 ∷ values_among key gs) (values_among key gs) ≡ v ∷ values_among key (drop (suc place) gs)
+    on : (t : Bool) → cond t (g.1 ∷ values_among key (take key_place gs)) (values_among key (take key_place gs)) ≡ []
+        → (values_among key (take key_place gs) ≡ [] → values_among key gs ≡ v ∷ values_among key (drop (suc key_place) gs))
+        → cond t (g.1 ∷ values_among key gs) (values_among key gs) ≡ v ∷ values_among key (drop (suc key_place) gs)
     on true n later = absurd cc
     on false n later = later n
 
-pub stands-replaced : (all : List Given) (place : ℕ) (key : Key) (v w : Value) → slice_get all place ≡ Some (key, v) → values_among key (take place all) ≡ [] → replaced key w all ≡ set all place (key, w)
-stands-replaced [] place key v w e n = absurd cc
+pub stands-replaced : (all : List Given) (key_place : ℕ) (key : Key) (v w : Value) → slice_get all key_place ≡ Some (key, v) → values_among key (take key_place all) ≡ [] → replaced key w all ≡ set all key_place (key, w)
+stands-replaced [] key_place key v w e n = absurd cc
 stands-replaced (g ∷ gs) zero key v w e n = let is : g ≡ (key, v) = cc in rw (is, same-key-refl key) refl
-stands-replaced (g ∷ gs) (suc place) key v w e n = on (same_key key g.0) n (stands-replaced gs place key v w e)
+stands-replaced (g ∷ gs) (suc key_place) key v w e n = on (same_key key g.0) n (stands-replaced gs key_place key v w e)
   where
-    on : (t : Bool) → cond t (g.1 ∷ values_among key (take place gs)) (values_among key (take place gs)) ≡ []
-        → (values_among key (take place gs) ≡ [] → replaced key w gs ≡ set gs place (key, w))
-        → cond t ((key, w) ∷ gs) (g ∷ replaced key w gs) ≡ g ∷ set gs place (key, w)
+    on : (t : Bool) → cond t (g.1 ∷ values_among key (take key_place gs)) (values_among key (take key_place gs)) ≡ []
+        → (values_among key (take key_place gs) ≡ [] → replaced key w gs ≡ set gs key_place (key, w))
+        → cond t ((key, w) ∷ gs) (g ∷ replaced key w gs) ≡ g ∷ set gs key_place (key, w)
     on true n later = absurd cc
     on false n later = ap (λ l. g ∷ l) (later n)
 
@@ -140,46 +140,46 @@ names-of key v e f = absurd cc
 
 -- ---- patterns that are changed where they stand
 
-fits-at : (all : List Given) (place : ℕ) (x : Given) → list_all fits_single all ≡ true → slice_get all place ≡ Some x → fits_single x ≡ true
-fits-at [] place x h e = absurd cc
+fits-at : (all : List Given) (key_place : ℕ) (x : Given) → list_all fits_single all ≡ true → slice_get all key_place ≡ Some x → fits_single x ≡ true
+fits-at [] key_place x h e = absurd cc
 fits-at (y ∷ ys) zero x h e = let k : y ≡ x = cc in ap fits_single (sym k) ∙ (both (fits_single y) (list_all fits_single ys) h).0
-fits-at (y ∷ ys) (suc place) x h e = fits-at ys place x (both (fits_single y) (list_all fits_single ys) h).1 e
+fits-at (y ∷ ys) (suc key_place) x h e = fits-at ys key_place x (both (fits_single y) (list_all fits_single ys) h).1 e
 
-pub names-at : (all : List Given) (place : ℕ) (key : Key) (g : Given) (s : StandsAt key all place) → g ≡ (key, s.value) → keeping key ≡ Patterns → list_all fits_single all ≡ true → Names (patterns_in g.1) ≡ g.1
-names-at all place key g s e how h =
-    let f = (both (not (keeps_every key)) (fits key s.value) (fits-at all place (key, s.value) h s.is)).1 in
+pub names-at : (all : List Given) (key_place : ℕ) (key : Key) (g : Given) (s : StandsAt key all key_place) → g ≡ (key, s.value) → keeping key ≡ Patterns → list_all fits_single all ≡ true → Names (patterns_in g.1) ≡ g.1
+names-at all key_place key g s e how h =
+    let f = (both (not (keeps_every key)) (fits key s.value) (fits-at all key_place (key, s.value) h s.is)).1 in
     subst (λ (x : Given). Names (patterns_in x.1) ≡ x.1) (sym e) (names-of key s.value how f)
 
-pub more-becomes : {A E : Type 0} (r : Result A E) (all : List Given) (place : ℕ) (key : Key) (value : Value) (g : Given) (new : Value) (names : List Bytes) (s : StandsAt key all place) → g ≡ (key, s.value) → names ≡ patterns_in value
-    → OnOk r (new ≡ Names (with_patterns (patterns_in g.1) names)) → OnOk r (set all place (g.0, new) ≡ with_more (values_among key all) key value all)
-more-becomes (Ok x) all place key value g new names s e n ok =
+pub more-becomes : {A E : Type 0} (r : Result A E) (all : List Given) (key_place : ℕ) (key : Key) (value : Value) (g : Given) (new : Value) (names : List Bytes) (s : StandsAt key all key_place) → g ≡ (key, s.value) → names ≡ patterns_in value
+    → OnOk r (new ≡ Names (with_patterns (patterns_in g.1) names)) → OnOk r (set all key_place (g.0, new) ≡ with_more (values_among key all) key value all)
+more-becomes (Ok x) all key_place key value g new names s e n ok =
     let is : new ≡ Names (with_patterns (patterns_in s.value) (patterns_in value)) = ok ∙ (ap (λ (y : Given). Names (with_patterns (patterns_in y.1) names)) e ∙ ap (λ l. Names (with_patterns (patterns_in s.value) l)) n) in
-    ap (λ (y : Given). set all place (y.0, new)) e
-    ∙ (ap (λ v. set all place (key, v)) is
-    ∙ (sym (stands-replaced all place key s.value (Names (with_patterns (patterns_in s.value) (patterns_in value))) s.is s.before)
-    ∙ sym (ap (λ vs. with_more vs key value all) (stands-values all place key s.value s.is s.before))))
-more-becomes (Err y) all place key value g new names s e n ok = tt
+    ap (λ (y : Given). set all key_place (y.0, new)) e
+    ∙ (ap (λ v. set all key_place (key, v)) is
+    ∙ (sym (stands-replaced all key_place key s.value (Names (with_patterns (patterns_in s.value) (patterns_in value))) s.is s.before)
+    ∙ sym (ap (λ vs. with_more vs key value all) (stands-values all key_place key s.value s.is s.before))))
+more-becomes (Err y) all key_place key value g new names s e n ok = tt
 
-set-at : (all : List Given) (place : ℕ) (x y : Given) → slice_get all place ≡ Some y → slice_get (set all place x) place ≡ Some x
-set-at [] place x y e = absurd cc
+set-at : (all : List Given) (key_place : ℕ) (x y : Given) → slice_get all key_place ≡ Some y → slice_get (set all key_place x) key_place ≡ Some x
+set-at [] key_place x y e = absurd cc
 set-at (z ∷ zs) zero x y e = refl
-set-at (z ∷ zs) (suc place) x y e = set-at zs place x y e
+set-at (z ∷ zs) (suc key_place) x y e = set-at zs key_place x y e
 
-set-same : (all : List Given) (place : ℕ) (x : Given) → slice_get all place ≡ Some x → set all place x ≡ all
-set-same [] place x e = absurd cc
+set-same : (all : List Given) (key_place : ℕ) (x : Given) → slice_get all key_place ≡ Some x → set all key_place x ≡ all
+set-same [] key_place x e = absurd cc
 set-same (z ∷ zs) zero x e = let k : x ≡ z = cc in ap (λ y. y ∷ zs) k
-set-same (z ∷ zs) (suc place) x e = ap (λ l. z ∷ l) (set-same zs place x e)
+set-same (z ∷ zs) (suc key_place) x e = ap (λ l. z ∷ l) (set-same zs key_place x e)
 
-pub more-changed : {E : Type 0} (r : Result Bool E) (all : List Given) (place : ℕ) (key : Key) (g : Given) (new : Value) (s : StandsAt key all place) → g ≡ (key, s.value)
-    → IfOk r (λ changed. IsTrue changed ↔ (new ≢ g.1)) → IfOk r (λ changed. IsTrue changed ↔ (set all place (g.0, new) ≢ all))
-more-changed (Ok b) all place key g new s e h = (
-  λ t f. h.0 t (ap (λ (y : Given). y.1) (some-same (g.0, new) g (sym (set-at all place (g.0, new) (key, s.value) s.is) ∙ (ap (λ l. slice_get l place) f ∙ here)))),
-  λ n. h.1 (λ f. n (ap (λ v. set all place (g.0, v)) f ∙ set-same all place g here)),
+pub more-changed : {E : Type 0} (r : Result Bool E) (all : List Given) (key_place : ℕ) (key : Key) (g : Given) (new : Value) (s : StandsAt key all key_place) → g ≡ (key, s.value)
+    → IfOk r (λ changed. IsTrue changed ↔ (new ≢ g.1)) → IfOk r (λ changed. IsTrue changed ↔ (set all key_place (g.0, new) ≢ all))
+more-changed (Ok b) all key_place key g new s e h = (
+  λ t f. h.0 t (ap (λ (y : Given). y.1) (some-same (g.0, new) g (sym (set-at all key_place (g.0, new) (key, s.value) s.is) ∙ (ap (λ l. slice_get l key_place) f ∙ here)))),
+  λ n. h.1 (λ f. n (ap (λ v. set all key_place (g.0, v)) f ∙ set-same all key_place g here)),
 )
   where
-    here : slice_get all place ≡ Some g
+    here : slice_get all key_place ≡ Some g
     here = s.is ∙ ap (λ y. Some y) (sym e)
 
     some-same : (x y : Given) → Some x ≡ Some y → x ≡ y
     some-same x y k = cc
-more-changed (Err y) all place key g new s e h = tt
+more-changed (Err y) all key_place key g new s e h = tt

@@ -15,10 +15,10 @@ use Rattle.conf_rules.specs.Results.{◌>>=◌, or_refused}
 use Rattle.conf_rules.specs.Texts.{Bytes, same_word, has, split_at_last}
 use Rattle.conf_rules.specs.Numbers.{digits_from, number_within}
 use Rattle.conf_rules.specs.Times.{seconds_from, some_seconds, time_of}
-use Rattle.conf_rules.specs.Kinds.{ValueKind, Flag, Number, Time, Choice, OneWord, HostWord, Raw, FlagOrWord, FlagOrChoice, Names, TwoEnds, OneOrTwoEnds, PortAlone, most, kind}
+use Rattle.conf_rules.specs.Kinds.{ValueKind, Flag, Number, Time, Choice, OneWord, HostWord, Raw, FlagOrWord, FlagOrChoice, Names, TwoEnds, OneOrTwoEnds, PortAlone, most, value_kind}
 use Rattle.conf_rules.specs.Values.{flag_of, flag_or, listed_choice, choice_among, choice_value, has_name_tokens, value_of, values_of, value_for}
-use Rattle.conf_rules.specs.Forwardings.{with_port, lone_port, listen_host, connect_host, listen_port, listen_end, connect_end, one_end, two_ends}
-use Rattle.conf_rules.specs.Fits.{is_choice, is_port, end_fits, connect_fits, alone_fits, fits_kind, fits}
+use Rattle.conf_rules.specs.Forwardings.{end_with_port, lone_port, listening_host, connect_host, listen_port, listen_end, connect_end, forwarding_of_one_end, forwarding_of_two_ends}
+use Rattle.conf_rules.specs.Fits.{is_choice, is_port_within, end_fits, connect_fits, alone_fits, fits_kind, fits}
 
 -- ---- numbers, times, flags
 
@@ -118,12 +118,12 @@ names-fit words v h = let k : values.Names words ≡ v = cc in rw (← k) refl
 
 -- an end with a host and a port of its range
 hosted : ℕ → End → Bool
-hosted low (Port (Some host) port) = is_port low port
+hosted low (Port (Some host) port) = is_port_within low port
 hosted low end = false
 
 -- an end with a port of its range
 ported : ℕ → End → Bool
-ported low (Port host port) = is_port low port
+ported low (Port host port) = is_port_within low port
 ported low (Path path) = false
 
 -- a port, if there is one, with its host
@@ -131,12 +131,12 @@ at_port : Option Bytes → Option ℕ → Option End
 at_port host None = None
 at_port host (Some n) = Some (Port host n)
 
-with-port-is : (low : ℕ) (port : Bytes) (host : Option Bytes) (e : End) → with_port low port host ≡ Some e → hosted low e ≡ true
+with-port-is : (low : ℕ) (port : Bytes) (host : Option Bytes) (e : End) → end_with_port low port host ≡ Some e → hosted low e ≡ true
 unfolding hosted at_port
 with-port-is low port None e h = absurd cc
 with-port-is low port (Some host) e h = on (number_within low 65535 port) (number-range low 65535 port) h
   where
-    on : (o : Option ℕ) → ((n : ℕ) → o ≡ Some n → is_port low n ≡ true) → at_port (Some host) o ≡ Some e → hosted low e ≡ true
+    on : (o : Option ℕ) → ((n : ℕ) → o ≡ Some n → is_port_within low n ≡ true) → at_port (Some host) o ≡ Some e → hosted low e ≡ true
     on None r h = absurd cc
     on (Some n) r h = let k : Port (Some host) n ≡ e = cc in rw (← k) (r n refl)
 
@@ -144,7 +144,7 @@ lone-port-is : (low : ℕ) (port : Bytes) (e : End) → lone_port low port ≡ S
 unfolding ported at_port
 lone-port-is low port e h = on (number_within low 65535 port) (number-range low 65535 port) h
   where
-    on : (o : Option ℕ) → ((n : ℕ) → o ≡ Some n → is_port low n ≡ true) → at_port None o ≡ Some e → ported low e ≡ true
+    on : (o : Option ℕ) → ((n : ℕ) → o ≡ Some n → is_port_within low n ≡ true) → at_port None o ≡ Some e → ported low e ≡ true
     on None r h = absurd cc
     on (Some n) r h = let k : Port None n ≡ e = cc in rw (← k) (r n refl)
 
@@ -157,7 +157,7 @@ hosted-ported low (Path path) h = absurd cc
 -- the end of a word, by how its last colon parts it
 listen_by : ℕ → Bytes → Option (Bytes × Bytes) → Option End
 listen_by low word None = lone_port low word
-listen_by low word (Some p) = with_port low p.1 (listen_host p.0)
+listen_by low word (Some p) = end_with_port low p.1 (listening_host p.0)
 
 listen-port-is : (low : ℕ) (word : Bytes) (e : End) → listen_port low word ≡ Some e → ported low e ≡ true
 unfolding listen_by
@@ -165,7 +165,7 @@ listen-port-is low word e h = on (split_at_last 58 word) h
   where
     on : (o : Option (Bytes × Bytes)) → listen_by low word o ≡ Some e → ported low e ≡ true
     on None h = lone-port-is low word e h
-    on (Some p) h = hosted-ported low e (with-port-is low p.1 (listen_host p.0) e h)
+    on (Some p) h = hosted-ported low e (with-port-is low p.1 (listening_host p.0) e h)
 
 ported-fits : (low : ℕ) (e : End) → ported low e ≡ true → end_fits low e ≡ true
 unfolding ported
@@ -187,7 +187,7 @@ hosted-connects (Path path) h = absurd cc
 
 connect_by : Option (Bytes × Bytes) → Option End
 connect_by None = None
-connect_by (Some p) = with_port 1 p.1 (connect_host p.0)
+connect_by (Some p) = end_with_port 1 p.1 (connect_host p.0)
 
 connect-is : (word : Bytes) (e : End) → connect_end word ≡ Some e → connect_fits (Some e) ≡ true
 unfolding connect_by
@@ -206,25 +206,25 @@ unfolding ported
 ported-alone (Port host port) h = h
 ported-alone (Path path) h = absurd cc
 
-alone-fits : (o : Option End) (v : Value) → ((e : End) → o ≡ Some e → ported 1 e ≡ true) → one_end o ≡ Ok v → fits_kind PortAlone v ≡ true
+alone-fits : (o : Option End) (v : Value) → ((e : End) → o ≡ Some e → ported 1 e ≡ true) → forwarding_of_one_end o ≡ Ok v → fits_kind PortAlone v ≡ true
 alone-fits None v r h = absurd cc
 alone-fits (Some e) v r h = let k : values.Forward (record { listen = e; connect = None }) ≡ v = cc in rw (← k) (ported-alone e (r e refl))
 
-one-fits : (o : Option End) (v : Value) → ((e : End) → o ≡ Some e → end_fits 0 e ≡ true) → one_end o ≡ Ok v → fits_kind OneOrTwoEnds v ≡ true
+one-fits : (o : Option End) (v : Value) → ((e : End) → o ≡ Some e → end_fits 0 e ≡ true) → forwarding_of_one_end o ≡ Ok v → fits_kind OneOrTwoEnds v ≡ true
 one-fits None v r h = absurd cc
 one-fits (Some e) v r h = let k : values.Forward (record { listen = e; connect = None }) ≡ v = cc in rw (← k, r e refl) refl
 
-two-fits : (l c : Option End) (v : Value) → ((e : End) → l ≡ Some e → end_fits 1 e ≡ true) → ((e : End) → c ≡ Some e → connect_fits (Some e) ≡ true) → two_ends l c ≡ Ok v → fits_kind TwoEnds v ≡ true
+two-fits : (l c : Option End) (v : Value) → ((e : End) → l ≡ Some e → end_fits 1 e ≡ true) → ((e : End) → c ≡ Some e → connect_fits (Some e) ≡ true) → forwarding_of_two_ends l c ≡ Ok v → fits_kind TwoEnds v ≡ true
 two-fits None c v r s h = absurd cc
 two-fits (Some e) None v r s h = absurd cc
 two-fits (Some e) (Some f) v r s h = let k : values.Forward (record { listen = e; connect = Some f }) ≡ v = cc in rw (← k, r e refl) (s f refl)
 
-both-fit : (l c : Option End) (v : Value) → ((e : End) → l ≡ Some e → end_fits 0 e ≡ true) → ((e : End) → c ≡ Some e → connect_fits (Some e) ≡ true) → two_ends l c ≡ Ok v → fits_kind OneOrTwoEnds v ≡ true
+both-fit : (l c : Option End) (v : Value) → ((e : End) → l ≡ Some e → end_fits 0 e ≡ true) → ((e : End) → c ≡ Some e → connect_fits (Some e) ≡ true) → forwarding_of_two_ends l c ≡ Ok v → fits_kind OneOrTwoEnds v ≡ true
 both-fit None c v r s h = absurd cc
 both-fit (Some e) None v r s h = absurd cc
 both-fit (Some e) (Some f) v r s h = let k : values.Forward (record { listen = e; connect = Some f }) ≡ v = cc in rw (← k, r e refl) (s f refl)
 
-alone-word : (t : Bool) (cause : ValueError) (word : Bytes) (v : Value) → cond t (Err cause) (one_end (listen_port 1 word)) ≡ Ok v → fits_kind PortAlone v ≡ true
+alone-word : (t : Bool) (cause : ValueError) (word : Bytes) (v : Value) → cond t (Err cause) (forwarding_of_one_end (listen_port 1 word)) ≡ Ok v → fits_kind PortAlone v ≡ true
 alone-word true cause word v h = absurd cc
 alone-word false cause word v h = alone-fits (listen_port 1 word) v (listen-port-is 1 word) h
 
@@ -277,4 +277,4 @@ said-fits PortAlone rest words v h = words-of PortAlone words v h
 
 pub value-fits : (key : Key) (rest : Bytes) (words : List Bytes) (v : Value) → value_for key rest words ≡ Ok v → fits key v ≡ true
 unfolding fits said
-value-fits key rest words v h = said-fits (kind key) rest words v h
+value-fits key rest words v h = said-fits (value_kind key) rest words v h

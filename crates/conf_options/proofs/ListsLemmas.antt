@@ -10,8 +10,8 @@ use Rattle.conf_rules.specs.declared.value.Value.TheVariants.{Names}
 use Rattle.conf_rules.specs.Texts.{Bytes}
 use Rattle.conf_rules.specs.Keys.{same_key}
 use Rattle.conf_rules.specs.Kinds.{Keeping, TheFirst, Every, Patterns, Shared, keeping, keeps_every}
-use Rattle.conf_rules.specs.Rows.{values_among, kept}
-use Rattle.conf_rules.specs.Fits.{fits, fitting}
+use Rattle.conf_rules.specs.Rows.{values_among, kept_values}
+use Rattle.conf_rules.specs.Fits.{fits, fits_its_key}
 use Rattle.conf_options.specs.Kept.{Given, KeepsSettings, behind_all, is_unset, fits_single, fits_every, replaced, with_more, offered}
 use Rattle.conf_rules.proofs.SameKeys.{same-key}
 use Rattle.conf_options.proofs.OfferLemmas.{among-append, kept-other, own, own-every, stays}
@@ -28,7 +28,7 @@ not-collected k [] single all = refl
 not-collected k (g ∷ gs) single all = on (same_key k g.0) refl (not-collected k gs single (both (fits_every g) (list_all fits_every gs) all).1)
   where
     every : keeps_every g.0 ≡ true
-    every = (both (keeps_every g.0) (fitting g) (both (fits_every g) (list_all fits_every gs) all).0).0
+    every = (both (keeps_every g.0) (fits_its_key g) (both (fits_every g) (list_all fits_every gs) all).0).0
 
     on : (t : Bool) → same_key k g.0 ≡ t → values_among k gs ≡ [] → cond t (g.1 ∷ values_among k gs) (values_among k gs) ≡ []
     on true s later = let same : keeps_every k ≡ keeps_every g.0 = ap keeps_every (same-key k g.0 s) in absurd cc
@@ -40,7 +40,7 @@ not-single k [] every all = refl
 not-single k (g ∷ gs) every all = on (same_key k g.0) refl (not-single k gs every (both (fits_single g) (list_all fits_single gs) all).1)
   where
     single : not (keeps_every g.0) ≡ true
-    single = (both (not (keeps_every g.0)) (fitting g) (both (fits_single g) (list_all fits_single gs) all).0).0
+    single = (both (not (keeps_every g.0)) (fits_its_key g) (both (fits_single g) (list_all fits_single gs) all).0).0
 
     on : (t : Bool) → same_key k g.0 ≡ t → values_among k gs ≡ [] → cond t (g.1 ∷ values_among k gs) (values_among k gs) ≡ []
     on true s later = let same : not (keeps_every k) ≡ not (keeps_every g.0) = ap (λ x. not (keeps_every x)) (same-key k g.0 s) in let one : not (keeps_every k) ≡ false = ap not every in absurd cc
@@ -59,11 +59,11 @@ keeps-single key v singles collected given single all keeps = record { each = λ
     new : List Given
     new = offered (keeping key) singles key v
 
-    at : (k : Key) → keeps_every k ≡ false → values_among k singles ≡ kept (keeping k) k given
+    at : (k : Key) → keeps_every k ≡ false → values_among k singles ≡ kept_values (keeping k) k given
     at k s = among-singles k singles collected s all ∙ keeps.each k
 
-    on : (k : Key) (t : Bool) → same_key k key ≡ t → values_among k (new ++ collected) ≡ kept (keeping k) k (given ++ (key, v) ∷ [])
-    on k true e = let same : k ≡ key = same-key k key e in subst (λ (x : Key). values_among x (new ++ collected) ≡ kept (keeping x) x (given ++ (key, v) ∷ [])) (sym same) (sym (among-singles key new collected single all) ∙ own (keeping key) key v singles given refl (at ProxyCommand refl) (at ProxyJump refl) (at key single))
+    on : (k : Key) (t : Bool) → same_key k key ≡ t → values_among k (new ++ collected) ≡ kept_values (keeping k) k (given ++ (key, v) ∷ [])
+    on k true e = let same : k ≡ key = same-key k key e in subst (λ (x : Key). values_among x (new ++ collected) ≡ kept_values (keeping x) x (given ++ (key, v) ∷ [])) (sym same) (sym (among-singles key new collected single all) ∙ own (keeping key) key v singles given refl (at ProxyCommand refl) (at ProxyJump refl) (at key single))
     on k false e = among-append k new collected ∙ (ap (λ l. l ++ values_among k collected) (stays (keeping key) k key v singles e) ∙ (sym (among-append k singles collected) ∙ (keeps.each k ∙ sym (kept-other (keeping k) k key v given e))))
 
 every-kept : (key : Key) → keeps_every key ≡ true → keeping key ≡ Every
@@ -74,7 +74,7 @@ every-kept LocalForward e = refl
 every-kept RemoteForward e = refl
 every-kept key e = absurd cc
 
-own-collected : (how : Keeping) (key : Key) (v : Value) (old given : List Given) → how ≡ Every → values_among key old ≡ kept how key given → values_among key (behind_all old key v) ≡ kept how key (given ++ (key, v) ∷ [])
+own-collected : (how : Keeping) (key : Key) (v : Value) (old given : List Given) → how ≡ Every → values_among key old ≡ kept_values how key given → values_among key (behind_all old key v) ≡ kept_values how key (given ++ (key, v) ∷ [])
 own-collected Every key v old given s h = own-every key v old given h
 own-collected how key v old given s h = absurd cc
 
@@ -85,8 +85,8 @@ keeps-every key v singles collected given every keeps = record { each = λ k. ap
     old : List Given
     old = singles ++ collected
 
-    on : (k : Key) (t : Bool) → same_key k key ≡ t → values_among k (behind_all old key v) ≡ kept (keeping k) k (given ++ (key, v) ∷ [])
-    on k true e = let same : k ≡ key = same-key k key e in subst (λ (x : Key). values_among x (behind_all old key v) ≡ kept (keeping x) x (given ++ (key, v) ∷ [])) (sym same) (own-collected (keeping key) key v old given (every-kept key every) (keeps.each key))
+    on : (k : Key) (t : Bool) → same_key k key ≡ t → values_among k (behind_all old key v) ≡ kept_values (keeping k) k (given ++ (key, v) ∷ [])
+    on k true e = let same : k ≡ key = same-key k key e in subst (λ (x : Key). values_among x (behind_all old key v) ≡ kept_values (keeping x) x (given ++ (key, v) ∷ [])) (sym same) (own-collected (keeping key) key v old given (every-kept key every) (keeps.each key))
     on k false e = stays Every k key v old e ∙ (keeps.each k ∙ sym (kept-other (keeping k) k key v given e))
 
 -- ---- values fit their keys

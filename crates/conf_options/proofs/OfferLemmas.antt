@@ -6,10 +6,10 @@ use Rattle.conf_rules.specs.declared.key.Key.{Key}
 use Rattle.conf_rules.specs.declared.key.Key.TheVariants.{ProxyCommand, ProxyJump}
 use Rattle.conf_rules.specs.declared.value.Value.{Value}
 use Rattle.conf_rules.specs.declared.value.Value.TheVariants.{Names}
-use Rattle.conf_rules.specs.Texts.{Bytes, is_empty}
+use Rattle.conf_rules.specs.Texts.{Bytes, is_empty_list}
 use Rattle.conf_rules.specs.Keys.{same_key}
 use Rattle.conf_rules.specs.Kinds.{Keeping, TheFirst, Every, Patterns, Shared, keeping}
-use Rattle.conf_rules.specs.Rows.{values_among, first_of, is_shared, shared_value, with_pattern, with_patterns, patterns_in, one_value, kept}
+use Rattle.conf_rules.specs.Rows.{values_among, first_of_values, is_shared, shared_value, with_pattern, with_patterns, patterns_in, one_value, kept_values}
 use Rattle.conf_options.specs.Kept.{Given, behind_all, is_unset, replaced, with_more, offered}
 use Rattle.conf_rules.proofs.SameKeys.{same-key, same-key-refl}
 
@@ -79,17 +79,17 @@ shared-other k key v [] e = rw e (on (is_shared key))
 shared-other k key v (g ∷ gs) e = ap (λ l. cond (is_shared g.0) (cond (same_key k g.0) (g.1 ∷ []) []) l) (shared-other k key v gs e)
 
 -- another key's kept values stay
-pub kept-other : (how : Keeping) (k key : Key) (v : Value) (given : List Given) → same_key k key ≡ false → kept how k (given ++ (key, v) ∷ []) ≡ kept how k given
-kept-other TheFirst k key v given e = ap first_of (no-more k key v given e)
+pub kept-other : (how : Keeping) (k key : Key) (v : Value) (given : List Given) → same_key k key ≡ false → kept_values how k (given ++ (key, v) ∷ []) ≡ kept_values how k given
+kept-other TheFirst k key v given e = ap first_of_values (no-more k key v given e)
 kept-other Every k key v given e = no-more k key v given e
 kept-other Patterns k key v given e = ap one_value (no-more k key v given e)
 kept-other Shared k key v given e = shared-other k key v given e
 
 -- ---- the key itself
 
-more-patterns : (kept xs ys : List Bytes) → with_patterns kept (xs ++ ys) ≡ with_patterns (with_patterns kept xs) ys
-more-patterns kept [] ys = refl
-more-patterns kept (x ∷ xs) ys = more-patterns (with_pattern kept x) xs ys
+more-patterns : (kept_values xs ys : List Bytes) → with_patterns kept_values (xs ++ ys) ≡ with_patterns (with_patterns kept_values xs) ys
+more-patterns kept_values [] ys = refl
+more-patterns kept_values (x ∷ xs) ys = more-patterns (with_pattern kept_values x) xs ys
 
 one-more : (vs : List Value) (v : Value) → with_patterns [] (flat_map patterns_in (vs ++ v ∷ [])) ≡ with_patterns (with_patterns [] (flat_map patterns_in vs)) (patterns_in v)
 one-more vs v = ap (with_patterns []) (flat_map-append patterns_in vs (v ∷ []) ∙ ap (λ l. flat_map patterns_in vs ++ l) (append-nil (patterns_in v))) ∙ more-patterns [] (flat_map patterns_in vs) (patterns_in v)
@@ -104,12 +104,12 @@ any_shared : List Given → Bool
 any_shared [] = false
 any_shared (g ∷ gs) = let later = any_shared gs in cond (is_shared g.0) true later
 
-unset-iff : (given : List Given) → (is_empty (shared_value ProxyCommand given) && is_empty (shared_value ProxyJump given)) ≡ not (any_shared given)
+unset-iff : (given : List Given) → (is_empty_list (shared_value ProxyCommand given) && is_empty_list (shared_value ProxyJump given)) ≡ not (any_shared given)
 unfolding any_shared
 unset-iff [] = refl
 unset-iff (g ∷ gs) = on (is_shared g.0) refl (unset-iff gs)
   where
-    one : (a b : Bool) → (a ≡ true) ⊎ (b ≡ true) → (is_empty (cond a (g.1 ∷ []) []) && is_empty (cond b (g.1 ∷ []) [])) ≡ false
+    one : (a b : Bool) → (a ≡ true) ⊎ (b ≡ true) → (is_empty_list (cond a (g.1 ∷ []) []) && is_empty_list (cond b (g.1 ∷ []) [])) ≡ false
     one true b e = refl
     one false true e = refl
     one false false (inl e) = absurd cc
@@ -119,7 +119,7 @@ unset-iff (g ∷ gs) = on (is_shared g.0) refl (unset-iff gs)
     which (inl e) = inl (ap (same_key ProxyCommand) e)
     which (inr e) = inr (ap (same_key ProxyJump) e)
 
-    on : (t : Bool) → is_shared g.0 ≡ t → (is_empty (shared_value ProxyCommand gs) && is_empty (shared_value ProxyJump gs)) ≡ not (any_shared gs) → (is_empty (cond t (cond (same_key ProxyCommand g.0) (g.1 ∷ []) []) (shared_value ProxyCommand gs)) && is_empty (cond t (cond (same_key ProxyJump g.0) (g.1 ∷ []) []) (shared_value ProxyJump gs))) ≡ not (cond t true (any_shared gs))
+    on : (t : Bool) → is_shared g.0 ≡ t → (is_empty_list (shared_value ProxyCommand gs) && is_empty_list (shared_value ProxyJump gs)) ≡ not (any_shared gs) → (is_empty_list (cond t (cond (same_key ProxyCommand g.0) (g.1 ∷ []) []) (shared_value ProxyCommand gs)) && is_empty_list (cond t (cond (same_key ProxyJump g.0) (g.1 ∷ []) []) (shared_value ProxyJump gs))) ≡ not (cond t true (any_shared gs))
     on true e later = one (same_key ProxyCommand g.0) (same_key ProxyJump g.0) (which (shared-is g.0 e))
     on false e later = later
 
@@ -144,10 +144,10 @@ none-shared key (g ∷ gs) e = on (is_shared g.0) (none-shared key gs) e
     on true later f = absurd cc
     on false later f = later f
 
-own-first : (key : Key) (v : Value) (old given : List Given) → values_among key old ≡ first_of (values_among key given) → values_among key (offered TheFirst old key v) ≡ first_of (values_among key (given ++ (key, v) ∷ []))
+own-first : (key : Key) (v : Value) (old given : List Given) → values_among key old ≡ first_of_values (values_among key given) → values_among key (offered TheFirst old key v) ≡ first_of_values (values_among key (given ++ (key, v) ∷ []))
 own-first key v old given h = rw (among-behind key key v given true (same-key-refl key), h) (on (values_among key given) h)
   where
-    on : (vs : List Value) → values_among key old ≡ first_of vs → values_among key (cond (is_empty (first_of vs)) (behind_all old key v) old) ≡ first_of (vs ++ v ∷ [])
+    on : (vs : List Value) → values_among key old ≡ first_of_values vs → values_among key (cond (is_empty_list (first_of_values vs)) (behind_all old key v) old) ≡ first_of_values (vs ++ v ∷ [])
     on [] k = among-behind key key v old true (same-key-refl key) ∙ ap (λ l. l ++ v ∷ []) k
     on (x ∷ xs) k = k
 
@@ -177,7 +177,7 @@ shared-kept key e = absurd cc
 
 pub own : (how : Keeping) (key : Key) (v : Value) (old given : List Given) → keeping key ≡ how
     → values_among ProxyCommand old ≡ shared_value ProxyCommand given → values_among ProxyJump old ≡ shared_value ProxyJump given
-    → values_among key old ≡ kept how key given → values_among key (offered how old key v) ≡ kept how key (given ++ (key, v) ∷ [])
+    → values_among key old ≡ kept_values how key given → values_among key (offered how old key v) ≡ kept_values how key (given ++ (key, v) ∷ [])
 own TheFirst key v old given e c j h = own-first key v old given h
 own Every key v old given e c j h = own-every key v old given h
 own Patterns key v old given e c j h = own-patterns key v old given h

@@ -7,7 +7,7 @@ use Rattle.conf_rules.specs.declared.key.Key.TheVariants.{Port}
 use Rattle.conf_rules.specs.declared.value.Value.TheVariants.{Number}
 use Rattle.conf_rules.specs.Keys.{same_key}
 use Rattle.conf_rules.specs.Rows.{values_among}
-use Rattle.conf_rules.specs.Fits.{fits, fitting}
+use Rattle.conf_rules.specs.Fits.{fits, fits_its_key}
 use Rattle.conf_rules.specs.Kinds.{keeps_every}
 use Rattle.conf_options.specs.Kept.{Given, fits_single}
 use Rattle.conf_rules.proofs.SameKeys.{same-key}
@@ -28,5 +28,5 @@ port-fits (g ∷ gs) n h e = on (same_key Port g.0) refl (port-fits gs n (both (
     on true s later e =
         let key : Port ≡ g.0 = same-key Port g.0 s in
         let value : g.1 ≡ Number n = cc in
-        in-range n (ap (λ k. fits k (Number n)) key ∙ (ap (fits g.0) (sym value) ∙ (both (not (keeps_every g.0)) (fitting g) (both (fits_single g) (list_all fits_single gs) h).0).1))
+        in-range n (ap (λ k. fits k (Number n)) key ∙ (ap (fits g.0) (sym value) ∙ (both (not (keeps_every g.0)) (fits_its_key g) (both (fits_single g) (list_all fits_single gs) h).0).1))
     on false s later e = later e

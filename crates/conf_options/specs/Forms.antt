@@ -41,8 +41,8 @@ IsSmall (forms.Number low high) = high < 2 ^ 32
 IsSmall form = Unit {0}
 
 -- a choice as it is listed, or a later one
-abbrev pub chosen : Bool → Bytes → Option Bytes → Option Bytes
-chosen here listed later = if here then Some listed else later
+abbrev pub choice_listed : Bool → Bytes → Option Bytes → Option Bytes
+choice_listed here listed later = if here then Some listed else later
 
 -- whether what follows has right tokens, after a percent sign or not
 abbrev pub tokens_from : Bool → Bytes → Bool

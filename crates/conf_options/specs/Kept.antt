@@ -5,11 +5,11 @@ use Rattle.conf_rules.specs.declared.key.Key.{Key}
 use Rattle.conf_rules.specs.declared.key.Key.TheVariants.{ProxyCommand, ProxyJump}
 use Rattle.conf_rules.specs.declared.value.Value.{Value}
 use Rattle.conf_rules.specs.declared.value.Value.TheVariants.{Names}
-use Rattle.conf_rules.specs.Texts.{Bytes, is_empty, behind}
+use Rattle.conf_rules.specs.Texts.{Bytes, is_empty_list, rest_after_prefix}
 use Rattle.conf_rules.specs.Keys.{same_key}
 use Rattle.conf_rules.specs.Kinds.{Keeping, TheFirst, Every, Patterns, Shared, keeping, keeps_every}
-use Rattle.conf_rules.specs.Rows.{values_among, kept, with_patterns, patterns_in}
-use Rattle.conf_rules.specs.Fits.{fitting}
+use Rattle.conf_rules.specs.Rows.{values_among, kept_values, with_patterns, patterns_in}
+use Rattle.conf_rules.specs.Fits.{fits_its_key}
 
 -- a key with a value
 abbrev pub Given : Type 0
@@ -21,15 +21,15 @@ first_value key settings = slice_get (values_among key settings) 0
 
 -- settings keep of each key what counts of all that was given
 pub record KeepsSettings (settings given : List Given) : Type 0 where
-  pub each : (key : Key) → values_among key settings ≡ kept (keeping key) key given
+  pub each : (key : Key) → values_among key settings ≡ kept_values (keeping key) key given
 
 -- whether a value is one of its key, of which one value counts
 abbrev pub fits_single : Given → Bool
-fits_single given = not (keeps_every given.0) && fitting given
+fits_single given = not (keeps_every given.0) && fits_its_key given
 
 -- whether a value is one of its key, of which all values count
 abbrev pub fits_every : Given → Bool
-fits_every given = keeps_every given.0 && fitting given
+fits_every given = keeps_every given.0 && fits_its_key given
 
 -- a value after the others
 abbrev pub behind_all : List Given → Key → Value → List Given
@@ -37,7 +37,7 @@ behind_all all key value = all ++ (key, value) ∷ []
 
 -- whether a key has no value
 abbrev pub is_unset : Key → List Given → Bool
-is_unset key all = is_empty (values_among key all)
+is_unset key all = is_empty_list (values_among key all)
 
 -- the same with another first value of a key
 abbrev pub replaced : Key → Value → List Given → List Given
@@ -67,7 +67,7 @@ offered Shared all key value = if is_unset ProxyCommand all && is_unset ProxyJum
 
 -- whether a pattern removes others: it begins with a dash
 abbrev pub removes : Bytes → Bool
-removes pattern = is_some (behind (45 ∷ []) pattern)
+removes pattern = is_some (rest_after_prefix (45 ∷ []) pattern)
 
 -- whether two lists of texts are one
 abbrev pub same_texts : List Bytes → List Bytes → Bool

@@ -1,7 +1,7 @@
 ghost use Rattle.std.specs.Prelude.{◌≡◌, ◌<◌, [], Some, None, IfOk};
 ghost use Rattle.conf_rules.specs.Texts.{has, split_at_last};
 ghost use Rattle.conf_rules.specs.Numbers.{number_within};
-ghost use Rattle.conf_rules.specs.Forwardings.{host_of, listen_port, listen_end, connect_end, with_port};
+ghost use Rattle.conf_rules.specs.Forwardings.{host_of, listen_port, listen_end, connect_end, end_with_port};
 
 use conf_lexer::{has_slash, host_of, number, split_at_last};
 use conf_rules::End;
@@ -20,7 +20,7 @@ fn port(word: &[u8], low: u64) -> Option<u16>
 
 // A port after its host.
 fn with_port(alloc: Global, low: u64, host: &[u8], word: &[u8]) -> Result<Option<End>, OutOfMemory>
-    ensures { IfOk result (λ end. end ≡ with_port low word.now (Some host.now)) }
+    ensures { IfOk result (λ end. end ≡ end_with_port low word.now (Some host.now)) }
 {
     match port(word, low) {
         None => Ok(None),

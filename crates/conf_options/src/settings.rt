@@ -6,7 +6,7 @@ ghost use Rattle.conf_rules.specs.declared.value.Value.TheVariants as values;
 ghost use Rattle.conf_rules.specs.Kinds.{TheFirst, Every, Patterns, Shared, keeping, keeps_every};
 ghost use Rattle.conf_rules.specs.Rows.{values_among, word_in, but_none, patterns_in, number_in, with_patterns};
 ghost use Rattle.conf_rules.specs.Listing.{is_set};
-ghost use Rattle.conf_rules.specs.Fits.{fits, fitting};
+ghost use Rattle.conf_rules.specs.Fits.{fits, fits_its_key};
 ghost use Rattle.conf_options.specs.Kept.{Given, KeepsSettings, StandsAt, first_value, behind_all, is_unset, fits_single, offered};
 
 use crate::patterns::{take_patterns, with_patterns};

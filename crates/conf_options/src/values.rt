@@ -2,9 +2,9 @@ ghost use Rattle.std.specs.Prelude.{◌≡◌, ℕ, Bool, true, IfOk, Some, None
 ghost use Rattle.std.specs.Option.{option_copied};
 ghost use Rattle.conf_rules.specs.Kinds as kinds;
 ghost use Rattle.conf_rules.specs.Values.{value_of, values_of, value_for, choice_value, flag_of, flag_or};
-ghost use Rattle.conf_rules.specs.Forwardings.{one_end, two_ends, listen_end, connect_end};
+ghost use Rattle.conf_rules.specs.Forwardings.{forwarding_of_one_end, forwarding_of_two_ends, listen_end, connect_end};
 ghost use Rattle.conf_rules.specs.Fits.{fits};
-ghost use Rattle.conf_rules.specs.Results.{Gives};
+ghost use Rattle.conf_rules.specs.Results.{GivesReading};
 ghost use Rattle.conf_rules.specs.Wants.{value_wants_memory};
 ghost use Rattle.conf_options.specs.Forms.{choices_of, form_kind, IsSmall};
 
@@ -20,7 +20,7 @@ use std::alloc::Global;
 
 // A choice that is a value.
 fn choice_value(alloc: Global, choices: Choices, word: &[u8]) -> Result<Value, ValueError>
-    ensures { Gives value_wants_memory result (choice_value (choices_of choices) word.now) }
+    ensures { GivesReading value_wants_memory result (choice_value (choices_of choices) word.now) }
 {
     match choice_of(choices, word) {
         None => Err(ValueError::BadChoice),
@@ -30,7 +30,7 @@ fn choice_value(alloc: Global, choices: Choices, word: &[u8]) -> Result<Value, V
 
 // A forwarding of one end.
 fn one_end(listen: Option<End>) -> Result<Value, ValueError>
-    ensures { Gives value_wants_memory result (one_end listen) }
+    ensures { GivesReading value_wants_memory result (forwarding_of_one_end listen) }
 {
     match listen {
         None => Err(ValueError::BadForward),
@@ -43,7 +43,7 @@ fn one_end(listen: Option<End>) -> Result<Value, ValueError>
 
 // A forwarding of two ends.
 fn two_ends(listen: Option<End>, connect: Option<End>) -> Result<Value, ValueError>
-    ensures { Gives value_wants_memory result (two_ends listen connect) }
+    ensures { GivesReading value_wants_memory result (forwarding_of_two_ends listen connect) }
 {
     match (listen, connect) {
         (Some(listen), Some(connect)) => Ok(Value::Forward(Forward {
@@ -56,8 +56,8 @@ fn two_ends(listen: Option<End>, connect: Option<End>) -> Result<Value, ValueErr
 
 // What the words of a forwarding say.
 fn forward(alloc: Global, low: u64, listen: &[u8], connect: &[u8]) -> Result<Value, ValueError>
-    ensures { Gives value_wants_memory result
-        (two_ends (listen_end low listen.now) (connect_end connect.now)) }
+    ensures { GivesReading value_wants_memory result
+        (forwarding_of_two_ends (listen_end low listen.now) (connect_end connect.now)) }
 {
     let listen = listen_end(alloc, low, listen)?;
     let connect = connect_end(alloc, connect)?;
@@ -68,7 +68,7 @@ fn forward(alloc: Global, low: u64, listen: &[u8], connect: &[u8]) -> Result<Val
 #[tactic(auto, unfolding(conf_rules::specs::Values::value_of))]
 fn one_value(alloc: Global, form: Form, word: &[u8]) -> Result<Value, ValueError>
     requires { IsSmall form }
-    ensures { Gives value_wants_memory result (value_of (form_kind form) word.now) }
+    ensures { GivesReading value_wants_memory result (value_of (form_kind form) word.now) }
 {
     match form {
         Form::Flag => match flag(word) {
@@ -116,7 +116,7 @@ fn one_value(alloc: Global, form: Form, word: &[u8]) -> Result<Value, ValueError
 #[tactic(auto, unfolding(conf_rules::specs::Values::values_of))]
 fn two_values(alloc: Global, form: Form, first: &[u8], second: &[u8]) -> Result<Value, ValueError>
     requires { form_kind form ≢ kinds.Names }
-    ensures { Gives value_wants_memory result
+    ensures { GivesReading value_wants_memory result
         (values_of (form_kind form) (first.now ∷ second.now ∷ [])) }
 {
     match form {
@@ -130,7 +130,7 @@ fn two_values(alloc: Global, form: Form, first: &[u8], second: &[u8]) -> Result<
 #[tactic(auto, unfolding(conf_rules::specs::Values::values_of))]
 fn words_value(alloc: Global, form: Form, words: &[Text]) -> Result<Value, ValueError>
     requires { IsSmall form }
-    ensures { Gives value_wants_memory result (values_of (form_kind form) words.now) }
+    ensures { GivesReading value_wants_memory result (values_of (form_kind form) words.now) }
 {
     if let Form::Names = form {
         return Ok(Value::Names(copied(alloc, words)?));
@@ -147,7 +147,7 @@ fn words_value(alloc: Global, form: Form, words: &[Text]) -> Result<Value, Value
 /// refused before their form; the form's refusal is its kind's: flag, number, time, choice,
 /// forwarding or tokens of a Hostname.
 pub fn read_value(alloc: Global, key: Key, rest: &[u8], words: &Texts) -> Result<Value, ValueError>
-    ensures read { Gives value_wants_memory result (value_for key rest.now words.now) }
+    ensures read { GivesReading value_wants_memory result (value_for key rest.now words.now) }
     ensures fits { IfOk result (λ value. fits key value ≡ true) }
 {
     let form = form_of(key);

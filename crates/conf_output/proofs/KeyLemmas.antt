@@ -11,17 +11,17 @@ use Rattle.conf_rules.specs.Texts.{Bytes}
 use Rattle.conf_rules.specs.Tokens.{View}
 use Rattle.conf_rules.specs.Listing.{at_key}
 use Rattle.conf_options.specs.Kept.{Given}
-use Rattle.conf_output.specs.PutsListing.{onto}
-use Rattle.conf_output.specs.Shown.{lines, texts_listed_of, texts_shown_of, lines_over, list_refusal_of}
+use Rattle.conf_output.specs.PutsListing.{with_listing_before}
+use Rattle.conf_output.specs.Shown.{lines_of_key, texts_listed_of, texts_shown_of, lines_over, list_refusal_of}
 
 -- the lines of a key before a reading
 abbrev pub key_first : Key → Result (List Bytes) TokenError → Result Bytes ListError → Result Bytes ListError
-key_first key reading more = at_key key reading >>= λ texts. more >>= λ rest. Ok (lines key texts ++ rest)
+key_first key reading more = at_key key reading >>= λ texts. more >>= λ rest. Ok (lines_of_key key texts ++ rest)
 
-one : (old new : Bytes) (key : Key) (reading : Result (List Bytes) TokenError) (more : Result Bytes ListError) → onto old (texts_listed_of key reading) ≡ Ok new → onto old (key_first key reading more) ≡ onto new more
+one : (old new : Bytes) (key : Key) (reading : Result (List Bytes) TokenError) (more : Result Bytes ListError) → with_listing_before old (texts_listed_of key reading) ≡ Ok new → with_listing_before old (key_first key reading more) ≡ with_listing_before new more
 one old new key (Err e) more h = absurd cc
 one old new key (Ok texts) (Err e) h = refl
-one old new key (Ok texts) (Ok rest) h = let e : old ++ lines key texts ≡ new = cc in rw (sym e, append_assoc) refl
+one old new key (Ok texts) (Ok rest) h = let e : old ++ lines_of_key key texts ≡ new = cc in rw (sym e, append_assoc) refl
 
 first-key : (settings : List Given) (view : View) (key : Key) (more : List Key) → lines_over settings view (key ∷ more) ≡ key_first key (texts_shown_of settings view key) (lines_over settings view more)
 unfolding lines_over
@@ -29,9 +29,9 @@ first-key settings view key more = refl
 
 -- after the lines of a key come those of the others
 pub goes_on : (settings : List Given) (view : View) (out new : Bytes) (left : List Key) (key : Key) (more : List Key) (total : Result Bytes ListError)
-    → left ≡ key ∷ more → onto out (texts_listed_of key (texts_shown_of settings view key)) ≡ Ok new → onto out (lines_over settings view left) ≡ total → onto new (lines_over settings view more) ≡ total
+    → left ≡ key ∷ more → with_listing_before out (texts_listed_of key (texts_shown_of settings view key)) ≡ Ok new → with_listing_before out (lines_over settings view left) ≡ total → with_listing_before new (lines_over settings view more) ≡ total
 goes_on settings view out new left key more total e put so_far =
-    sym (one out new key (texts_shown_of settings view key) (lines_over settings view more) put) ∙ sym (ap (onto out) (ap (lines_over settings view) e ∙ first-key settings view key more)) ∙ so_far
+    sym (one out new key (texts_shown_of settings view key) (lines_over settings view more) put) ∙ sym (ap (with_listing_before out) (ap (lines_over settings view) e ∙ first-key settings view key more)) ∙ so_far
 
 -- ---- a refusal
 
@@ -61,25 +61,25 @@ read-refused key reading (token_errors.FactMissing byte) h = lines-refused key r
 read-refused key reading (token_errors.NoVariable byte) h = lines-refused key reading (token_errors.NoVariable byte) h
 read-refused key reading (token_errors.OpenBrace at) h = lines-refused key reading (token_errors.OpenBrace at) h
 
-unput : {E : Type 0} (front : Bytes) (r : Result Bytes E) (e : E) → onto front r ≡ Err e → r ≡ Err e
+unput : {E : Type 0} (front : Bytes) (r : Result Bytes E) (e : E) → with_listing_before front r ≡ Err e → r ≡ Err e
 unput front (Ok x) e h = absurd cc
 unput front (Err x) e h = let same : x ≡ e = cc in ap (λ y. Err y) same
 
-put-refused : (front out : Bytes) (error : ListError) (all left : Result Bytes ListError) → onto out left ≡ onto front all → Fails list_wants_memory error left → Fails list_wants_memory error all
+put-refused : (front out : Bytes) (error : ListError) (all left : Result Bytes ListError) → with_listing_before out left ≡ with_listing_before front all → Fails list_wants_memory error left → Fails list_wants_memory error all
 put-refused front out list_errors.OutOfMemory all left so_far h = tt
 put-refused front out (list_errors.Token key e) all left so_far h = unput front all (list_errors.Token key e) (sym so_far ∙ rw h refl)
 
 -- the refusal of one key is that of all
 pub fails : (settings : List Given) (view : View) (front out : Bytes) (keys left : List Key) (key : Key) (more : List Key) (e : TokenError) (error : ListError)
-    → left ≡ key ∷ more → error ≡ list_refusal_of key e → Fails token_wants_memory e (texts_listed_of key (texts_shown_of settings view key)) → onto out (lines_over settings view left) ≡ onto front (lines_over settings view keys)
+    → left ≡ key ∷ more → error ≡ list_refusal_of key e → Fails token_wants_memory e (texts_listed_of key (texts_shown_of settings view key)) → with_listing_before out (lines_over settings view left) ≡ with_listing_before front (lines_over settings view keys)
     → Fails list_wants_memory error (lines_over settings view keys)
 fails settings view front out keys left key more e error l is h so_far =
     let here = ap (lines_over settings view) l ∙ first-key settings view key more in
     let first : Fails list_wants_memory error (key_first key (texts_shown_of settings view key) (lines_over settings view more)) = refused key (texts_shown_of settings view key) _ e error is (read-refused key (texts_shown_of settings view key) e h) in
-    put-refused front out error (lines_over settings view keys) (key_first key (texts_shown_of settings view key) (lines_over settings view more)) (sym (ap (onto out) here) ∙ so_far) first
+    put-refused front out error (lines_over settings view keys) (key_first key (texts_shown_of settings view key) (lines_over settings view more)) (sym (ap (with_listing_before out) here) ∙ so_far) first
 
 -- no key is left
-pub done : (settings : List Given) (view : View) (front out : Bytes) (keys left : List Key) → left ≡ [] → onto out (lines_over settings view left) ≡ onto front (lines_over settings view keys) → onto front (lines_over settings view keys) ≡ Ok out
+pub done : (settings : List Given) (view : View) (front out : Bytes) (keys left : List Key) → left ≡ [] → with_listing_before out (lines_over settings view left) ≡ with_listing_before front (lines_over settings view keys) → with_listing_before front (lines_over settings view keys) ≡ Ok out
 unfolding lines_over
 done settings view front out keys left e so_far = sym so_far ∙ rw (e, append-nil) refl
 

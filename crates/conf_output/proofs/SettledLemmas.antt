@@ -7,15 +7,15 @@ use Rattle.conf_rules.specs.declared.key.Key.TheVariants as keys
 use Rattle.conf_rules.specs.declared.key.TheConstants.{LISTING_ORDER}
 use Rattle.conf_rules.specs.declared.causes.TokenError.{TokenError}
 use Rattle.conf_rules.specs.declared.causes.ListError.{ListError}
-use Rattle.conf_rules.specs.Results.{◌>>=◌, Gives}
+use Rattle.conf_rules.specs.Results.{◌>>=◌, GivesReading}
 use Rattle.conf_rules.specs.Wants.{list_wants_memory}
 use Rattle.conf_rules.specs.Texts.{Bytes}
-use Rattle.conf_rules.specs.Kinds.{Showing, TheUser, TheHost, Path, Command, Forwards, Proxy, Plainly, showing}
+use Rattle.conf_rules.specs.Kinds.{Showing, TheUser, TheHost, Path, Command, Forwards, Proxy, Plainly, key_showing}
 use Rattle.conf_rules.specs.Recorded.{Recorded}
 use Rattle.conf_rules.specs.Tokens.{View}
 use Rattle.conf_rules.specs.Rows.{LineRow, given, values, values_among}
 use Rattle.conf_rules.specs.Resolution.{view_at}
-use Rattle.conf_rules.specs.Listing.{listed, shown_as, shown, key_lines, listing_over, control_path_at}
+use Rattle.conf_rules.specs.Listing.{listed_line, shown_as, shown, key_lines, listing_over, control_path_at}
 use Rattle.conf_options.specs.Kept.{Given, KeepsSettings}
 use Rattle.conf_tokens.specs.Known.{known}
 use Rattle.conf_output.specs.SettledListing.{SettledListing, ListsSettings, HasControlPath}
@@ -48,7 +48,7 @@ same-by recorded rows settings keeps key Plainly = rw (same-values rows settings
 
 same-shown : (recorded : Recorded) (rows : List LineRow) (settings : List Given) → KeepsSettings settings (flat_map given rows) → (key : Key) → shown recorded rows key ≡ texts_shown_of settings (seen_of recorded settings) key
 unfolding shown
-same-shown recorded rows settings keeps key = same-by recorded rows settings keeps key (showing key)
+same-shown recorded rows settings keeps key = same-by recorded rows settings keeps key (key_showing key)
 
 same-first : (key : Key) (r r' : Result (List Bytes) TokenError) (more more' : Result Bytes ListError) → r ≡ r' → more ≡ more' → key_first key r more ≡ key_first key r' more'
 same-first key r r' more more' e f = rw (e, f) refl
@@ -61,7 +61,7 @@ same-lines recorded rows settings keeps (key ∷ more) = same-first key _ _ _ _ 
 
 -- after the name of the command line
 abbrev behind_name : Bytes → Result Bytes ListError → Result Bytes ListError
-behind_name original lines = lines >>= λ rest. Ok (listed (codes "host") original ++ rest)
+behind_name original lines = lines >>= λ rest. Ok (listed_line (codes "host") original ++ rest)
 
 of-recorded : (recorded : Recorded) (rows : List LineRow) (settings : List Given) → KeepsSettings settings (flat_map given rows) → listing_over LISTING_ORDER recorded rows ≡ list_of settings recorded.asked.original recorded.facts
 unfolding listing_over list_of
@@ -72,7 +72,7 @@ same-listing : (recorded : Recorded) (rows : List LineRow) (settings : List Give
 same-listing recorded rows settings original machine s = of-recorded recorded rows settings s.keeps ∙ ap (λ name. list_of settings name recorded.facts) s.name ∙ ap (list_of settings original) s.facts
 
 -- what is the listing of settings is that of each such resolution
-pub lists : (result : Result Bytes ListError) (settings : List Given) (original : Bytes) (machine : TheFacts) → Gives list_wants_memory result (list_of settings original (known machine)) → ListsSettings result settings original machine
+pub lists : (result : Result Bytes ListError) (settings : List Given) (original : Bytes) (machine : TheFacts) → GivesReading list_wants_memory result (list_of settings original (known machine)) → ListsSettings result settings original machine
 lists result settings original machine gives = λ recorded rows s. rw (same-listing recorded rows settings original machine s) gives
 
 path-recorded : (recorded : Recorded) (rows : List LineRow) (settings : List Given) → KeepsSettings settings (flat_map given rows) → control_path_at recorded rows ≡ path_of settings recorded.asked.original recorded.facts
@@ -84,5 +84,5 @@ same-path : (recorded : Recorded) (rows : List LineRow) (settings : List Given) 
 same-path recorded rows settings original machine s = path-recorded recorded rows settings s.keeps ∙ ap (λ name. path_of settings name recorded.facts) s.name ∙ ap (path_of settings original) s.facts
 
 -- what is the control path of settings is that of each such resolution
-pub has-path : (result : Result (Option Bytes) ListError) (settings : List Given) (original : Bytes) (machine : TheFacts) → Gives list_wants_memory result (path_of settings original (known machine)) → HasControlPath result settings original machine
+pub has-path : (result : Result (Option Bytes) ListError) (settings : List Given) (original : Bytes) (machine : TheFacts) → GivesReading list_wants_memory result (path_of settings original (known machine)) → HasControlPath result settings original machine
 has-path result settings original machine gives = λ recorded rows s. rw (same-path recorded rows settings original machine s) gives

@@ -11,12 +11,12 @@ use Rattle.conf_options.specs.Kept.{Given}
 use Rattle.conf_output.specs.Shown.{texts_listed_of, lines_over}
 
 -- a text before a reading
-abbrev pub onto : {E : Type 0} → Bytes → Result Bytes E → Result Bytes E
-onto front reading = reading >>= λ text. Ok (front ++ text)
+abbrev pub with_listing_before : {E : Type 0} → Bytes → Result Bytes E → Result Bytes E
+with_listing_before front reading = reading >>= λ text. Ok (front ++ text)
 
 -- what stood there has the reading after it, unless memory ran out
 abbrev pub PutsListing : {X E : Type 0} → (E → Bool) → Result X E → Bytes → Bytes → Result Bytes E → Type 0
-PutsListing wants_memory (Ok x) old new reading = onto old reading ≡ Ok new
+PutsListing wants_memory (Ok x) old new reading = with_listing_before old reading ≡ Ok new
 PutsListing wants_memory (Err e) old new reading = Fails wants_memory e reading
 
 -- what stood there has the lines of a key after it, unless memory ran out

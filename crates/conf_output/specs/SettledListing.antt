@@ -3,7 +3,7 @@ use Rattle.std.specs.Prelude.{◌≡◌, List, Option, Result, flat_map}
 use Rattle.mux_outside.specs.declared.facts.Facts.{Facts as TheFacts}
 use Rattle.conf_rules.specs.declared.key.TheConstants.{LISTING_ORDER}
 use Rattle.conf_rules.specs.declared.causes.ListError.{ListError}
-use Rattle.conf_rules.specs.Results.{Gives}
+use Rattle.conf_rules.specs.Results.{GivesReading}
 use Rattle.conf_rules.specs.Wants.{list_wants_memory}
 use Rattle.conf_rules.specs.Texts.{Bytes}
 use Rattle.conf_rules.specs.Recorded.{Recorded}
@@ -23,10 +23,10 @@ pub record SettledListing (recorded : Recorded) (rows : List LineRow) (settings 
 abbrev pub ListsSettings : Result Bytes ListError → List Given → Bytes → TheFacts → Type 0
 ListsSettings result settings original facts =
     (recorded : Recorded) (rows : List LineRow) → SettledListing recorded rows settings original facts
-    → Gives list_wants_memory result (listing_over LISTING_ORDER recorded rows)
+    → GivesReading list_wants_memory result (listing_over LISTING_ORDER recorded rows)
 
 -- the result is the control path of each such resolution, unless memory ran out
 abbrev pub HasControlPath : Result (Option Bytes) ListError → List Given → Bytes → TheFacts → Type 0
 HasControlPath result settings original facts =
     (recorded : Recorded) (rows : List LineRow) → SettledListing recorded rows settings original facts
-    → Gives list_wants_memory result (control_path_at recorded rows)
+    → GivesReading list_wants_memory result (control_path_at recorded rows)

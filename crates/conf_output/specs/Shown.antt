@@ -12,14 +12,14 @@ use Rattle.conf_rules.specs.declared.token_set.TokenSet.TheVariants.{Full}
 use Rattle.conf_rules.specs.Results.{◌>>=◌}
 use Rattle.conf_rules.specs.Texts.{Bytes, or_text}
 use Rattle.conf_rules.specs.Keys.{keyword}
-use Rattle.conf_rules.specs.Kinds.{default_of, Showing, TheUser, TheHost, Path, Command, Forwards, Proxy, Plainly, showing}
+use Rattle.conf_rules.specs.Kinds.{default_of, Showing, TheUser, TheHost, Path, Command, Forwards, Proxy, Plainly, key_showing}
 use Rattle.conf_rules.specs.Forwardings.{spelled_end, spelled_connect}
-use Rattle.conf_rules.specs.Values.{spelled}
+use Rattle.conf_rules.specs.Values.{spelled_value}
 use Rattle.conf_rules.specs.Recorded.{Facts}
 use Rattle.conf_rules.specs.Tokens.{View, user_of, expand}
 use Rattle.conf_rules.specs.Rows.{values_among, word_in, number_in, but_none}
 use Rattle.conf_rules.specs.Resolution.{host_from}
-use Rattle.conf_rules.specs.Listing.{listed, is_set, with_default, text_list, expanded_one, control_text, at_key, control_path_of}
+use Rattle.conf_rules.specs.Listing.{listed_line, is_set, with_default, text_list, expanded_one, control_text, at_key, control_path_of}
 use Rattle.conf_options.specs.Kept.{Given, first_value}
 use Rattle.conf_output.specs.declared.keys.Manner.{Manner}
 use Rattle.conf_output.specs.declared.keys.Manner.TheVariants as manners
@@ -44,25 +44,25 @@ listing_view_of settings original host facts = record {
 }
 
 -- a line for each text of a key
-abbrev pub lines : Key → List Bytes → Bytes
-lines key texts = flat_map (listed (keyword key)) texts
+abbrev pub lines_of_key : Key → List Bytes → Bytes
+lines_of_key key texts = flat_map (listed_line (keyword key)) texts
 
 -- the same of a reading
 abbrev pub texts_listed_of : Key → Result (List Bytes) TokenError → Result Bytes TokenError
-texts_listed_of key reading = reading >>= λ texts. Ok (lines key texts)
+texts_listed_of key reading = reading >>= λ texts. Ok (lines_of_key key texts)
 
 -- all values of a key
 abbrev pub value_texts : List Given → Key → List Bytes
-value_texts settings key = flat_map spelled (values_among key settings)
+value_texts settings key = flat_map spelled_value (values_among key settings)
 
 -- the default of a key
 abbrev pub default_texts : Key → List Bytes
-default_texts key = flat_map spelled (with_default (default_of key) [])
+default_texts key = flat_map spelled_value (with_default (default_of key) [])
 
 -- all values of a key, or its default
 abbrev pub plain_texts : List Given → Key → List Bytes
 plain_texts settings key =
-    flat_map spelled (with_default (default_of key) (values_among key settings))
+    flat_map spelled_value (with_default (default_of key) (values_among key settings))
 
 -- all values of a key, unless forwardings are cleared
 abbrev pub forward_texts : List Given → Key → List Bytes
@@ -100,20 +100,20 @@ shown_by settings view key Plainly = Ok (plain_texts settings key)
 
 -- the texts of a key
 abbrev pub texts_shown_of : List Given → View → Key → Result (List Bytes) TokenError
-texts_shown_of settings view key = shown_by settings view key (showing key)
+texts_shown_of settings view key = shown_by settings view key (key_showing key)
 
 -- the lines of some keys, or the first refusal
 unfoldable pub lines_over : List Given → View → List Key → Result Bytes ListError
 lines_over settings view [] = Ok []
 lines_over settings view (key ∷ more) =
     at_key key (texts_shown_of settings view key) >>= λ texts. lines_over settings view more >>= λ rest.
-    Ok (lines key texts ++ rest)
+    Ok (lines_of_key key texts ++ rest)
 
 -- the listing
 unfoldable pub list_of : List Given → Bytes → Facts → Result Bytes ListError
 list_of settings original facts =
     lines_over settings (listing_view_of settings original (listed_host_of settings original) facts) LISTING_ORDER
-    >>= λ rest. Ok (listed (codes "host") original ++ rest)
+    >>= λ rest. Ok (listed_line (codes "host") original ++ rest)
 
 -- the control path
 unfoldable pub path_of : List Given → Bytes → Facts → Result (Option Bytes) ListError

@@ -1,7 +1,7 @@
 ghost use Rattle.std.specs.Prelude.{◌≡◌, [], ◌∷◌, ◌++◌, OnOk};
-ghost use Rattle.conf_rules.specs.Kinds.{showing};
-ghost use Rattle.conf_tokens.specs.Seen.{seen};
-ghost use Rattle.conf_output.specs.Shown.{lines, value_texts, default_texts, plain_texts, forward_texts, proxy_texts, user_texts, path_texts, command_texts, texts_shown_of, showing_of, list_refusal_of};
+ghost use Rattle.conf_rules.specs.Kinds.{key_showing};
+ghost use Rattle.conf_tokens.specs.Seen.{view_as_defined};
+ghost use Rattle.conf_output.specs.Shown.{lines_of_key, value_texts, default_texts, plain_texts, forward_texts, proxy_texts, user_texts, path_texts, command_texts, texts_shown_of, showing_of, list_refusal_of};
 ghost use Rattle.conf_output.specs.PutsListing.{PutsKeys, PutsTexts};
 
 use crate::defaults::default_text;
@@ -33,7 +33,7 @@ enum Manner {
 
 // How a key is listed.
 fn manner_of(key: Key) -> Manner
-    ensures { showing_of result ≡ showing key }
+    ensures { showing_of result ≡ key_showing key }
 {
     match key {
         Key::User => Manner::User,
@@ -48,7 +48,7 @@ fn manner_of(key: Key) -> Manner
 
 // The line of a text.
 fn put_text(out: &mut Text, key: Key, text: &[u8]) -> Result<(), OutOfMemory>
-    ensures { OnOk result (out.new ≡ out.old ++ lines key (text.now ∷ [])) }
+    ensures { OnOk result (out.new ≡ out.old ++ lines_of_key key (text.now ∷ [])) }
 {
     put_line(out, key.keyword(), text)
 }
@@ -60,7 +60,7 @@ fn put_values(
     settings: &Settings,
     key: Key,
 ) -> Result<(), OutOfMemory>
-    ensures { OnOk result (out.new ≡ out.old ++ lines key (value_texts settings.now key)) }
+    ensures { OnOk result (out.new ≡ out.old ++ lines_of_key key (value_texts settings.now key)) }
 {
     let given = settings.among(key);
     for (other, value) in given {
@@ -73,7 +73,7 @@ fn put_values(
 
 // The line of a key's default, if it has one.
 fn put_default(out: &mut Text, key: Key) -> Result<(), OutOfMemory>
-    ensures { OnOk result (out.new ≡ out.old ++ lines key (default_texts key)) }
+    ensures { OnOk result (out.new ≡ out.old ++ lines_of_key key (default_texts key)) }
 {
     match default_text(key) {
         Some(text) => put_text(out, key, text),
@@ -88,7 +88,7 @@ fn put_plain(
     settings: &Settings,
     key: Key,
 ) -> Result<(), OutOfMemory>
-    ensures { OnOk result (out.new ≡ out.old ++ lines key (plain_texts settings.now key)) }
+    ensures { OnOk result (out.new ≡ out.old ++ lines_of_key key (plain_texts settings.now key)) }
 {
     match settings.first(key) {
         Some(_value) => put_values(alloc, out, settings, key),
@@ -103,7 +103,7 @@ fn put_forwards(
     settings: &Settings,
     key: Key,
 ) -> Result<(), OutOfMemory>
-    ensures { OnOk result (out.new ≡ out.old ++ lines key (forward_texts settings.now key)) }
+    ensures { OnOk result (out.new ≡ out.old ++ lines_of_key key (forward_texts settings.now key)) }
 {
     if settings.is_set(Key::ClearAllForwardings) {
         return Ok(());
@@ -113,7 +113,7 @@ fn put_forwards(
 
 // The line of a proxy, unless it is `none`.
 fn put_proxy(out: &mut Text, settings: &Settings, key: Key) -> Result<(), OutOfMemory>
-    ensures { OnOk result (out.new ≡ out.old ++ lines key (proxy_texts settings.now key)) }
+    ensures { OnOk result (out.new ≡ out.old ++ lines_of_key key (proxy_texts settings.now key)) }
 {
     match settings.named_word(key) {
         Some(text) => put_text(out, key, text),
@@ -128,7 +128,7 @@ fn put_user(
     view: &View<'_>,
     key: Key,
 ) -> Result<(), TokenError>
-    ensures { PutsTexts result out.old out.new key (user_texts settings.now (seen view.now) key) }
+    ensures { PutsTexts result out.old out.new key (user_texts settings.now (view_as_defined view.now) key) }
 {
     let user = match settings.word(key) {
         Some(user) => user,
@@ -145,7 +145,7 @@ fn put_path(
     view: &View<'_>,
     key: Key,
 ) -> Result<(), TokenError>
-    ensures { PutsTexts result out.old out.new key (path_texts settings.now (seen view.now) key) }
+    ensures { PutsTexts result out.old out.new key (path_texts settings.now (view_as_defined view.now) key) }
 {
     match settings.word(key) {
         Some(text) => {
@@ -165,7 +165,7 @@ fn put_command(
     key: Key,
 ) -> Result<(), TokenError>
     ensures { PutsTexts result out.old out.new key
-        (command_texts settings.now (seen view.now) key) }
+        (command_texts settings.now (view_as_defined view.now) key) }
 {
     match settings.word(key) {
         Some(text) => {
@@ -184,7 +184,7 @@ fn put_key(
     view: &View<'_>,
     key: Key,
 ) -> Result<(), TokenError>
-    ensures { PutsTexts result out.old out.new key (texts_shown_of settings.now (seen view.now) key) }
+    ensures { PutsTexts result out.old out.new key (texts_shown_of settings.now (view_as_defined view.now) key) }
 {
     match manner_of(key) {
         Manner::User => put_user(out, settings, view, key),
@@ -215,7 +215,7 @@ pub fn put_keys(
     view: &View<'_>,
     keys: &[Key],
 ) -> Result<(), ListError>
-    ensures { PutsKeys result out.old out.new settings.now (seen view.now) keys.now }
+    ensures { PutsKeys result out.old out.new settings.now (view_as_defined view.now) keys.now }
 {
     for key in keys {
         match put_key(alloc, out, settings, view, *key) {

@@ -1,6 +1,6 @@
 ghost use Rattle.std.specs.Prelude.{◌≡◌, IfOk};
 ghost use Rattle.conf_tokens.specs.Known.{known};
-ghost use Rattle.conf_tokens.specs.Seen.{seen};
+ghost use Rattle.conf_tokens.specs.Seen.{view_as_defined};
 ghost use Rattle.conf_output.specs.Shown.{listed_host_of, listing_view_of};
 
 use conf_options::{Key, Settings};
@@ -26,7 +26,7 @@ pub fn view<'a>(
     host: &'a [u8],
     facts: &'a Facts,
 ) -> View<'a>
-    ensures { seen result ≡ listing_view_of settings.now original.now host.now (known facts.now) }
+    ensures { view_as_defined result ≡ listing_view_of settings.now original.now host.now (known facts.now) }
 {
     View {
         original,

@@ -2,8 +2,8 @@ ghost use Rattle.std.specs.Prelude.{◌≡◌, ℕ, ◌++◌, OnOk, IfOk};
 ghost use Rattle.std.specs.List.{flat_map};
 ghost use Rattle.conf_rules.specs.Numbers.{digits_of};
 ghost use Rattle.conf_rules.specs.Forwardings.{spelled_end};
-ghost use Rattle.conf_rules.specs.Values.{spelled};
-ghost use Rattle.conf_rules.specs.Listing.{listed};
+ghost use Rattle.conf_rules.specs.Values.{spelled_value};
+ghost use Rattle.conf_rules.specs.Listing.{listed_line};
 ghost use Rattle.conf_output.specs.Shown.{spelled_forward};
 
 use conf_rules::{End, Forward, Value};
@@ -45,7 +45,7 @@ fn forward_text(alloc: Global, forward: &Forward) -> Result<Text, OutOfMemory>
 
 /// A line of the listing.
 pub fn put_line(out: &mut Text, name: &[u8], text: &[u8]) -> Result<(), OutOfMemory>
-    ensures { OnOk result (out.new ≡ out.old ++ listed name.now text.now) }
+    ensures { OnOk result (out.new ≡ out.old ++ listed_line name.now text.now) }
 {
     out.add(name)?;
     out.push(b' ')?;
@@ -60,7 +60,7 @@ fn put_number_line(
     name: &[u8],
     number: u64,
 ) -> Result<(), OutOfMemory>
-    ensures { OnOk result (out.new ≡ out.old ++ listed name.now (digits_of number)) }
+    ensures { OnOk result (out.new ≡ out.old ++ listed_line name.now (digits_of number)) }
 {
     out.add(name)?;
     out.push(b' ')?;
@@ -70,7 +70,7 @@ fn put_number_line(
 
 // A line for each name.
 fn put_names(out: &mut Text, name: &[u8], names: &[Text]) -> Result<(), OutOfMemory>
-    ensures { OnOk result (out.new ≡ out.old ++ flat_map (listed name.now) names.now) }
+    ensures { OnOk result (out.new ≡ out.old ++ flat_map (listed_line name.now) names.now) }
 {
     for text in names {
         put_line(out, name, text.as_bytes())?;
@@ -85,7 +85,7 @@ pub fn put_value(
     name: &[u8],
     value: &Value,
 ) -> Result<(), OutOfMemory>
-    ensures { OnOk result (out.new ≡ out.old ++ flat_map (listed name.now) (spelled value.now)) }
+    ensures { OnOk result (out.new ≡ out.old ++ flat_map (listed_line name.now) (spelled_value value.now)) }
 {
     match value {
         Value::Flag(true) => put_line(out, name, b"yes"),

@@ -3,7 +3,7 @@ use Rattle.std.proofs.Common.{◌≡◌, ℕ, ◌+◌, ◌≤◌, Bool, true, fa
 use Rattle.std.specs.Prelude.{is_none}
 use Rattle.std.proofs.lemmas.Bool.{leb-true}
 use Rattle.std.proofs.Math.ListN.{drop_of_length-le}
-use Rattle.conf_rules.specs.Texts.{is_empty}
+use Rattle.conf_rules.specs.Texts.{is_empty_list}
 use Rattle.conf_rules.specs.Recorded.{Recorded}
 use Rattle.conf_rules.specs.Sources.{Line}
 use Rattle.conf_reader.specs.declared.open_file.OpenFile.{OpenFile}
@@ -11,16 +11,16 @@ use Rattle.conf_reader.specs.declared.stack.OpenFiles.{OpenFiles}
 use Rattle.conf_reader.specs.declared.lines.FirstFile.{FirstFile}
 use Rattle.conf_reader.specs.declared.lines.Lines.{Lines}
 use Rattle.conf_reader.specs.Blocks.{Blocks}
-use Rattle.conf_reader.specs.Left.{open_left, left, firsts_left}
-use Rattle.conf_reader.specs.Between.{is_ended, ends_where}
-use Rattle.conf_reader.specs.ToRead.{all_read}
+use Rattle.conf_reader.specs.Left.{open_left, lines_to_give, firsts_left}
+use Rattle.conf_reader.specs.Between.{no_file_left, ends_where}
+use Rattle.conf_reader.specs.ToRead.{all_to_read}
 use Rattle.conf_reader.proofs.ToReadLemmas.{ended-reads}
 
 both : (a b : Bool) → (a && b) ≡ true → (a ≡ true) × (b ≡ true)
 both true b e = (refl, e)
 both false b e = absurd cc
 
-none-below : (below : List OpenFile) → is_empty below ≡ true → below ≡ []
+none-below : (below : List OpenFile) → is_empty_list below ≡ true → below ≡ []
 none-below [] e = refl
 none-below (f ∷ fs) e = absurd cc
 
@@ -34,26 +34,26 @@ no-file recorded place blocks o below top = rw (below, top) refl
 rest-left : (recorded : Recorded) (place : ℕ) (opened : List Line) (firsts : List FirstFile) → opened ≡ [] → opened ++ firsts_left recorded (place + length opened) firsts ≡ firsts_left recorded place firsts
 rest-left recorded place opened firsts e = let n : place + 0 ≡ place = omega arith in rw (e, n) refl
 
-ended-left : (recorded : Recorded) (place : ℕ) (blocks : Blocks) (r : Lines) → r.open_files.below.items ≡ [] → r.open_files.top ≡ None → length r.firsts.items ≤ r.next_first → left recorded place blocks r ≡ []
+ended-left : (recorded : Recorded) (place : ℕ) (blocks : Blocks) (r : Lines) → r.open_files.below.items ≡ [] → r.open_files.top ≡ None → length r.firsts.items ≤ r.next_first → lines_to_give recorded place blocks r ≡ []
 ended-left recorded place blocks r below top past =
     rest-left recorded place (open_left recorded place blocks r.open_files) (drop r.next_first r.firsts.items) (no-file recorded place blocks r.open_files below top)
     ∙ ap (firsts_left recorded place) (drop_of_length-le r.firsts.items past)
 
-is-ended : (recorded : Recorded) (place : ℕ) (blocks : Blocks) (r : Lines) → is_ended r ≡ true → left recorded place blocks r ≡ []
+is-ended : (recorded : Recorded) (place : ℕ) (blocks : Blocks) (r : Lines) → no_file_left r ≡ true → lines_to_give recorded place blocks r ≡ []
 is-ended recorded place blocks r e =
-    let below = both (is_empty r.open_files.below.items) _ e in
+    let below = both (is_empty_list r.open_files.below.items) _ e in
     let top = both (is_none r.open_files.top) _ below.1 in
     ended-left recorded place blocks r (none-below r.open_files.below.items below.0) (no-top r.open_files.top top.0) (leb-true (length r.firsts.items) r.next_first top.1)
 
 -- a reader that is over has nothing left
-pub over-left : (recorded : Recorded) (place : ℕ) (blocks : Blocks) (over : Bool) (r : Lines) → ends_where over r ≡ true → over ≡ true → left recorded place blocks r ≡ []
+pub over-left : (recorded : Recorded) (place : ℕ) (blocks : Blocks) (over : Bool) (r : Lines) → ends_where over r ≡ true → over ≡ true → lines_to_give recorded place blocks r ≡ []
 over-left recorded place blocks true r e o = is-ended recorded place blocks r e
 over-left recorded place blocks false r e o = absurd cc
 
 -- nor anything to read
-pub over-reads : (recorded : Recorded) (over : Bool) (r : Lines) → ends_where over r ≡ true → over ≡ true → all_read recorded r ≡ []
+pub over-reads : (recorded : Recorded) (over : Bool) (r : Lines) → ends_where over r ≡ true → over ≡ true → all_to_read recorded r ≡ []
 over-reads recorded true r e o =
-    let below = both (is_empty r.open_files.below.items) _ e in
+    let below = both (is_empty_list r.open_files.below.items) _ e in
     let top = both (is_none r.open_files.top) _ below.1 in
     ended-reads recorded r (no-top r.open_files.top top.0) (none-below r.open_files.below.items below.0) (leb-true (length r.firsts.items) r.next_first top.1)
 over-reads recorded false r e o = absurd cc

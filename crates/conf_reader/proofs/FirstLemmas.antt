@@ -14,7 +14,7 @@ use Rattle.conf_reader.specs.declared.stack.OpenFiles.{OpenFiles}
 use Rattle.conf_reader.specs.declared.lines.FirstFile.{FirstFile}
 use Rattle.conf_reader.specs.declared.lines.Lines.{Lines}
 use Rattle.conf_reader.specs.Blocks.{Blocks}
-use Rattle.conf_reader.specs.Left.{source_of, open_left, parts_left, first_left, firsts_left, left, is_plain_first, RefusesFirst, IsLacking, IsFound, Moves}
+use Rattle.conf_reader.specs.Left.{source_of, open_left, parts_left, first_left, firsts_left, lines_to_give, is_plain_first, RefusesFirst, IsLacking, IsFound, Moves}
 use Rattle.conf_reader.proofs.LeftLemmas.{new-left}
 use Rattle.conf_reader.proofs.OpenLemmas.{drop-at}
 use Rattle.conf_reader.proofs.RefusalLemmas.{moved, moves-refused}
@@ -44,7 +44,7 @@ first-none recorded place f required content = rw (required, content) refl
 pub begins-left : (recorded : Recorded) (place : ℕ) (blocks : Blocks) (r : Lines) (f : FirstFile) (path text : Bytes) (new : OpenFile) → r.open_files.top ≡ None → r.open_files.below.items ≡ [] → slice_get r.firsts.items r.next_first ≡ Some f → is_plain_first f ≡ true
     → path ≡ f.path → recorded.content f.path ≡ Some text → nat_lt size_limit (length text) ≡ false
     → new ≡ record { path = path; text = text; at = 0; number = 1; include = None; named = []; next = 0 }
-    → left recorded place blocks r ≡ parts_left recorded place blocks f.system r.open_files.below.items (Some new) true ++ firsts_left recorded (place + length (parts_left recorded place blocks f.system r.open_files.below.items (Some new) true)) (drop (r.next_first + 1) r.firsts.items)
+    → lines_to_give recorded place blocks r ≡ parts_left recorded place blocks f.system r.open_files.below.items (Some new) true ++ firsts_left recorded (place + length (parts_left recorded place blocks f.system r.open_files.below.items (Some new) true)) (drop (r.next_first + 1) r.firsts.items)
 unfolding file_lines
 begins-left recorded place blocks r f path text new top below named plain path-is content small new-is =
     let source = source_of f.system in
@@ -55,7 +55,7 @@ begins-left recorded place blocks r f path text new top below named plain path-i
     let nothing : open_left recorded place blocks r.open_files ≡ [] = rw (top, below) refl in
     let next : suc r.next_first ≡ r.next_first + 1 = omega arith in
     let firsts : drop r.next_first r.firsts.items ≡ f ∷ later = drop-at r.firsts.items r.next_first f named ∙ ap (λ i. f ∷ drop i r.firsts.items) next in
-    let old : left recorded place blocks r ≡ here ++ firsts_left recorded (place + 0 + length here) later =
+    let old : lines_to_give recorded place blocks r ≡ here ++ firsts_left recorded (place + 0 + length here) later =
     ap (λ o. o ++ firsts_left recorded (place + length o) (drop r.next_first r.firsts.items)) nothing ∙ ap (firsts_left recorded (place + 0)) firsts in
     let opened : parts_left recorded place blocks f.system r.open_files.below.items (Some new) true ≡ here =
     ap (λ fs. parts_left recorded place blocks f.system fs (Some new) true) below
@@ -85,14 +85,14 @@ nothing-open recorded place blocks r top below = rw (top, below) refl
 
 -- what is left begins with the next first file
 next-left : (recorded : Recorded) (place : ℕ) (blocks : Blocks) (r : Lines) (f : FirstFile) → r.open_files.top ≡ None → r.open_files.below.items ≡ [] → slice_get r.firsts.items r.next_first ≡ Some f
-    → left recorded place blocks r ≡ first_left recorded (place + 0) f ++ firsts_left recorded (place + 0 + length (first_left recorded (place + 0) f)) (drop (r.next_first + 1) r.firsts.items)
+    → lines_to_give recorded place blocks r ≡ first_left recorded (place + 0) f ++ firsts_left recorded (place + 0 + length (first_left recorded (place + 0) f)) (drop (r.next_first + 1) r.firsts.items)
 next-left recorded place blocks r f top below named =
     let next : suc r.next_first ≡ r.next_first + 1 = omega arith in
     let firsts : drop r.next_first r.firsts.items ≡ f ∷ drop (r.next_first + 1) r.firsts.items = drop-at r.firsts.items r.next_first f named ∙ ap (λ i. f ∷ drop i r.firsts.items) next in
     ap (λ o. o ++ firsts_left recorded (place + length o) (drop r.next_first r.firsts.items)) (nothing-open recorded place blocks r top below) ∙ ap (firsts_left recorded (place + 0)) firsts
 
 pub skips-left : (recorded : Recorded) (place : ℕ) (blocks : Blocks) (r : Lines) (f : FirstFile) → r.open_files.top ≡ None → r.open_files.below.items ≡ [] → slice_get r.firsts.items r.next_first ≡ Some f → recorded.content f.path ≡ None → f.required ≡ false
-    → left recorded place blocks r ≡ left recorded place blocks (record r { next_first = r.next_first + 1 })
+    → lines_to_give recorded place blocks r ≡ lines_to_give recorded place blocks (record r { next_first = r.next_first + 1 })
 skips-left recorded place blocks r f top below named none required =
     let later = drop (r.next_first + 1) r.firsts.items in
     let z : place + 0 + 0 ≡ place + 0 = omega arith in
@@ -103,7 +103,7 @@ skips-left recorded place blocks r f top below named none required =
 
 -- a file that is refused
 pub file-refused : (recorded : Recorded) (place : ℕ) (blocks : Blocks) (r : Lines) (f : FirstFile) (line : Line) (rest : List Line) (cause : Cause) → r.open_files.top ≡ None → r.open_files.below.items ≡ [] → slice_get r.firsts.items r.next_first ≡ Some f
-    → first_left recorded (place + 0) f ≡ line ∷ rest → line.file ≡ f.path → line.number ≡ 0 → line.content ≡ Refused cause → RefusesFirst (left recorded place blocks r) f.path 0 cause
+    → first_left recorded (place + 0) f ≡ line ∷ rest → line.file ≡ f.path → line.number ≡ 0 → line.content ≡ Refused cause → RefusesFirst (lines_to_give recorded place blocks r) f.path 0 cause
 file-refused recorded place blocks r f line rest cause top below named here file number content = record {
   line = line;
   rest = rest ++ firsts_left recorded (place + 0 + length (first_left recorded (place + 0) f)) (drop (r.next_first + 1) r.firsts.items);
@@ -114,12 +114,12 @@ file-refused recorded place blocks r f line rest cause top below named here file
 }
 
 pub lack-refused : (recorded : Recorded) (place : ℕ) (blocks : Blocks) (r : Lines) (f : FirstFile) → r.open_files.top ≡ None → r.open_files.below.items ≡ [] → slice_get r.firsts.items r.next_first ≡ Some f → recorded.content f.path ≡ None → f.required ≡ true
-    → RefusesFirst (left recorded place blocks r) f.path 0 causes.NoFile
+    → RefusesFirst (lines_to_give recorded place blocks r) f.path 0 causes.NoFile
 lack-refused recorded place blocks r f top below named none required =
     file-refused recorded place blocks r f (record { source = UserFile; file = f.path; number = 0; depth = 0; blocks = []; content = Refused causes.NoFile }) [] causes.NoFile top below named (rw (required, none) refl) refl refl refl
 
 pub size-refused : (recorded : Recorded) (place : ℕ) (blocks : Blocks) (r : Lines) (f : FirstFile) (text : Bytes) → r.open_files.top ≡ None → r.open_files.below.items ≡ [] → slice_get r.firsts.items r.next_first ≡ Some f → is_plain_first f ≡ true → recorded.content f.path ≡ Some text → nat_lt size_limit (length text) ≡ true
-    → RefusesFirst (left recorded place blocks r) f.path 0 causes.TooLarge
+    → RefusesFirst (lines_to_give recorded place blocks r) f.path 0 causes.TooLarge
 unfolding file_lines
 size-refused recorded place blocks r f text top below named plain content large =
     file-refused recorded place blocks r f (record { source = source_of f.system; file = f.path; number = 0; depth = 0; blocks = []; content = Refused causes.TooLarge }) [] causes.TooLarge top below named
@@ -137,27 +137,27 @@ below-end [] i f e = absurd cc
 below-end (x ∷ xs) zero f e = omega arith
 below-end (x ∷ xs) (suc i) f e = let k = below-end xs i f e in omega (arith, k)
 
-pub skips-next : (recorded : Recorded) (place : ℕ) (blocks : Blocks) (r : Lines) → r.open_files.top ≡ None → r.open_files.below.items ≡ [] → r.next_first < length r.firsts.items → IsLacking recorded r → left recorded place blocks r ≡ left recorded place blocks (record r { next_first = r.next_first + 1 })
+pub skips-next : (recorded : Recorded) (place : ℕ) (blocks : Blocks) (r : Lines) → r.open_files.top ≡ None → r.open_files.below.items ≡ [] → r.next_first < length r.firsts.items → IsLacking recorded r → lines_to_give recorded place blocks r ≡ lines_to_give recorded place blocks (record r { next_first = r.next_first + 1 })
 skips-next recorded place blocks r top below low lacks = by (slice_get r.firsts.items r.next_first) refl lacks
   where
-    by : (o : Option FirstFile) → slice_get r.firsts.items r.next_first ≡ o → IfSome o (λ f. (recorded.content f.path ≡ None) × (f.required ≡ false)) → left recorded place blocks r ≡ left recorded place blocks (record r { next_first = r.next_first + 1 })
+    by : (o : Option FirstFile) → slice_get r.firsts.items r.next_first ≡ o → IfSome o (λ f. (recorded.content f.path ≡ None) × (f.required ≡ false)) → lines_to_give recorded place blocks r ≡ lines_to_give recorded place blocks (record r { next_first = r.next_first + 1 })
     by None e h = absurd (within r.firsts.items r.next_first low e)
     by (Some f) e h = skips-left recorded place blocks r f top below e h.0 h.1
 
 pub size-moves : (recorded : Recorded) (place : ℕ) (blocks : Blocks) (r : Lines) (f : FirstFile) (e : ResolveError) (content : Option Bytes) → recorded.content f.path ≡ content → r.open_files.top ≡ None → r.open_files.below.items ≡ [] → slice_get r.firsts.items r.next_first ≡ Some f → is_plain_first f ≡ true → IsFound TooLarge content
-    → RefusesLine (line_errors.Refused causes.TooLarge) f.path 0 e → moved (left recorded place blocks r) [] e
+    → RefusesLine (line_errors.Refused causes.TooLarge) f.path 0 e → moved (lines_to_give recorded place blocks r) [] e
 size-moves recorded place blocks r f e None content top below named plain found refused = absurd found
-size-moves recorded place blocks r f e (Some text) content top below named plain found refused = moves-refused (left recorded place blocks r) [] f.path 0 causes.TooLarge e refused (size-refused recorded place blocks r f text top below named plain content found)
+size-moves recorded place blocks r f e (Some text) content top below named plain found refused = moves-refused (lines_to_give recorded place blocks r) [] f.path 0 causes.TooLarge e refused (size-refused recorded place blocks r f text top below named plain content found)
 
 -- ---- steps of open files are steps of a reader
 
-lift-first : (recorded : Recorded) (place : ℕ) (blocks : Blocks) (r : Lines) (file : Bytes) (number : ℕ) (cause : Cause) → RefusesFirst (open_left recorded place blocks r.open_files) file number cause → RefusesFirst (left recorded place blocks r) file number cause
+lift-first : (recorded : Recorded) (place : ℕ) (blocks : Blocks) (r : Lines) (file : Bytes) (number : ℕ) (cause : Cause) → RefusesFirst (open_left recorded place blocks r.open_files) file number cause → RefusesFirst (lines_to_give recorded place blocks r) file number cause
 lift-first recorded place blocks r file number cause f =
     let later = firsts_left recorded (place + length (open_left recorded place blocks r.open_files)) (drop r.next_first r.firsts.items) in
     record { line = f.line; rest = f.rest ++ later; is = ap (λ o. o ++ later) f.is; file_is = f.file_is; number_is = f.number_is; content = f.content }
 
 pub lift-moves : {A : Type 0} (recorded : Recorded) (place : ℕ) (blocks : Blocks) (r : Lines) (n : OpenFiles) (res : Result A ResolveError) → Moves {A = A} (open_left recorded place blocks r.open_files) (open_left recorded place blocks n) res
-    → Moves {A = A} (left recorded place blocks r) (left recorded place blocks (record r { open_files = n })) res
+    → Moves {A = A} (lines_to_give recorded place blocks r) (lines_to_give recorded place blocks (record r { open_files = n })) res
 lift-moves recorded place blocks r n (Ok b) m = ap (λ o. o ++ firsts_left recorded (place + length o) (drop r.next_first r.firsts.items)) m
 lift-moves recorded place blocks r n (Err errors.OutOfMemory) m = tt
 lift-moves recorded place blocks r n (Err (errors.At file number cause)) m = λ fault. lift-first recorded place blocks r file number cause (m fault)

@@ -13,7 +13,7 @@ use Rattle.std.proofs.lemmas.Slice.Eq.{bytes_eq-Decides}
 use Rattle.mux_outside.specs.declared.file_error.FileError.{FileError}
 use Rattle.mux_outside.specs.declared.file_error.FileError.TheVariants.{Failed, OutOfMemory}
 use Rattle.mux_outside.specs.Files.{NotesFailed}
-use Rattle.conf_rules.specs.Texts.{Bytes, is_empty, split_at_first, split_at_each}
+use Rattle.conf_rules.specs.Texts.{Bytes, is_empty_list, split_at_first, split_at_each}
 use Rattle.conf_rules.specs.Recorded.{Facts, Recorded}
 use Rattle.conf_rules.specs.Words.{words_of}
 use Rattle.conf_rules.specs.Globs.{is_glob}
@@ -161,22 +161,22 @@ same-folders recorded (c ∷ cs) xs ys same =
     (same-folders recorded cs (flat_map (below recorded c) xs) (flat_map (below recorded c) ys) (same-flat (below recorded c) xs ys same))
 
 -- an empty component asks for nothing
-empty-asks : (component : Bytes) (bases : List Bytes) → is_empty component ≡ true → asked_at component bases ≡ []
+empty-asks : (component : Bytes) (bases : List Bytes) → is_empty_list component ≡ true → asked_at component bases ≡ []
 empty-asks [] bases e = refl
 empty-asks (b ∷ bs) bases e = absurd cc
 
-with-first : (recorded : Recorded) (component : Bytes) (others bases : List Bytes) (t : Bool) → is_empty component ≡ t
-    → folders_along recorded (filter (λ c. not (is_empty c)) (component ∷ others)) bases ≡ asked_at component bases ++ folders_along recorded (filter (λ c. not (is_empty c)) others) (with_component recorded component bases)
+with-first : (recorded : Recorded) (component : Bytes) (others bases : List Bytes) (t : Bool) → is_empty_list component ≡ t
+    → folders_along recorded (filter (λ c. not (is_empty_list c)) (component ∷ others)) bases ≡ asked_at component bases ++ folders_along recorded (filter (λ c. not (is_empty_list c)) others) (with_component recorded component bases)
 with-first recorded component others bases true e = let nothing_asked = empty-asks component bases e in rw (e, nothing_asked) refl
 with-first recorded component others bases false e = rw e refl
 
 some-folders : (recorded : Recorded) (left component rest : Bytes) (bases : List Bytes) → Some (component, rest) ≡ split_at_first 47 left
     → folders_along recorded (components_of left) bases ≡ asked_at component bases ++ folders_along recorded (components_of rest) (with_component recorded component bases)
 some-folders recorded left component rest bases e =
-    ap (λ cs. folders_along recorded (filter (λ c. not (is_empty c)) cs) bases) (parts-some left component rest e) ∙ with-first recorded component (split_at_each 47 rest) bases (is_empty component) refl
+    ap (λ cs. folders_along recorded (filter (λ c. not (is_empty_list c)) cs) bases) (parts-some left component rest e) ∙ with-first recorded component (split_at_each 47 rest) bases (is_empty_list component) refl
 
 last-folders : (recorded : Recorded) (left : Bytes) (bases : List Bytes) → None ≡ split_at_first 47 left → folders_along recorded (components_of left) bases ≡ asked_at left bases ++ []
-last-folders recorded left bases e = ap (λ cs. folders_along recorded (filter (λ c. not (is_empty c)) cs) bases) (parts-none left e) ∙ with-first recorded left [] bases (is_empty left) refl
+last-folders recorded left bases e = ap (λ cs. folders_along recorded (filter (λ c. not (is_empty_list c)) cs) bases) (parts-none left e) ∙ with-first recorded left [] bases (is_empty_list left) refl
 
 -- the directories of the component that comes next are among all that are left
 pub asked-next : (recorded : Recorded) (left component rest : Bytes) (bases whole : List Bytes) → Some (component, rest) ≡ split_at_first 47 left → Among (folders_along recorded (components_of left) bases) whole → Among (asked_at component bases) whole
@@ -196,7 +196,7 @@ asked-further recorded left component rest bases found whole e same so_far path 
 
 -- ---- one component
 
-length-empty : (xs : Bytes) → (length xs == 0) ≡ is_empty xs
+length-empty : (xs : Bytes) → (length xs == 0) ≡ is_empty_list xs
 length-empty [] = refl
 length-empty (x ∷ xs) = eqb-suc-zero (length xs)
 

@@ -6,8 +6,8 @@ use Rattle.std.specs.Option.{option_and_then, option_map}
 use Rattle.std.proofs.lemmas.List.Sorted.{sum_by-IsPermutation}
 use Rattle.std.proofs.lemmas.List.Sums.{sum_by-cons, sum_by-append}
 use Rattle.mux_outside.specs.declared.pairs.Pair.{Pair}
-use Rattle.mux_outside.specs.Files.{inside, is_folder_at, as_name, folder_name_in, with_name, names_in, Lists}
-use Rattle.conf_rules.specs.Texts.{Bytes, is_empty, split_at_first, split_at_each, with_front, onto_first}
+use Rattle.mux_outside.specs.Files.{path_inside, is_folder_at, as_name, folder_name_in, with_name, names_in, Lists}
+use Rattle.conf_rules.specs.Texts.{Bytes, is_empty_list, split_at_first, split_at_each, with_front, onto_first}
 use Rattle.conf_rules.specs.Recorded.{Recorded}
 use Rattle.conf_rules.specs.Globs.{is_glob, component_takes}
 use Rattle.conf_rules.specs.Order.{sorted}
@@ -62,15 +62,15 @@ none-inside : (f : List ℕ → List ℕ) (o : Option (List ℕ)) → is_some o 
 none-inside f None e = refl
 none-inside f (Some x) e = absurd cc
 
-no-names : (dir : Bytes) (files : List Pair) → list_any (λ p. is_some (inside dir p.name)) files ≡ false → filter_map (folder_name_in dir) files ≡ []
+no-names : (dir : Bytes) (files : List Pair) → list_any (λ p. is_some (path_inside dir p.name)) files ≡ false → filter_map (folder_name_in dir) files ≡ []
 no-names dir [] e = refl
 no-names dir (p ∷ ps) e =
-    let here : folder_name_in dir p ≡ None = none-inside _ (inside dir p.name) (or-first (is_some (inside dir p.name)) (list_any (λ q. is_some (inside dir q.name)) ps) e) in
-    rw here (no-names dir ps (or-second (is_some (inside dir p.name)) (list_any (λ q. is_some (inside dir q.name)) ps) e))
+    let here : folder_name_in dir p ≡ None = none-inside _ (path_inside dir p.name) (or-first (is_some (path_inside dir p.name)) (list_any (λ q. is_some (path_inside dir q.name)) ps) e) in
+    rw here (no-names dir ps (or-second (is_some (path_inside dir p.name)) (list_any (λ q. is_some (path_inside dir q.name)) ps) e))
 
 no-directory : (dir : Bytes) (files : List Pair) → is_folder_at files (or_root dir) ≡ false → names_in files (or_root dir) ≡ []
 no-directory [] files e = absurd cc
-no-directory (b ∷ bs) files e = ap (fold with_name []) (no-names (b ∷ bs) files (or-second (bytes_eq (b ∷ bs) (47 ∷ [])) (list_any (λ p. is_some (inside (b ∷ bs) p.name)) files) e))
+no-directory (b ∷ bs) files e = ap (fold with_name []) (no-names (b ∷ bs) files (or-second (bytes_eq (b ∷ bs) (47 ∷ [])) (list_any (λ p. is_some (path_inside (b ∷ bs) p.name)) files) e))
 
 -- the paths of the names that a component matches
 abbrev pub taken : Bytes → Bytes → List Bytes → List Bytes
@@ -131,8 +131,8 @@ pub parts-none : (left : Bytes) → None ≡ split_at_first 47 left → split_at
 unfolding pair_of
 parts-none left e = parts left ∙ ap (pair_of left) (sym e)
 
-with-first : (recorded : Recorded) (component : Bytes) (others bases : List Bytes) (t : Bool) → is_empty component ≡ t
-    → along recorded (filter (λ c. not (is_empty c)) (component ∷ others)) bases ≡ along recorded (filter (λ c. not (is_empty c)) others) (with_component recorded component bases)
+with-first : (recorded : Recorded) (component : Bytes) (others bases : List Bytes) (t : Bool) → is_empty_list component ≡ t
+    → along recorded (filter (λ c. not (is_empty_list c)) (component ∷ others)) bases ≡ along recorded (filter (λ c. not (is_empty_list c)) others) (with_component recorded component bases)
 with-first recorded component others bases true e = rw e refl
 with-first recorded component others bases false e = rw e refl
 
@@ -140,15 +140,15 @@ pub some-component : (recorded : Recorded) (left component rest : Bytes) (bases 
     → along recorded (components_of left) bases ≡ along recorded (components_of rest) (with_component recorded component bases)
 unfolding pair_of
 some-component recorded left component rest bases e =
-    ap (λ cs. along recorded (filter (λ c. not (is_empty c)) cs) bases) (parts left ∙ ap (pair_of left) (sym e)) ∙ with-first recorded component (split_at_each 47 rest) bases (is_empty component) refl
+    ap (λ cs. along recorded (filter (λ c. not (is_empty_list c)) cs) bases) (parts left ∙ ap (pair_of left) (sym e)) ∙ with-first recorded component (split_at_each 47 rest) bases (is_empty_list component) refl
 
 pub last-component : (recorded : Recorded) (left : Bytes) (bases : List Bytes) → None ≡ split_at_first 47 left → along recorded (components_of left) bases ≡ with_component recorded left bases
 unfolding pair_of
 last-component recorded left bases e =
-    ap (λ cs. along recorded (filter (λ c. not (is_empty c)) cs) bases) (parts left ∙ ap (pair_of left) (sym e)) ∙ with-first recorded left [] bases (is_empty left) refl
+    ap (λ cs. along recorded (filter (λ c. not (is_empty_list c)) cs) bases) (parts left ∙ ap (pair_of left) (sym e)) ∙ with-first recorded left [] bases (is_empty_list left) refl
 
 -- a component that isn't empty
-pub not-empty : (recorded : Recorded) (component : Bytes) (bases : List Bytes) → is_empty component ≡ false → with_component recorded component bases ≡ flat_map (below recorded component) bases
+pub not-empty : (recorded : Recorded) (component : Bytes) (bases : List Bytes) → is_empty_list component ≡ false → with_component recorded component bases ≡ flat_map (below recorded component) bases
 not-empty recorded component bases e = rw e refl
 
 -- what holds of a result that is there, by what holds of it

@@ -9,7 +9,7 @@ use Rattle.conf_rules.specs.Texts.{Bytes}
 use Rattle.conf_rules.specs.Heads.{lines_of}
 use Rattle.conf_rules.specs.Recorded.{Recorded}
 use Rattle.conf_rules.specs.Includes.{Source, ConfFile, included_files}
-use Rattle.conf_rules.specs.Sources.{Line, Spelled, Where, is_opening, own_block, block_behind, lines_in, file_lines, each_file, too_deep, with_files, included, depth_limit, refused_at}
+use Rattle.conf_rules.specs.Sources.{Line, Spelled, Where, is_opening, own_block, block_behind, lines_in, file_lines, each_file, too_deep, with_files, included, depth_limit, refused_at_line}
 use Rattle.conf_reader.specs.declared.open_file.OpenFile.{OpenFile}
 use Rattle.conf_reader.specs.Blocks.{Blocks, or_none}
 use Rattle.conf_reader.specs.Left.{frame_files, one_below, deeper, frame_left, frames_left}
@@ -258,20 +258,20 @@ refuses recorded source depth outer f blocks place first rest e =
 
 -- a token of an Include line
 pub token-refuses : (recorded : Recorded) (source : Source) (depth : ℕ) (blocks : List ℕ) (file : Bytes) (number place : ℕ) (t : TokenError)
-    → deeper recorded source depth blocks file number place (Err t) ≡ refused_at (record { source = source; depth = depth; outer = blocks }) file number (Rattle.conf_rules.specs.declared.causes.Cause.TheVariants.Token t) ++ []
+    → deeper recorded source depth blocks file number place (Err t) ≡ refused_at_line (record { source = source; depth = depth; outer = blocks }) file number (Rattle.conf_rules.specs.declared.causes.Cause.TheVariants.Token t) ++ []
 unfolding deeper
 token-refuses recorded source depth blocks file number place t = refl
 
 -- a file that would lie too deep
 pub depth-refuses : (recorded : Recorded) (source : Source) (depth : ℕ) (blocks : List ℕ) (file : Bytes) (number place : ℕ) (f : ConfFile) (fs : List ConfFile) → eqb depth depth_limit ≡ true
-    → deeper recorded source depth blocks file number place (Ok (f ∷ fs)) ≡ refused_at (record { source = source; depth = depth; outer = blocks }) file number Rattle.conf_rules.specs.declared.causes.Cause.TheVariants.TooDeep ++ []
+    → deeper recorded source depth blocks file number place (Ok (f ∷ fs)) ≡ refused_at_line (record { source = source; depth = depth; outer = blocks }) file number Rattle.conf_rules.specs.declared.causes.Cause.TheVariants.TooDeep ++ []
 unfolding deeper
 depth-refuses recorded source depth blocks file number place f fs low = rw low refl
 
 -- a file that is too large
 pub size-refuses : (recorded : Recorded) (source : Source) (depth : ℕ) (blocks : List ℕ) (file : Bytes) (number place : ℕ) (f : ConfFile) (fs : List ConfFile) → eqb depth depth_limit ≡ false
     → Rattle.std.specs.Prelude.nat_lt Rattle.conf_rules.specs.Sources.size_limit (length f.text) ≡ true
-    → deeper recorded source depth blocks file number place (Ok (f ∷ fs)) ≡ refused_at (record { source = source; depth = depth + 1; outer = blocks }) f.path 0 Rattle.conf_rules.specs.declared.causes.Cause.TheVariants.TooLarge ++ each_file (one_below recorded source depth blocks) (place + 1) fs
+    → deeper recorded source depth blocks file number place (Ok (f ∷ fs)) ≡ refused_at_line (record { source = source; depth = depth + 1; outer = blocks }) f.path 0 Rattle.conf_rules.specs.declared.causes.Cause.TheVariants.TooLarge ++ each_file (one_below recorded source depth blocks) (place + 1) fs
 unfolding deeper file_lines
 size-refuses recorded source depth blocks file number place f fs low large = rw (low, large) refl
 

@@ -27,7 +27,7 @@ use Rattle.conf_reader.specs.declared.open_file.Said.{Said}
 use Rattle.conf_reader.specs.declared.lines.FirstFile.{FirstFile}
 use Rattle.conf_reader.specs.declared.lines.Lines.{Lines}
 use Rattle.conf_reader.specs.declared.stack.OpenFiles.{OpenFiles}
-use Rattle.conf_reader.specs.Results.{refused_at}
+use Rattle.conf_reader.specs.Results.{resolve_error_at}
 use Rattle.conf_reader.specs.Left.{source_of, IsFileSettled, GivenBy, gone, include_of, named_as, named_by}
 use Rattle.conf_reader.specs.Looking.{FailsAmong, FirstFails, LineFails, Test, meets_in, meets, firsts_meet, all_meet, line_meets, RecordsFailed}
 use Rattle.conf_reader.proofs.OpenLemmas.{drop-at}
@@ -88,7 +88,7 @@ records-at A test file number paths e before now r fails all =
     subst (λ x. RecordsFailed {A = A} test (Err x) before now) (sym r) (record { path = fails.path; is = fails.is; meets = one-meets (test file number) paths fails.path all fails.among })
 
 -- the same of a line's error
-pub records-line : (A B : Type 0) (test : Test) (file : Bytes) (number : ℕ) (paths : List Bytes) (le : LineError) (e : ResolveError) (before now : Option (List Bytes)) → e ≡ refused_at le file number → LineFails {A = B} paths (Err le) before now → list_all (test file number) paths ≡ true
+pub records-line : (A B : Type 0) (test : Test) (file : Bytes) (number : ℕ) (paths : List Bytes) (le : LineError) (e : ResolveError) (before now : Option (List Bytes)) → e ≡ resolve_error_at le file number → LineFails {A = B} paths (Err le) before now → list_all (test file number) paths ≡ true
     → RecordsFailed {A = A} test (Err e) before now
 records-line A B test file number paths line_errors.OutOfMemory e before now r fails all = subst (λ x. RecordsFailed {A = A} test (Err x) before now) (sym r) fails
 records-line A B test file number paths (line_errors.Refused causes.ReadFault) e before now r fails all = records-at A test file number paths e before now r fails all
@@ -216,7 +216,7 @@ named-looks test recorded o n f rest paths top include named is h =
     changed-meets test recorded o o.below.items (option_map (named_as paths) o.top) f (named_as paths f) top now refl (found-meets test recorded (source_of o.system) f rest paths include named) h in
     subst (λ (x : OpenFiles). meets test recorded x ≡ true) (sym is) all
 
-pub include-records : (A B : Type 0) (test : Test) (recorded : Recorded) (o : OpenFiles) (f : OpenFile) (rest given : Bytes) (le : LineError) (e : ResolveError) (before now : Option (List Bytes)) → o.top ≡ Some f → f.include ≡ Some rest → given ≡ rest → e ≡ refused_at le f.path (f.number - 1)
+pub include-records : (A B : Type 0) (test : Test) (recorded : Recorded) (o : OpenFiles) (f : OpenFile) (rest given : Bytes) (le : LineError) (e : ResolveError) (before now : Option (List Bytes)) → o.top ≡ Some f → f.include ≡ Some rest → given ≡ rest → e ≡ resolve_error_at le f.path (f.number - 1)
     → LineFails {A = A} (looks_in (source_of o.system) recorded (words_of given)) (Err le) before now → meets test recorded o ≡ true → RecordsFailed {A = B} test (Err e) before now
 include-records A B test recorded o f rest given le e before now top include same r fails h =
     let source = source_of o.system in

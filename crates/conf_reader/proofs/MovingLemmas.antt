@@ -5,7 +5,7 @@ use Rattle.conf_rules.specs.declared.causes.ResolveError.{ResolveError}
 use Rattle.conf_reader.specs.declared.lines.Lines.{Lines}
 use Rattle.conf_reader.specs.declared.stack.OpenFiles.{OpenFiles}
 use Rattle.conf_reader.specs.Known.{RecordsFiles}
-use Rattle.conf_reader.specs.Left.{left, AreFilesReady}
+use Rattle.conf_reader.specs.Left.{lines_to_give, AreFilesReady}
 use Rattle.conf_reader.specs.Moving.{ReadingGoesOn, MovesLines}
 use Rattle.conf_reader.proofs.RefusalLemmas.{moved-before}
 
@@ -35,7 +35,7 @@ lines-then k same x y = record {
 -- one that refuses
 pub lines-fail : {A B C : Type 0} {files later : Option (List Pair)} {a b c : Lines} {v : A} {e : ResolveError} → later ≡ files → MovesLines files a b (Ok v) → MovesLines {A = B} later b c (Err e) → MovesLines {A = C} files a c (Err e)
 lines-fail {A} {B} {C} {files} {later} {a} {b} {c} {v} {e} same x y = record {
-  moves = λ recorded place blocks records. moved-before (left recorded place blocks a) (left recorded place blocks b) e (x.moves recorded place blocks records) (y.moves recorded place blocks (subst (λ f. RecordsFiles f recorded) (sym same) records));
+  moves = λ recorded place blocks records. moved-before (lines_to_give recorded place blocks a) (lines_to_give recorded place blocks b) e (x.moves recorded place blocks records) (y.moves recorded place blocks (subst (λ f. RecordsFiles f recorded) (sym same) records));
   goes_on = tt;
   firsts = y.firsts ∙ x.firsts;
   count = y.count ∙ x.count;

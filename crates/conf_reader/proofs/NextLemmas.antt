@@ -6,15 +6,15 @@ use Rattle.conf_rules.specs.declared.causes.ResolveError.TheVariants as errors
 use Rattle.conf_rules.specs.Recorded.{Recorded}
 use Rattle.conf_rules.specs.Sources.{Line}
 use Rattle.conf_rules.specs.Entries.{entry_of}
-use Rattle.conf_rules.specs.Resolution.{counted}
+use Rattle.conf_rules.specs.Resolution.{line_within_limit}
 use Rattle.conf_rules.specs.Rows.{LineRow}
 use Rattle.conf_reader.specs.declared.line.ConfLine.{ConfLine}
 use Rattle.conf_reader.specs.declared.lines.Lines.{Lines}
 use Rattle.conf_reader.specs.declared.lines.ReadStep.TheVariants as steps
 use Rattle.conf_reader.specs.Blocks.{Blocks}
-use Rattle.conf_reader.specs.Left.{left, Bounded}
+use Rattle.conf_reader.specs.Left.{lines_to_give, Bounded}
 use Rattle.std.specs.Prelude.{IfOk, IfSome}
-use Rattle.conf_reader.specs.ReaderReads.{IsGivenFrom, AreIdle, GivesNextLine, RefusesNext, ReaderReads, OneLine, SoFar}
+use Rattle.conf_reader.specs.ReaderReads.{IsGivenFrom, AreIdle, GivesNextLine, RefusesNextLine, ReaderReads, OneLine, SoFar}
 
 pub idle-append : (recorded : Recorded) (xs ys : List Line) (place : ℕ) → AreIdle recorded place xs → AreIdle recorded (place + length xs) ys → AreIdle recorded place (xs ++ ys)
 idle-append recorded [] ys place h k = subst (λ n. AreIdle recorded n ys) (let z : place + 0 ≡ place = omega arith in z) k
@@ -27,7 +27,7 @@ more recorded place blocks old now new s o count bounded =
     let c = s.count in
     record {
       comments = s.comments ++ o.0 ∷ [];
-      is = s.is ∙ ap (λ xs. s.comments ++ xs) o.1.0 ∙ sym (append_assoc s.comments (o.0 ∷ []) _) ∙ ap (λ m. (s.comments ++ o.0 ∷ []) ++ left recorded m blocks new) n;
+      is = s.is ∙ ap (λ xs. s.comments ++ xs) o.1.0 ∙ sym (append_assoc s.comments (o.0 ∷ []) _) ∙ ap (λ m. (s.comments ++ o.0 ∷ []) ++ lines_to_give recorded m blocks new) n;
       idle = idle-append recorded s.comments (o.0 ∷ []) place s.idle (o.1.1, tt);
       count = omega (arith, n, c, count);
       bounded = bounded;
@@ -47,14 +47,14 @@ gives recorded place blocks old now new given s o count = record {
 }
 
 -- no line after them
-pub ends : (recorded : Recorded) (place : ℕ) (blocks : Blocks) (old now : Lines) (s : SoFar recorded place blocks old now) → left recorded (place + length s.comments) blocks now ≡ [] → AreIdle recorded place (left recorded place blocks old)
+pub ends : (recorded : Recorded) (place : ℕ) (blocks : Blocks) (old now : Lines) (s : SoFar recorded place blocks old now) → lines_to_give recorded (place + length s.comments) blocks now ≡ [] → AreIdle recorded place (lines_to_give recorded place blocks old)
 ends recorded place blocks old now s e = subst (AreIdle recorded place) (sym (s.is ∙ ap (λ xs. s.comments ++ xs) e ∙ append-nil s.comments)) s.idle
 
 -- a refusal after them
 pub fails : (recorded : Recorded) (place : ℕ) (blocks : Blocks) (old now new : Lines) (e : ResolveError) (s : SoFar recorded place blocks old now) → OneLine recorded (place + length s.comments) blocks now new (Err e) → ReaderReads recorded place blocks old new (Err e)
 fails recorded place blocks old now new errors.OutOfMemory s o = tt
 fails recorded place blocks old now new (errors.At file number cause) s o = λ fault.
-    let r : RefusesNext recorded (place + length s.comments) (left recorded (place + length s.comments) blocks now) file number cause = o fault in
+    let r : RefusesNextLine recorded (place + length s.comments) (lines_to_give recorded (place + length s.comments) blocks now) file number cause = o fault in
     let n : place + length (s.comments ++ r.comments) ≡ place + length s.comments + length r.comments = let k = length-append s.comments r.comments in omega (arith, k) in
     record {
       comments = s.comments ++ r.comments;
@@ -64,12 +64,12 @@ fails recorded place blocks old now new (errors.At file number cause) s o = λ f
       idle = idle-append recorded s.comments r.comments place s.idle r.idle;
       file_is = r.file_is;
       number_is = r.number_is;
-      refused = λ (rows : List LineRow). ap (counted recorded entry_of rows r.line) n ∙ r.refused rows;
+      refused = λ (rows : List LineRow). ap (line_within_limit recorded entry_of rows r.line) n ∙ r.refused rows;
     }
 
 -- ---- what stands before a line that was given
 
-pub reads-from : (recorded : Recorded) (place : ℕ) (blocks : Blocks) (old mid new : Lines) (r : Result (Option ConfLine) ResolveError) → left recorded place blocks old ≡ left recorded place blocks mid → ReaderReads recorded place blocks mid new r → ReaderReads recorded place blocks old new r
+pub reads-from : (recorded : Recorded) (place : ℕ) (blocks : Blocks) (old mid new : Lines) (r : Result (Option ConfLine) ResolveError) → lines_to_give recorded place blocks old ≡ lines_to_give recorded place blocks mid → ReaderReads recorded place blocks mid new r → ReaderReads recorded place blocks old new r
 reads-from recorded place blocks old mid new (Ok None) e h = subst (AreIdle recorded place) (sym e) h
 reads-from recorded place blocks old mid new (Ok (Some given)) e h = record {
   comments = h.comments;
@@ -82,7 +82,7 @@ reads-from recorded place blocks old mid new (Ok (Some given)) e h = record {
   source = h.source;
 }
 reads-from recorded place blocks old mid new (Err errors.OutOfMemory) e h = tt
-reads-from recorded place blocks old mid new (Err (errors.At file number cause)) e h = λ fault. subst (λ ls. RefusesNext recorded place ls file number cause) (sym e) (h fault)
+reads-from recorded place blocks old mid new (Err (errors.At file number cause)) e h = λ fault. subst (λ ls. RefusesNextLine recorded place ls file number cause) (sym e) (h fault)
 
 pub one-reads : (recorded : Recorded) (place : ℕ) (blocks : Blocks) (old new : Lines) (e : ResolveError) → OneLine recorded place blocks old new (Err e) → ReaderReads recorded place blocks old new (Err e)
 one-reads recorded place blocks old new errors.OutOfMemory h = tt

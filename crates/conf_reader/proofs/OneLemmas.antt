@@ -22,17 +22,17 @@ use Rattle.conf_rules.specs.Recorded.{Recorded}
 use Rattle.conf_rules.specs.Sources.{Line}
 use Rattle.conf_rules.specs.Heads.{lines_of}
 use Rattle.conf_rules.specs.Entries.{entry_of}
-use Rattle.conf_rules.specs.Resolution.{counted, is_past_limit, line_limit, is_asked, is_refusal_content}
+use Rattle.conf_rules.specs.Resolution.{line_within_limit, is_past_limit, line_limit, is_of_command_line, is_refusal_content}
 use Rattle.conf_reader.specs.declared.stack.OpenFiles.{OpenFiles}
 use Rattle.conf_reader.specs.declared.lines.Lines.{Lines}
 use Rattle.conf_reader.specs.Blocks.{Blocks, or_none}
-use Rattle.conf_reader.specs.Left.{left, open_left, firsts_left, IsComment, RefusesFirst, RefusesHead, TakesLine, IsFileSettled, source_of, cur, frames_left}
-use Rattle.conf_reader.specs.ReaderReads.{IsIdleLine, RefusesNext, OneLine}
+use Rattle.conf_reader.specs.Left.{lines_to_give, open_left, firsts_left, IsComment, RefusesFirst, RefusesHead, TakesLine, IsFileSettled, source_of, cur, frames_left}
+use Rattle.conf_reader.specs.ReaderReads.{IsIdleLine, RefusesNextLine, OneLine}
 
 -- a line of a file within the limit
 pub within-limit : (recorded : Recorded) (line : Line) (place read : ℕ) → place ≡ length recorded.asked.lines + read → read < MAX_LINES → is_past_limit recorded line place ≡ false
 unfolding line_limit
-within-limit recorded line place read at low = by (is_asked line.source) (Rattle.conf_rules.specs.Resolution.is_refusal_content line.content)
+within-limit recorded line place read at low = by (is_of_command_line line.source) (Rattle.conf_rules.specs.Resolution.is_refusal_content line.content)
   where
     past : nat_le MAX_LINES (place - length recorded.asked.lines) ≡ false
     past = lt-leb MAX_LINES (place - length recorded.asked.lines) (omega (arith, at, low))
@@ -49,7 +49,7 @@ comment-idle recorded line place read c at low = λ rows. rw (within-limit recor
 
 -- what is left of all files, one line on
 pub left-on : (recorded : Recorded) (place : ℕ) (blocks others : Blocks) (r n : Lines) (line : Line) → open_left recorded place blocks r.open_files ≡ line ∷ open_left recorded (place + 1) others n.open_files → n.firsts.items ≡ r.firsts.items → n.next_first ≡ r.next_first
-    → left recorded place blocks r ≡ line ∷ left recorded (place + 1) others n
+    → lines_to_give recorded place blocks r ≡ line ∷ lines_to_give recorded (place + 1) others n
 left-on recorded place blocks others r n line e firsts next =
     let k : place + length (line ∷ open_left recorded (place + 1) others n.open_files) ≡ place + 1 + length (open_left recorded (place + 1) others n.open_files) = omega arith in
     ap (λ o. o ++ firsts_left recorded (place + length o) (drop r.next_first r.firsts.items)) e
@@ -59,7 +59,7 @@ left-on recorded place blocks others r n line e firsts next =
 
 -- a line whose head is refused
 pub head-refused : (recorded : Recorded) (place read : ℕ) (blocks : Blocks) (r : Lines) (file : List ℕ) (number : ℕ) (cause : Cause) → RefusesHead (open_left recorded place blocks r.open_files) file number cause → place ≡ length recorded.asked.lines + read → read < MAX_LINES
-    → RefusesNext recorded place (left recorded place blocks r) file number cause
+    → RefusesNextLine recorded place (lines_to_give recorded place blocks r) file number cause
 unfolding entry_of
 head-refused recorded place read blocks r file number cause h at low = record {
   comments = [];
@@ -82,9 +82,9 @@ asked-or-not cause true = refl
 asked-or-not cause false = refl
 
 -- a file or an inclusion that is refused
-pub place-refused : (recorded : Recorded) (place : ℕ) (left : List Line) (file : List ℕ) (number : ℕ) (cause : Cause) → RefusesFirst left file number cause → RefusesNext recorded place left file number cause
+pub place-refused : (recorded : Recorded) (place : ℕ) (lines_to_give : List Line) (file : List ℕ) (number : ℕ) (cause : Cause) → RefusesFirst lines_to_give file number cause → RefusesNextLine recorded place lines_to_give file number cause
 unfolding entry_of
-place-refused recorded place left file number cause f = record {
+place-refused recorded place lines_to_give file number cause f = record {
   comments = [];
   line = f.line;
   rest = f.rest;
@@ -92,14 +92,14 @@ place-refused recorded place left file number cause f = record {
   idle = tt;
   file_is = f.file_is;
   number_is = f.number_is;
-  refused = λ rows. rw f.content (asked-or-not cause (is_asked f.line.source));
+  refused = λ rows. rw f.content (asked-or-not cause (is_of_command_line f.line.source));
 }
 
 -- ---- as the code needs them
 
-pub reach-failed : (recorded : Recorded) (place : ℕ) (blocks : Blocks) (old new : Lines) (e : ResolveError) → moved (left recorded place blocks old) [] e → OneLine recorded place blocks old new (Err e)
+pub reach-failed : (recorded : Recorded) (place : ℕ) (blocks : Blocks) (old new : Lines) (e : ResolveError) → moved (lines_to_give recorded place blocks old) [] e → OneLine recorded place blocks old new (Err e)
 reach-failed recorded place blocks old new errors.OutOfMemory m = tt
-reach-failed recorded place blocks old new (errors.At file number cause) m = λ fault. place-refused recorded place (left recorded place blocks old) file number cause (m fault)
+reach-failed recorded place blocks old new (errors.At file number cause) m = λ fault. place-refused recorded place (lines_to_give recorded place blocks old) file number cause (m fault)
 
 -- the first line of what isn't empty
 some-line : (t : List ℕ) → 0 < length t → (bytes : List ℕ) × ((rest : List (List ℕ)) × (lines_of t ≡ bytes ∷ rest))
@@ -111,12 +111,12 @@ drop-some [] i h = absurd (omega (arith, h))
 drop-some (x ∷ xs) zero h = omega arith
 drop-some (x ∷ xs) (suc i) h = drop-some xs i (omega (arith, h))
 
-past-limit : (recorded : Recorded) (line : Line) (place read : ℕ) → place ≡ length recorded.asked.lines + read → MAX_LINES ≤ read → is_asked line.source ≡ false → is_refusal_content line.content ≡ false → is_past_limit recorded line place ≡ true
+past-limit : (recorded : Recorded) (line : Line) (place read : ℕ) → place ≡ length recorded.asked.lines + read → MAX_LINES ≤ read → is_of_command_line line.source ≡ false → is_refusal_content line.content ≡ false → is_past_limit recorded line place ≡ true
 unfolding line_limit
 past-limit recorded line place read at many asked refusal = rw (asked, refusal) (le-leb MAX_LINES (place - length recorded.asked.lines) (omega (arith, at, many)))
 
 too-many : (recorded : Recorded) (place read : ℕ) (blocks : Blocks) (r : Lines) (f : OpenFile) → r.open_files.top ≡ Some f → IsFileSettled f → f.at < length f.text → place ≡ length recorded.asked.lines + read → MAX_LINES ≤ read
-    → RefusesNext recorded place (left recorded place blocks r) f.path f.number causes.TooManyLines
+    → RefusesNextLine recorded place (lines_to_give recorded place blocks r) f.path f.number causes.TooManyLines
 too-many recorded place read blocks r f top s low at many =
     let o = r.open_files in
     let fs = o.below.items in
@@ -140,7 +140,7 @@ too-many recorded place read blocks r f top s low at many =
       refused = λ rows. let z : place + 0 ≡ place = omega arith in rw (z, past-limit recorded line place read at many (file-source o.system) refl) refl;
     }
 
-one-refused : (recorded : Recorded) (place : ℕ) (blocks : Blocks) (old new : Lines) (file : List ℕ) (number : ℕ) (cause : Cause) (e : ResolveError) → RefusesLine (line_errors.Refused cause) file number e → RefusesNext recorded place (left recorded place blocks old) file number cause → OneLine recorded place blocks old new (Err e)
+one-refused : (recorded : Recorded) (place : ℕ) (blocks : Blocks) (old new : Lines) (file : List ℕ) (number : ℕ) (cause : Cause) (e : ResolveError) → RefusesLine (line_errors.Refused cause) file number e → RefusesNextLine recorded place (lines_to_give recorded place blocks old) file number cause → OneLine recorded place blocks old new (Err e)
 one-refused recorded place blocks old new file number cause errors.OutOfMemory r n = tt
 one-refused recorded place blocks old new file number cause (errors.At f m c) r n = λ fault.
     record { comments = n.comments; line = n.line; rest = n.rest; is = n.is; idle = n.idle; file_is = n.file_is ∙ (let k : file ≡ f = cc in k); number_is = n.number_is ∙ (let k : number ≡ m = cc in k); refused = λ rows. n.refused rows ∙ ap (λ x. Err x) (let k : cause ≡ c = cc in k) }
@@ -155,6 +155,6 @@ head-failed recorded place read blocks r new n errors.OutOfMemory t at low = tt
 head-failed recorded place read blocks r new n (errors.At file number cause) t at low = λ fault. head-refused recorded place read blocks r file number cause t at low
 
 -- what one line is, where what is left is the same
-pub same-line : (recorded : Recorded) (place : ℕ) (blocks : Blocks) (old mid new : Lines) (e : ResolveError) → left recorded place blocks old ≡ left recorded place blocks mid → OneLine recorded place blocks mid new (Err e) → OneLine recorded place blocks old new (Err e)
+pub same-line : (recorded : Recorded) (place : ℕ) (blocks : Blocks) (old mid new : Lines) (e : ResolveError) → lines_to_give recorded place blocks old ≡ lines_to_give recorded place blocks mid → OneLine recorded place blocks mid new (Err e) → OneLine recorded place blocks old new (Err e)
 same-line recorded place blocks old mid new errors.OutOfMemory same o = tt
-same-line recorded place blocks old mid new (errors.At file number cause) same o = λ fault. subst (λ l. RefusesNext recorded place l file number cause) (sym same) (o fault)
+same-line recorded place blocks old mid new (errors.At file number cause) same o = λ fault. subst (λ l. RefusesNextLine recorded place l file number cause) (sym same) (o fault)

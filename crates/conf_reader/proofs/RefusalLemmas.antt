@@ -11,7 +11,7 @@ use Rattle.conf_reader.specs.declared.errors.LineError.{LineError}
 use Rattle.conf_reader.specs.declared.errors.LineError.TheVariants as line_errors
 use Rattle.conf_reader.specs.declared.files.FoundFile.{FoundFile}
 use Rattle.conf_reader.specs.declared.files.FoundFile.TheVariants.{Nothing, TooLarge, Holds}
-use Rattle.conf_reader.specs.Results.{RefusesLine, refused_at}
+use Rattle.conf_reader.specs.Results.{RefusesLine, resolve_error_at}
 use Rattle.conf_rules.specs.Texts.{Bytes}
 use Rattle.conf_rules.specs.Recorded.{Recorded}
 use Rattle.conf_rules.specs.Includes.{Source, file_at, file_of}
@@ -19,7 +19,7 @@ use Rattle.conf_rules.specs.Sources.{Line, Refused, depth_limit, size_limit, eac
 use Rattle.conf_reader.specs.declared.open_file.OpenFile.{OpenFile}
 use Rattle.conf_reader.specs.declared.stack.OpenFiles.{OpenFiles}
 use Rattle.conf_reader.specs.Blocks.{Blocks, or_none}
-use Rattle.conf_reader.specs.Left.{source_of, frame_files, frames_left, cur, open_left, AreFilesReady, is_expanded, RefusesFirst, RefusesTop, RefusesNext, Names, Moves, IsFound, deeper, one_below}
+use Rattle.conf_reader.specs.Left.{source_of, frame_files, frames_left, cur, open_left, AreFilesReady, is_expanded, RefusesFirst, RefusesTop, RefusesNextFile, Names, Moves, IsFound, deeper, one_below}
 use Rattle.conf_reader.proofs.LeftLemmas.{top_depth, top_outer, top-depth, front, refuses, depth-refuses, size-refuses}
 use Rattle.conf_reader.proofs.OpenLemmas.{drop-at}
 
@@ -86,7 +86,7 @@ abbrev pub moved : List Line → List Line → ResolveError → Type 0
 moved before after e = Moves {A = Unit {0}} before after (Err e)
 
 -- a refusal that wants no memory is one
-pub refuses-at : (le : LineError) (file : Bytes) (number : ℕ) (e : ResolveError) → e ≡ refused_at le file number → RefusesLine le file number e
+pub refuses-at : (le : LineError) (file : Bytes) (number : ℕ) (e : ResolveError) → e ≡ resolve_error_at le file number → RefusesLine le file number e
 refuses-at line_errors.OutOfMemory file number e r = r
 refuses-at (line_errors.Refused cause) file number e r = subst (λ x. RefusesLine (line_errors.Refused cause) file number x) (sym r) refl
 
@@ -123,7 +123,7 @@ moves-deep recorded place blocks o after found e (Some f) top some named deep is
     by-path (Some path) at h = let text = found-text found (recorded.content path) is h in moves-refused (open_left recorded place blocks o) after f.path (f.number - 1) causes.TooDeep e r (deep-refused recorded place blocks o f path text.0 top named.0 at text.1 deep)
 
 pub moves-large : (recorded : Recorded) (place : ℕ) (blocks : Blocks) (o : OpenFiles) (after : List Line) (e : ResolveError) (t : Option OpenFile) → o.top ≡ t → IsSome t → IfSome t named_one → length o.below.items < depth_limit
-    → Names t (λ path. IsFound TooLarge (recorded.content path)) → RefusesNext t causes.TooLarge e → moved (open_left recorded place blocks o) after e
+    → Names t (λ path. IsFound TooLarge (recorded.content path)) → RefusesNextFile t causes.TooLarge e → moved (open_left recorded place blocks o) after e
 moves-large recorded place blocks o after e None top some named low names r = absurd (let k : false ≡ true = some in cc)
 moves-large recorded place blocks o after e (Some f) top some named low names r = by-path (slice_get f.named f.next) refl names r
   where

@@ -19,7 +19,7 @@ use Rattle.conf_rules.specs.Heads.{Comment, Says, head_of, lines_of}
 use Rattle.conf_rules.specs.Recorded.{Recorded}
 use Rattle.conf_rules.specs.Includes.{Source, included_files}
 use Rattle.conf_rules.specs.Sources.{Line, is_opening, own_block, block_behind, depth_limit}
-use Rattle.conf_rules.specs.Resolution.{is_asked}
+use Rattle.conf_rules.specs.Resolution.{is_of_command_line}
 use Rattle.conf_reader.specs.declared.line.ConfLine.{ConfLine}
 use Rattle.conf_reader.specs.declared.open_file.OpenFile.{OpenFile}
 use Rattle.conf_reader.specs.declared.stack.OpenFiles.{OpenFiles}
@@ -29,7 +29,7 @@ use Rattle.conf_reader.specs.Left.{source_of, frame_files, frames_left, cur, ope
 use Rattle.conf_reader.proofs.LeftLemmas.{top_depth, top_outer, top-depth, top-outer, ReadStep, under, takes, Taken, file_line, head-left, front}
 use Rattle.conf_reader.proofs.OpenLemmas.{cur-below, settled-files}
 
-pub file-source : (system : Bool) → is_asked (source_of system) ≡ false
+pub file-source : (system : Bool) → is_of_command_line (source_of system) ≡ false
 file-source true = refl
 file-source false = refl
 

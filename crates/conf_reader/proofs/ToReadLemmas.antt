@@ -29,7 +29,7 @@ use Rattle.conf_reader.specs.declared.lines.FirstFile.{FirstFile}
 use Rattle.conf_reader.specs.declared.lines.Lines.{Lines}
 use Rattle.conf_reader.specs.Firsts.{firsts_of}
 use Rattle.conf_reader.specs.Left.{source_of, IsFileSettled, HeadIs, Names, heading_of, gone, include_of, named_as, named_by}
-use Rattle.conf_reader.specs.ToRead.{names_left, file_reads, files_read, open_reads, first_reads, all_read, reading_of, ReadsTo, ReadsSome, Notes, NotesFirst}
+use Rattle.conf_reader.specs.ToRead.{names_left, file_reads, files_read, open_reads, first_reads, all_to_read, reading_of, ReadsTo, ReadsSome, Notes, NotesFirst}
 use Rattle.conf_reader.proofs.OpenLemmas.{drop-at}
 
 -- ---- readings
@@ -251,7 +251,7 @@ named-reads recorded o f rest paths top include named = changed-reads recorded o
 pub more-left : (before left more : List Bytes) (readings now : Option (List Reading)) → ReadsTo before left readings now → ReadsTo (before ++ more) (left ++ more) readings now
 more-left before left more readings now h = record { read = h.read; parts = ap (λ xs. xs ++ more) h.parts ∙ append_assoc h.read left more; noted = h.noted }
 
-pub all-note : (A : Type 0) (recorded : Recorded) (r : Lines) (new : OpenFiles) (result : Result A ResolveError) (readings now : Option (List Reading)) → Notes (open_reads recorded r.open_files) (open_reads recorded new) result readings now → Notes (all_read recorded r) (all_read recorded (record r { open_files = new })) result readings now
+pub all-note : (A : Type 0) (recorded : Recorded) (r : Lines) (new : OpenFiles) (result : Result A ResolveError) (readings now : Option (List Reading)) → Notes (open_reads recorded r.open_files) (open_reads recorded new) result readings now → Notes (all_to_read recorded r) (all_to_read recorded (record r { open_files = new })) result readings now
 all-note A recorded r new (Ok x) readings now h = more-left (open_reads recorded r.open_files) (open_reads recorded new) (flat_map (first_reads recorded) (drop r.next_first r.firsts.items)) readings now h
 all-note A recorded r new (Err e) readings now h =
     let more = flat_map (first_reads recorded) (drop r.next_first r.firsts.items) in
@@ -262,17 +262,17 @@ none-open recorded o top below = rw (top, below) refl
 
 -- the first file that is read next
 first-next : (recorded : Recorded) (r : Lines) (f : FirstFile) → r.open_files.top ≡ None → r.open_files.below.items ≡ [] → slice_get r.firsts.items r.next_first ≡ Some f
-    → all_read recorded r ≡ f.path ∷ (below_path (source_of f.system) recorded (suc depth_limit) f.path ++ flat_map (first_reads recorded) (drop (r.next_first + 1) r.firsts.items))
+    → all_to_read recorded r ≡ f.path ∷ (below_path (source_of f.system) recorded (suc depth_limit) f.path ++ flat_map (first_reads recorded) (drop (r.next_first + 1) r.firsts.items))
 first-next recorded r f top below named =
     let next : suc r.next_first ≡ r.next_first + 1 = omega arith in
     let firsts : drop r.next_first r.firsts.items ≡ f ∷ drop (r.next_first + 1) r.firsts.items = drop-at r.firsts.items r.next_first f named ∙ ap (λ i. f ∷ drop i r.firsts.items) next in
     ap (λ xs. xs ++ flat_map (first_reads recorded) (drop r.next_first r.firsts.items)) (none-open recorded r.open_files top below) ∙ ap (flat_map (first_reads recorded)) firsts
 
-pub first-some : (recorded : Recorded) (r : Lines) (f : FirstFile) → r.open_files.top ≡ None → r.open_files.below.items ≡ [] → slice_get r.firsts.items r.next_first ≡ Some f → (rest : List Bytes) × (all_read recorded r ≡ f.path ∷ rest)
+pub first-some : (recorded : Recorded) (r : Lines) (f : FirstFile) → r.open_files.top ≡ None → r.open_files.below.items ≡ [] → slice_get r.firsts.items r.next_first ≡ Some f → (rest : List Bytes) × (all_to_read recorded r ≡ f.path ∷ rest)
 first-some recorded r f top below named = (_, first-next recorded r f top below named)
 
 pub first-skipped : (recorded : Recorded) (r : Lines) (f : FirstFile) → r.open_files.top ≡ None → r.open_files.below.items ≡ [] → slice_get r.firsts.items r.next_first ≡ Some f → recorded.content f.path ≡ None
-    → all_read recorded r ≡ f.path ∷ all_read recorded (record r { next_first = r.next_first + 1 })
+    → all_to_read recorded r ≡ f.path ∷ all_to_read recorded (record r { next_first = r.next_first + 1 })
 first-skipped recorded r f top below named none =
     let rest = flat_map (first_reads recorded) (drop (r.next_first + 1) r.firsts.items) in
     first-next recorded r f top below named ∙ ap (λ b. f.path ∷ (b ++ rest)) (nobody-below (source_of f.system) recorded (suc depth_limit) f.path none)
@@ -280,7 +280,7 @@ first-skipped recorded r f top below named none =
 
 pub first-begun : (recorded : Recorded) (r : Lines) (f : FirstFile) (path text : Bytes) (new : OpenFile) → r.open_files.top ≡ None → r.open_files.below.items ≡ [] → slice_get r.firsts.items r.next_first ≡ Some f → recorded.content f.path ≡ Some text
     → path ≡ f.path → new ≡ record { path = path; text = text; at = 0; number = 1; include = None; named = []; next = 0 }
-    → all_read recorded r ≡ f.path ∷ (files_read recorded (source_of f.system) 0 (r.open_files.below.items ++ new ∷ []) ++ flat_map (first_reads recorded) (drop (r.next_first + 1) r.firsts.items))
+    → all_to_read recorded r ≡ f.path ∷ (files_read recorded (source_of f.system) 0 (r.open_files.below.items ++ new ∷ []) ++ flat_map (first_reads recorded) (drop (r.next_first + 1) r.firsts.items))
 first-begun recorded r f path text new top below named some path-is new-is =
     let source = source_of f.system in
     let rest = flat_map (first_reads recorded) (drop (r.next_first + 1) r.firsts.items) in
@@ -294,7 +294,7 @@ first-begun recorded r f path text new top below named some path-is new-is =
     ∙ ap (λ fs. f.path ∷ (files_read recorded source 0 (fs ++ new ∷ []) ++ rest)) (sym below)
 
 -- at the end
-pub ended-reads : (recorded : Recorded) (r : Lines) → r.open_files.top ≡ None → r.open_files.below.items ≡ [] → length r.firsts.items ≤ r.next_first → all_read recorded r ≡ []
+pub ended-reads : (recorded : Recorded) (r : Lines) → r.open_files.top ≡ None → r.open_files.below.items ≡ [] → length r.firsts.items ≤ r.next_first → all_to_read recorded r ≡ []
 ended-reads recorded r top below past =
     ap (λ xs. xs ++ flat_map (first_reads recorded) (drop r.next_first r.firsts.items)) (none-open recorded r.open_files top below) ∙ ap (flat_map (first_reads recorded)) (drop_of_length-le r.firsts.items past)
 
@@ -337,10 +337,10 @@ fails-behind path before rest readings now e n = (rest, one-read path before res
 
 -- a first file was read, after which the call fails
 pub first-behind : (recorded : Recorded) (r : Lines) (f : FirstFile) (path : Bytes) (readings now : Option (List Reading)) → r.open_files.top ≡ None → r.open_files.below.items ≡ [] → slice_get r.firsts.items r.next_first ≡ Some f → path ≡ f.path
-    → now ≡ option_map (λ rs. rs ++ reading_of path ∷ []) readings → ReadsSome (all_read recorded r) readings now
+    → now ≡ option_map (λ rs. rs ++ reading_of path ∷ []) readings → ReadsSome (all_to_read recorded r) readings now
 first-behind recorded r f path readings now top below named same noted =
     let some = first-some recorded r f top below named in
-    fails-behind f.path (all_read recorded r) some.0 readings now some.1 (subst (λ p. now ≡ option_map (λ rs. rs ++ reading_of p ∷ []) readings) same noted)
+    fails-behind f.path (all_to_read recorded r) some.0 readings now some.1 (subst (λ p. now ≡ option_map (λ rs. rs ++ reading_of p ∷ []) readings) same noted)
 
 -- a first file's read, or the memory for it, failed
 pub first-fails : (path given : Bytes) (before rest : List Bytes) (e : ResolveError) (readings now : Option (List Reading)) → given ≡ path → before ≡ path ∷ rest → NotesFirst {A = FoundFile} given (Err e) readings now → ReadsSome before readings now
@@ -358,11 +358,11 @@ pub first-at : (r : Lines) (f : FirstFile) (fact : FirstFile → Type 0) → sli
 first-at r f fact at n = subst (λ p. IfSome p fact) at n
 
 -- a line was read from what was reached
-pub taken-all : (recorded : Recorded) (r : Lines) (new : OpenFiles) (count : ℕ) → open_reads recorded r.open_files ≡ open_reads recorded new → all_read recorded r ≡ all_read recorded (record r { open_files = new; read = count })
+pub taken-all : (recorded : Recorded) (r : Lines) (new : OpenFiles) (count : ℕ) → open_reads recorded r.open_files ≡ open_reads recorded new → all_to_read recorded r ≡ all_to_read recorded (record r { open_files = new; read = count })
 taken-all recorded r new count same = ap (λ xs. xs ++ flat_map (first_reads recorded) (drop r.next_first r.firsts.items)) same
 
 -- a reader that is new
-pub begins-reads : (recorded : Recorded) (r : Lines) (home : Option Bytes) (from : ConfigFrom) → r.open_files.below.items ≡ [] → r.open_files.top ≡ None → r.next_first ≡ 0 → r.firsts.items ≡ firsts_of home from → recorded.facts.home ≡ home → all_read recorded r ≡ read_once recorded from
+pub begins-reads : (recorded : Recorded) (r : Lines) (home : Option Bytes) (from : ConfigFrom) → r.open_files.below.items ≡ [] → r.open_files.top ≡ None → r.next_first ≡ 0 → r.firsts.items ≡ firsts_of home from → recorded.facts.home ≡ home → all_to_read recorded r ≡ read_once recorded from
 begins-reads recorded r home from below top count firsts h =
     ap (λ xs. xs ++ flat_map (first_reads recorded) (drop r.next_first r.firsts.items)) (none-open recorded r.open_files top below)
     ∙ ap (λ n. flat_map (first_reads recorded) (drop n r.firsts.items)) count

@@ -18,7 +18,7 @@ use Rattle.conf_reader.specs.declared.stack.OpenFiles.{OpenFiles}
 use Rattle.conf_reader.specs.FilesState.{FilesState}
 use Rattle.conf_reader.specs.Known.{RecordsFiles}
 use Rattle.conf_reader.specs.Looking.{Test, RecordsFailed}
-use Rattle.conf_reader.specs.Results.{IsFilesCause, HasReadCause, HasFilesCause, RefusesLine, refused_at, is_fault_at, is_run_fault}
+use Rattle.conf_reader.specs.Results.{IsFilesCause, HasReadCause, HasFilesCause, RefusesLine, resolve_error_at, is_fault_at, is_run_fault}
 use Rattle.conf_reader.specs.ToRead.{ReadsSome}
 use Rattle.conf_reader.specs.Uses.{Coming, of_open, of_all, UsesFiles, UsesFilesFor}
 use Rattle.conf_reader.proofs.LookingLemmas.{all-look, files-meet, records-err, records-on}
@@ -52,7 +52,7 @@ line-quiet cause None e quiet some h = absurd (let k : false ≡ true = some in 
 line-quiet cause (Some f) e quiet some h = refuses-quiet cause f.path f.number e quiet h
 
 -- a line's error, reported as a refusal
-pub line-cause : (A B : Type 0) (le : LineError) (file : Bytes) (number : ℕ) (e : ResolveError) (before now : ℕ) → e ≡ refused_at le file number → HasReadCause {A = A} (Err le) before now → HasFilesCause {A = B} (Err e) before now
+pub line-cause : (A B : Type 0) (le : LineError) (file : Bytes) (number : ℕ) (e : ResolveError) (before now : ℕ) → e ≡ resolve_error_at le file number → HasReadCause {A = A} (Err le) before now → HasFilesCause {A = B} (Err e) before now
 line-cause A B line_errors.OutOfMemory file number e before now is h = subst (λ x. HasFilesCause {A = B} (Err x) before now) (sym is) h
 line-cause A B (line_errors.Refused cause) file number e before now is h = subst (λ x. HasFilesCause {A = B} (Err x) before now) (sym is) h
 

@@ -4,7 +4,7 @@ use Rattle.std.specs.List.{slice_get}
 use Rattle.conf_rules.specs.Texts.{Bytes, same_word}
 use Rattle.conf_rules.specs.Heads.{Says, head_of}
 use Rattle.conf_rules.specs.Sources.{Line, Spelled, own_block, block_behind}
-use Rattle.conf_rules.specs.Resolution.{is_asked}
+use Rattle.conf_rules.specs.Resolution.{is_of_command_line}
 use Rattle.conf_reader.specs.declared.line.ConfLine.{ConfLine}
 
 -- the place of the block that is open in each open file, the first file first
@@ -36,7 +36,7 @@ open_behind line place blocks = take line.depth blocks
 
 -- a given line is this line, where these blocks are open
 pub record IsLine (given : ConfLine) (blocks : Blocks) (line : Line) : Type 0 where
-  pub asked : is_asked line.source ≡ false
+  pub asked : is_of_command_line line.source ≡ false
   pub file : line.file ≡ given.file
   pub number : line.number ≡ given.number
   pub bytes : Bytes

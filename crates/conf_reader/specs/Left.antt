@@ -19,7 +19,7 @@ use Rattle.conf_rules.specs.declared.causes.ResolveError.{ResolveError}
 use Rattle.conf_rules.specs.declared.causes.ResolveError.TheVariants.{At, OutOfMemory}
 use Rattle.conf_rules.specs.Diagnostics.{is_fault}
 use Rattle.conf_rules.specs.Sources.{Refused, Spelled, size_limit}
-use Rattle.conf_rules.specs.Resolution.{is_asked}
+use Rattle.conf_rules.specs.Resolution.{is_of_command_line}
 use Rattle.conf_reader.specs.declared.line.ConfLine.{ConfLine}
 use Rattle.conf_reader.specs.declared.open_file.OpenFile.{OpenFile}
 use Rattle.conf_reader.specs.declared.stack.OpenFiles.{OpenFiles}
@@ -30,7 +30,7 @@ use Rattle.conf_reader.specs.declared.stack.Stand.TheVariants as stands
 use Rattle.conf_reader.specs.declared.files.FoundFile.{FoundFile}
 use Rattle.conf_reader.specs.declared.files.FoundFile.TheVariants.{Nothing, TooLarge, Holds}
 use Rattle.conf_reader.specs.declared.errors.LineError.TheVariants as line_errors
-use Rattle.conf_reader.specs.Results.{RefusesLine, refused_at}
+use Rattle.conf_reader.specs.Results.{RefusesLine, resolve_error_at}
 use Rattle.conf_reader.specs.Blocks.{Blocks, or_none, IsLine, open_behind}
 
 -- the source of files
@@ -168,12 +168,12 @@ RefusesTop (Some f) cause error = RefusesLine (line_errors.Refused cause) f.path
 -- the refusal at the line that an open file read last, whatever memory there is
 abbrev pub GivesUp : Option OpenFile → LineError → ResolveError → Type 0
 GivesUp top error refusal =
-    IfSome top (λ f. refusal ≡ refused_at error f.path (f.number - 1))
+    IfSome top (λ f. refusal ≡ resolve_error_at error f.path (f.number - 1))
 
 -- a refusal of the file that an open file opens next
-abbrev pub RefusesNext : Option OpenFile → Cause → ResolveError → Type 0
-RefusesNext None cause error = Unit {0}
-RefusesNext (Some f) cause error =
+abbrev pub RefusesNextFile : Option OpenFile → Cause → ResolveError → Type 0
+RefusesNextFile None cause error = Unit {0}
+RefusesNextFile (Some f) cause error =
     IfSome (slice_get f.named f.next) (λ path. RefusesLine (line_errors.Refused cause) path 0 error)
 
 -- what holds of open files after a line that was given
@@ -212,7 +212,7 @@ pub record IsComment (line : Line) : Type 0 where
   pub bytes : Bytes
   pub spelled : line.content ≡ Spelled bytes
   pub head : head_of bytes ≡ Ok Comment
-  pub asked : is_asked line.source ≡ false
+  pub asked : is_of_command_line line.source ≡ false
 
 pub record SkipsComment (recorded : Recorded) (place : ℕ) (blocks : Blocks) (old new : OpenFiles) :
     Type 0 where
@@ -228,10 +228,10 @@ pub record GivesLine (recorded : Recorded) (place : ℕ) (blocks : Blocks) (old 
   pub is_line : IsLine given blocks line
   pub source : line.source ≡ source_of new.system
 
-pub record RefusesHead (left : List Line) (file : Bytes) (number : ℕ) (cause : Cause) : Type 0 where
+pub record RefusesHead (lines_to_give : List Line) (file : Bytes) (number : ℕ) (cause : Cause) : Type 0 where
   pub line : Line
   pub rest : List Line
-  pub is : left ≡ line ∷ rest
+  pub is : lines_to_give ≡ line ∷ rest
   pub file_is : line.file ≡ file
   pub number_is : line.number ≡ number
   pub bytes : Bytes
@@ -302,8 +302,8 @@ firsts_left recorded place (f ∷ fs) = let here = first_left recorded place f i
     here ++ firsts_left recorded (place + length here) fs
 
 -- what a reader has still to give
-abbrev pub left : Recorded → ℕ → Blocks → Lines → List Line
-left recorded place blocks r = let o = open_left recorded place blocks r.open_files in
+abbrev pub lines_to_give : Recorded → ℕ → Blocks → Lines → List Line
+lines_to_give recorded place blocks r = let o = open_left recorded place blocks r.open_files in
     o ++ firsts_left recorded (place + length o) (drop r.next_first r.firsts.items)
 
 -- a required file is a user's

@@ -12,7 +12,7 @@ use Rattle.conf_reader.specs.declared.lines.ReadStep.{ReadStep}
 use Rattle.conf_reader.specs.declared.stack.OpenFiles.{OpenFiles}
 use Rattle.conf_reader.specs.Blocks.{Blocks}
 use Rattle.conf_reader.specs.Known.{RecordsFiles}
-use Rattle.conf_reader.specs.Left.{open_left, left, Moves, AreFilesReady, IsFileSettled, Bounded}
+use Rattle.conf_reader.specs.Left.{open_left, lines_to_give, Moves, AreFilesReady, IsFileSettled, Bounded}
 use Rattle.conf_reader.specs.ReaderReads.{OneLine, ReaderReads}
 
 -- ---- open files
@@ -66,7 +66,7 @@ abbrev pub AllMove : {A : Type 0} →
     Option (List Pair) → Lines → Lines → Result A ResolveError → Type 0
 AllMove files old new result =
     (recorded : Recorded) (place : ℕ) (blocks : Blocks) → RecordsFiles files recorded
-    → Moves (left recorded place blocks old) (left recorded place blocks new) result
+    → Moves (lines_to_give recorded place blocks old) (lines_to_give recorded place blocks new) result
 
 -- what a step over all files did to the lines: it left those that are left, the first files and the
 -- count of lines as they were, or it refused; and the next one can be done
@@ -83,7 +83,7 @@ abbrev pub AllExpand : {A : Type 0} →
 AllExpand files facts original old new result =
     (recorded : Recorded) (place : ℕ) (blocks : Blocks)
     → RecordsFiles files recorded → recorded.facts ≡ facts → recorded.asked.original ≡ original
-    → Moves (left recorded place blocks old) (left recorded place blocks new) result
+    → Moves (lines_to_give recorded place blocks old) (lines_to_give recorded place blocks new) result
 
 -- if files record, one line was read
 abbrev pub TakesOne : Option (List Pair) → Lines → Lines → Result ReadStep ResolveError → Type 0

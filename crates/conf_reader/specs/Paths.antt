@@ -1,6 +1,6 @@
 -- The paths that an Include line names, found in whatever order.
 use Rattle.std.specs.Prelude.{◌≡◌, ℕ, if◌then◌else◌, List, flat_map, sum_by}
-use Rattle.conf_rules.specs.Texts.{Bytes, is_empty}
+use Rattle.conf_rules.specs.Texts.{Bytes, is_empty_list}
 use Rattle.conf_rules.specs.Recorded.{Recorded}
 use Rattle.conf_rules.specs.Includes.{below, globbed}
 
@@ -10,7 +10,7 @@ SameTexts xs ys = (measure : Bytes → ℕ) → sum_by measure ys ≡ sum_by mea
 
 -- paths with one more component; an empty one is dropped
 abbrev pub with_component : Recorded → Bytes → List Bytes → List Bytes
-with_component recorded component bases = if is_empty component then bases
+with_component recorded component bases = if is_empty_list component then bases
     else flat_map (below recorded component) bases
 
 -- the paths that paths expand to

@@ -10,14 +10,14 @@ use Rattle.conf_rules.specs.Diagnostics.{is_fault}
 use Rattle.conf_rules.specs.Sources.{Line}
 use Rattle.conf_rules.specs.Rows.{LineRow}
 use Rattle.conf_rules.specs.Entries.{entry_of}
-use Rattle.conf_rules.specs.Resolution.{counted, is_past_limit}
+use Rattle.conf_rules.specs.Resolution.{line_within_limit, is_past_limit}
 use Rattle.conf_reader.specs.declared.line.ConfLine.{ConfLine}
 use Rattle.conf_reader.specs.declared.line_reader.LineReader.{LineReader}
 use Rattle.conf_reader.specs.declared.lines.Lines.{Lines}
 use Rattle.conf_reader.specs.declared.lines.ReadStep.{ReadStep}
 use Rattle.conf_reader.specs.declared.lines.ReadStep.TheVariants as steps
 use Rattle.conf_reader.specs.Blocks.{Blocks, IsLine, open_behind}
-use Rattle.conf_reader.specs.Left.{left, source_of, stack, Bounded, IsGiven}
+use Rattle.conf_reader.specs.Left.{lines_to_give, source_of, stack, Bounded, IsGiven}
 
 -- how many files a reader has open
 abbrev pub open_count : Lines → ℕ
@@ -25,7 +25,7 @@ open_count r = length (stack r.open_files)
 
 -- a line says nothing, whatever stands before it
 abbrev pub IsIdleLine : Recorded → ℕ → Line → Type 0
-IsIdleLine recorded place line = (rows : List LineRow) → counted recorded entry_of rows line place ≡ Ok Nothing
+IsIdleLine recorded place line = (rows : List LineRow) → line_within_limit recorded entry_of rows line place ≡ Ok Nothing
 
 -- lines from a place on say nothing
 abbrev pub AreIdle : Recorded → ℕ → List Line → Type 0
@@ -37,8 +37,8 @@ pub record GivesNextLine (recorded : Recorded) (place : ℕ) (blocks : Blocks) (
     (given : ConfLine) : Type 0 where
   pub comments : List Line
   pub line : Line
-  pub is : left recorded place blocks old ≡ comments ++ line
-      ∷ left recorded (place + length comments + 1)
+  pub is : lines_to_give recorded place blocks old ≡ comments ++ line
+      ∷ lines_to_give recorded (place + length comments + 1)
       (open_behind given (place + length comments) blocks) new
   pub idle : AreIdle recorded place comments
   pub is_line : IsLine given blocks line
@@ -47,26 +47,26 @@ pub record GivesNextLine (recorded : Recorded) (place : ℕ) (blocks : Blocks) (
   pub source : line.source ≡ source_of new.open_files.system
 
 -- after comments a line is refused, whatever stands before it
-pub record RefusesNext (recorded : Recorded) (place : ℕ) (left : List Line) (file : List ℕ) (number : ℕ)
+pub record RefusesNextLine (recorded : Recorded) (place : ℕ) (lines_to_give : List Line) (file : List ℕ) (number : ℕ)
     (cause : Cause) : Type 0 where
   pub comments : List Line
   pub line : Line
   pub rest : List Line
-  pub is : left ≡ comments ++ line ∷ rest
+  pub is : lines_to_give ≡ comments ++ line ∷ rest
   pub idle : AreIdle recorded place comments
   pub file_is : line.file ≡ file
   pub number_is : line.number ≡ number
   pub refused : (rows : List LineRow)
-      → counted recorded entry_of rows line (place + length comments) ≡ Err cause
+      → line_within_limit recorded entry_of rows line (place + length comments) ≡ Err cause
 
 -- what a reader did
 abbrev pub ReaderReads : Recorded → ℕ → Blocks → Lines → Lines
     → Result (Option ConfLine) ResolveError → Type 0
-ReaderReads recorded place blocks old new (Ok None) = AreIdle recorded place (left recorded place blocks old)
+ReaderReads recorded place blocks old new (Ok None) = AreIdle recorded place (lines_to_give recorded place blocks old)
 ReaderReads recorded place blocks old new (Ok (Some given)) = GivesNextLine recorded place blocks old new given
 ReaderReads recorded place blocks old new (Err OutOfMemory) = Unit {0}
 ReaderReads recorded place blocks old new (Err (At file number cause)) =
-    (is_fault cause ≡ false → RefusesNext recorded place (left recorded place blocks old) file number cause)
+    (is_fault cause ≡ false → RefusesNextLine recorded place (lines_to_give recorded place blocks old) file number cause)
 
 -- how deep a line lies
 pub record LiesAt (old new : ℕ) (given : ConfLine) : Type 0 where
@@ -78,17 +78,17 @@ pub record LiesAt (old new : ℕ) (given : ConfLine) : Type 0 where
 
 -- what one line is to a reader
 abbrev pub OneLine : Recorded → ℕ → Blocks → Lines → Lines → Result ReadStep ResolveError → Type 0
-OneLine recorded place blocks old new (Ok steps.End) = left recorded place blocks old ≡ []
+OneLine recorded place blocks old new (Ok steps.End) = lines_to_give recorded place blocks old ≡ []
 OneLine recorded place blocks old new (Ok steps.Comment) = (line : Line)
-    × ((left recorded place blocks old ≡ line ∷ left recorded (place + 1) blocks new)
+    × ((lines_to_give recorded place blocks old ≡ line ∷ lines_to_give recorded (place + 1) blocks new)
     × IsIdleLine recorded place line)
 OneLine recorded place blocks old new (Ok (steps.Given given)) = (line : Line)
-    × ((left recorded place blocks old ≡ line ∷ left recorded (place + 1) (open_behind given place blocks)
+    × ((lines_to_give recorded place blocks old ≡ line ∷ lines_to_give recorded (place + 1) (open_behind given place blocks)
     new) × (IsLine given blocks line × ((is_past_limit recorded line place ≡ false)
     × (line.source ≡ source_of new.open_files.system))))
 OneLine recorded place blocks old new (Err OutOfMemory) = Unit {0}
 OneLine recorded place blocks old new (Err (At file number cause)) =
-    (is_fault cause ≡ false → RefusesNext recorded place (left recorded place blocks old) file number cause)
+    (is_fault cause ≡ false → RefusesNextLine recorded place (lines_to_give recorded place blocks old) file number cause)
 
 -- how many lines a step counts
 abbrev pub CountsOne : ReadStep → ℕ → ℕ → Type 0
@@ -98,7 +98,7 @@ CountsOne step old new = (new ≡ old + 1) × (old < MAX_LINES)
 -- comments so far
 pub record SoFar (recorded : Recorded) (place : ℕ) (blocks : Blocks) (old now : Lines) : Type 0 where
   pub comments : List Line
-  pub is : left recorded place blocks old ≡ comments ++ left recorded (place + length comments) blocks now
+  pub is : lines_to_give recorded place blocks old ≡ comments ++ lines_to_give recorded (place + length comments) blocks now
   pub idle : AreIdle recorded place comments
   pub count : place + length comments ≡ length recorded.asked.lines + now.read
   pub bounded : Bounded now.open_files (length blocks)
@@ -128,7 +128,7 @@ is_spent reader = reader.over
 -- a reader gives no line any more, and none is left
 pub record IsAtEnd (reader : LineReader) : Type 0 where
   pub spent : is_spent reader ≡ true
-  pub ended : (recorded : Recorded) (place : ℕ) (blocks : Blocks) → left recorded place blocks reader.lines ≡ []
+  pub ended : (recorded : Recorded) (place : ℕ) (blocks : Blocks) → lines_to_give recorded place blocks reader.lines ≡ []
 
 -- a reader keeps what it was made for: the facts, the host that was asked for and the first files
 pub record KeepsAsked (old new : LineReader) : Type 0 where

@@ -84,9 +84,9 @@ RefusesLine (line_errors.Refused cause) file line OutOfMemory = Unit {0}
 RefusesLine (line_errors.Refused cause) file line (At f l c) = At f l c ≡ At file line cause
 
 -- the same where the path of the file is given away for it, which wants no memory
-abbrev pub refused_at : LineError → Bytes → ℕ → ResolveError
-refused_at line_errors.OutOfMemory file line = OutOfMemory
-refused_at (line_errors.Refused cause) file line = At file line cause
+abbrev pub resolve_error_at : LineError → Bytes → ℕ → ResolveError
+resolve_error_at line_errors.OutOfMemory file line = OutOfMemory
+resolve_error_at (line_errors.Refused cause) file line = At file line cause
 
 -- whether a refusal reports that a command failed to run
 abbrev pub is_run_fault : ResolveError → Bool

@@ -47,8 +47,8 @@ abbrev pub first_reads : Recorded → FirstFile → List Bytes
 first_reads recorded f = read_first (source_of f.system) recorded f.path
 
 -- what a reader has still to read
-abbrev pub all_read : Recorded → Lines → List Bytes
-all_read recorded r =
+abbrev pub all_to_read : Recorded → Lines → List Bytes
+all_to_read recorded r =
     open_reads recorded r.open_files ++ flat_map (first_reads recorded) (drop r.next_first r.firsts.items)
 
 -- ---- what calls read

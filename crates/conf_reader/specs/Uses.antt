@@ -13,7 +13,7 @@ use Rattle.conf_reader.specs.Known.{RecordsFiles}
 use Rattle.conf_reader.specs.Left.{source_of}
 use Rattle.conf_reader.specs.Looking.{Test, meets, all_meet, line_meets, RecordsFailed}
 use Rattle.conf_reader.specs.Results.{HasFilesCause}
-use Rattle.conf_reader.specs.ToRead.{open_reads, all_read, Notes}
+use Rattle.conf_reader.specs.ToRead.{open_reads, all_to_read, Notes}
 
 -- ---- what is still to be read of the files
 
@@ -34,7 +34,7 @@ of_open o = record {
 abbrev pub of_all : Lines → Coming
 of_all r = record {
   meets = λ test recorded. all_meet test recorded r ≡ true;
-  paths = λ recorded. all_read recorded r;
+  paths = λ recorded. all_to_read recorded r;
 }
 
 -- nothing
@@ -46,7 +46,7 @@ abbrev pub behind_line : ConfLine → Lines → Coming
 behind_line line r = record {
   meets = λ test recorded. line_meets test recorded (source_of r.open_files.system) line ≡ true
       → meets test recorded r.open_files ≡ true;
-  paths = λ recorded. all_read recorded r;
+  paths = λ recorded. all_to_read recorded r;
 }
 
 -- after a step

@@ -1,6 +1,6 @@
 ghost use Rattle.std.specs.Prelude.{◌≡◌};
 ghost use Rattle.conf_reader.specs.declared.errors.LineError.TheVariants as line_errors;
-ghost use Rattle.conf_reader.specs.Results.{of_lex, of_value, of_match, of_eval, of_token, of_file, RefusesLine, refused_at};
+ghost use Rattle.conf_reader.specs.Results.{of_lex, of_value, of_match, of_eval, of_token, of_file, RefusesLine, resolve_error_at};
 
 use conf_match::EvalError;
 use conf_rules::{Cause, LexError, MatchError, ResolveError, TokenError, ValueError};
@@ -94,7 +94,7 @@ impl LineError {
     /// The refusal of a line of a file, whose path is given away for it; line 0 is the file itself.
     /// It allocates no memory.
     pub fn at(self, file: Text, line: u64) -> ResolveError
-        ensures { result ≡ refused_at self file line }
+        ensures { result ≡ resolve_error_at self file line }
     {
         match self {
             LineError::OutOfMemory => ResolveError::OutOfMemory,

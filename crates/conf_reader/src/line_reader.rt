@@ -146,18 +146,18 @@ impl LineReader {
     ghost use Rattle.conf_rules.specs.Recorded.{Recorded};
     ghost use Rattle.conf_rules.specs.Sources.{lines_from};
     ghost use Rattle.conf_reader.specs.FilesState.{files_state_of};
-    ghost use Rattle.conf_reader.specs.Left.{left, Bounded};
+    ghost use Rattle.conf_reader.specs.Left.{lines_to_give, Bounded};
     ghost use Rattle.conf_reader.specs.Moving.{ReadsFor};
     ghost use Rattle.conf_reader.specs.ReaderReads.{IsAtEnd, IsGivenFrom, IsReadingOver, KeepsAsked, open_count, is_spent};
     ghost use Rattle.conf_reader.specs.Looking.{Test, meets};
-    ghost use Rattle.conf_reader.specs.ToRead.{all_read};
+    ghost use Rattle.conf_reader.specs.ToRead.{all_to_read};
     ghost use Rattle.conf_reader.specs.Uses.{UsesFilesFor, behind_call, of_all};
     ghost use Rattle.conf_rules.specs.ReadOrder.{read_once};
 
     /// A reader of the files that are asked for.
     pub fn new(alloc: Global, asked: &Asked, facts: &Facts) -> Result<LineReader, OutOfMemory>
         ensures left { IfOk result (λ reader. (recorded : Recorded) (place : ℕ)
-            → recorded.facts ≡ known facts.now → left recorded place [] reader.lines
+            → recorded.facts ≡ known facts.now → lines_to_give recorded place [] reader.lines
             ≡ lines_from recorded place asked.now.from) }
         ensures facts { IfOk result (λ reader. (known reader.facts ≡ known facts.now)
             × (reader.original ≡ asked.now.original)) }
@@ -168,7 +168,7 @@ impl LineReader {
         ensures looks { IfOk result (λ reader. (test : Test) (recorded : Recorded)
             → meets test recorded reader.lines.open_files ≡ true) }
         ensures reads { IfOk result (λ reader. (recorded : Recorded) → recorded.facts ≡ known facts.now
-            → all_read recorded reader.lines ≡ read_once recorded asked.now.from) }
+            → all_to_read recorded reader.lines ≡ read_once recorded asked.now.from) }
         ensures read { IfOk result (λ reader. reader.lines.read ≡ 0) }
         ensures fresh { IfOk result (λ reader. is_spent reader ≡ false) }
     {

@@ -74,12 +74,12 @@ fn first_found<F: Files>(
 
 impl Lines {
     ghost use Rattle.conf_reader.specs.declared.errors.LineError.TheVariants as line_errors;
-    ghost use Rattle.conf_reader.specs.Left.{left, AreFilesReady, is_plain_first, BeginsWithText, IsLacking};
+    ghost use Rattle.conf_reader.specs.Left.{lines_to_give, AreFilesReady, is_plain_first, BeginsWithText, IsLacking};
     ghost use Rattle.conf_reader.specs.FilesState.{files_state_of};
     ghost use Rattle.conf_reader.specs.Moving.{IsAtLine, Settles, ReadingGoesOn, MovesLines};
     ghost use Rattle.conf_reader.specs.Results.{RefusesLine};
     ghost use Rattle.conf_reader.specs.Looking.{KeepsLooks};
-    ghost use Rattle.conf_reader.specs.ToRead.{all_read};
+    ghost use Rattle.conf_reader.specs.ToRead.{all_to_read};
     ghost use Rattle.conf_reader.specs.Uses.{UsesFiles, of_all};
 
     /// The lines of first files, of which none is opened yet.
@@ -112,8 +112,8 @@ impl Lines {
         requires plain { list_all is_plain_first self.old.firsts.items ≡ true }
         requires ready { AreFilesReady self.old.open_files }
         ensures left { OnOk result ((recorded : Recorded) (place : ℕ) (blocks : Blocks)
-            → BeginsWithText recorded self.old text → left recorded place blocks self.old
-            ≡ left recorded place blocks self.new) }
+            → BeginsWithText recorded self.old text → lines_to_give recorded place blocks self.old
+            ≡ lines_to_give recorded place blocks self.new) }
         ensures goes_on { OnOk result (ReadingGoesOn self.old.open_files self.new.open_files) }
         ensures firsts { self.new.firsts ≡ self.old.firsts }
         ensures next { OnOk result (self.new.next_first ≡ self.old.next_first + 1) }
@@ -121,7 +121,7 @@ impl Lines {
         ensures reads { OnOk result ((recorded : Recorded)
             → IfSome (slice_get self.old.firsts.items self.old.next_first) (λ f.
             recorded.content f.path ≡ Some text
-            → all_read recorded self.old ≡ f.path ∷ all_read recorded self.new)) }
+            → all_to_read recorded self.old ≡ f.path ∷ all_to_read recorded self.new)) }
         ensures count { self.new.read ≡ self.old.read }
     {
         let Some(first) = self.next_file() else {
@@ -142,11 +142,11 @@ impl Lines {
         requires ready { AreFilesReady self.old.open_files }
         requires next { self.old.next_first < length self.old.firsts.items }
         ensures left { (recorded : Recorded) (place : ℕ) (blocks : Blocks) → IsLacking recorded self.old
-            → left recorded place blocks self.old ≡ left recorded place blocks self.new }
+            → lines_to_give recorded place blocks self.old ≡ lines_to_give recorded place blocks self.new }
         ensures reads { (recorded : Recorded)
             → IfSome (slice_get self.old.firsts.items self.old.next_first) (λ f.
             recorded.content f.path ≡ None
-            → all_read recorded self.old ≡ f.path ∷ all_read recorded self.new) }
+            → all_to_read recorded self.old ≡ f.path ∷ all_to_read recorded self.new) }
         ensures others { self.new ≡ record self.old { next_first = self.old.next_first + 1 } }
     {
         // Always so; the proof needs it for the sum.

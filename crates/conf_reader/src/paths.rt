@@ -1,5 +1,5 @@
 ghost use Rattle.std.specs.Prelude.{◌≡◌, ◌≤◌, ◌∷◌, ◌++◌, [], ℕ, codes, false, Ok, IfErr, IfOk, OnOk, map, filter, flat_map, length, if◌then◌else◌};
-ghost use Rattle.conf_rules.specs.Results.{Gives, Fails};
+ghost use Rattle.conf_rules.specs.Results.{GivesReading, Fails};
 ghost use Rattle.conf_rules.specs.Wants.{token_wants_memory};
 ghost use Rattle.conf_rules.specs.Recorded.{Recorded};
 ghost use Rattle.conf_rules.specs.Texts.{split_last};
@@ -11,7 +11,7 @@ ghost use Rattle.conf_rules.specs.Includes.{absolute, facts_seen, path_from, pat
 ghost use Rattle.conf_rules.specs.Looks.{folders_along, folders_of, looks_in};
 ghost use Rattle.mux_outside.specs.Counts.{HasCause};
 ghost use Rattle.conf_tokens.specs.Known.{known};
-ghost use Rattle.conf_tokens.specs.Seen.{seen};
+ghost use Rattle.conf_tokens.specs.Seen.{view_as_defined};
 ghost use Rattle.conf_reader.specs.Known.{RecordsFiles};
 ghost use Rattle.conf_reader.specs.Left.{FoundPaths, named_by, source_of};
 ghost use Rattle.conf_reader.specs.Paths.{SameTexts, with_component, all_globbed};
@@ -29,7 +29,7 @@ use std::alloc::Global;
 
 // What the tokens of a path see: facts alone.
 fn view<'a>(facts: &'a Facts, original: &'a [u8]) -> View<'a>
-    ensures { seen result ≡ facts_seen (known facts.now) original.now }
+    ensures { view_as_defined result ≡ facts_seen (known facts.now) original.now }
 {
     View {
         original,
@@ -76,7 +76,7 @@ fn in_system(alloc: Global, path: &[u8]) -> Result<Text, OutOfMemory>
 
 // A path in the folder of its source.
 fn in_folder(alloc: Global, facts: &Facts, system: bool, path: &[u8]) -> Result<Text, TokenError>
-    ensures { starts_with_slash path.now ≡ false → Gives token_wants_memory result
+    ensures { starts_with_slash path.now ≡ false → GivesReading token_wants_memory result
         (absolute (source_of system) (known facts.now) path.now) }
 {
     if system {
@@ -88,7 +88,7 @@ fn in_folder(alloc: Global, facts: &Facts, system: bool, path: &[u8]) -> Result<
 
 // A path that isn't absolute is resolved from the folder of its source.
 fn absolute(alloc: Global, facts: &Facts, system: bool, path: Text) -> Result<Text, TokenError>
-    ensures { Gives token_wants_memory result (absolute (source_of system) (known facts.now) path) }
+    ensures { GivesReading token_wants_memory result (absolute (source_of system) (known facts.now) path) }
 {
     if starts_with_slash(path.as_bytes()) {
         return Ok(path);
@@ -106,7 +106,7 @@ fn path_of(
     system: bool,
     word: &[u8],
 ) -> Result<Text, TokenError>
-    ensures { Gives token_wants_memory result
+    ensures { GivesReading token_wants_memory result
         (path_from (source_of system) (known facts.now) original.now word.now) }
 {
     let view = view(facts, original);
@@ -143,7 +143,7 @@ fn paths_of(
     system: bool,
     words: &Texts,
 ) -> Result<Texts, TokenError>
-    ensures { Gives token_wants_memory result
+    ensures { GivesReading token_wants_memory result
         (paths_from (source_of system) (known facts.now) original.now words.now) }
 {
     let mut paths = Texts::new(alloc);

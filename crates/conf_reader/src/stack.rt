@@ -36,7 +36,7 @@ pub enum Stand {
 }
 
 impl OpenFiles {
-    ghost use Rattle.conf_reader.specs.Left.{open_left, AreFilesReady, IsFileSettled, work, Moves, Names, RefusesTop, RefusesNext, GivesUp, StandOf, IsFound};
+    ghost use Rattle.conf_reader.specs.Left.{open_left, AreFilesReady, IsFileSettled, work, Moves, Names, RefusesTop, RefusesNextFile, GivesUp, StandOf, IsFound};
     ghost use Rattle.conf_reader.specs.Moving.{NamesPath, Settles, KeepsLeft, ReadingGoesOn, MovesOver};
     ghost use Rattle.conf_reader.specs.FilesState.{files_state_of};
     ghost use Rattle.conf_reader.specs.Results.{is_fault_at};
@@ -153,7 +153,7 @@ impl OpenFiles {
     pub fn too_large(&self) -> ResolveError
         requires some { IsSome self.now.top }
         requires named { NamesPath self.now.top }
-        ensures { RefusesNext self.now.top causes.TooLarge result }
+        ensures { RefusesNextFile self.now.top causes.TooLarge result }
     {
         let Some(top) = &self.top else { unreachable!() };
         let Some(path) = top.next_path() else {

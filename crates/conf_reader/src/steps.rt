@@ -16,12 +16,12 @@ use mux_outside::{Facts, Files};
 impl Lines {
     ghost use Rattle.conf_reader.specs.declared.lines.ReadStep.TheVariants as steps;
     ghost use Rattle.conf_reader.specs.ReaderReads.{CountsOne, GivenStep, IsGivenFrom};
-    ghost use Rattle.conf_reader.specs.Left.{left, AreFilesReady, IsGiven, is_plain_first, Bounded};
+    ghost use Rattle.conf_reader.specs.Left.{lines_to_give, AreFilesReady, IsGiven, is_plain_first, Bounded};
     ghost use Rattle.conf_reader.specs.FilesState.{files_state_of};
     ghost use Rattle.conf_reader.specs.Moving.{ReadingGoesOn, AllExpand, TakesOne, ReadsOver, ReadsFor};
-    ghost use Rattle.conf_reader.specs.Between.{is_ended};
+    ghost use Rattle.conf_reader.specs.Between.{no_file_left};
     ghost use Rattle.conf_reader.specs.Looking.{Test, meets};
-    ghost use Rattle.conf_reader.specs.ToRead.{all_read};
+    ghost use Rattle.conf_reader.specs.ToRead.{all_to_read};
     ghost use Rattle.conf_reader.specs.Uses.{UsesFiles, UsesFilesFor, of_all, behind_step, behind_call};
 
     // Takes one line of all files.
@@ -113,14 +113,14 @@ impl Lines {
     /// Gives no more line.
     pub fn end(&mut self)
         ensures left { (recorded : Recorded) (place : ℕ) (blocks : Blocks)
-            → left recorded place blocks self.new ≡ [] }
-        ensures ended { is_ended self.new ≡ true }
+            → lines_to_give recorded place blocks self.new ≡ [] }
+        ensures ended { no_file_left self.new ≡ true }
         ensures given { IsGiven self.new.open_files }
         ensures firsts { self.new.firsts ≡ self.old.firsts }
         ensures bounded { Bounded self.new.open_files 0 }
         ensures looks { (recorded : Recorded) (test : Test)
             → meets test recorded self.new.open_files ≡ true }
-        ensures reads { (recorded : Recorded) → all_read recorded self.new ≡ [] }
+        ensures reads { (recorded : Recorded) → all_to_read recorded self.new ≡ [] }
     {
         self.open_files = OpenFiles::new(self.alloc);
         self.next_first = self.firsts.len();

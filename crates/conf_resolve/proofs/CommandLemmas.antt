@@ -10,7 +10,7 @@ use Rattle.conf_rules.specs.Recorded.{Recorded}
 use Rattle.conf_rules.specs.Sources.{Line, asked_line}
 use Rattle.conf_rules.specs.Rows.{LineRow, Pass}
 use Rattle.conf_rules.specs.Entries.{entry_of}
-use Rattle.conf_rules.specs.Resolution.{counted, is_active, effect_of, row_of, rows_from, is_refused}
+use Rattle.conf_rules.specs.Resolution.{line_within_limit, is_active, effect_of, row_of, rows_from, is_refused}
 use Rattle.conf_match.specs.Evaluated.{RanAll, RanSome}
 use Rattle.conf_reader.specs.ReaderReads.{IsIdleLine}
 use Rattle.conf_fold.specs.FoldRepresents.{next_row}
@@ -43,7 +43,7 @@ refused-effect recorded pass rows true c = refl
 refused-effect recorded pass rows false c = refl
 
 -- a line that the reader refuses runs nothing
-pub refused-ran : (recorded : Recorded) (pass : Pass) (rows : List LineRow) (place : ℕ) (line : Line) (c : Cause) → ((rows : List LineRow) → counted recorded entry_of rows line place ≡ Err c) → (next_row recorded pass rows place line).ran ≡ []
+pub refused-ran : (recorded : Recorded) (pass : Pass) (rows : List LineRow) (place : ℕ) (line : Line) (c : Cause) → ((rows : List LineRow) → line_within_limit recorded entry_of rows line place ≡ Err c) → (next_row recorded pass rows place line).ran ≡ []
 unfolding next_row row_of
 refused-ran recorded pass rows place line c refused = rw (refused rows) (refused-effect recorded pass rows (is_active rows pass line) c)
 

@@ -15,7 +15,7 @@ use Rattle.conf_reader.specs.declared.line.ConfLine.{ConfLine}
 use Rattle.conf_reader.specs.declared.lines.Lines.{Lines}
 use Rattle.conf_reader.specs.Blocks.{open_behind}
 use Rattle.conf_reader.specs.Firsts.{firsts_of}
-use Rattle.conf_reader.specs.Left.{left}
+use Rattle.conf_reader.specs.Left.{lines_to_give}
 use Rattle.conf_reader.specs.ReaderReads.{GivesNextLine}
 use Rattle.conf_reader.specs.Results.{is_run_fault, is_fault_at}
 use Rattle.conf_reader.specs.Looking.{Test, all_meet, RecordsFailed}
@@ -53,7 +53,7 @@ pub read-stands : (recorded : Recorded) (pass : Pass) (fold : Fold) (old : Lines
 read-stands recorded pass fold old final first start now before u errors.OutOfMemory failed failed-mid failed-now same records quiet firsts began = tt
 read-stands recorded pass fold old final first start now before u (errors.At file number causes.RunFault) failed failed-mid failed-now same records quiet firsts began = absurd cc
 read-stands recorded pass fold old final first start now before u (errors.At file number causes.ReadFault) failed failed-mid failed-now same records quiet firsts began =
-    let front = from-front recorded pass (left recorded u.place u.blocks old) u.rows u.place in
+    let front = from-front recorded pass (lines_to_give recorded u.place u.blocks old) u.rows u.place in
     let fails = records (may_record recorded u.rows) (all-recorded recorded u.rows old firsts u.looks) in
     record {
       rows = u.rows;
@@ -75,7 +75,7 @@ run-stands recorded pass fold old reader final first start now later before u li
 run-stands recorded pass fold old reader final first start now later before u line (errors.At file number causes.ReadFault) runner runner' failed failed-now gives cause fails began = absurd cause
 run-stands recorded pass fold old reader final first start now later before u line (errors.At file number causes.RunFault) runner runner' failed failed-now gives cause fails began =
     let place = u.place + length gives.comments in
-    let rest = left recorded (place + 1) (open_behind line place u.blocks) reader in
+    let rest = lines_to_give recorded (place + 1) (open_behind line place u.blocks) reader in
     let a = idle-many recorded pass fold u.blocks gives.comments (gives.line ∷ rest) u.rows final u.place u.stands u.at u.none gives.idle (subst (AreAgain recorded pass u.place) gives.is u.again) (ap (rows_from recorded entry_of u.rows (record { pass = pass; line = u.place })) (sym gives.is) ∙ u.final_is) in
     let next : IsNextLine recorded pass a.rows u.blocks line place gives.line = record { is_line = gives.is_line; at = a.at; within = gives.within; again = a.again.0 } in
     let came = fails a.rows place gives.line a.stands next in

@@ -10,14 +10,14 @@ use Rattle.conf_rules.specs.Diagnostics.{is_fault}
 use Rattle.conf_rules.specs.Sources.{Line}
 use Rattle.conf_rules.specs.Rows.{LineRow, Pass}
 use Rattle.conf_rules.specs.Entries.{entry_of}
-use Rattle.conf_rules.specs.Resolution.{pass_start_of, counted, is_active, effect_of, row_of, rows_from, is_refused, refusal_at, refusal_in}
+use Rattle.conf_rules.specs.Resolution.{pass_start_of, line_within_limit, is_active, effect_of, row_of, rows_from, is_refused, refusal_at, refusal_in}
 use Rattle.conf_reader.specs.declared.line.ConfLine.{ConfLine}
 use Rattle.conf_reader.specs.declared.lines.Lines.{Lines}
 use Rattle.conf_reader.specs.Blocks.{Blocks, open_behind}
 use Rattle.conf_reader.specs.Firsts.{firsts_of}
-use Rattle.conf_reader.specs.Left.{left, source_of, Bounded}
+use Rattle.conf_reader.specs.Left.{lines_to_give, source_of, Bounded}
 use Rattle.conf_reader.specs.Looking.{Test, meets, all_meet, line_meets}
-use Rattle.conf_reader.specs.ReaderReads.{AreIdle, GivesNextLine, RefusesNext, ReaderReads}
+use Rattle.conf_reader.specs.ReaderReads.{AreIdle, GivesNextLine, RefusesNextLine, ReaderReads}
 use Rattle.conf_match.specs.Evaluated.{RanAll, RanSome}
 use Rattle.conf_fold.specs.declared.fold.Fold.{Fold}
 use Rattle.conf_fold.specs.Results.{RanUnless, breaks_off}
@@ -40,8 +40,8 @@ pub record Underway (recorded : Recorded) (pass : Pass) (fold : Fold) (reader : 
   pub none : refusal_in rows ≡ None
   pub count : place ≡ length recorded.asked.lines + reader.read
   pub bounded : Bounded reader.open_files (length blocks)
-  pub final_is : rows_from recorded entry_of rows (record { pass = pass; line = place }) (left recorded place blocks reader) ≡ final
-  pub again : AreAgain recorded pass place (left recorded place blocks reader)
+  pub final_is : rows_from recorded entry_of rows (record { pass = pass; line = place }) (lines_to_give recorded place blocks reader) ≡ final
+  pub again : AreAgain recorded pass place (lines_to_give recorded place blocks reader)
   pub ran : (before : Commands) → RanAll before start (commands first) → RanAll before now (commands rows)
   pub looks : meets (may_record recorded rows) recorded reader.open_files ≡ true
 
@@ -63,7 +63,7 @@ pub goes-on : (recorded : Recorded) (pass : Pass) (fold new : Fold) (old reader 
     → Underway recorded pass new reader final first start later
 goes-on recorded pass fold new old reader final first start now u line gives folds bounded deep firsts looks later runs =
     let place = u.place + length gives.comments in
-    let rest = left recorded (place + 1) (open_behind line place u.blocks) reader in
+    let rest = lines_to_give recorded (place + 1) (open_behind line place u.blocks) reader in
     let a = idle-many recorded pass fold u.blocks gives.comments (gives.line ∷ rest) u.rows final u.place u.stands u.at u.none gives.idle (subst (AreAgain recorded pass u.place) gives.is u.again) (ap (rows_from recorded entry_of u.rows (record { pass = pass; line = u.place })) (sym gives.is) ∙ u.final_is) in
     let next : IsNextLine recorded pass a.rows u.blocks line place gives.line = record { is_line = gives.is_line; at = a.at; within = gives.within; again = a.again.0 } in
     let f = folds a.rows place gives.line a.stands next in
@@ -94,7 +94,7 @@ pub line-refused : (recorded : Recorded) (pass : Pass) (fold new : Fold) (old re
     → is_fault cause ≡ false → refusal_in final ≡ Some (errors.At file number cause)
 line-refused recorded pass fold new old reader final first start now u line file number cause gives folds fault =
     let place = u.place + length gives.comments in
-    let rest = left recorded (place + 1) (open_behind line place u.blocks) reader in
+    let rest = lines_to_give recorded (place + 1) (open_behind line place u.blocks) reader in
     let a = idle-many recorded pass fold u.blocks gives.comments (gives.line ∷ rest) u.rows final u.place u.stands u.at u.none gives.idle (subst (AreAgain recorded pass u.place) gives.is u.again) (ap (rows_from recorded entry_of u.rows (record { pass = pass; line = u.place })) (sym gives.is) ∙ u.final_is) in
     let next : IsNextLine recorded pass a.rows u.blocks line place gives.line = record { is_line = gives.is_line; at = a.at; within = gives.within; again = a.again.0 } in
     let row = next_row recorded pass a.rows place gives.line in
@@ -106,12 +106,12 @@ refused-entry : (recorded : Recorded) (pass : Pass) (rows : List LineRow) (activ
 refused-entry recorded pass rows true c = refl
 refused-entry recorded pass rows false c = refl
 
-row-refused : (recorded : Recorded) (pass : Pass) (rows : List LineRow) (place : ℕ) (line : Line) (c : Cause) → ((rows : List LineRow) → counted recorded entry_of rows line place ≡ Err c) → (next_row recorded pass rows place line).entry ≡ Err c
+row-refused : (recorded : Recorded) (pass : Pass) (rows : List LineRow) (place : ℕ) (line : Line) (c : Cause) → ((rows : List LineRow) → line_within_limit recorded entry_of rows line place ≡ Err c) → (next_row recorded pass rows place line).entry ≡ Err c
 unfolding next_row row_of
 row-refused recorded pass rows place line c refused = rw (refused rows) (refused-entry recorded pass rows (is_active rows pass line) c)
 
 -- what a reader refuses
-pub reader-refused : (recorded : Recorded) (pass : Pass) (fold : Fold) (old : Lines) (final : List LineRow) (first : List LineRow) (start now : Commands) (u : Underway recorded pass fold old final first start now) (file : List ℕ) (number : ℕ) (cause : Cause) → RefusesNext recorded u.place (left recorded u.place u.blocks old) file number cause
+pub reader-refused : (recorded : Recorded) (pass : Pass) (fold : Fold) (old : Lines) (final : List LineRow) (first : List LineRow) (start now : Commands) (u : Underway recorded pass fold old final first start now) (file : List ℕ) (number : ℕ) (cause : Cause) → RefusesNextLine recorded u.place (lines_to_give recorded u.place u.blocks old) file number cause
     → refusal_in final ≡ Some (errors.At file number cause)
 reader-refused recorded pass fold old final first start now u file number cause r =
     let place = u.place + length r.comments in
@@ -123,10 +123,10 @@ reader-refused recorded pass fold old final first start now u file number cause 
     ∙ ap (λ f. Some (errors.At f r.line.number cause)) r.file_is ∙ ap (λ n. Some (errors.At file n cause)) r.number_is
 
 -- the end of all lines
-pub all-given : (recorded : Recorded) (pass : Pass) (fold : Fold) (old : Lines) (final : List LineRow) (first : List LineRow) (start now : Commands) (u : Underway recorded pass fold old final first start now) → AreIdle recorded u.place (left recorded u.place u.blocks old) → PassesRepresent recorded pass fold final
+pub all-given : (recorded : Recorded) (pass : Pass) (fold : Fold) (old : Lines) (final : List LineRow) (first : List LineRow) (start now : Commands) (u : Underway recorded pass fold old final first start now) → AreIdle recorded u.place (lines_to_give recorded u.place u.blocks old) → PassesRepresent recorded pass fold final
 unfolding rows_from
 all-given recorded pass fold old final first start now u idle =
-    let all = left recorded u.place u.blocks old in
+    let all = lines_to_give recorded u.place u.blocks old in
     let a = idle-many recorded pass fold u.blocks all [] u.rows final u.place u.stands u.at u.none idle (subst (AreAgain recorded pass u.place) (sym (append-nil all)) u.again) (ap (rows_from recorded entry_of u.rows (record { pass = pass; line = u.place })) (append-nil all) ∙ u.final_is) in
     record { blocks = u.blocks; stands = subst (λ rows. FoldRepresents recorded pass fold rows u.blocks) a.final_is a.stands; none = ap refusal_in (sym a.final_is) ∙ a.none }
 
@@ -143,7 +143,7 @@ reader-fails recorded pass rows fold old new first start now u errors.OutOfMemor
 reader-fails recorded pass rows fold old new first start now u (errors.At file number cause) r = λ fault. reader-refused recorded pass fold old (final_rows recorded pass rows) first start now u file number cause (r fault)
 
 -- where no line is given, none is left
-pub none-given : (recorded : Recorded) (place : ℕ) (blocks : Blocks) (old new : Lines) (v : Option ConfLine) → ((line : ConfLine) → v ≡ Some line → ⊥) → ReaderReads recorded place blocks old new (Ok v) → AreIdle recorded place (left recorded place blocks old)
+pub none-given : (recorded : Recorded) (place : ℕ) (blocks : Blocks) (old new : Lines) (v : Option ConfLine) → ((line : ConfLine) → v ≡ Some line → ⊥) → ReaderReads recorded place blocks old new (Ok v) → AreIdle recorded place (lines_to_give recorded place blocks old)
 none-given recorded place blocks old new None n r = r
 none-given recorded place blocks old new (Some line) n r = absurd (n line refl)
 
@@ -170,7 +170,7 @@ pub line-ran : (recorded : Recorded) (pass : Pass) (fold new : Fold) (old reader
     → RanAll before start (commands first) → RanUnless (breaks_off {A = Unit {0}} (Err e)) before later (commands final)
 line-ran recorded pass fold new old reader final first start now later before u line e gives folds runs began =
     let place = u.place + length gives.comments in
-    let rest = left recorded (place + 1) (open_behind line place u.blocks) reader in
+    let rest = lines_to_give recorded (place + 1) (open_behind line place u.blocks) reader in
     let a = idle-many recorded pass fold u.blocks gives.comments (gives.line ∷ rest) u.rows final u.place u.stands u.at u.none gives.idle (subst (AreAgain recorded pass u.place) gives.is u.again) (ap (rows_from recorded entry_of u.rows (record { pass = pass; line = u.place })) (sym gives.is) ∙ u.final_is) in
     let next : IsNextLine recorded pass a.rows u.blocks line place gives.line = record { is_line = gives.is_line; at = a.at; within = gives.within; again = a.again.0 } in
     let row = next_row recorded pass a.rows place gives.line in
@@ -203,11 +203,11 @@ reader-ran recorded pass fold old new final first start now before u e reads beg
   where
     some : RanSome before now (commands final)
     some =
-        let front = from-front recorded pass (left recorded u.place u.blocks old) u.rows u.place in
+        let front = from-front recorded pass (lines_to_give recorded u.place u.blocks old) u.rows u.place in
         let is : commands final ≡ commands u.rows ++ commands front.0 = ap commands (sym u.final_is ∙ front.1) ∙ flat_map-append (λ r. r.ran) u.rows front.0 in
         subst (RanSome before now) (sym is) (ran-front before now (commands u.rows) (commands front.0) (u.ran before began))
 
-    all : (file : List ℕ) (number : ℕ) (cause : Cause) → RefusesNext recorded u.place (left recorded u.place u.blocks old) file number cause → RanAll before now (commands final)
+    all : (file : List ℕ) (number : ℕ) (cause : Cause) → RefusesNextLine recorded u.place (lines_to_give recorded u.place u.blocks old) file number cause → RanAll before now (commands final)
     all file number cause r =
         let place = u.place + length r.comments in
         let a = idle-many recorded pass fold u.blocks r.comments (r.line ∷ r.rest) u.rows final u.place u.stands u.at u.none r.idle (subst (AreAgain recorded pass u.place) r.is u.again) (ap (rows_from recorded entry_of u.rows (record { pass = pass; line = u.place })) (sym r.is) ∙ u.final_is) in
@@ -217,7 +217,7 @@ reader-ran recorded pass fold old new final first start now before u e reads beg
         let quiet : commands final ≡ commands u.rows = ap commands is ∙ commands-quiet a.rows row (refused-ran recorded pass a.rows place r.line cause r.refused) ∙ a.ran in
         subst (RanAll before now) (sym quiet) (u.ran before began)
 
-    by : (t : Bool) (file : List ℕ) (number : ℕ) (cause : Cause) → is_fault cause ≡ t → (is_fault cause ≡ false → RefusesNext recorded u.place (left recorded u.place u.blocks old) file number cause) → RanUnless t before now (commands final)
+    by : (t : Bool) (file : List ℕ) (number : ℕ) (cause : Cause) → is_fault cause ≡ t → (is_fault cause ≡ false → RefusesNextLine recorded u.place (lines_to_give recorded u.place u.blocks old) file number cause) → RanUnless t before now (commands final)
     by true file number cause h r = some
     by false file number cause h r = all file number cause (r h)
 
@@ -226,11 +226,11 @@ reader-ran recorded pass fold old new final first start now before u e reads beg
     on (errors.At file number cause) r = by (is_fault cause) file number cause refl r
 
 -- the end of all lines
-pub all-ran : (recorded : Recorded) (pass : Pass) (fold : Fold) (old : Lines) (final first : List LineRow) (start now before : Commands) (u : Underway recorded pass fold old final first start now) → AreIdle recorded u.place (left recorded u.place u.blocks old)
+pub all-ran : (recorded : Recorded) (pass : Pass) (fold : Fold) (old : Lines) (final first : List LineRow) (start now before : Commands) (u : Underway recorded pass fold old final first start now) → AreIdle recorded u.place (lines_to_give recorded u.place u.blocks old)
     → RanAll before start (commands first) → RanAll before now (commands final)
 unfolding rows_from
 all-ran recorded pass fold old final first start now before u idle began =
-    let all = left recorded u.place u.blocks old in
+    let all = lines_to_give recorded u.place u.blocks old in
     let a = idle-many recorded pass fold u.blocks all [] u.rows final u.place u.stands u.at u.none idle (subst (AreAgain recorded pass u.place) (sym (append-nil all)) u.again) (ap (rows_from recorded entry_of u.rows (record { pass = pass; line = u.place })) (append-nil all) ∙ u.final_is) in
     subst (RanAll before now) (sym a.ran ∙ ap commands a.final_is) (u.ran before began)
 

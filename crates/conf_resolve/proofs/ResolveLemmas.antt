@@ -15,7 +15,7 @@ use Rattle.conf_rules.specs.Resolution.{row_of, rows_from, rows_behind, rows_by,
 use Rattle.conf_options.specs.Kept.{Given, KeepsSettings}
 use Rattle.conf_match.specs.Evaluated.{RanAll, RanSome}
 use Rattle.conf_reader.specs.declared.lines.Lines.{Lines}
-use Rattle.conf_reader.specs.Left.{left, Bounded}
+use Rattle.conf_reader.specs.Left.{lines_to_give, Bounded}
 use Rattle.conf_reader.specs.Looking.{Test, meets}
 use Rattle.conf_fold.specs.declared.fold.Fold.{Fold}
 use Rattle.conf_fold.specs.Results.{RanUnless, breaks_off}
@@ -23,7 +23,7 @@ use Rattle.conf_fold.specs.FoldRepresents.{FoldRepresents, next_row}
 use Rattle.conf_fold.specs.Begins.{asked_rows, IsFoldBegun, Behind, asked_again, SecondBegins}
 use Rattle.conf_fold.proofs.BlockLemmas.{slice_get-next}
 use Rattle.conf_fold.proofs.OrderLemmas.{from, none-parts, rows-on, from-front}
-use Rattle.conf_resolve.specs.PassGives.{Commands, commands, AreAgain, file_lines, Begins, PassGives, PassesRepresent, final_rows, first_rows, BothPass, Resolved}
+use Rattle.conf_resolve.specs.PassGives.{Commands, commands, AreAgain, file_lines, PassBegins, PassGives, PassesRepresent, final_rows, first_rows, BothPass, Resolved}
 use Rattle.conf_resolve.proofs.PartsLemmas.{none-refused, any-refused, ends-refused, rows-append, rows-stop, rows-length}
 use Rattle.conf_resolve.proofs.CommandLemmas.{asked-quiet, ran-nothing, ran-front, ran-longer}
 use Rattle.conf_resolve.proofs.IncludeLemmas.{may_record}
@@ -38,7 +38,7 @@ again-first recorded place (l ∷ ls) = (tt, again-first recorded (place + 1) ls
 pub asked-length : (recorded : Recorded) → refusal_in (asked_rows recorded) ≡ None → length (asked_rows recorded) ≡ length recorded.asked.lines
 asked-length recorded none = let k = rows-length recorded First (map asked_line recorded.asked.lines) [] 0 refl none in let n = length-map recorded.asked.lines asked_line in omega (arith, k, n)
 
-pub first-begins : (recorded : Recorded) (fold : Fold) → FoldRepresents recorded First fold (asked_rows recorded) [] → refusal_in (asked_rows recorded) ≡ None → Begins recorded First fold (asked_rows recorded)
+pub first-begins : (recorded : Recorded) (fold : Fold) → FoldRepresents recorded First fold (asked_rows recorded) [] → refusal_in (asked_rows recorded) ≡ None → PassBegins recorded First fold (asked_rows recorded)
 first-begins recorded fold s none = record {
   stands = s;
   at = let k = asked-length recorded none in omega (arith, k);
@@ -47,7 +47,7 @@ first-begins recorded fold s none = record {
 }
 
 -- where a pass begins
-pub underway : (recorded : Recorded) (pass : Pass) (fold : Fold) (reader : Lines) (rows : List LineRow) (start : Commands) → Begins recorded pass fold rows → left recorded (length recorded.asked.lines) [] reader ≡ file_lines recorded → reader.read ≡ 0 → Bounded reader.open_files 0 → ((test : Test) (recorded : Recorded) → meets test recorded reader.open_files ≡ true)
+pub underway : (recorded : Recorded) (pass : Pass) (fold : Fold) (reader : Lines) (rows : List LineRow) (start : Commands) → PassBegins recorded pass fold rows → lines_to_give recorded (length recorded.asked.lines) [] reader ≡ file_lines recorded → reader.read ≡ 0 → Bounded reader.open_files 0 → ((test : Test) (recorded : Recorded) → meets test recorded reader.open_files ≡ true)
     → Underway recorded pass fold reader (final_rows recorded pass rows) rows start start
 underway recorded pass fold reader rows start b is read bounded looks = record {
   rows = rows;
@@ -171,7 +171,7 @@ again-all recorded full (x ∷ xs) rows place at none all is = on (is_refused (n
         (here ∙ ap (λ x. Some x) (row-again recorded rows full place x before), more size low all later)
 
 -- the second pass begins
-pub second-begins : (recorded : Recorded) (new : Fold) → refusal_in (asked_rows recorded) ≡ None → refusal_in (first_rows recorded) ≡ None → SecondBegins recorded (first_rows recorded) new true → Begins recorded (Second (first_rows recorded)) new (asked_again recorded (first_rows recorded))
+pub second-begins : (recorded : Recorded) (new : Fold) → refusal_in (asked_rows recorded) ≡ None → refusal_in (first_rows recorded) ≡ None → SecondBegins recorded (first_rows recorded) new true → PassBegins recorded (Second (first_rows recorded)) new (asked_again recorded (first_rows recorded))
 second-begins recorded new asked none b = record {
   stands = b.1.0;
   at = let k = rows-length recorded (Second (first_rows recorded)) (map asked_line recorded.asked.lines) (first_rows recorded) 0 none b.1.1 in let n = length-map recorded.asked.lines asked_line in omega (arith, k, n);

@@ -8,7 +8,7 @@ use Rattle.conf_rules.specs.Diagnostics.{is_fault}
 use Rattle.conf_rules.specs.Sources.{Line, lines_from, all_lines}
 use Rattle.conf_rules.specs.Rows.{LineRow, Pass, First, given}
 use Rattle.conf_rules.specs.Entries.{entry_of}
-use Rattle.conf_rules.specs.Resolution.{pass_start_of, rows_from, refusal_in, refusal, all_rows, first_place}
+use Rattle.conf_rules.specs.Resolution.{pass_start_of, rows_from, refusal_in, first_refusal, all_rows, first_place}
 use Rattle.conf_options.specs.Kept.{Given, KeepsSettings}
 use Rattle.conf_reader.specs.Blocks.{Blocks}
 use Rattle.conf_fold.specs.declared.fold.Fold.{Fold}
@@ -32,7 +32,7 @@ abbrev pub file_lines : Recorded → List Line
 file_lines recorded = lines_from recorded (length recorded.asked.lines) recorded.asked.from
 
 -- where a pass begins, after the lines of the command line
-pub record Begins (recorded : Recorded) (pass : Pass) (fold : Fold) (rows : List LineRow) : Type 0 where
+pub record PassBegins (recorded : Recorded) (pass : Pass) (fold : Fold) (rows : List LineRow) : Type 0 where
   pub stands : FoldRepresents recorded pass fold rows []
   pub at : length rows ≡ pass_start_of pass + length recorded.asked.lines
   pub none : refusal_in rows ≡ None
@@ -63,16 +63,16 @@ first_rows recorded = rows_from recorded entry_of [] (first_place First) (all_li
 
 -- the outcome of both passes
 abbrev pub BothPass : Recorded → Fold → Result (Unit {0}) ResolveError → Type 0
-BothPass recorded new (Ok x) = (refusal recorded ≡ None)
+BothPass recorded new (Ok x) = (first_refusal recorded ≡ None)
     × KeepsSettings new.settings (flat_map given (all_rows recorded))
 BothPass recorded new (Err OutOfMemory) = Unit {0}
 BothPass recorded new (Err (At file number cause)) =
-    (is_fault cause ≡ false → refusal recorded ≡ Some (At file number cause))
+    (is_fault cause ≡ false → first_refusal recorded ≡ Some (At file number cause))
 
 -- what a resolution gives: settings that keep what all rows give, or the first refusal
 abbrev pub Resolved : Recorded → Result (List Given) ResolveError → Type 0
-Resolved recorded (Ok settings) = (refusal recorded ≡ None)
+Resolved recorded (Ok settings) = (first_refusal recorded ≡ None)
     × KeepsSettings settings (flat_map given (all_rows recorded))
 Resolved recorded (Err OutOfMemory) = Unit {0}
 Resolved recorded (Err (At file number cause)) =
-    (is_fault cause ≡ false → refusal recorded ≡ Some (At file number cause))
+    (is_fault cause ≡ false → first_refusal recorded ≡ Some (At file number cause))

@@ -7,7 +7,7 @@ ghost use Rattle.conf_match.specs.Evaluated.{RanAll};
 ghost use Rattle.conf_fold.specs.Results.{RanUnless, breaks_off};
 ghost use Rattle.conf_fold.specs.FoldRepresents.{FoldRepresents};
 ghost use Rattle.conf_fold.specs.Begins.{asked_rows};
-ghost use Rattle.conf_resolve.specs.PassGives.{Commands, commands, Begins, PassGives, final_rows, BothPass, Resolved};
+ghost use Rattle.conf_resolve.specs.PassGives.{Commands, commands, PassBegins, PassGives, final_rows, BothPass, Resolved};
 ghost use Rattle.conf_resolve.specs.Causes.{HasCauses};
 ghost use Rattle.conf_resolve.specs.Faults.{FaultStands, NoneFails};
 ghost use Rattle.conf_resolve.specs.Readings.{ReadsUnless};
@@ -30,16 +30,16 @@ fn pass<F: Files, R: Runner>(
     runner: &mut R,
 ) -> Result<(), ResolveError>
     ensures passes { WhereRecorded asked.now (known facts.now) (F.recorded files.old) (R.recorded runner.old)
-        (λ recorded. (pass : Pass) (rows : List LineRow) → Begins recorded pass fold.old rows
+        (λ recorded. (pass : Pass) (rows : List LineRow) → PassBegins recorded pass fold.old rows
         → PassGives recorded pass rows fold.new result) }
     ensures ran { WhereRecorded asked.now (known facts.now) (F.recorded files.old) (R.recorded runner.old)
         (λ recorded. (pass : Pass) (rows : List LineRow) (before : Commands)
-        → Begins recorded pass fold.old rows → RanAll before (R.ran runner.old) (commands rows)
+        → PassBegins recorded pass fold.old rows → RanAll before (R.ran runner.old) (commands rows)
         → RanUnless (breaks_off result) before (R.ran runner.new)
         (commands (final_rows recorded pass rows))) }
     ensures fault { WhereRecorded asked.now (known facts.now) (F.recorded files.old) (R.recorded runner.old)
         (λ recorded. (pass : Pass) (rows : List LineRow) (before : Commands)
-        → Begins recorded pass fold.old rows → RanAll before (R.ran runner.old) (commands rows)
+        → PassBegins recorded pass fold.old rows → RanAll before (R.ran runner.old) (commands rows)
         → IfErr result (λ e. FaultStands recorded (final_rows recorded pass rows) e before
         (R.ran runner.new) (F.failed files.old) (F.failed files.new))) }
     ensures failed { WhereRecorded asked.now (known facts.now) (F.recorded files.old) (R.recorded runner.old)

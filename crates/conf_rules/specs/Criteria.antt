@@ -9,7 +9,7 @@ use Rattle.conf_rules.specs.declared.criterion.Named.TheVariants.{Valued, Plain,
 use Rattle.conf_rules.specs.declared.causes.MatchError.{MatchError}
 use Rattle.conf_rules.specs.declared.causes.MatchError.TheVariants.{Unknown, AllNotAlone, NoValue, Unsupported}
 use Rattle.conf_rules.specs.Results.{◌>>=◌}
-use Rattle.conf_rules.specs.Texts.{Bytes, same_word, behind, split_at_first}
+use Rattle.conf_rules.specs.Texts.{Bytes, same_word, rest_after_prefix, split_at_first}
 
 -- criteria that need facts that aren't known
 abbrev pub not_supported : List Bytes
@@ -43,8 +43,8 @@ split_value negated word = elim (split_at_first 61 word) [
 ]
 
 -- a criterion's own word
-abbrev pub spelled : Bytes → Spelled
-spelled word = elim (behind (33 ∷ []) word) [
+abbrev pub spelled_criterion : Bytes → Spelled
+spelled_criterion word = elim (rest_after_prefix (33 ∷ []) word) [
   | Some rest ↦ split_value true rest
   | None ↦ split_value false word
 ]
@@ -84,7 +84,7 @@ unvalued at (Some value) criteria = Err (Unknown at)
 -- text after the equals sign, or the next word
 unfoldable pub criteria_from : ℕ → Bool → List Bytes → ReadCriteria
 criteria_from at may [] = Ok []
-criteria_from at may (word ∷ []) = let s = spelled word in elim s.name [
+criteria_from at may (word ∷ []) = let s = spelled_criterion word in elim s.name [
   | Plain kind ↦ unvalued at s.value (plain_criterion at may s.negated kind [] (Ok []))
   | Valued kind ↦ elim s.value [
     | Some value ↦ with_criterion s.negated kind value (Ok [])
@@ -93,7 +93,7 @@ criteria_from at may (word ∷ []) = let s = spelled word in elim s.name [
   | NotSupported ↦ Err (Unsupported at)
   | NoName ↦ Err (Unknown at)
 ]
-criteria_from at may (word ∷ next ∷ words) = let s = spelled word in elim s.name [
+criteria_from at may (word ∷ next ∷ words) = let s = spelled_criterion word in elim s.name [
   | Plain kind ↦ unvalued at s.value
       (plain_criterion at may s.negated kind (next ∷ words)
       (criteria_from (at + 1) (opens_all kind) (next ∷ words)))

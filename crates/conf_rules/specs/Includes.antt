@@ -4,7 +4,7 @@ use Rattle.conf_rules.specs.declared.causes.LexError.{LexError}
 use Rattle.conf_rules.specs.declared.causes.TokenError.{TokenError}
 use Rattle.conf_rules.specs.declared.token_set.TokenSet.TheVariants.{Included}
 use Rattle.conf_rules.specs.Results.{◌>>=◌}
-use Rattle.conf_rules.specs.Texts.{Bytes, is_empty, same_word, split_at_each, split_last}
+use Rattle.conf_rules.specs.Texts.{Bytes, is_empty_list, same_word, split_at_each, split_last}
 use Rattle.conf_rules.specs.Order.{sorted}
 use Rattle.conf_rules.specs.Heads.{Heading, Says, head_of}
 use Rattle.conf_rules.specs.Words.{words_of}
@@ -76,7 +76,7 @@ along recorded (component ∷ components) bases =
 
 -- the components of a path; empty ones are dropped
 abbrev pub components_of : Bytes → List Bytes
-components_of path = filter (λ component. not (is_empty component)) (split_at_each 47 path)
+components_of path = filter (λ component. not (is_empty_list component)) (split_at_each 47 path)
 
 -- whether a path ends with a slash
 abbrev pub ends_with_slash : Bytes → Bool

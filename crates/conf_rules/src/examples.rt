@@ -5,7 +5,7 @@ ghost use Rattle.std.specs.Prelude.{◌≡◌, List, [], ◌∷◌, codes, lengt
 ghost use Rattle.conf_rules.specs.Heads.{lines_of};
 ghost use Rattle.conf_rules.specs.Memory.{Pair};
 ghost use Rattle.conf_rules.specs.CommandOutcome.{outcome, ran_for, Opens, Drills};
-ghost use Rattle.conf_rules.specs.Samples.{lines, file, ann, at_home, machine, bare, with_f, with_root_f, list_file, written, listed_values, says, full_machine, full_listing, exec_machine};
+ghost use Rattle.conf_rules.specs.Samples.{text_of_lines, file, ann, at_home, machine, machine_without_files, with_f, with_root_f, list_file, written, listed_values, error_line, full_machine, full_listing, exec_machine};
 
 /// Every kind of line that a first configuration has, with an included file.
 pub fn a_listing_in_full()
@@ -40,70 +40,70 @@ pub fn commands_reached()
 pub fn including_itself()
     ensures deep { written
         (outcome (with_root_f (codes "Include /f" ∷ []) []) (list_file (codes "/f") (codes "x")))
-        ≡ says (codes "/f line 1: includes are too deep") }
+        ≡ error_line (codes "/f line 1: includes are too deep") }
     ensures skipped { listed_values (codes "port")
         (outcome (with_root_f (codes "Include /none" ∷ []) []) (list_file (codes "/f") (codes "x")))
         ≡ codes "22" ∷ [] }
     ensures token { written
         (outcome (with_root_f (codes "Include /a %x" ∷ [])
         (file (codes "/a") (codes "Porp 1" ∷ []) ∷ [])) (list_file (codes "/f") (codes "x")))
-        ≡ says (codes "/f line 1: not a token here") }
+        ≡ error_line (codes "/f line 1: not a token here") }
 {}
 
 /// Lines that are refused, and one with a keyword that IgnoreUnknown names.
 pub fn refused_lines()
     ensures equals { written
         (outcome (with_f (codes "Port = = 2" ∷ [])) (list_file (codes "f") (codes "x")))
-        ≡ says (codes "f line 1: two equals signs") }
+        ≡ error_line (codes "f line 1: two equals signs") }
     ensures unknown { written
         (outcome (with_f (codes "Porp 2" ∷ [])) (list_file (codes "f") (codes "x")))
-        ≡ says (codes "f line 1: unknown keyword porp") }
+        ≡ error_line (codes "f line 1: unknown keyword porp") }
     ensures ignored { listed_values (codes "port")
         (outcome (with_f (codes "IgnoreUnknown porp*" ∷ codes "Porp 2" ∷ []))
         (list_file (codes "f") (codes "x"))) ≡ codes "22" ∷ [] }
     ensures quote { written
         (outcome (with_f (codes "Host \"a" ∷ [])) (list_file (codes "f") (codes "x")))
-        ≡ says (codes "f line 1: a quote is not closed") }
+        ≡ error_line (codes "f line 1: a quote is not closed") }
 {}
 
 /// What is missing on the command line.
 pub fn missing_words()
-    ensures destination { written (outcome bare (codes "-G" ∷ []))
-        ≡ says (codes "word 2: a destination is missing") }
+    ensures destination { written (outcome machine_without_files (codes "-G" ∷ []))
+        ≡ error_line (codes "word 2: a destination is missing") }
     ensures value { written
-        (outcome bare (codes "-G" ∷ codes "-F" ∷ codes "none" ∷ codes "x" ∷ codes "-p" ∷ []))
-        ≡ says (codes "word 5: a value is missing") }
+        (outcome machine_without_files (codes "-G" ∷ codes "-F" ∷ codes "none" ∷ codes "x" ∷ codes "-p" ∷ []))
+        ≡ error_line (codes "word 5: a value is missing") }
     ensures transport { written
-        (outcome bare (codes "-M" ∷ codes "-F" ∷ codes "none" ∷ codes "-S" ∷ codes "/c"
-        ∷ codes "x" ∷ [])) ≡ says (codes "word 7: --transport is missing") }
+        (outcome machine_without_files (codes "-M" ∷ codes "-F" ∷ codes "none" ∷ codes "-S" ∷ codes "/c"
+        ∷ codes "x" ∷ [])) ≡ error_line (codes "word 7: --transport is missing") }
 {}
 
 /// The master needs a control path.
 pub fn control_path_of_the_master()
     ensures unset { written
-        (outcome bare (codes "-M" ∷ codes "-F" ∷ codes "none" ∷ codes "--transport" ∷ codes "/t"
-        ∷ codes "x" ∷ [])) ≡ says (codes "controlpath: not set") }
-    ensures opened { outcome bare (codes "-M" ∷ codes "-F" ∷ codes "none" ∷ codes "--transport"
+        (outcome machine_without_files (codes "-M" ∷ codes "-F" ∷ codes "none" ∷ codes "--transport" ∷ codes "/t"
+        ∷ codes "x" ∷ [])) ≡ error_line (codes "controlpath: not set") }
+    ensures opened { outcome machine_without_files (codes "-M" ∷ codes "-F" ∷ codes "none" ∷ codes "--transport"
         ∷ codes "/t" ∷ codes "-S" ∷ codes "/c" ∷ codes "x" ∷ [])
         ≡ Opens (codes "/c") (codes "/t") (record { opens = []; listens = []; sessions = true; here = [] }) }
 {}
 
 /// Sessions are permitted unless the last `--permit-session` is `none`; only a master has it.
 pub fn sessions_of_the_master()
-    ensures none { outcome bare (codes "-M" ∷ codes "-F" ∷ codes "none" ∷ codes "--transport"
+    ensures none { outcome machine_without_files (codes "-M" ∷ codes "-F" ∷ codes "none" ∷ codes "--transport"
         ∷ codes "/t" ∷ codes "-S" ∷ codes "/c" ∷ codes "--permit-session" ∷ codes "any"
         ∷ codes "--permit-session" ∷ codes "none" ∷ codes "x" ∷ [])
         ≡ Opens (codes "/c") (codes "/t") (record { opens = []; listens = []; sessions = false; here = [] }) }
-    ensures bad { written (outcome bare (codes "-M" ∷ codes "--permit-session" ∷ codes "80" ∷ []))
-        ≡ says (codes "word 3: not a permission") }
-    ensures listing { written (outcome bare (codes "-G" ∷ codes "--permit-session" ∷ codes "80"
-        ∷ [])) ≡ says (codes "word 2: only for -M") }
+    ensures bad { written (outcome machine_without_files (codes "-M" ∷ codes "--permit-session" ∷ codes "80" ∷ []))
+        ≡ error_line (codes "word 3: not a permission") }
+    ensures listing { written (outcome machine_without_files (codes "-G" ∷ codes "--permit-session" ∷ codes "80"
+        ∷ [])) ≡ error_line (codes "word 2: only for -M") }
 {}
 
 /// Where the master's own forwardings may listen: the entries of several options are one list, and
 /// a bad one is refused at its word, the earliest first over all lists.
 pub fn listening_of_the_master()
-    ensures two { outcome bare (codes "-M" ∷ codes "-F" ∷ codes "none" ∷ codes "--transport"
+    ensures two { outcome machine_without_files (codes "-M" ∷ codes "-F" ∷ codes "none" ∷ codes "--transport"
         ∷ codes "/t" ∷ codes "-S" ∷ codes "/c" ∷ codes "--permit-here" ∷ codes "127.0.0.1:*"
         ∷ codes "--permit-here" ∷ codes "80" ∷ codes "x" ∷ [])
         ≡ Opens (codes "/c") (codes "/t") (record {
@@ -112,21 +112,21 @@ pub fn listening_of_the_master()
           sessions = true;
           here = codes "127.0.0.1:*" ∷ codes "80" ∷ [];
         }) }
-    ensures bad { written (outcome bare (codes "-M" ∷ codes "-F" ∷ codes "none"
+    ensures bad { written (outcome machine_without_files (codes "-M" ∷ codes "-F" ∷ codes "none"
         ∷ codes "--transport" ∷ codes "/t" ∷ codes "-S" ∷ codes "/c" ∷ codes "--permit-here"
         ∷ codes "a:b" ∷ codes "--permit-listen" ∷ codes "a:b" ∷ codes "x" ∷ []))
-        ≡ says (codes "word 9: not a permission") }
-    ensures listing { written (outcome bare (codes "-G" ∷ codes "--permit-here" ∷ codes "a:b"
-        ∷ codes "x" ∷ [])) ≡ says (codes "word 2: only for -M") }
+        ≡ error_line (codes "word 9: not a permission") }
+    ensures listing { written (outcome machine_without_files (codes "-G" ∷ codes "--permit-here" ∷ codes "a:b"
+        ∷ codes "x" ∷ [])) ≡ error_line (codes "word 2: only for -M") }
 {}
 
 /// A drill is read from three numbers in their ranges.
 pub fn words_of_a_drill()
-    ensures read { outcome bare (codes "--drill" ∷ codes "0" ∷ codes "1" ∷ codes "1" ∷ [])
+    ensures read { outcome machine_without_files (codes "--drill" ∷ codes "0" ∷ codes "1" ∷ codes "1" ∷ [])
         ≡ Drills 0 1 1 }
     ensures refused { written
-        (outcome bare (codes "--drill" ∷ codes "1" ∷ codes "65" ∷ codes "0" ∷ []))
-        ≡ says (codes "word 3: not a drill number") }
+        (outcome machine_without_files (codes "--drill" ∷ codes "1" ∷ codes "65" ∷ codes "0" ∷ []))
+        ≡ error_line (codes "word 3: not a drill number") }
 {}
 
 /// Of two hosts' blocks one applies.
@@ -194,7 +194,7 @@ pub fn tokens_of_a_control_path()
         (file (codes "f") (codes "ControlPath ~/%r%%$" ∷ codes "User a" ∷ []) ∷ []))
         (list_file (codes "f") (codes "x"))) ≡ codes "/h/a%$" ∷ [] }
     ensures missing { written (outcome (with_f (codes "ControlPath /tmp/%i" ∷ codes "User a" ∷ []))
-        (list_file (codes "f") (codes "x"))) ≡ says (codes "controlpath: fact i is missing") }
+        (list_file (codes "f") (codes "x"))) ≡ error_line (codes "controlpath: fact i is missing") }
 {}
 
 /// Criteria that aren't supported, or don't stand alone.
@@ -202,64 +202,64 @@ pub fn refused_criteria()
     ensures supported { written
         (outcome (with_f (codes "Match user ann" ∷ codes "Port 1"
         ∷ codes "Match localnetwork 10.0.0.0/8" ∷ [])) (list_file (codes "f") (codes "x")))
-        ≡ says (codes "f line 3: criterion not supported") }
+        ≡ error_line (codes "f line 3: criterion not supported") }
     ensures alone { written
         (outcome (with_f (codes "Match all host x" ∷ [])) (list_file (codes "f") (codes "x")))
-        ≡ says (codes "f line 1: all must stand alone") }
+        ≡ error_line (codes "f line 1: all must stand alone") }
 {}
 
 /// Letters, lines and a user, in the order of the words.
 pub fn letters_in_order()
     ensures host { listed_values (codes "host")
-        (outcome bare (codes "-GF" ∷ codes "none" ∷ codes "-p" ∷ codes "10" ∷ codes "-oPort=9"
+        (outcome machine_without_files (codes "-GF" ∷ codes "none" ∷ codes "-p" ∷ codes "10" ∷ codes "-oPort=9"
         ∷ codes "bob@x" ∷ [])) ≡ codes "x" ∷ [] }
     ensures user { listed_values (codes "user")
-        (outcome bare (codes "-GF" ∷ codes "none" ∷ codes "-p" ∷ codes "10" ∷ codes "-oPort=9"
+        (outcome machine_without_files (codes "-GF" ∷ codes "none" ∷ codes "-p" ∷ codes "10" ∷ codes "-oPort=9"
         ∷ codes "bob@x" ∷ [])) ≡ codes "bob" ∷ [] }
     ensures port { listed_values (codes "port")
-        (outcome bare (codes "-GF" ∷ codes "none" ∷ codes "-p" ∷ codes "10" ∷ codes "-oPort=9"
+        (outcome machine_without_files (codes "-GF" ∷ codes "none" ∷ codes "-p" ∷ codes "10" ∷ codes "-oPort=9"
         ∷ codes "bob@x" ∷ [])) ≡ codes "10" ∷ [] }
     ensures all { length (lines_of
-        (written (outcome bare (codes "-GF" ∷ codes "none" ∷ codes "-p" ∷ codes "10"
+        (written (outcome machine_without_files (codes "-GF" ∷ codes "none" ∷ codes "-p" ∷ codes "10"
         ∷ codes "-oPort=9" ∷ codes "bob@x" ∷ [])))) ≡ 29 }
 {}
 
 /// What stands only in files, two modes, options of the master, and two destinations.
 pub fn refused_words()
     ensures block { written
-        (outcome bare (codes "-G" ∷ codes "-F" ∷ codes "none" ∷ codes "-o" ∷ codes "Host a"
-        ∷ codes "x" ∷ [])) ≡ says (codes "command line line 5: not on the command line") }
-    ensures modes { written (outcome bare (codes "-G" ∷ codes "-M" ∷ codes "x" ∷ []))
-        ≡ says (codes "word 2: only one of -G, -M and -O is taken") }
+        (outcome machine_without_files (codes "-G" ∷ codes "-F" ∷ codes "none" ∷ codes "-o" ∷ codes "Host a"
+        ∷ codes "x" ∷ [])) ≡ error_line (codes "command line line 5: not on the command line") }
+    ensures modes { written (outcome machine_without_files (codes "-G" ∷ codes "-M" ∷ codes "x" ∷ []))
+        ≡ error_line (codes "word 2: only one of -G, -M and -O is taken") }
     ensures master { written
-        (outcome bare (codes "-G" ∷ codes "--transport" ∷ codes "/t" ∷ codes "x" ∷ []))
-        ≡ says (codes "word 2: only for -M") }
-    ensures destinations { written (outcome bare (codes "-G" ∷ codes "a" ∷ codes "b" ∷ []))
-        ≡ says (codes "word 3: only one destination is taken") }
+        (outcome machine_without_files (codes "-G" ∷ codes "--transport" ∷ codes "/t" ∷ codes "x" ∷ []))
+        ≡ error_line (codes "word 2: only for -M") }
+    ensures destinations { written (outcome machine_without_files (codes "-G" ∷ codes "a" ∷ codes "b" ∷ []))
+        ≡ error_line (codes "word 3: only one destination is taken") }
 {}
 
 /// Requests to a running master: an unknown one, one beside another mode, without a forwarding or a
 /// destination, with an option of the master, and two of them.
 pub fn words_of_the_client()
-    ensures command { written (outcome bare (codes "-O" ∷ codes "restart" ∷ codes "x" ∷ []))
-        ≡ says (codes "word 2: not a command") }
-    ensures joined { written (outcome bare (codes "-Orestart" ∷ codes "x" ∷ []))
-        ≡ says (codes "word 1: not a command") }
-    ensures modes { written (outcome bare (codes "-G" ∷ codes "-O" ∷ codes "check" ∷ codes "x" ∷ []))
-        ≡ says (codes "word 2: only one of -G, -M and -O is taken") }
+    ensures command { written (outcome machine_without_files (codes "-O" ∷ codes "restart" ∷ codes "x" ∷ []))
+        ≡ error_line (codes "word 2: not a command") }
+    ensures joined { written (outcome machine_without_files (codes "-Orestart" ∷ codes "x" ∷ []))
+        ≡ error_line (codes "word 1: not a command") }
+    ensures modes { written (outcome machine_without_files (codes "-G" ∷ codes "-O" ∷ codes "check" ∷ codes "x" ∷ []))
+        ≡ error_line (codes "word 2: only one of -G, -M and -O is taken") }
     ensures forwarding { written
-        (outcome bare (codes "-O" ∷ codes "forward" ∷ codes "-o" ∷ codes "LocalForward 1 a:2"
-        ∷ codes "x" ∷ [])) ≡ says (codes "word 6: no forwarding is named") }
-    ensures destination { written (outcome bare (codes "-O" ∷ codes "cancel" ∷ []))
-        ≡ says (codes "word 3: a destination is missing") }
+        (outcome machine_without_files (codes "-O" ∷ codes "forward" ∷ codes "-o" ∷ codes "LocalForward 1 a:2"
+        ∷ codes "x" ∷ [])) ≡ error_line (codes "word 6: no forwarding is named") }
+    ensures destination { written (outcome machine_without_files (codes "-O" ∷ codes "cancel" ∷ []))
+        ≡ error_line (codes "word 3: a destination is missing") }
     ensures master { written
-        (outcome bare (codes "-O" ∷ codes "check" ∷ codes "--transport" ∷ codes "/t" ∷ codes "x" ∷ []))
-        ≡ says (codes "word 3: only for -M") }
+        (outcome machine_without_files (codes "-O" ∷ codes "check" ∷ codes "--transport" ∷ codes "/t" ∷ codes "x" ∷ []))
+        ≡ error_line (codes "word 3: only for -M") }
     ensures last { written
-        (outcome bare (codes "-O" ∷ codes "check" ∷ codes "-O" ∷ codes "no" ∷ codes "x" ∷ []))
-        ≡ says (codes "word 4: not a command") }
-    ensures mode { written (outcome bare (codes "x" ∷ []))
-        ≡ says (codes "word 2: -G, -M or -O is missing") }
+        (outcome machine_without_files (codes "-O" ∷ codes "check" ∷ codes "-O" ∷ codes "no" ∷ codes "x" ∷ []))
+        ≡ error_line (codes "word 4: not a command") }
+    ensures mode { written (outcome machine_without_files (codes "x" ∷ []))
+        ≡ error_line (codes "word 2: -G, -M or -O is missing") }
 {}
 
 /// Included files are read in the order of their paths; a name with a leading dot isn't matched by
@@ -339,7 +339,7 @@ pub fn each_pass()
         ∷ codes "User u" ∷ [])) (list_file (codes "f") (codes "db"))) ≡ codes "u" ∷ [] }
     ensures alone { written
         (outcome (with_f (codes "Match all final" ∷ [])) (list_file (codes "f") (codes "x")))
-        ≡ says (codes "f line 1: all must stand alone") }
+        ≡ error_line (codes "f line 1: all must stand alone") }
     ensures behind { listed_values (codes "port")
         (outcome (with_f (codes "Match canonical all" ∷ codes "Port 5" ∷ codes "Match all"
         ∷ codes "Port 6" ∷ [])) (list_file (codes "f") (codes "db"))) ≡ codes "6" ∷ [] }
@@ -350,7 +350,7 @@ pub fn reached_in_the_second_pass()
     ensures refused { written
         (outcome (machine (record ann { local_user = None })
         (file (codes "f") (codes "Match final user ann" ∷ []) ∷ []))
-        (list_file (codes "f") (codes "x"))) ≡ says (codes "f line 1: fact r is missing") }
+        (list_file (codes "f") (codes "x"))) ≡ error_line (codes "f line 1: fact r is missing") }
     ensures ran { ran_for
         (with_f (codes "Match final exec \"a %h\"" ∷ codes "Match exec \"b %n\"" ∷ []))
         (list_file (codes "f") (codes "x")) ≡ codes "b x" ∷ codes "a x" ∷ codes "b x" ∷ [] }

@@ -7,7 +7,7 @@ use Rattle.conf_rules.specs.declared.causes.TokenError.{TokenError}
 use Rattle.conf_rules.specs.Results.{◌>>=◌, Fails}
 use Rattle.conf_rules.specs.Wants.{token_wants_memory}
 use Rattle.conf_rules.specs.Tokens.{View, TokenPart, part_at, expand_from, name_expanded}
-use Rattle.conf_tokens.specs.Puts.{onto, onto_part, name_token}
+use Rattle.conf_tokens.specs.Puts.{with_text_before, onto_part, name_token}
 
 -- bytes that belong to a part are skipped
 skipped : (set : TokenSet) (view : View) (more at : ℕ) (bs : List ℕ) → more ≤ length bs → expand_from set view more at bs ≡ expand_from set view 0 (at + more) (drop more bs)
@@ -18,12 +18,12 @@ skipped set view (suc more) at (b ∷ bs) within =
     skipped set view more (at + 1) bs (omega (arith, within)) ∙ ap (λ n. expand_from set view 0 n (drop more bs)) (omega arith)
 
 -- a text before one that is in front
-regrouped : (old text : List ℕ) (r : Result (List ℕ) TokenError) → onto old (r >>= λ rest. Ok (text ++ rest)) ≡ onto (old ++ text) r
+regrouped : (old text : List ℕ) (r : Result (List ℕ) TokenError) → with_text_before old (r >>= λ rest. Ok (text ++ rest)) ≡ with_text_before (old ++ text) r
 regrouped old text (Err e) = refl
 regrouped old text (Ok rest) = rw append_assoc refl
 
 -- a part, and what comes after it
-joined : (old : List ℕ) (part : Result TokenPart TokenError) (others : ℕ → Result (List ℕ) TokenError) (new : List ℕ) (more : ℕ) → onto_part old part ≡ Ok (new, more) → onto old (part >>= λ p. others p.more >>= λ rest. Ok (p.text ++ rest)) ≡ onto new (others more)
+joined : (old : List ℕ) (part : Result TokenPart TokenError) (others : ℕ → Result (List ℕ) TokenError) (new : List ℕ) (more : ℕ) → onto_part old part ≡ Ok (new, more) → with_text_before old (part >>= λ p. others p.more >>= λ rest. Ok (p.text ++ rest)) ≡ with_text_before new (others more)
 joined old (Err e) others new more h = absurd cc
 joined old (Ok p) others new more h =
     let pair : (old ++ p.text, p.more) ≡ (new, more) = cc in
@@ -31,36 +31,36 @@ joined old (Ok p) others new more h =
     let count : p.more ≡ more = ap (λ (x : List ℕ × ℕ). x.1) pair in
     rw (sym text, sym count) (regrouped old p.text (others p.more))
 
-one : (set : TokenSet) (view : View) (old : List ℕ) (at : ℕ) (b : ℕ) (bs : List ℕ) (new : List ℕ) (more : ℕ) → onto_part old (part_at set view at b bs) ≡ Ok (new, more) → onto old (expand_from set view 0 at (b ∷ bs)) ≡ onto new (expand_from set view more (at + 1) bs)
+one : (set : TokenSet) (view : View) (old : List ℕ) (at : ℕ) (b : ℕ) (bs : List ℕ) (new : List ℕ) (more : ℕ) → onto_part old (part_at set view at b bs) ≡ Ok (new, more) → with_text_before old (expand_from set view 0 at (b ∷ bs)) ≡ with_text_before new (expand_from set view more (at + 1) bs)
 unfolding expand_from
 one set view old at b bs new more h = joined old (part_at set view at b bs) (λ n. expand_from set view n (at + 1) bs) new more h
 
 pub goes_on : (set : TokenSet) (view : View) (old : List ℕ) (at : ℕ) (left : List ℕ) (b : ℕ) (bs : List ℕ) (new : List ℕ) (more : ℕ) (total : Result (List ℕ) TokenError)
-    → left ≡ b ∷ bs → onto_part old (part_at set view at b bs) ≡ Ok (new, more) → more ≤ length bs → onto old (expand_from set view 0 at left) ≡ total → onto new (expand_from set view 0 (at + (1 + more)) (drop more bs)) ≡ total
+    → left ≡ b ∷ bs → onto_part old (part_at set view at b bs) ≡ Ok (new, more) → more ≤ length bs → with_text_before old (expand_from set view 0 at left) ≡ total → with_text_before new (expand_from set view 0 (at + (1 + more)) (drop more bs)) ≡ total
 goes_on set view old at left b bs new more total e h within so_far =
     let step = one set view old at b bs new more h in
     let skip = skipped set view more (at + 1) bs within in
     let place : at + 1 + more ≡ at + (1 + more) = omega arith in
-    sym (ap (λ n. onto new (expand_from set view 0 n (drop more bs))) place) ∙ sym (ap (onto new) skip) ∙ sym step ∙ sym (ap (λ l. onto old (expand_from set view 0 at l)) e) ∙ so_far
+    sym (ap (λ n. with_text_before new (expand_from set view 0 n (drop more bs))) place) ∙ sym (ap (with_text_before new) skip) ∙ sym step ∙ sym (ap (λ l. with_text_before old (expand_from set view 0 at l)) e) ∙ so_far
 
-fails_one : (set : TokenSet) (view : View) (old : List ℕ) (at : ℕ) (b : ℕ) (bs : List ℕ) (e : TokenError) → part_at set view at b bs ≡ Err e → onto old (expand_from set view 0 at (b ∷ bs)) ≡ Err e
+fails_one : (set : TokenSet) (view : View) (old : List ℕ) (at : ℕ) (b : ℕ) (bs : List ℕ) (e : TokenError) → part_at set view at b bs ≡ Err e → with_text_before old (expand_from set view 0 at (b ∷ bs)) ≡ Err e
 unfolding expand_from
 fails_one set view old at b bs e h = rw h refl
 
 -- a refusal at one place is the refusal of the scan
 pub fails : (set : TokenSet) (view : View) (old : List ℕ) (at : ℕ) (left : List ℕ) (b : ℕ) (bs : List ℕ) (e : TokenError) (total : Result (List ℕ) TokenError)
-    → left ≡ b ∷ bs → Fails token_wants_memory e (part_at set view at b bs) → onto old (expand_from set view 0 at left) ≡ total → Fails token_wants_memory e total
+    → left ≡ b ∷ bs → Fails token_wants_memory e (part_at set view at b bs) → with_text_before old (expand_from set view 0 at left) ≡ total → Fails token_wants_memory e total
 fails set view old at left b bs e total l h so_far = refused (token_wants_memory e) h
   where
     refused : (t : Bool) → OnFalse t (part_at set view at b bs ≡ Err e) → OnFalse t (total ≡ Err e)
     refused true h = tt
     refused false h = sym so_far ∙ rw l (fails_one set view old at b bs e h)
 
-pub done : (set : TokenSet) (view : View) (out : List ℕ) (at : ℕ) (left : List ℕ) (total : Result (List ℕ) TokenError) → left ≡ [] → onto out (expand_from set view 0 at left) ≡ total → total ≡ Ok out
+pub done : (set : TokenSet) (view : View) (out : List ℕ) (at : ℕ) (left : List ℕ) (total : Result (List ℕ) TokenError) → left ≡ [] → with_text_before out (expand_from set view 0 at left) ≡ total → total ≡ Ok out
 unfolding expand_from
 done set view out at left total e so_far = sym so_far ∙ rw (e, append-nil) refl
 
-pub whole : (r : Result (List ℕ) TokenError) → onto [] r ≡ r
+pub whole : (r : Result (List ℕ) TokenError) → with_text_before [] r ≡ r
 whole (Ok x) = refl
 whole (Err e) = refl
 

@@ -7,13 +7,13 @@ use Rattle.conf_rules.specs.Texts.{Bytes}
 use Rattle.conf_rules.specs.Tokens.{TokenPart, fact_of, before_dot}
 
 -- a text before a reading
-abbrev pub onto : Bytes → Result Bytes TokenError → Result Bytes TokenError
-onto front reading = reading >>= λ text. Ok (front ++ text)
+abbrev pub with_text_before : Bytes → Result Bytes TokenError → Result Bytes TokenError
+with_text_before front reading = reading >>= λ text. Ok (front ++ text)
 
 -- what stood there has the reading after it, unless memory ran out
 abbrev pub Puts : {X : Type 0} → Result X TokenError → Bytes → Bytes
     → Result Bytes TokenError → Type 0
-Puts (Ok x) old new reading = onto old reading ≡ Ok new
+Puts (Ok x) old new reading = with_text_before old reading ≡ Ok new
 Puts (Err e) old new reading = Fails token_wants_memory e reading
 
 -- a part after what stood there, and how many bytes follow its first

@@ -1,10 +1,10 @@
 ghost use Rattle.std.specs.Prelude.{◌≡◌, ◌+◌, ◌<◌, ◌^◌, ◌++◌, ◌&&◌, ◌||◌, length, Ok, OnOk};
-ghost use Rattle.conf_rules.specs.Texts.{is_empty};
+ghost use Rattle.conf_rules.specs.Texts.{is_empty_list};
 ghost use Rattle.conf_rules.specs.Tokens.{expand_from, expand, expand_path, with_home, starts_with_slash, name_expanded};
-ghost use Rattle.conf_rules.specs.Results.{Gives};
+ghost use Rattle.conf_rules.specs.Results.{GivesReading};
 ghost use Rattle.conf_rules.specs.Wants.{token_wants_memory};
-ghost use Rattle.conf_tokens.specs.Puts.{onto, name_token};
-ghost use Rattle.conf_tokens.specs.Seen.{seen};
+ghost use Rattle.conf_tokens.specs.Puts.{with_text_before, name_token};
+ghost use Rattle.conf_tokens.specs.Seen.{view_as_defined};
 
 use crate::facts::fact;
 use crate::parts::put_part;
@@ -24,8 +24,8 @@ fn expand_onto(
     view: &View<'_>,
 ) -> Result<Text, TokenError>
     requires { start + length text.now < 2 ^ 64 }
-    ensures { Gives token_wants_memory result
-        (onto front (expand_from set (seen view.now) 0 start text.now)) }
+    ensures { GivesReading token_wants_memory result
+        (with_text_before front (expand_from set (view_as_defined view.now) 0 start text.now)) }
 {
     let mut out = front;
     let mut at = start;
@@ -48,7 +48,7 @@ pub fn expand(
     set: TokenSet,
     view: &View<'_>,
 ) -> Result<Text, TokenError>
-    ensures { Gives token_wants_memory result (expand text.now set (seen view.now)) }
+    ensures { GivesReading token_wants_memory result (expand text.now set (view_as_defined view.now)) }
 {
     expand_onto(alloc, Text::new(alloc), 0, text, set, view)
 }
@@ -56,7 +56,7 @@ pub fn expand(
 // What stands after a tilde, with the home before it.
 fn with_home(alloc: Global, rest: &[u8], set: TokenSet, view: &View<'_>) -> Result<Text, TokenError>
     requires { 1 + length rest.now < 2 ^ 64 }
-    ensures { Gives token_wants_memory result (with_home set (seen view.now) rest.now) }
+    ensures { GivesReading token_wants_memory result (with_home set (view_as_defined view.now) rest.now) }
 {
     let home = fact(b'd', &view.facts.home)?;
     expand_onto(alloc, Text::copy(alloc, home)?, 1, rest, set, view)
@@ -71,7 +71,7 @@ pub fn expand_path(
     set: TokenSet,
     view: &View<'_>,
 ) -> Result<Text, TokenError>
-    ensures { Gives token_wants_memory result (expand_path lone set (seen view.now) text.now) }
+    ensures { GivesReading token_wants_memory result (expand_path lone set (view_as_defined view.now) text.now) }
 {
     match text {
         [b'~', rest @ ..] if represents_home(lone, rest) => with_home(alloc, rest, set, view),
@@ -81,7 +81,7 @@ pub fn expand_path(
 
 // Whether a tilde before this text represents the home.
 fn represents_home(lone: bool, rest: &[u8]) -> bool
-    ensures { result ≡ (starts_with_slash rest.now || (lone && is_empty rest.now)) }
+    ensures { result ≡ (starts_with_slash rest.now || (lone && is_empty_list rest.now)) }
 {
     match rest {
         [] => lone,

@@ -3,7 +3,7 @@ ghost use Rattle.std.specs.Option.{option_map};
 ghost use Rattle.mux_outside.specs.Files.{pair_value_at};
 ghost use Rattle.conf_rules.specs.Tokens.{fact_of, user_of};
 ghost use Rattle.conf_rules.specs.Results.{Shows};
-ghost use Rattle.conf_tokens.specs.Seen.{seen};
+ghost use Rattle.conf_tokens.specs.Seen.{view_as_defined};
 
 use crate::view::View;
 use conf_rules::TokenError;
@@ -23,7 +23,7 @@ pub fn fact(byte: u8, fact: &Option<Text>) -> Result<&[u8], TokenError>
 /// The user, or else the local user, whose lack is reported under a byte.
 pub fn user<'a>(byte: u8, view: &View<'a>) -> Result<&'a [u8], TokenError>
     ensures { Shows (λ u. u.now) result
-        (user_of byte (seen view.now).user (seen view.now).facts.local_user) }
+        (user_of byte (view_as_defined view.now).user (view_as_defined view.now).facts.local_user) }
 {
     match view.user {
         Some(user) => Ok(user),

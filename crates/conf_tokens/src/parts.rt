@@ -1,8 +1,8 @@
 ghost use Rattle.std.specs.Prelude.{◌≡◌, ◌≤◌, ◌+◌, length, IfOk};
 ghost use Rattle.conf_rules.specs.Texts.{has, split_at_first};
-ghost use Rattle.conf_rules.specs.Tokens.{letters, has_vars, token_of, variable_of, dollar_of, itself, part_at};
+ghost use Rattle.conf_rules.specs.Tokens.{token_letters, has_vars, token_of, variable_of, dollar_of, itself, part_at};
 ghost use Rattle.conf_tokens.specs.Puts.{PutsPart};
-ghost use Rattle.conf_tokens.specs.Seen.{seen};
+ghost use Rattle.conf_tokens.specs.Seen.{view_as_defined};
 
 use crate::facts::variable;
 use crate::put::put_token;
@@ -14,7 +14,7 @@ use std::alloc::Global;
 
 // The bytes that a set allows after a percent sign.
 fn letters(set: TokenSet) -> &'static [u8]
-    ensures { result.now ≡ letters set }
+    ensures { result.now ≡ token_letters set }
 {
     match set {
         TokenSet::Full | TokenSet::FullVars => b"%CdhijkLlnpru",
@@ -49,7 +49,7 @@ fn put_percent(
     at: usize,
     after: &[u8],
 ) -> Result<usize, TokenError>
-    ensures puts { PutsPart result out.old out.new (token_of set (seen view.now) at after.now) }
+    ensures puts { PutsPart result out.old out.new (token_of set (view_as_defined view.now) at after.now) }
     ensures within { IfOk result (λ more. more ≤ length after.now) }
 {
     let Some((byte, _)) = first(after) else {
@@ -71,7 +71,7 @@ fn put_variable(
     inner: &[u8],
 ) -> Result<usize, TokenError>
     ensures puts { PutsPart result out.old out.new
-        (variable_of (seen view.now).facts.variable at (split_at_first 125 inner.now)) }
+        (variable_of (view_as_defined view.now).facts.variable at (split_at_first 125 inner.now)) }
     ensures within { IfOk result (λ more. more ≤ length inner.now + 1) }
 {
     let Some((name, _)) = split_at_first(b'}', inner) else {
@@ -94,7 +94,7 @@ fn put_dollar(
     at: usize,
     after: &[u8],
 ) -> Result<usize, TokenError>
-    ensures puts { PutsPart result out.old out.new (dollar_of (seen view.now) at after.now) }
+    ensures puts { PutsPart result out.old out.new (dollar_of (view_as_defined view.now) at after.now) }
     ensures within { IfOk result (λ more. more ≤ length after.now) }
 {
     match after {
@@ -122,7 +122,7 @@ pub fn put_part(
     byte: u8,
     after: &[u8],
 ) -> Result<usize, TokenError>
-    ensures puts { PutsPart result out.old out.new (part_at set (seen view.now) at byte after.now) }
+    ensures puts { PutsPart result out.old out.new (part_at set (view_as_defined view.now) at byte after.now) }
     ensures within { IfOk result (λ more. more ≤ length after.now) }
 {
     if byte == b'%' {

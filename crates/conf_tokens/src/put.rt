@@ -3,10 +3,10 @@ ghost use Rattle.std.specs.List.{prefix_len};
 ghost use Rattle.hex.specs.Hex.{encode_lower};
 ghost use Rattle.conf_rules.specs.Numbers.{digits_of};
 ghost use Rattle.conf_rules.specs.Tokens.{fact_of, user_of, before_dot, connection_digest, meaning};
-ghost use Rattle.conf_rules.specs.Results.{Gives};
+ghost use Rattle.conf_rules.specs.Results.{GivesReading};
 ghost use Rattle.conf_rules.specs.Wants.{token_wants_memory};
 ghost use Rattle.conf_tokens.specs.Puts.{Puts, short_name};
-ghost use Rattle.conf_tokens.specs.Seen.{seen};
+ghost use Rattle.conf_tokens.specs.Seen.{view_as_defined};
 
 use crate::facts::{fact, user};
 use crate::view::View;
@@ -34,7 +34,7 @@ fn put_fact(out: &mut Text, byte: u8, known: &Option<Text>) -> Result<(), TokenE
 // Adds the user.
 fn put_user(out: &mut Text, byte: u8, view: &View<'_>) -> Result<(), TokenError>
     ensures { Puts result out.old out.new
-        (user_of byte (seen view.now).user (seen view.now).facts.local_user) }
+        (user_of byte (view_as_defined view.now).user (view_as_defined view.now).facts.local_user) }
 {
     let text = user(byte, view)?;
     put(out, text)
@@ -73,7 +73,7 @@ fn before_dot(name: &[u8]) -> &[u8]
 
 // Adds the name of this machine up to its first dot.
 fn put_short_name(out: &mut Text, view: &View<'_>) -> Result<(), TokenError>
-    ensures { Puts result out.old out.new (short_name (seen view.now).facts.host_name) }
+    ensures { Puts result out.old out.new (short_name (view_as_defined view.now).facts.host_name) }
 {
     let name = fact(b'L', &view.facts.host_name)?;
     put(out, before_dot(name))
@@ -81,7 +81,7 @@ fn put_short_name(out: &mut Text, view: &View<'_>) -> Result<(), TokenError>
 
 // The digest of a connection, in hexadecimal digits.
 fn digest(alloc: Global, view: &View<'_>) -> Result<[u8; 40], TokenError>
-    ensures { Gives token_wants_memory result (connection_digest (seen view.now)) }
+    ensures { GivesReading token_wants_memory result (connection_digest (view_as_defined view.now)) }
 {
     let name = fact(b'l', &view.facts.host_name)?;
     let user = user(b'r', view)?;
@@ -109,7 +109,7 @@ fn hex_of(bytes: &[u8; 20]) -> [u8; 40]
 
 // Adds the digest of a connection.
 fn put_digest(alloc: Global, out: &mut Text, view: &View<'_>) -> Result<(), TokenError>
-    ensures { Puts result out.old out.new (connection_digest (seen view.now)) }
+    ensures { Puts result out.old out.new (connection_digest (view_as_defined view.now)) }
 {
     let digest = digest(alloc, view)?;
     put(out, &digest)
@@ -118,7 +118,7 @@ fn put_digest(alloc: Global, out: &mut Text, view: &View<'_>) -> Result<(), Toke
 /// Adds what a token gives, by the byte after its percent sign.
 #[tactic(auto, unfolding(conf_rules::specs::Tokens::meaning))]
 pub fn put_token(alloc: Global, out: &mut Text, byte: u8, view: &View<'_>) -> Result<(), TokenError>
-    ensures { Puts result out.old out.new (meaning (seen view.now) byte) }
+    ensures { Puts result out.old out.new (meaning (view_as_defined view.now) byte) }
 {
     match byte {
         b'%' => put(out, b"%"),

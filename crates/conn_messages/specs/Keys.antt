@@ -27,7 +27,7 @@ abbrev pub IsShort : grammar.Key → Type 0
 IsShort key = length (text_of key) ≤ MAX_ADDRESS
 
 -- the key that is listened on: the one asked, with the port that the server chose where 0 was asked
-abbrev pub with_port : ℕ → grammar.Key → grammar.Key
-with_port chosen (grammar.Tcp address port) =
+abbrev pub key_with_port : ℕ → grammar.Key → grammar.Key
+key_with_port chosen (grammar.Tcp address port) =
     grammar.Tcp address (elim (port == 0) [ true ↦ chosen | false ↦ port ])
-with_port chosen (grammar.Path path) = grammar.Path path
+key_with_port chosen (grammar.Path path) = grammar.Path path

@@ -10,7 +10,7 @@ use Rattle.conn_messages.specs.Keys.{key_of}
 use Rattle.ssh_grammar.specs.declared.fault.Bad.{Bad}
 use Rattle.ssh_grammar.specs.Gives.{Gives}
 use Rattle.ssh_grammar.specs.Messages as grammar
-use Rattle.ssh_grammar.specs.ReadMessage.{with_reading, Form, OfNone, forms}
+use Rattle.ssh_grammar.specs.ReadMessage.{with_reading, Form, OfNone, message_forms}
 use Rattle.ssh_grammar.specs.Tables.{by_number}
 
 abbrev pub grammar_request_of : Request → grammar.Global
@@ -59,4 +59,4 @@ GivesTo recipient result reading =
 
 -- how the bytes after this number are read
 abbrev pub form_of : ℕ → Form
-form_of number = by_number (forms number) number OfNone
+form_of number = by_number (message_forms number) number OfNone

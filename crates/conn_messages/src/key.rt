@@ -1,6 +1,6 @@
 ghost use Rattle.std.specs.Prelude.{◌≡◌, true};
 ghost use Rattle.mux_history.specs.Keys.{is_askable, is_key};
-ghost use Rattle.conn_messages.specs.Keys.{key_of, own_key_of, with_port, IsShort};
+ghost use Rattle.conn_messages.specs.Keys.{key_of, own_key_of, key_with_port, IsShort};
 
 use mux_history::limits::MAX_ADDRESS;
 use ssh_fields::Small;
@@ -35,7 +35,7 @@ impl<'a> Key<'a> {
 
     /// The key that is listened on: where port 0 was asked, with the port that the server chose.
     pub fn with_port(self, chosen: u32) -> Key<'a>
-        ensures { key_of result ≡ with_port chosen (key_of self.entry) }
+        ensures { key_of result ≡ key_with_port chosen (key_of self.entry) }
     {
         match self {
             Key::Tcp { address, port: 0 } => Key::Tcp {
@@ -94,7 +94,7 @@ impl OwnKey {
 
     /// Where port 0 was asked, the port that the server chose.
     pub fn bind(&mut self, chosen: u32)
-        ensures { own_key_of self.new ≡ with_port chosen (own_key_of self.old) }
+        ensures { own_key_of self.new ≡ key_with_port chosen (own_key_of self.old) }
     {
         if let OwnKey::Tcp { port, .. } = self {
             if *port == 0 {

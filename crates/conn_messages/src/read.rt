@@ -1,6 +1,6 @@
 ghost use Rattle.std.specs.Prelude.{◌≡◌, ◌≤◌, IfOk, Ok};
 ghost use Rattle.ssh_grammar.specs.Gives.{Gives};
-ghost use Rattle.ssh_grammar.specs.ReadMessage.{read_global_request, read_open, read_confirmation, read_open_failure, read_adjust, read_data, read_extended, read_request, on_end, read_as, read_message as reading};
+ghost use Rattle.ssh_grammar.specs.ReadMessage.{read_global_request, read_open, read_confirmation, read_open_failure, read_adjust, read_data, read_extended, read_request, message_on_end, read_as, read_message as reading};
 ghost use Rattle.ssh_grammar.specs.IsMessage.{Spells};
 ghost use Rattle.ssh_grammar.specs.Messages as grammar;
 ghost use Rattle.conn_messages.specs.Message.{message_of, GivesPlain, GivesTo, form_of};
@@ -14,7 +14,7 @@ use ssh_grammar::numbers::*;
 // A message with no field that isn't read yet.
 fn bare<'a>(message: Message<'a>, fields: &mut FieldReader<'a>) -> Result<Message<'a>, Bad>
     ensures { Gives message_of result
-        (on_end fields.old.cursor fields.old.at (message_of message.entry)) }
+        (message_on_end fields.old.cursor fields.old.at (message_of message.entry)) }
 {
     fields.end()?;
     Ok(message)

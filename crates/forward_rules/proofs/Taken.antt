@@ -5,7 +5,7 @@ use Rattle.std.specs.Prelude.{is_some, not, nat_lt, ◌-◌, ◌==◌, ◌&&◌}
 use Rattle.mux_history.proofs.Finds.{filter-no, filter-yes, find-no, find-yes}
 use Rattle.mux_history.proofs.Sends.{and-left}
 use Rattle.forward_rules.specs.State.{Forward}
-use Rattle.forward_rules.specs.Step.{is_of, moved_up, forwards_without_client, without_first_forward}
+use Rattle.forward_rules.specs.Step.{is_forward_of, moved_up, forwards_without_client, without_first_forward}
 use Rattle.forward_rules.specs.Taking.{after_taking, closed_up, first_live, is_live_of, moved_up_of, rest_after, recorded_forward_of, recorded_one_by_one}
 use Rattle.forward_rules.proofs.Counts.{moved-client}
 use Rattle.forward_rules.proofs.Places.{without-at}
@@ -21,14 +21,14 @@ moved-some r (Some q) = by_case (nat_lt r q)
     by_case false = refl
 
 moved-recorded : (k r : ℕ) (f : Forward) → recorded_forward_of (moved_up_of k r f) ≡ recorded_forward_of f
-moved-recorded k r f = by_case (is_of k f)
+moved-recorded k r f = by_case (is_forward_of k f)
   where
     by_case : (b : Bool) → recorded_forward_of (elim b as (λ _. Forward) [ true ↦ record f { cancel = moved_up r f.cancel } | false ↦ f ]) ≡ recorded_forward_of f
     by_case true = ap (λ (b : Bool). (f.key, b)) (moved-some r f.cancel)
     by_case false = refl
 
 moved-live : (k r : ℕ) (f : Forward) → (moved_up_of k r f).live ≡ f.live
-moved-live k r f = by_case (is_of k f)
+moved-live k r f = by_case (is_forward_of k f)
   where
     by_case : (b : Bool) → (elim b as (λ _. Forward) [ true ↦ record f { cancel = moved_up r f.cancel } | false ↦ f ]).live ≡ f.live
     by_case true = refl
@@ -80,18 +80,18 @@ taking-none k (g ∷ gs) h = by_case (taking-none k gs) (is_live_of k g) refl
 
 without-moved : (k r : ℕ) (fs : List Forward) → forwards_without_client k (map (moved_up_of k r) fs) ≡ forwards_without_client k fs
 without-moved k r [] = refl
-without-moved k r (f ∷ fs) = by_case (without-moved k r fs) (is_of k f) refl
+without-moved k r (f ∷ fs) = by_case (without-moved k r fs) (is_forward_of k f) refl
   where
     other : Forward → Bool
-    other g = not (is_of k g)
+    other g = not (is_forward_of k g)
 
     same : other (moved_up_of k r f) ≡ other f
     same = ap (λ (i : ℕ). not (i == k)) (moved-client k r f)
 
-    stays : is_of k f ≡ false → moved_up_of k r f ≡ f
+    stays : is_forward_of k f ≡ false → moved_up_of k r f ≡ f
     stays h = ap (λ (c : Bool). elim c as (λ _. Forward) [ true ↦ record f { cancel = moved_up r f.cancel } | false ↦ f ]) h
 
-    by_case : forwards_without_client k (map (moved_up_of k r) fs) ≡ forwards_without_client k fs → (b : Bool) → is_of k f ≡ b → forwards_without_client k (map (moved_up_of k r) (f ∷ fs)) ≡ forwards_without_client k (f ∷ fs)
+    by_case : forwards_without_client k (map (moved_up_of k r) fs) ≡ forwards_without_client k fs → (b : Bool) → is_forward_of k f ≡ b → forwards_without_client k (map (moved_up_of k r) (f ∷ fs)) ≡ forwards_without_client k (f ∷ fs)
     by_case ih true h = filter-no other (moved_up_of k r f) (map (moved_up_of k r) fs) (same ∙ ap not h) ∙ (ih ∙ sym (filter-no other f fs (ap not h)))
     by_case ih false h = filter-yes other (moved_up_of k r f) (map (moved_up_of k r) fs) (same ∙ ap not h) ∙ (ap (λ (g : Forward). g ∷ forwards_without_client k (map (moved_up_of k r) fs)) (stays h) ∙ (ap (λ gs. f ∷ gs) ih ∙ sym (filter-yes other f fs (ap not h))))
 
@@ -101,25 +101,25 @@ without-closed k (Some r) fs = without-moved k r fs
 
 without-one : (k : ℕ) (fs : List Forward) → forwards_without_client k (without_first_forward (is_live_of k) fs) ≡ forwards_without_client k fs
 without-one k [] = refl
-without-one k (f ∷ fs) = by_case (without-one k fs) (is_live_of k f) refl (is_of k f) refl
+without-one k (f ∷ fs) = by_case (without-one k fs) (is_live_of k f) refl (is_forward_of k f) refl
   where
     other : Forward → Bool
-    other g = not (is_of k g)
+    other g = not (is_forward_of k g)
 
-    by_case : forwards_without_client k (without_first_forward (is_live_of k) fs) ≡ forwards_without_client k fs → (b : Bool) → is_live_of k f ≡ b → (c : Bool) → is_of k f ≡ c → forwards_without_client k (without_first_forward (is_live_of k) (f ∷ fs)) ≡ forwards_without_client k (f ∷ fs)
+    by_case : forwards_without_client k (without_first_forward (is_live_of k) fs) ≡ forwards_without_client k fs → (b : Bool) → is_live_of k f ≡ b → (c : Bool) → is_forward_of k f ≡ c → forwards_without_client k (without_first_forward (is_live_of k) (f ∷ fs)) ≡ forwards_without_client k (f ∷ fs)
     by_case ih true h true e = ap (forwards_without_client k) (without-at (is_live_of k) f fs true h) ∙ sym (filter-no other f fs (ap not e))
-    by_case ih true h false e = absurd (let own = and-left (is_of k f) f.live h in cc)
+    by_case ih true h false e = absurd (let own = and-left (is_forward_of k f) f.live h in cc)
     by_case ih false h true e = ap (forwards_without_client k) (without-at (is_live_of k) f fs false h) ∙ (filter-no other f (without_first_forward (is_live_of k) fs) (ap not e) ∙ (ih ∙ sym (filter-no other f fs (ap not e))))
     by_case ih false h false e = ap (forwards_without_client k) (without-at (is_live_of k) f fs false h) ∙ (filter-yes other f (without_first_forward (is_live_of k) fs) (ap not e) ∙ (ap (λ gs. f ∷ gs) ih ∙ sym (filter-yes other f fs (ap not e))))
 
 without-twice : (k : ℕ) (fs : List Forward) → forwards_without_client k (forwards_without_client k fs) ≡ forwards_without_client k fs
 without-twice k [] = refl
-without-twice k (f ∷ fs) = by_case (without-twice k fs) (is_of k f) refl
+without-twice k (f ∷ fs) = by_case (without-twice k fs) (is_forward_of k f) refl
   where
     other : Forward → Bool
-    other g = not (is_of k g)
+    other g = not (is_forward_of k g)
 
-    by_case : forwards_without_client k (forwards_without_client k fs) ≡ forwards_without_client k fs → (b : Bool) → is_of k f ≡ b → forwards_without_client k (forwards_without_client k (f ∷ fs)) ≡ forwards_without_client k (f ∷ fs)
+    by_case : forwards_without_client k (forwards_without_client k fs) ≡ forwards_without_client k fs → (b : Bool) → is_forward_of k f ≡ b → forwards_without_client k (forwards_without_client k (f ∷ fs)) ≡ forwards_without_client k (f ∷ fs)
     by_case ih true e = ap (forwards_without_client k) (filter-no other f fs (ap not e)) ∙ (ih ∙ sym (filter-no other f fs (ap not e)))
     by_case ih false e = ap (forwards_without_client k) (filter-yes other f fs (ap not e)) ∙ (filter-yes other f (forwards_without_client k fs) (ap not e) ∙ (ap (λ gs. f ∷ gs) ih ∙ sym (filter-yes other f fs (ap not e))))
 

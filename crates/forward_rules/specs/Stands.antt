@@ -5,10 +5,10 @@ use Rattle.ssh_grammar.specs.Messages as full
 use Rattle.mux_history.specs.declared.limits.TheConstants.{MAX_FORWARDINGS}
 use Rattle.mux_history.specs.Channels.{is_number}
 use Rattle.mux_history.specs.Rows.{Row}
-use Rattle.mux_history.specs.Requests.{Ask, asks, replies}
+use Rattle.mux_history.specs.Requests.{Ask, wanted_requests, replies}
 use Rattle.mux_history.specs.Forwardings.{Forwarding}
 use Rattle.forward_rules.specs.State.{Forward}
-use Rattle.forward_rules.specs.Step.{cancels, forward_count_of}
+use Rattle.forward_rules.specs.Step.{unanswered_cancels, forward_count_of}
 
 -- one forwarding
 pub record ForwardingFits (f : Forward) (g : Forwarding) : Type 0 where
@@ -50,7 +50,7 @@ pub record Places : Type 0 where
   pub replied : ℕ
 
 abbrev pub places_of : List Row → Places
-places_of rows = record { asked = asks rows; replied = length (replies rows) }
+places_of rows = record { asked = wanted_requests rows; replied = length (replies rows) }
 
 -- what waits for a reply: the request of one that is asked, and the cancel of one that is to end,
 -- at places whose replies did not come
@@ -74,17 +74,17 @@ EachTwo [] = Unit {0}
 EachTwo (g ∷ gs) = AllByRecursion (AreTwoPlaces g) gs × EachTwo gs
 
 -- whose request waits at a place
-abbrev pub is_asked_at : ℕ → Forwarding → Bool
-is_asked_at place g = is_none g.live && (g.request == place)
+abbrev pub request_waits_at : ℕ → Forwarding → Bool
+request_waits_at place g = is_none g.live && (g.request == place)
 
 -- whose cancel waits at a place
-abbrev pub is_leaving_at : ℕ → Forwarding → Bool
-is_leaving_at place g = is_number g.cancel place
+abbrev pub cancel_waits_at : ℕ → Forwarding → Bool
+cancel_waits_at place g = is_number g.cancel place
 
 -- what waits at a place is that of a forwarding
 abbrev pub HasAt : ℕ → full.Global → List Forwarding → Type 0
-HasAt place (full.Forward key) gs = is_some (find (is_asked_at place) gs) ≡ true
-HasAt place (full.Cancel key) gs = is_some (find (is_leaving_at place) gs) ≡ true
+HasAt place (full.Forward key) gs = is_some (find (request_waits_at place) gs) ≡ true
+HasAt place (full.Cancel key) gs = is_some (find (cancel_waits_at place) gs) ≡ true
 HasAt place what gs = Unit {0}
 
 -- each request and each cancel without a reply is that of a forwarding
@@ -94,7 +94,7 @@ EachHas own gs = (place : ℕ) (a : Ask) → own.replied ≤ place → slice_get
 
 -- fewer cancels of its client were sent before that of one than there are
 abbrev pub IsRanked : List Forward → Forward → Type 0
-IsRanked fs f = (r : ℕ) → f.cancel ≡ Some r → r < cancels f.client fs
+IsRanked fs f = (r : ℕ) → f.cancel ≡ Some r → r < unanswered_cancels f.client fs
 
 -- the list represents these forwardings, at most 64 a client, where these are the requests of each
 -- client, and these clients are lost

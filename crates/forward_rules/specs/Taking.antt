@@ -4,7 +4,7 @@ use Rattle.ssh_grammar.specs.Messages as grammar
 use Rattle.mux_history.specs.declared.limits.TheConstants.{MAX_FORWARDINGS}
 use Rattle.conn_messages.specs.Keys.{own_key_of}
 use Rattle.forward_rules.specs.State.{Forward}
-use Rattle.forward_rules.specs.Step.{forward_count_of, is_of, moved_up, forwards_without_client, without_first_forward}
+use Rattle.forward_rules.specs.Step.{forward_count_of, is_forward_of, moved_up, forwards_without_client, without_first_forward}
 use Rattle.conn_messages.specs.declared.key.OwnKey.{OwnKey}
 use Rattle.forward_rules.specs.declared.forwards.ForwardRefused.{ForwardRefused}
 use Rattle.forward_rules.specs.declared.forwards.ForwardRefused.TheVariants.{Full, OutOfMemory}
@@ -24,7 +24,7 @@ AreFew fs = (k : ℕ) → forward_count_of fs k ≤ MAX_FORWARDINGS
 
 -- a client's that is live
 abbrev pub is_live_of : ℕ → Forward → Bool
-is_live_of k f = is_of k f && f.live
+is_live_of k f = is_forward_of k f && f.live
 
 -- the earliest live one of a client
 abbrev pub first_live : ℕ → List Forward → Option Forward
@@ -40,7 +40,7 @@ recorded_taken_of t = (own_key_of t.0, t.1)
 
 -- one cancel of the client fewer was sent before a later one
 abbrev pub moved_up_of : ℕ → ℕ → Forward → Forward
-moved_up_of k r f = elim (is_of k f) [
+moved_up_of k r f = elim (is_forward_of k f) [
   | true ↦ record f { cancel = moved_up r f.cancel }
   | false ↦ f
 ]

@@ -1,7 +1,7 @@
 ghost use Rattle.std.specs.Prelude.{◌≡◌, ◌≤◌, ◌+◌, ◌++◌, [], ◌∷◌, filter, map, not, position, true, false, option_map, IfSome, IfNone, OnSome, OnOk, OnErr};
 ghost use Rattle.mux_history.specs.declared.limits.TheConstants.{MAX_FORWARDINGS};
 ghost use Rattle.conn_messages.specs.Keys.{key_of, own_key_of, IsShort};
-ghost use Rattle.forward_rules.specs.Step.{asked, answered, cancelled, cancels, cancel_answered, earlier, first_cancel, is_asked_at, is_cancelled_at, is_free_at, is_leaving_at, is_live_at, some_free, forward_owner_at, forward_count_of, without_cancel_of, forwards_without_client};
+ghost use Rattle.forward_rules.specs.Step.{asked_forward, forward_answered, forward_cancelled, unanswered_cancels, cancel_answered, smaller_place, first_cancel, is_asked_with_key, is_cancelled_at, is_free_at, is_leaving_with_key, is_live_at, some_free, forward_owner_at, forward_count_of, without_cancel_of, forwards_without_client};
 ghost use Rattle.forward_rules.specs.Listing.{listed_forward_of};
 ghost use Rattle.forward_rules.specs.Taking.{AddsAs, after_taking, closed_up, first_live, is_live_of, moved_up_of, recorded_taken_of, recorded_forward_of};
 
@@ -55,7 +55,7 @@ impl Forwards {
     pub fn add(&mut self, client: u64, key: Key<'_>) -> Result<(), ForwardRefused>
         requires { IsShort (key_of key) }
         ensures exact { AddsAs self.old client result }
-        ensures ok { OnOk result (self.new ≡ self.old ++ asked client (key_of key.entry) ∷ []) }
+        ensures ok { OnOk result (self.new ≡ self.old ++ asked_forward client (key_of key.entry) ∷ []) }
         ensures unchanged { OnErr result (self.new ≡ self.old) }
     {
         let count = self.count(client);
@@ -79,7 +79,7 @@ impl Forwards {
     /// port, and where another port or a path was asked it stays what was asked. None takes it out.
     /// Where none is asked nothing changes.
     pub fn answer(&mut self, client: u64, key: Key<'_>, bound: Option<u32>)
-        ensures { self.new ≡ answered client (key_of key.entry) bound self.old }
+        ensures { self.new ≡ forward_answered client (key_of key.entry) bound self.old }
     {
         let Some(place) = asked_in(&self.listed, client, key) else {
             return;
@@ -96,7 +96,7 @@ impl Forwards {
     /// false where there is none. The forwarding is over at once where no reply is wanted.
     pub fn cancel(&mut self, client: u64, key: Key<'_>, want: bool) -> bool
         ensures exact { result ≡ some_free client (key_of key.entry) self.old }
-        ensures step { self.new ≡ cancelled client (key_of key.entry) want self.old }
+        ensures step { self.new ≡ forward_cancelled client (key_of key.entry) want self.old }
         ensures short { result ≡ true → IsShort (key_of key.entry) }
         ensures none { result ≡ false → self.new ≡ self.old }
     {
@@ -197,7 +197,7 @@ impl Forwards {
 
 // The place of the client's first that has this key and is asked.
 fn asked_in(listed: &[Listed], client: u64, key: Key<'_>) -> Option<usize>
-    ensures { result ≡ position (λ f. is_asked_at client (key_of key.entry) (listed_forward_of f))
+    ensures { result ≡ position (λ f. is_asked_with_key client (key_of key.entry) (listed_forward_of f))
         listed.now }
 {
     listed.iter().position(|f| f.is_asked(client, key))
@@ -240,7 +240,7 @@ fn count_in(listed: &[Listed], client: u64) -> usize
 
 // How many cancels of a client have no reply: the rank of its next one.
 fn cancels_in(listed: &[Listed], client: u64) -> usize
-    ensures { result ≡ cancels client (map listed_forward_of listed.now) }
+    ensures { result ≡ unanswered_cancels client (map listed_forward_of listed.now) }
 {
     let mut count = 0;
     for f in listed {
@@ -253,7 +253,7 @@ fn cancels_in(listed: &[Listed], client: u64) -> usize
 
 // The rank of the client's first unanswered cancel of this key.
 fn first_cancel_in(listed: &[Listed], client: u64, key: Key<'_>) -> Option<usize>
-    ensures { result ≡ first_cancel (is_leaving_at client (key_of key.entry))
+    ensures { result ≡ first_cancel (is_leaving_with_key client (key_of key.entry))
         (map listed_forward_of listed.now) }
 {
     let mut first = None;
@@ -267,7 +267,7 @@ fn first_cancel_in(listed: &[Listed], client: u64, key: Key<'_>) -> Option<usize
 
 // The lower of two ranks.
 fn earlier(a: Option<usize>, b: Option<usize>) -> Option<usize>
-    ensures { result ≡ earlier a b }
+    ensures { result ≡ smaller_place a b }
 {
     match (a, b) {
         (None, b) => b,

@@ -1,7 +1,7 @@
 ghost use Rattle.std.specs.Prelude.{◌≡◌, true};
-ghost use Rattle.conn_messages.specs.Keys.{key_of, own_key_of, with_port};
+ghost use Rattle.conn_messages.specs.Keys.{key_of, own_key_of, key_with_port};
 ghost use Rattle.forward_rules.specs.Listing.{listed_forward_of};
-ghost use Rattle.forward_rules.specs.Step.{is_asked_at, is_cancelled_at, is_free_at, is_leaving_at, is_live_at, without_cancel_of};
+ghost use Rattle.forward_rules.specs.Step.{is_asked_with_key, is_cancelled_at, is_free_at, is_leaving_with_key, is_live_at, without_cancel_of};
 ghost use Rattle.forward_rules.specs.Taking.{moved_up_of};
 
 use crate::listed::Listed;
@@ -10,7 +10,7 @@ use conn_messages::Key;
 impl Listed {
     /// Whether the client has asked for it by this key, and the server hasn't answered.
     pub fn is_asked(&self, client: u64, key: Key<'_>) -> bool
-        ensures { result ≡ is_asked_at client (key_of key.entry) (listed_forward_of self.now) }
+        ensures { result ≡ is_asked_with_key client (key_of key.entry) (listed_forward_of self.now) }
     {
         self.client == client && !self.live && self.key.is(key)
     }
@@ -31,7 +31,7 @@ impl Listed {
 
     /// Whether it is the client's, live with this key, and meant by an unanswered cancel.
     pub fn is_leaving(&self, client: u64, key: Key<'_>) -> bool
-        ensures { result ≡ is_leaving_at client (key_of key.entry) (listed_forward_of self.now) }
+        ensures { result ≡ is_leaving_with_key client (key_of key.entry) (listed_forward_of self.now) }
     {
         self.client == client && self.cancel.is_some() && self.is_live(key)
     }
@@ -47,7 +47,7 @@ impl Listed {
     pub fn begin(&mut self, port: u32)
         ensures { listed_forward_of self.new ≡ record (listed_forward_of self.old) {
           live = true;
-          key = with_port port (own_key_of self.old.key);
+          key = key_with_port port (own_key_of self.old.key);
         } }
     {
         self.key.bind(port);

@@ -4,7 +4,7 @@ use Rattle.std.specs.Prelude.{replicate}
 use Rattle.ssh_grammar.specs.SpellMessage.{request_failure}
 use Rattle.mux_history.specs.Requests.{answers_to}
 use Rattle.global_replies.specs.Replies.{after_reply, is_none_left, leading, or_behind, refusals_behind, without_leading}
-use Rattle.global_replies.specs.Stands.{AnswerGoesOn, LeavesUnanswered, RefusalGoesOn, SentGoesOn, Waits, refused}
+use Rattle.global_replies.specs.Stands.{AnswerGoesOn, LeavesUnanswered, RefusalGoesOn, SentGoesOn, Waits, refusal_sent_if}
 
 -- ---- a request is sent
 
@@ -20,17 +20,17 @@ sent-goes-on old new is flags heard h = let i = sent flags heard old h in (subst
 
 -- ---- a request is refused, at once or after what waits
 
-refusal : (flags : List Bool) (heard : List (List ℕ)) (w : List Bool) → Waits flags heard w → Waits (flags ++ false ∷ []) heard (or_behind w) × (answers_to (flags ++ false ∷ []) heard ≡ answers_to flags heard ++ refused (is_none_left w))
-refusal [] [] w h = (ap or_behind h, ap (λ v. refused (is_none_left v)) (sym h))
+refusal : (flags : List Bool) (heard : List (List ℕ)) (w : List Bool) → Waits flags heard w → Waits (flags ++ false ∷ []) heard (or_behind w) × (answers_to (flags ++ false ∷ []) heard ≡ answers_to flags heard ++ refusal_sent_if (is_none_left w))
+refusal [] [] w h = (ap or_behind h, ap (λ v. refusal_sent_if (is_none_left v)) (sym h))
 refusal [] (p ∷ heard) w h = absurd h
 refusal (false ∷ flags) heard w h = let i = refusal flags heard w h in (i.0, ap (λ rs. request_failure ∷ rs) i.1)
-refusal (true ∷ flags) [] w h = (ap or_behind h, ap (λ v. refused (is_none_left v)) (sym h))
+refusal (true ∷ flags) [] w h = (ap or_behind h, ap (λ v. refusal_sent_if (is_none_left v)) (sym h))
 refusal (true ∷ flags) (p ∷ heard) w h = let i = refusal flags heard w h in (i.0, ap (λ rs. p ∷ rs) i.1)
 
 pub refusal-goes-on : (old new : List Bool) (now : Bool) → now ≡ is_none_left old → new ≡ or_behind old → RefusalGoesOn old new now
 refusal-goes-on old new now said is flags heard h =
     let i = refusal flags heard old h in
-    (subst (Waits (flags ++ false ∷ []) heard) (sym is) i.0, i.1 ∙ ap (λ b. answers_to flags heard ++ refused b) (sym said))
+    (subst (Waits (flags ++ false ∷ []) heard) (sym is) i.0, i.1 ∙ ap (λ b. answers_to flags heard ++ refusal_sent_if b) (sym said))
 
 -- ---- the server's reply comes, and the refusals after it
 

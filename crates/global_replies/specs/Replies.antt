@@ -16,8 +16,8 @@ abbrev pub kept_ask_of : AskRecord → history.Ask
 kept_ask_of a = request_of a.client a.what
 
 -- a client's
-abbrev pub is_of : ℕ → history.Ask → Bool
-is_of k a = a.client == k
+abbrev pub is_request_of : ℕ → history.Ask → Bool
+is_request_of k a = a.client == k
 
 -- the one that waits longest, where one waits
 abbrev pub FirstAsked : List history.Ask → Option (ℕ × Ask) → Type 0

@@ -50,16 +50,16 @@ SentGoesOn old new =
     × (answers_to (flags ++ true ∷ []) heard ≡ answers_to flags heard)
 
 -- a refusal that is sent now, or isn't
-abbrev pub refused : Bool → List (List ℕ)
-refused true = request_failure ∷ []
-refused false = []
+abbrev pub refusal_sent_if : Bool → List (List ℕ)
+refusal_sent_if true = request_failure ∷ []
+refusal_sent_if false = []
 
 -- one more was refused
 abbrev pub RefusalGoesOn : List Bool → List Bool → Bool → Type 0
 RefusalGoesOn old new now =
     (flags : List Bool) (heard : List (List ℕ)) → Waits flags heard old
     → Waits (flags ++ false ∷ []) heard new
-    × (answers_to (flags ++ false ∷ []) heard ≡ answers_to flags heard ++ refused now)
+    × (answers_to (flags ++ false ∷ []) heard ≡ answers_to flags heard ++ refusal_sent_if now)
 
 -- one more reply arrived for a request that was sent: it is answered, and so many refusals after it
 abbrev pub AnswerGoesOn : List Bool → List Bool → ℕ → Type 0

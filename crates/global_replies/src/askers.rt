@@ -1,6 +1,6 @@
 ghost use Rattle.std.specs.Prelude.{◌≡◌, ◌++◌, [], ◌∷◌, map, length, filter, IfSome, OnOk, OnErr};
 ghost use Rattle.global_replies.specs.Asks.{IsShortRequest, what_of};
-ghost use Rattle.global_replies.specs.Replies.{kept_ask_of, request_of, FirstAsked, rest_of, is_of};
+ghost use Rattle.global_replies.specs.Replies.{kept_ask_of, request_of, FirstAsked, rest_of, is_request_of};
 ghost use Rattle.global_replies.specs.Stands.{AskGoesOn, ReplyGoesOn};
 
 use crate::ask::{Ask, AskRecord, MOST_WAITING};
@@ -78,7 +78,7 @@ impl Askers {
 
     /// How many requests of a client were sent and wait for their reply.
     pub fn count(&self, client: u64) -> u32
-        ensures { result ≡ length (filter (is_of client) self.now) }
+        ensures { result ≡ length (filter (is_request_of client) self.now) }
     {
         request_count_of(&self.counts, client)
     }

@@ -1,6 +1,6 @@
 ghost use Rattle.std.specs.Prelude.{◌≡◌, ◌<◌, ◌+◌, ◌-◌, ℕ, nat_eq, if◌then◌else◌, OnOk, OnErr};
 ghost use Rattle.indexmap.specs.IndexMap.{get};
-ghost use Rattle.global_replies.specs.Tally.{counted};
+ghost use Rattle.global_replies.specs.Tally.{count_or_zero};
 ghost use Rattle.global_replies.specs.declared.ask.TheConstants.{MOST_WAITING};
 
 use indexmap::IndexMap;
@@ -8,7 +8,7 @@ use ssh_fields::OutOfMemory;
 
 /// How many there are of a client.
 pub fn request_count_of(counts: &IndexMap<u64, u32>, client: u64) -> u32
-    ensures { result ≡ counted (get nat_eq counts.now client) }
+    ensures { result ≡ count_or_zero (get nat_eq counts.now client) }
 {
     match counts.get(&client) {
         Some(count) => *count,
@@ -18,10 +18,10 @@ pub fn request_count_of(counts: &IndexMap<u64, u32>, client: u64) -> u32
 
 /// One more of a client.
 pub fn add_one(counts: &mut IndexMap<u64, u32>, client: u64) -> Result<(), OutOfMemory>
-    requires { counted (get nat_eq counts.old client) < MOST_WAITING }
-    ensures ok { OnOk result ((k : ℕ) → counted (get nat_eq counts.new k)
-        ≡ (if nat_eq client k then counted (get nat_eq counts.old k) + 1
-        else counted (get nat_eq counts.old k))) }
+    requires { count_or_zero (get nat_eq counts.old client) < MOST_WAITING }
+    ensures ok { OnOk result ((k : ℕ) → count_or_zero (get nat_eq counts.new k)
+        ≡ (if nat_eq client k then count_or_zero (get nat_eq counts.old k) + 1
+        else count_or_zero (get nat_eq counts.old k))) }
     ensures unchanged { OnErr result ((k : ℕ) → get nat_eq counts.new k
         ≡ get nat_eq counts.old k) }
 {
@@ -32,9 +32,9 @@ pub fn add_one(counts: &mut IndexMap<u64, u32>, client: u64) -> Result<(), OutOf
 
 /// One fewer of a client: it is forgotten where that was the last.
 pub fn drop_one(counts: &mut IndexMap<u64, u32>, client: u64)
-    ensures { (k : ℕ) → counted (get nat_eq counts.new k)
-        ≡ (if nat_eq client k then counted (get nat_eq counts.old k) - 1
-        else counted (get nat_eq counts.old k)) }
+    ensures { (k : ℕ) → count_or_zero (get nat_eq counts.new k)
+        ≡ (if nat_eq client k then count_or_zero (get nat_eq counts.old k) - 1
+        else count_or_zero (get nat_eq counts.old k)) }
 {
     let Some(count) = counts.get_mut(&client) else {
         return;

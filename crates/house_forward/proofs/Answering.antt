@@ -7,11 +7,11 @@ use Rattle.std.proofs.lemmas.List.Edits.{length-remove}
 use Rattle.std.proofs.lemmas.List.Quantifiers.{position-Some}
 use Rattle.mux_outside.specs.House.{AnswerFits, gives_none, ReplyFits, is_ask, has_ask, without_ask, OpenAsk}
 use Rattle.mux_outside.specs.declared.house.HouseReply.{HouseReply}
-use Rattle.house_forward.specs.Asks.{has_outcome, is_settled, earlier, earlier_at, earliest, reply_of, ask_reply_in, stamp_of, is_waiting, taken_at, answer_in, answer_of, after_answer, answers_in}
+use Rattle.house_forward.specs.Asks.{has_outcome, is_settled, earlier_outcome, earlier_at, earliest, reply_of, ask_reply_in, stamp_of, is_waiting, without_request_at, answer_in, next_answer, after_answer, answers_in}
 use Rattle.house_forward.specs.Known.{open_ask, open_asks, asks_after_answer}
 use Rattle.house_forward.specs.Quiet.{answers_none}
-use Rattle.house_forward.specs.declared.asks.Outcome.{Outcome}
-use Rattle.house_forward.specs.declared.asks.Outcome.TheVariants.{Done, Port, Refused}
+use Rattle.house_forward.specs.declared.asks.RequestOutcome.{RequestOutcome}
+use Rattle.house_forward.specs.declared.asks.RequestOutcome.TheVariants.{Done, Port, Refused}
 use Rattle.house_forward.specs.declared.asks.Waiting.{Waiting}
 use Rattle.house_forward.proofs.Lists.{any-map, none-passes}
 
@@ -21,17 +21,17 @@ one-of : (b : Bool) (v w : Waiting) → is_some (if b then Some v else Some w) �
 one-of true v w = refl
 one-of false v w = refl
 
-some-step : (o : Option (ℕ × Outcome)) (a : Option Waiting) (w : Waiting) (b : Bool)
+some-step : (o : Option (ℕ × RequestOutcome)) (a : Option Waiting) (w : Waiting) (b : Bool)
     → (is_some (earlier_at o a w) || b) ≡ (is_some a || (is_settled o || b))
 some-step None a w b = refl
 some-step (Some o) None w b = refl
 some-step (Some o) (Some f) w b = or_left _ b (one-of (nat_lt o.0 (stamp_of f.outcome)) w f)
 
 some-fold : (ws : List Waiting) (a : Option Waiting)
-    → is_some (fold earlier a ws) ≡ (is_some a || list_any has_outcome ws)
+    → is_some (fold earlier_outcome a ws) ≡ (is_some a || list_any has_outcome ws)
 some-fold [] None = refl
 some-fold [] (Some f) = refl
-some-fold (w ∷ ws) a = some-fold ws (earlier a w) ∙ some-step w.outcome a w (list_any has_outcome ws)
+some-fold (w ∷ ws) a = some-fold ws (earlier_outcome a w) ∙ some-step w.outcome a w (list_any has_outcome ws)
 
 pub none-earliest : (ws : List Waiting) → earliest ws ≡ None → true ≡ answers_none ws
 none-earliest ws e = ap (λ b. not b) (ap is_some (sym e) ∙ some-fold ws None)
@@ -55,17 +55,17 @@ pick-one : (c : Bool) (q : Waiting → Bool) (f v : Waiting) (b : Bool)
 pick-one true q f v b h = or_right (q f) _ h
 pick-one false q f v b h = weaker (q f) (q v) b h
 
-pick : (o : Option (ℕ × Outcome)) (q : Waiting → Bool) (a : Option Waiting) (v : Waiting) (b : Bool)
+pick : (o : Option (ℕ × RequestOutcome)) (q : Waiting → Bool) (a : Option Waiting) (v : Waiting) (b : Bool)
     → (passes q (earlier_at o a v) || b) ≡ true → (passes q a || (q v || b)) ≡ true
 pick None q a v b h = weaker (passes q a) (q v) b h
 pick (Some o) q None v b h = h
 pick (Some o) q (Some f) v b h = pick-one (nat_lt o.0 (stamp_of f.outcome)) q f v b h
 
-found : (ws : List Waiting) (a : Option Waiting) (w : Waiting) (q : Waiting → Bool) → fold earlier a ws ≡ Some w
+found : (ws : List Waiting) (a : Option Waiting) (w : Waiting) (q : Waiting → Bool) → fold earlier_outcome a ws ≡ Some w
     → q w ≡ true → (passes q a || list_any q ws) ≡ true
 found [] None w q e h = cc
 found [] (Some f) w q e h = or_left (q f) false (let same : f ≡ w = cc in rw same h)
-found (v ∷ ws) a w q e h = pick v.outcome q a v (list_any q ws) (found ws (earlier a v) w q e h)
+found (v ∷ ws) a w q e h = pick v.outcome q a v (list_any q ws) (found ws (earlier_outcome a v) w q e h)
 
 pub among-them : (ws : List Waiting) (w : Waiting) (q : Waiting → Bool) → earliest ws ≡ Some w → q w ≡ true
     → list_any q ws ≡ true
@@ -76,7 +76,7 @@ among-them ws w q e h = found ws None w q e h
 is-own : (w : Waiting) → is_ask w.client w.id (open_ask w) ≡ true
 is-own w = and_from _ _ (eq-eqb w.client w.client refl) (eq-eqb w.id w.id refl)
 
-fits-in : (o : Option (ℕ × Outcome)) (b : Bool) (client id : ℕ) (asks : List OpenAsk)
+fits-in : (o : Option (ℕ × RequestOutcome)) (b : Bool) (client id : ℕ) (asks : List OpenAsk)
     → IsTrue (list_any (is_ask client id) asks) → (b ≡ true → IsTrue (has_ask client id true asks))
     → ReplyFits (ask_reply_in o b) client id asks
 fits-in None b client id asks one may = one
@@ -127,7 +127,7 @@ pub record IsAnswer (ws : List Waiting) (o : Option (ℕ × ℕ × HouseReply)) 
   pub count : length new + answers_in o ≡ length ws
 
 taken-out : (ws : List Waiting) (w : Waiting) (o : Option ℕ) → earliest ws ≡ Some w → position (is_waiting w.client w.id) ws ≡ o
-    → IsAnswer ws (Some (w.client, w.id, reply_of w)) (taken_at o ws)
+    → IsAnswer ws (Some (w.client, w.id, reply_of w)) (without_request_at o ws)
 taken-out ws w None e at = absurd (is-there ws w e at)
 taken-out ws w (Some i) e at = record {
   fits = reply-fits ws w e;
@@ -142,7 +142,7 @@ is-known : (ws : List Waiting) (o : Option Waiting) → earliest ws ≡ o → Is
 is-known ws None e = record { fits = tt; silent = none-earliest ws e; asks = refl; count = omega arith }
 is-known ws (Some w) e = taken-out ws w (position (is_waiting w.client w.id) ws) e refl
 
-pub is-answer : (ws : List Waiting) (o : Option (ℕ × ℕ × HouseReply)) (new : List Waiting) → o ≡ answer_of ws
+pub is-answer : (ws : List Waiting) (o : Option (ℕ × ℕ × HouseReply)) (new : List Waiting) → o ≡ next_answer ws
     → new ≡ after_answer o ws → IsAnswer ws o new
 is-answer ws o new exact taken = subst (IsAnswer ws o) (sym taken)
     (subst (λ (a : Option (ℕ × ℕ × HouseReply)). IsAnswer ws a (after_answer a ws)) (sym exact) (is-known ws (earliest ws) refl))

@@ -5,10 +5,10 @@ use Rattle.std.specs.List.{All, list_any, position, remove}
 use Rattle.std.proofs.lemmas.Bool.{and_parts, and_from, or_parts, or_from, both_ways, cases_Bool, eqb-true, eq-eqb}
 use Rattle.std.proofs.lemmas.List.Elements.{All-nil, All-cons}
 use Rattle.std.proofs.lemmas.List.Quantifiers.{position-Some}
-use Rattle.house_forward.specs.Asks.{has_open, is_waiting, settled, ask_settled_at, is_ask_about, refused, counted, taken_at}
-use Rattle.house_forward.specs.Forwardings.{opened_asks, replied_asks, ordered_asks, live_outcome_in, is_asked}
-use Rattle.house_forward.specs.declared.asks.Outcome.{Outcome}
-use Rattle.house_forward.specs.declared.asks.Outcome.TheVariants.{Done, Refused}
+use Rattle.house_forward.specs.Asks.{has_open, is_waiting, requests_settled, ask_settled_at, is_ask_about, all_requests_refused, one_more_outcome, without_request_at}
+use Rattle.house_forward.specs.Forwardings.{opened_asks, replied_asks, ordered_asks, live_outcome_in, is_listen_unanswered}
+use Rattle.house_forward.specs.declared.asks.RequestOutcome.{RequestOutcome}
+use Rattle.house_forward.specs.declared.asks.RequestOutcome.TheVariants.{Done, Refused}
 use Rattle.house_forward.specs.declared.asks.Waiting.{Waiting}
 use Rattle.house_forward.specs.declared.forwarding.Forwarding.{Forwarding}
 use Rattle.house_forward.specs.declared.forwarding.ForwardingRequest.{ForwardingRequest}
@@ -46,39 +46,39 @@ apart-more (w ∷ ws) v h e =
 
 -- ---- they have an outcome
 
-settle-same : (b : Bool) (w : Waiting) (o : Option (ℕ × Outcome)) (c i : ℕ)
+settle-same : (b : Bool) (w : Waiting) (o : Option (ℕ × RequestOutcome)) (c i : ℕ)
     → (((if b then record w { outcome = o } else w).client == c) && ((if b then record w { outcome = o } else w).id == i))
     ≡ ((w.client == c) && (w.id == i))
 settle-same true w o c i = refl
 settle-same false w o c i = refl
 
-settled-open : (serial : ℕ) (opening : Bool) (at : ℕ) (outcome : Outcome) (ws : List Waiting) (c i : ℕ)
-    → has_open c i (settled serial opening at outcome ws) ≡ has_open c i ws
+settled-open : (serial : ℕ) (opening : Bool) (at : ℕ) (outcome : RequestOutcome) (ws : List Waiting) (c i : ℕ)
+    → has_open c i (requests_settled serial opening at outcome ws) ≡ has_open c i ws
 settled-open serial opening at outcome [] c i = refl
 settled-open serial opening at outcome (w ∷ ws) c i =
-    ap (λ b. b || has_open c i (settled serial opening at outcome ws))
+    ap (λ b. b || has_open c i (requests_settled serial opening at outcome ws))
     (settle-same (is_ask_about serial opening w) w (ask_settled_at at outcome w.outcome) c i)
     ∙ ap (λ b. ((w.client == c) && (w.id == i)) || b) (settled-open serial opening at outcome ws c i)
 
-one-apart : (b : Bool) (w : Waiting) (o : Option (ℕ × Outcome)) (ws : List Waiting) → has_open w.client w.id ws ≡ false
+one-apart : (b : Bool) (w : Waiting) (o : Option (ℕ × RequestOutcome)) (ws : List Waiting) → has_open w.client w.id ws ≡ false
     → has_open (if b then record w { outcome = o } else w).client (if b then record w { outcome = o } else w).id ws ≡ false
 one-apart true w o ws h = h
 one-apart false w o ws h = h
 
-pub apart-settled : (serial : ℕ) (opening : Bool) (at : ℕ) (outcome : Outcome) (ws : List Waiting) → Apart ws
-    → Apart (settled serial opening at outcome ws)
+pub apart-settled : (serial : ℕ) (opening : Bool) (at : ℕ) (outcome : RequestOutcome) (ws : List Waiting) → Apart ws
+    → Apart (requests_settled serial opening at outcome ws)
 apart-settled serial opening at outcome [] h = tt
 apart-settled serial opening at outcome (w ∷ ws) h = (
-  one-apart (is_ask_about serial opening w) w (ask_settled_at at outcome w.outcome) (settled serial opening at outcome ws)
+  one-apart (is_ask_about serial opening w) w (ask_settled_at at outcome w.outcome) (requests_settled serial opening at outcome ws)
       (settled-open serial opening at outcome ws w.client w.id ∙ h.0),
   apart-settled serial opening at outcome ws h.1,
 )
 
-pub apart-refused : (serial at : ℕ) (ws : List Waiting) → Apart ws → Apart (refused serial at ws)
+pub apart-refused : (serial at : ℕ) (ws : List Waiting) → Apart ws → Apart (all_requests_refused serial at ws)
 apart-refused serial at ws h =
-    apart-settled serial false (counted at) Refused (settled serial true at Refused ws) (apart-settled serial true at Refused ws h)
+    apart-settled serial false (one_more_outcome at) Refused (requests_settled serial true at Refused ws) (apart-settled serial true at Refused ws h)
 
-pub apart-opened : (o : Option Outcome) (serial at : ℕ) (ws : List Waiting) → Apart ws → Apart (opened_asks o serial at ws)
+pub apart-opened : (o : Option RequestOutcome) (serial at : ℕ) (ws : List Waiting) → Apart ws → Apart (opened_asks o serial at ws)
 apart-opened None serial at ws h = h
 apart-opened (Some outcome) serial at ws h = apart-settled serial true at outcome ws h
 
@@ -86,7 +86,7 @@ pub apart-replied : (success : Bool) (port : Option ℕ) (r : Option ForwardingR
     → Apart (replied_asks success port r fs at ws)
 apart-replied true port None fs at ws h = h
 apart-replied false port None fs at ws h = h
-apart-replied true port (Some (Listen serial)) fs at ws h = apart-opened (live_outcome_in port (find (is_asked serial) fs)) serial at ws h
+apart-replied true port (Some (Listen serial)) fs at ws h = apart-opened (live_outcome_in port (find (is_listen_unanswered serial) fs)) serial at ws h
 apart-replied false port (Some (Listen serial)) fs at ws h = apart-refused serial at ws h
 apart-replied true port (Some (Cancel serial)) fs at ws h = apart-settled serial false at Done ws h
 apart-replied false port (Some (Cancel serial)) fs at ws h = apart-settled serial false at Refused ws h
@@ -112,7 +112,7 @@ apart-remove (w ∷ ws) zero h = h.1
 apart-remove (w ∷ ws) (suc n) h =
     (none-left (λ v. (v.client == w.client) && (v.id == w.id)) ws n h.0, apart-remove ws n h.1)
 
-pub apart-taken : (o : Option ℕ) (ws : List Waiting) → Apart ws → Apart (taken_at o ws)
+pub apart-taken : (o : Option ℕ) (ws : List Waiting) → Apart ws → Apart (without_request_at o ws)
 apart-taken None ws h = h
 apart-taken (Some n) ws h = apart-remove ws n h
 
@@ -129,7 +129,7 @@ gone-at (w ∷ ws) c i (suc n) d l is before h =
 
 -- no other has its client and its id
 gone : (ws : List Waiting) (c i : ℕ) (o : Option ℕ) → position (is_waiting c i) ws ≡ o → Apart ws
-    → list_any (is_waiting c i) (taken_at o ws) ≡ false
+    → list_any (is_waiting c i) (without_request_at o ws) ≡ false
 gone ws c i None e h = none-passes (is_waiting c i) ws e
 gone [] c i (Some n) e h = cc
 gone (w ∷ ws) c i (Some n) e h =
@@ -143,5 +143,5 @@ none-all p (w ∷ ws) e =
     All-cons (λ (w : Waiting). p w ≡ false) w ws both.0 (none-all p ws both.1)
 
 pub others : (ws : List Waiting) (c i : ℕ) (o : Option ℕ) → position (is_waiting c i) ws ≡ o → Apart ws
-    → All (λ w. is_waiting c i w ≡ false) (taken_at o ws)
-others ws c i o e h = none-all (is_waiting c i) (taken_at o ws) (gone ws c i o e h)
+    → All (λ w. is_waiting c i w ≡ false) (without_request_at o ws)
+others ws c i o e h = none-all (is_waiting c i) (without_request_at o ws) (gone ws c i o e h)

@@ -15,10 +15,10 @@ use Rattle.mux_outside.specs.declared.order.Order.{Order}
 use Rattle.mux_outside.specs.declared.order.Order.TheVariants as order
 use Rattle.house_forward.specs.ForwardingState.{empty_forwarding_state, forwarding_state_of}
 use Rattle.house_forward.specs.Known.{ordering_of}
-use Rattle.house_forward.specs.RelayTraces.{Life, first_trace, HasLived, Trace, Held, GoesFurther, ForwarderRepresents, StandsSince, AwaitsNumber, GetsNumber, held, forwarder_held_of, Follows, GivesOrder, OrdersIn, ReceivesNext, taken_in}
+use Rattle.house_forward.specs.RelayTraces.{Life, first_trace, HasLived, Trace, Held, GoesFurther, ForwarderRepresents, StandsSince, AwaitsNumber, GetsNumber, as_held, forwarder_held_of, Follows, GivesOrder, OrdersInTrace, ReceivesNext, accepted_length_in}
 use Rattle.house_forward.specs.State.{held_in}
 use Rattle.house_forward.specs.declared.forwarder_state.ForwarderState.{ForwarderState}
-use Rattle.house_forward.specs.declared.forwarder_state.Stage.TheVariants.{Control}
+use Rattle.house_forward.specs.declared.forwarder_state.ForwarderStage.TheVariants.{Control}
 use Rattle.house_forward.specs.declared.ordering.Ordering.{Ordering}
 use Rattle.house_forward.specs.declared.ordering.Ordering.TheVariants as ordering
 use Rattle.house_forward.proofs.Traces.{stands-on}
@@ -48,7 +48,7 @@ no-ordering (Some (ordering.Connect host port)) e = cc
 
 -- a call after which none is awaited
 pub since-on : (at at' : Option Ordering) (calls : List HouseCall) (call : HouseCall) (old new : Held) → at ≡ None → at' ≡ None
-    → taken_in (call ∷ []) ≡ 0 → GoesFurther (Follows call) old new → StandsSince at calls old
+    → accepted_length_in (call ∷ []) ≡ 0 → GoesFurther (Follows call) old new → StandsSince at calls old
     → StandsSince at' (calls ++ call ∷ []) new
 since-on at at' calls call old new e f none goes h =
     none-since at' (calls ++ call ∷ []) new f (stands-on calls call old new none goes (since-none at calls old e h))
@@ -98,15 +98,15 @@ stands-given (Some (order.Close t)) known at at' calls old new e none is goes h 
     since-on at at' calls (Marks (HouseOrder (order.Close t) None)) old new e (no-ordering at' (is ∙ none)) refl goes h
 
 numbered-by : (o : Option Order) (number : Option ℕ) (calls : List HouseCall) (before new : Held) → IsSome o
-    → IfSome o (λ given. GoesFurther (OrdersIn given number) before new) → ForwarderRepresents calls before
+    → IfSome o (λ given. GoesFurther (OrdersInTrace given number) before new) → ForwarderRepresents calls before
     → ForwarderRepresents (calls ++ calls_of (ordered_marks o number)) new
 numbered-by None number calls before new is goes h = cc
 numbered-by (Some given) number calls before new is goes h =
     stands-on calls (Marks (HouseOrder given number)) before new refl goes h
 
 goes-from : (o : Option Order) (at : Option Ordering) (number : Option ℕ) (before old new : Held)
-    → IfSome o (λ given. (b : Held) → AwaitsNumber at b old → GoesFurther (OrdersIn given number) b new)
-    → AwaitsNumber at before old → IfSome o (λ given. GoesFurther (OrdersIn given number) before new)
+    → IfSome o (λ given. (b : Held) → AwaitsNumber at b old → GoesFurther (OrdersInTrace given number) b new)
+    → AwaitsNumber at before old → IfSome o (λ given. GoesFurther (OrdersInTrace given number) before new)
 goes-from None at number before old new goes awaits = tt
 goes-from (Some given) at number before old new goes awaits = goes before awaits
 
@@ -119,7 +119,7 @@ stands-made at at' number calls old new is none goes h =
     (numbered-by (ordering_of at) number calls h.0 new is (goes-from (ordering_of at) at number h.0 old new goes h.2) h.1)
 
 -- no call
-pub lived-first : (h : Held) → h ≡ held [] (new_framer framing.Control) Control empty_forwarding_state → HasLived [] h
+pub lived-first : (h : Held) → h ≡ as_held [] (new_framer framing.Control) Control empty_forwarding_state → HasLived [] h
 lived-first h e =
     subst (λ (x : Held). HasLived [] x) (sym e) (record {
       trace = first_trace;
@@ -149,9 +149,9 @@ pub takes-in : (bytes : List ℕ) (old taken now middle : ForwarderState) (one :
     → GoesFurther (Follows (ReceivesBytes bytes)) (held_in old) new
 takes-in bytes old taken now middle one new others framer leads same none goes =
     let forwarding_state = forwarding_state_of old.rules old.greeted old.forwardings old.asks in
-    let first : held_in taken ≡ held old.relays.all.items (pushed bytes old.framer) old.stage forwarding_state =
+    let first : held_in taken ≡ as_held old.relays.all.items (pushed bytes old.framer) old.stage forwarding_state =
     ap (λ (x : ForwarderState). forwarder_held_of x.relays taken.framer x.stage x.rules x.greeted x.forwardings x.asks) others
-    ∙ ap (λ (f : FramerState). held old.relays.all.items f old.stage forwarding_state) framer in
+    ∙ ap (λ (f : FramerState). as_held old.relays.all.items f old.stage forwarding_state) framer in
     leads-last bytes old.relays.all.items old.framer old.stage forwarding_state (held_in now) new
     (subst (λ (h : Held). LeadsOn h (held_in now)) first leads)
     (subst (λ (b : Bool). GoesFurther (ReceivesNext b) (held_in now) new) none (from-same (ReceivesNext one) now middle new same goes))

@@ -7,17 +7,17 @@ use Rattle.std.proofs.lemmas.List.Elements.{All-head, All-tail, All-contains_its
 use Rattle.mux_outside.specs.declared.house.HouseReply.{HouseReply}
 use Rattle.mux_outside.specs.declared.house.HouseReply.TheVariants as given
 use Rattle.mux_outside.specs.declared.start_ask.StartAsk.{StartAsk}
-use Rattle.house_forward.specs.Asks.{earlier, earlier_at, earliest, has_outcome, is_settled, stamp_of, ask_reply_in, reply_of, answer_in, turns_away}
-use Rattle.house_forward.specs.Causes.{answers, AreOne, IsFor, IsNextRequest, IsGranted, ListensSince, ServesAt, IsGrant, IsServed, EachServed, CameBy, ListenerMadeBy, RepliedBy, AnswerHasCause, EachAnswer}
+use Rattle.house_forward.specs.Asks.{earlier_outcome, earlier_at, earliest, has_outcome, is_settled, stamp_of, ask_reply_in, reply_of, answer_in, turns_away}
+use Rattle.house_forward.specs.Causes.{is_answer_to, AreOne, IsFor, IsNextRequest, IsGranted, ListensSince, ServesAt, IsGrant, IsRequestServed, EachServed, CameBy, ListenerMadeBy, RepliedBy, AnswerHasCause, EachAnswer}
 use Rattle.house_forward.specs.ForwarderEvents.{ForwarderEvent}
 use Rattle.house_forward.specs.ForwarderEvents.{Begins, Asks, Answers, Greets, Requests, Replies, Listens, Unlistens}
 use Rattle.house_forward.specs.ForwardingState.{ForwardingState}
-use Rattle.house_forward.specs.Forwardings.{ComesIf, ComesUnless, comes_of_ends, opens_of, closes_of, as_first, standing, counts, how_many, listens_at, connects_to, forwarding_outcome_of, outcome_at, reply_to, bound_to}
+use Rattle.house_forward.specs.Forwardings.{ComesIf, ComesUnless, comes_of_ends, opens_of, closes_of, as_first, standing, is_asked_or_live, how_many, listens_at, connects_same_end, forwarding_outcome_of, outcome_at, reply_to, bound_port}
 use Rattle.house_forward.specs.Rules.{AreEnds, listens_here, connects_there, listen_host, is_ruled_out}
-use Rattle.house_forward.specs.declared.asks.Asked.{Asked as Comes}
-use Rattle.house_forward.specs.declared.asks.Asked.TheVariants.{Now, Later}
-use Rattle.house_forward.specs.declared.asks.Outcome.{Outcome}
-use Rattle.house_forward.specs.declared.asks.Outcome.TheVariants.{Done, Port, Refused}
+use Rattle.house_forward.specs.declared.asks.ImmediateOutcome.{ImmediateOutcome as Comes}
+use Rattle.house_forward.specs.declared.asks.ImmediateOutcome.TheVariants.{Now, Later}
+use Rattle.house_forward.specs.declared.asks.RequestOutcome.{RequestOutcome}
+use Rattle.house_forward.specs.declared.asks.RequestOutcome.TheVariants.{Done, Port, Refused}
 use Rattle.house_forward.specs.declared.asks.Waiting.{Waiting}
 use Rattle.house_forward.specs.declared.forwarding.Forwarding.{Forwarding}
 use Rattle.house_forward.specs.declared.forwarding.ForwardingRequest.{ForwardingRequest}
@@ -56,7 +56,7 @@ one-granted a f port forwarder_events one g = record {
   earlier = g.earlier;
   were = g.were;
   next = one-next Listen a f g.earlier one g.next;
-  bound = g.bound ∙ ap (λ n. bound_to n g.chosen) one.listen_port;
+  bound = g.bound ∙ ap (λ n. bound_port n g.chosen) one.listen_port;
 }
 
 pub one-listens : (a f : Forwarding) (l : ℕ) (forwarder_events : List ForwarderEvent) → AreOne a f → ListensSince a.listen_host a.listen_port l forwarder_events
@@ -75,7 +75,7 @@ one-is-for rules opening ask a f one h = record {
       (sym one.connects ∙ both.0, sym one.connect_port ∙ both.1);
 }
 
-serves-at : (s : Stage) (a f : Forwarding) (asked : ℕ) (o : Outcome) (forwarder_events : List ForwarderEvent) → AreOne a f → outcome_at s asked ≡ Some o
+serves-at : (s : Stage) (a f : Forwarding) (asked : ℕ) (o : RequestOutcome) (forwarder_events : List ForwarderEvent) → AreOne a f → outcome_at s asked ≡ Some o
     → StageFits s a forwarder_events → ServesAt s f forwarder_events
 serves-at (ToListen host) a f asked o forwarder_events one e h = cc
 serves-at Ordered a f asked o forwarder_events one e h = cc
@@ -101,22 +101,22 @@ record Granting (old : ForwardingState) (forwarder_events : List ForwarderEvent)
   grants : IsGrant answer
 
 as-found : (old : ForwardingState) (forwarder_events : List ForwarderEvent) (ask : StartAsk) (answer : HouseReply) (comes : Comes) (ends : Ends) (f : Forwarding)
-    (o : Option Outcome) → Granting old forwarder_events answer comes → AreEnds old.rules ask ends
-    → find (λ g. counts g && listens_at ends g) old.all ≡ Some f → connects_to ends f ≡ true → forwarding_outcome_of f ≡ o → comes ≡ as_first f o
-    → IsServed true ask answer old.all forwarder_events
+    (o : Option RequestOutcome) → Granting old forwarder_events answer comes → AreEnds old.rules ask ends
+    → find (λ g. is_asked_or_live g && listens_at ends g) old.all ≡ Some f → connects_same_end ends f ≡ true → forwarding_outcome_of f ≡ o → comes ≡ as_first f o
+    → IsRequestServed true ask answer old.all forwarder_events
 as-found old forwarder_events ask answer comes ends f None g are is connects out e =
-    not-later answer comes f.serial (IsServed true ask answer old.all forwarder_events) g.answers e g.grants
+    not-later answer comes f.serial (IsRequestServed true ask answer old.all forwarder_events) g.answers e g.grants
 as-found old forwarder_events ask answer comes ends f (Some o) g are is connects out e =
-    let at = found (Stands g.knows.home old.serials forwarder_events) (λ x. counts x && listens_at ends x) old.all f is g.knows.all in
-    let has = found (Contains old.all) (λ x. counts x && listens_at ends x) old.all f is (All-contains_itself old.all) in
+    let at = found (Stands g.knows.home old.serials forwarder_events) (λ x. is_asked_or_live x && listens_at ends x) old.all f is g.knows.all in
+    let has = found (Contains old.all) (λ x. is_asked_or_live x && listens_at ends x) old.all f is (All-contains_itself old.all) in
     record {
       opens = refl;
       forwarding = f;
       outcome = o;
       stands = has.0;
       is_for = subst (λ (b : ListenRules). IsFor b true ask f) g.knows.rules (is-for old.rules true ask ends f f are (itself f)
-          (and_parts (counts f) (listens_at ends f) at.1).1 (λ _. connects));
-      counts_yet = (and_parts (counts f) (listens_at ends f) at.1).0;
+          (and_parts (is_asked_or_live f) (listens_at ends f) at.1).1 (λ _. connects));
+      counts_yet = (and_parts (is_asked_or_live f) (listens_at ends f) at.1).0;
       serves = serves-at f.stage (g.knows.home f.serial) f f.listen_port o forwarder_events at.0.same out at.0.stage;
       comes = out;
       replies = g.answers ∙ ap reply_to e;
@@ -124,56 +124,56 @@ as-found old forwarder_events ask answer comes ends f (Some o) g are is connects
 
 connects-if : (old : ForwardingState) (forwarder_events : List ForwarderEvent) (ask : StartAsk) (answer : HouseReply) (comes : Comes) (ends : Ends) (f : Forwarding)
     (b : Bool) → Granting old forwarder_events answer comes → AreEnds old.rules ask ends
-    → find (λ g. counts g && listens_at ends g) old.all ≡ Some f → connects_to ends f ≡ b
-    → comes ≡ (if b then as_first f (forwarding_outcome_of f) else Now Refused) → IsServed true ask answer old.all forwarder_events
+    → find (λ g. is_asked_or_live g && listens_at ends g) old.all ≡ Some f → connects_same_end ends f ≡ b
+    → comes ≡ (if b then as_first f (forwarding_outcome_of f) else Now Refused) → IsRequestServed true ask answer old.all forwarder_events
 connects-if old forwarder_events ask answer comes ends f true g are is connects e =
     as-found old forwarder_events ask answer comes ends f (forwarding_outcome_of f) g are is connects refl e
 connects-if old forwarder_events ask answer comes ends f false g are is connects e =
-    not-now answer comes (IsServed true ask answer old.all forwarder_events) g.answers e g.grants
+    not-now answer comes (IsRequestServed true ask answer old.all forwarder_events) g.answers e g.grants
 
 room-if : (old : ForwardingState) (forwarder_events : List ForwarderEvent) (ask : StartAsk) (answer : HouseReply) (comes : Comes) (b : Bool)
-    → Granting old forwarder_events answer comes → comes ≡ (if b then Later old.serials else Now Refused) → IsServed true ask answer old.all forwarder_events
+    → Granting old forwarder_events answer comes → comes ≡ (if b then Later old.serials else Now Refused) → IsRequestServed true ask answer old.all forwarder_events
 room-if old forwarder_events ask answer comes true g e =
-    not-later answer comes old.serials (IsServed true ask answer old.all forwarder_events) g.answers e g.grants
-room-if old forwarder_events ask answer comes false g e = not-now answer comes (IsServed true ask answer old.all forwarder_events) g.answers e g.grants
+    not-later answer comes old.serials (IsRequestServed true ask answer old.all forwarder_events) g.answers e g.grants
+room-if old forwarder_events ask answer comes false g e = not-now answer comes (IsRequestServed true ask answer old.all forwarder_events) g.answers e g.grants
 
 opens-by : (old : ForwardingState) (forwarder_events : List ForwarderEvent) (ask : StartAsk) (answer : HouseReply) (comes : Comes) (ends : Ends)
     (o : Option Forwarding) → Granting old forwarder_events answer comes → AreEnds old.rules ask ends → standing ends old.all ≡ o
-    → comes ≡ opens_of old.serials ends old.all o → IsServed true ask answer old.all forwarder_events
+    → comes ≡ opens_of old.serials ends old.all o → IsRequestServed true ask answer old.all forwarder_events
 opens-by old forwarder_events ask answer comes ends None g are is e =
     room-if old forwarder_events ask answer comes (nat_lt (how_many old.all) MOST_FORWARDINGS) g e
 opens-by old forwarder_events ask answer comes ends (Some f) g are is e =
-    connects-if old forwarder_events ask answer comes ends f (connects_to ends f) g are is refl e
+    connects-if old forwarder_events ask answer comes ends f (connects_same_end ends f) g are is refl e
 
 closes-if : (old : ForwardingState) (forwarder_events : List ForwarderEvent) (ask : StartAsk) (answer : HouseReply) (comes : Comes) (f : Forwarding) (b : Bool)
-    → Granting old forwarder_events answer comes → comes ≡ (if b then Now Refused else Later f.serial) → IsServed false ask answer old.all forwarder_events
-closes-if old forwarder_events ask answer comes f true g e = not-now answer comes (IsServed false ask answer old.all forwarder_events) g.answers e g.grants
+    → Granting old forwarder_events answer comes → comes ≡ (if b then Now Refused else Later f.serial) → IsRequestServed false ask answer old.all forwarder_events
+closes-if old forwarder_events ask answer comes f true g e = not-now answer comes (IsRequestServed false ask answer old.all forwarder_events) g.answers e g.grants
 closes-if old forwarder_events ask answer comes f false g e =
-    not-later answer comes f.serial (IsServed false ask answer old.all forwarder_events) g.answers e g.grants
+    not-later answer comes f.serial (IsRequestServed false ask answer old.all forwarder_events) g.answers e g.grants
 
 closes-by : (old : ForwardingState) (forwarder_events : List ForwarderEvent) (ask : StartAsk) (answer : HouseReply) (comes : Comes) (o : Option Forwarding)
-    → Granting old forwarder_events answer comes → comes ≡ closes_of o → IsServed false ask answer old.all forwarder_events
-closes-by old forwarder_events ask answer comes None g e = not-now answer comes (IsServed false ask answer old.all forwarder_events) g.answers e g.grants
+    → Granting old forwarder_events answer comes → comes ≡ closes_of o → IsRequestServed false ask answer old.all forwarder_events
+closes-by old forwarder_events ask answer comes None g e = not-now answer comes (IsRequestServed false ask answer old.all forwarder_events) g.answers e g.grants
 closes-by old forwarder_events ask answer comes (Some f) g e = closes-if old forwarder_events ask answer comes f f.closing g e
 
 served-by : (opening : Bool) (old : ForwardingState) (forwarder_events : List ForwarderEvent) (ask : StartAsk) (answer : HouseReply) (comes : Comes) (ends : Ends)
     → Granting old forwarder_events answer comes → AreEnds old.rules ask ends → comes ≡ comes_of_ends opening old.serials ends old.all
-    → IsServed opening ask answer old.all forwarder_events
+    → IsRequestServed opening ask answer old.all forwarder_events
 served-by true old forwarder_events ask answer comes ends g are e =
     opens-by old forwarder_events ask answer comes ends (standing ends old.all) g are refl e
 served-by false old forwarder_events ask answer comes ends g are e = closes-by old forwarder_events ask answer comes (standing ends old.all) g e
 
 served-if : (alone opening : Bool) (old : ForwardingState) (forwarder_events : List ForwarderEvent) (ask : StartAsk) (answer : HouseReply) (comes : Comes) (new : List Forwarding)
     → Granting old forwarder_events answer comes → ComesIf alone old.rules opening ask old.serials old.all new comes
-    → IsServed opening ask answer old.all forwarder_events
-served-if true opening old forwarder_events ask answer comes new g c = not-now answer comes (IsServed opening ask answer old.all forwarder_events) g.answers c.0 g.grants
+    → IsRequestServed opening ask answer old.all forwarder_events
+served-if true opening old forwarder_events ask answer comes new g c = not-now answer comes (IsRequestServed opening ask answer old.all forwarder_events) g.answers c.0 g.grants
 served-if false opening old forwarder_events ask answer comes new g c = served-by opening old forwarder_events ask answer comes c.0 g c.1 c.2
 
 served-unless : (away opening : Bool) (old : ForwardingState) (forwarder_events : List ForwarderEvent) (ask : StartAsk) (answer : HouseReply) (comes : Comes) (new : List Forwarding)
     → Granting old forwarder_events answer comes → ComesUnless away old.rules opening ask old.serials old.all new comes
-    → IsServed opening ask answer old.all forwarder_events
+    → IsRequestServed opening ask answer old.all forwarder_events
 served-unless true opening old forwarder_events ask answer comes new g c =
-    not-now answer comes (IsServed opening ask answer old.all forwarder_events) g.answers c.0 g.grants
+    not-now answer comes (IsRequestServed opening ask answer old.all forwarder_events) g.answers c.0 g.grants
 served-unless false opening old forwarder_events ask answer comes new g c =
     served-if (is_ruled_out old.rules ask) opening old forwarder_events ask answer comes new g c
 
@@ -193,52 +193,52 @@ pick-if : (P : Waiting → Type 0) (b : Bool) (v f : Waiting) → Picks P v → 
 pick-if P true v f h k = h
 pick-if P false v f h k = k
 
-picks : (P : Waiting → Type 0) (o : Option (ℕ × Outcome)) (a : Option Waiting) (v : Waiting) → v.outcome ≡ o → P v → IfSome a (Picks P)
+picks : (P : Waiting → Type 0) (o : Option (ℕ × RequestOutcome)) (a : Option Waiting) (v : Waiting) → v.outcome ≡ o → P v → IfSome a (Picks P)
     → IfSome (earlier_at o a v) (Picks P)
 picks P None a v e h k = k
 picks P (Some o) None v e h k = (h, ap is_settled e)
 picks P (Some o) (Some f) v e h k = pick-if P (nat_lt o.0 (stamp_of f.outcome)) v f (h, ap is_settled e) k
 
-pub picked : (P : Waiting → Type 0) (ws : List Waiting) (a : Option Waiting) (w : Waiting) → fold earlier a ws ≡ Some w → IfSome a (Picks P)
+pub picked : (P : Waiting → Type 0) (ws : List Waiting) (a : Option Waiting) (w : Waiting) → fold earlier_outcome a ws ≡ Some w → IfSome a (Picks P)
     → All P ws → Picks P w
 picked P [] a w e k h = there-is (Picks P) a w e k
 picked P (v ∷ ws) a w e k h =
-    picked P ws (earlier a v) w e (picks P v.outcome a v refl (All-head P v ws h) k) (All-tail P v ws h)
+    picked P ws (earlier_outcome a v) w e (picks P v.outcome a v refl (All-head P v ws h) k) (All-tail P v ws h)
 
 -- its outcome is what it is answered
 made-reply : (number : Option ℕ) (p : ℕ) (P : Type 0) → ListenerMadeBy number false (Port p) → P
 made-reply None p P e = cc
 made-reply (Some l) p P e = absurd e
 
-replied-reply : (success : Bool) (port : Option ℕ) (earlier : List ForwarderEvent) (f : Forwarding) (p : ℕ) (P : Type 0)
-    → RepliedBy success port earlier false f (Port p) → P
-replied-reply true port earlier f p P h = let e = h.1 in cc
-replied-reply false port earlier f p P h = let e = h.1 in cc
+replied-reply : (success : Bool) (port : Option ℕ) (earlier_outcome : List ForwarderEvent) (f : Forwarding) (p : ℕ) (P : Type 0)
+    → RepliedBy success port earlier_outcome false f (Port p) → P
+replied-reply true port earlier_outcome f p P h = let e = h.1 in cc
+replied-reply false port earlier_outcome f p P h = let e = h.1 in cc
 
-no-port : (forwarder_event : ForwarderEvent) (earlier : List ForwarderEvent) (f : Forwarding) (p : ℕ) (P : Type 0) → CameBy forwarder_event earlier false f (Port p) → P
-no-port (Begins starts) earlier f p P h = absurd h
-no-port (Asks client id opens ask answer) earlier f p P h = absurd h
-no-port (Answers client id answer) earlier f p P h = absurd h
-no-port Greets earlier f p P h = absurd h
-no-port (Requests g) earlier f p P h = absurd h
-no-port (Replies success port) earlier f p P h = replied-reply success port earlier f p P h
-no-port (Listens host port number) earlier f p P h = made-reply number p P h.3
-no-port (Unlistens l) earlier f p P h = let e = h.2 in cc
+no-port : (forwarder_event : ForwarderEvent) (earlier_outcome : List ForwarderEvent) (f : Forwarding) (p : ℕ) (P : Type 0) → CameBy forwarder_event earlier_outcome false f (Port p) → P
+no-port (Begins starts) earlier_outcome f p P h = absurd h
+no-port (Asks client id opens ask answer) earlier_outcome f p P h = absurd h
+no-port (Answers client id answer) earlier_outcome f p P h = absurd h
+no-port Greets earlier_outcome f p P h = absurd h
+no-port (Requests g) earlier_outcome f p P h = absurd h
+no-port (Replies success port) earlier_outcome f p P h = replied-reply success port earlier_outcome f p P h
+no-port (Listens host port number) earlier_outcome f p P h = made-reply number p P h.3
+no-port (Unlistens l) earlier_outcome f p P h = let e = h.2 in cc
 
-records : (forwarder_event : ForwarderEvent) (earlier : List ForwarderEvent) (opening : Bool) (f : Forwarding) (at : ℕ) (outcome : Outcome)
-    → CameBy forwarder_event earlier opening f outcome → ask_reply_in (Some (at, outcome)) opening ≡ reply_to (Now outcome)
-records forwarder_event earlier opening f at Done h = refl
-records forwarder_event earlier opening f at Refused h = refl
-records forwarder_event earlier true f at (Port p) h = refl
-records forwarder_event earlier false f at (Port p) h = no-port forwarder_event earlier f p (given.Refused ≡ given.Port p) h
+records : (forwarder_event : ForwarderEvent) (earlier_outcome : List ForwarderEvent) (opening : Bool) (f : Forwarding) (at : ℕ) (outcome : RequestOutcome)
+    → CameBy forwarder_event earlier_outcome opening f outcome → ask_reply_in (Some (at, outcome)) opening ≡ reply_to (Now outcome)
+records forwarder_event earlier_outcome opening f at Done h = refl
+records forwarder_event earlier_outcome opening f at Refused h = refl
+records forwarder_event earlier_outcome true f at (Port p) h = refl
+records forwarder_event earlier_outcome false f at (Port p) h = no-port forwarder_event earlier_outcome f p (given.Refused ≡ given.Port p) h
 
-caused-by : (home : ℕ → Forwarding) (serials : ℕ) (forwarder_events : List ForwarderEvent) (w : Waiting) (o : Option (ℕ × Outcome)) → w.outcome ≡ o
+caused-by : (home : ℕ → Forwarding) (serials : ℕ) (forwarder_events : List ForwarderEvent) (w : Waiting) (o : Option (ℕ × RequestOutcome)) → w.outcome ≡ o
     → is_settled o ≡ true → Waits home serials forwarder_events w → AnswerHasCause w.client w.id (reply_of w) forwarder_events
 caused-by home serials forwarder_events w None e some h = cc
 caused-by home serials forwarder_events w (Some o) e some h =
     let ask : ForwarderEvent = Asks w.client w.id w.opening h.ask given.Later in
     let came : Came (home w.forwarding) w.opening o.1 h.later (ask ∷ h.earlier) =
-    subst (λ (x : Option (ℕ × Outcome)). CameIf x (home w.forwarding) w.opening h.later (ask ∷ h.earlier)) e h.came in
+    subst (λ (x : Option (ℕ × RequestOutcome)). CameIf x (home w.forwarding) w.opening h.later (ask ∷ h.earlier)) e h.came in
     record {
       opening = w.opening;
       ask = h.ask;
@@ -249,7 +249,7 @@ caused-by home serials forwarder_events w (Some o) e some h =
       between = came.older;
       earlier = h.earlier;
       were = h.were ∙ ap (λ ds. ds ++ ask ∷ h.earlier) came.were ∙ append_assoc came.newer (came.forwarder_event ∷ came.older) (ask ∷ h.earlier);
-      open_yet = subst (λ (ds : List ForwarderEvent). list_any (answers w.client w.id) ds ≡ false) came.were h.open_yet;
+      open_yet = subst (λ (ds : List ForwarderEvent). list_any (is_answer_to w.client w.id) ds ≡ false) came.were h.open_yet;
       is_for = h.is_for;
       came = came.by;
       replies = ap (λ x. ask_reply_in x w.opening) e

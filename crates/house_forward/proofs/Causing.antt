@@ -12,17 +12,17 @@ use Rattle.std.proofs.lemmas.Slice.Eq.{bytes_eq-Decides}
 use Rattle.mux_outside.specs.declared.house.HouseReply.{HouseReply}
 use Rattle.mux_outside.specs.declared.start_ask.StartAsk.{StartAsk}
 use Rattle.mux_outside.specs.declared.starts.Starts.{Starts}
-use Rattle.house_forward.specs.Asks.{has_open, is_full_for, turns_away, settled, counted, owes_opening, after_answer, taken_at, is_waiting, waiting_for}
-use Rattle.house_forward.specs.Causes.{rules_in, unanswered, AreOne, IsFor, IsNextRequest, IsGranted, CameBy}
+use Rattle.house_forward.specs.Asks.{has_open, is_full_for, turns_away, requests_settled, one_more_outcome, owes_opening, after_answer, without_request_at, is_waiting, request_waiting_for}
+use Rattle.house_forward.specs.Causes.{rules_in, unanswered_requests, AreOne, IsFor, IsNextRequest, IsGranted, CameBy}
 use Rattle.house_forward.specs.ForwarderEvents.{ForwarderEvent, Does, Leave}
 use Rattle.house_forward.specs.ForwarderEvents.{Begins, Asks, Answers, Greets, Requests, Replies, Listens, Unlistens}
-use Rattle.house_forward.specs.ForwardingState.{ForwardingState, empty_forwarding_state, BeginsWith, IsClientAsk, Answers as IsAnswered, greeting_sent, request_sent, reply_received, GetsListener, EndsListener, standing_at}
-use Rattle.house_forward.specs.Forwardings.{Begins as BeginsAt, StartsIf, Standing, Opens, serials_after, IsAskedFor, is_first, waits_at, has_request, requests_at, forwarding_request_of, forwarding_request_at, after_sending, changed, removed_at, standing, counts, how_many, listens_at, connects_to, as_first, forwarding_outcome_of, opens_of, closes_of, comes_of_ends, after_close, is_new, EndsLeave, ComesIf, ComesUnless, reply_to, waiting_after, bound_to, granted, stage_after, is_asked, asks_at, is_cancelled, live_outcome_in, opened_asks, replied_all, replied_asks, first_of, to_listen, MadeAt, ordered_asks, serial_of, next_of, next_at, forwarding_ends_at, has_listener, is_listener, listener_at}
+use Rattle.house_forward.specs.ForwardingState.{ForwardingState, empty_forwarding_state, BeginsWith, IsClientAsk, GivesFirstAnswer as IsAnswered, greeting_sent, request_sent, reply_received, GetsListener, EndsListener, standing_at}
+use Rattle.house_forward.specs.Forwardings.{AskedAtStart as BeginsAt, StartsIf, Standing, OpensForwarding, serials_after, IsAskedFor, is_first, waits_at, has_request, requests_at, forwarding_request_of, forwarding_request_at, after_request_sent, forwarding_changed, removed_at, standing, is_asked_or_live, how_many, listens_at, connects_same_end, as_first, forwarding_outcome_of, opens_of, closes_of, comes_of_ends, after_close, is_new, EndsLeave, ComesIf, ComesUnless, reply_to, waiting_after, bound_port, outcome_of_grant, listener_stage_after, is_listen_unanswered, asks_at, is_cancelled, live_outcome_in, opened_asks, replied_all, replied_asks, first_forwarding_request, to_listen, MadeAt, ordered_asks, serial_of, next_listener_order, next_at, forwarding_ends_at, has_listener, is_listener, listener_at}
 use Rattle.house_forward.specs.Rules.{listens_here, connects_there, same_kind, listen_host, AreEnds, is_ruled_out, rules_of}
-use Rattle.house_forward.specs.declared.asks.Asked.{Asked as Comes}
-use Rattle.house_forward.specs.declared.asks.Asked.TheVariants.{Now, Later}
-use Rattle.house_forward.specs.declared.asks.Outcome.{Outcome}
-use Rattle.house_forward.specs.declared.asks.Outcome.TheVariants.{Done, Refused}
+use Rattle.house_forward.specs.declared.asks.ImmediateOutcome.{ImmediateOutcome as Comes}
+use Rattle.house_forward.specs.declared.asks.ImmediateOutcome.TheVariants.{Now, Later}
+use Rattle.house_forward.specs.declared.asks.RequestOutcome.{RequestOutcome}
+use Rattle.house_forward.specs.declared.asks.RequestOutcome.TheVariants.{Done, Refused}
 use Rattle.house_forward.specs.declared.asks.Waiting.{Waiting}
 use Rattle.house_forward.specs.declared.forwarding.Change.TheVariants as change
 use Rattle.house_forward.specs.declared.forwarding.Forwarding.{Forwarding}
@@ -46,9 +46,9 @@ use Rattle.house_forward.proofs.Serving.{StageFits, Stands, Asked, Waits, Lets, 
 pub record Knows (forwarder_events : List ForwarderEvent) (d : ForwardingState) : Type 0 where
   pub home : ℕ → Forwarding
   pub rules : d.rules ≡ rules_in forwarder_events
-  pub requests : d.requests ≡ map forwarding_request_of (unanswered forwarder_events)
+  pub requests : d.requests ≡ map forwarding_request_of (unanswered_requests forwarder_events)
   pub all : All (Stands home d.serials forwarder_events) d.all
-  pub asked : All (Asked home d.serials) (unanswered forwarder_events)
+  pub asked : All (Asked home d.serials) (unanswered_requests forwarder_events)
   pub waiting : All (Waits home d.serials forwarder_events) d.waiting
   pub apart : Apart d.waiting
 
@@ -85,7 +85,7 @@ pub all-removed : (P : Forwarding → Type 0) (o : Option ℕ) (xs : List Forwar
 all-removed P None xs h = h
 all-removed P (Some i) xs h = all-remove P xs i h
 
-pub all-taken : (P : Waiting → Type 0) (o : Option ℕ) (xs : List Waiting) → All P xs → All P (taken_at o xs)
+pub all-taken : (P : Waiting → Type 0) (o : Option ℕ) (xs : List Waiting) → All P xs → All P (without_request_at o xs)
 all-taken P None xs h = h
 all-taken P (Some i) xs h = all-remove P xs i h
 
@@ -171,7 +171,7 @@ one-more home serials forwarder_events ends start f fs a h =
     }
 
 opens : (b : Bool) (ends : Ends) (serials : ℕ) (start : Option ℕ) (forwarder_events : List ForwarderEvent) (home : ℕ → Forwarding) (old new : List Forwarding)
-    → All (Stands home serials forwarder_events) old → Opens b ends serials start old new
+    → All (Stands home serials forwarder_events) old → OpensForwarding b ends serials start old new
     → Grown home serials forwarder_events new (serials_after b serials)
 opens false ends serials start forwarder_events home old new h o =
     subst (λ (fs : List Forwarding). Grown home serials forwarder_events fs serials) (sym o) (as-many home serials forwarder_events old h)
@@ -228,7 +228,7 @@ after-start starts forwarder_events old new k b =
       rules = ap (λ (d : ForwardingState). d.rules) b.others;
       requests = ap (λ (d : ForwardingState). d.requests) b.others ∙ k.requests;
       all = g.all;
-      asked = all-asked-grown k.home g.to old.serials new.serials (unanswered forwarder_events) g.less g.keeps k.asked;
+      asked = all-asked-grown k.home g.to old.serials new.serials (unanswered_requests forwarder_events) g.less g.keeps k.asked;
       waiting = subst (λ (ws : List Waiting). All (Waits g.to new.serials (forwarder_event ∷ forwarder_events)) ws)
           (sym (ap (λ (d : ForwardingState). d.waiting) b.others))
           (all-wait-grown k.home g.to old.serials new.serials (forwarder_event ∷ forwarder_events) old.waiting g.less g.keeps
@@ -285,7 +285,7 @@ one-end false p q e is = cc
 
 -- a forwarding that listens where a request is to listen is the one that it is for
 pub is-for : (rules : ListenRules) (opening : Bool) (ask : StartAsk) (ends : Ends) (f a : Forwarding) → AreEnds rules ask ends → AreOne a f
-    → listens_at ends f ≡ true → (opening ≡ true → connects_to ends f ≡ true) → IsFor rules opening ask a
+    → listens_at ends f ≡ true → (opening ≡ true → connects_same_end ends f ≡ true) → IsFor rules opening ask a
 is-for rules opening ask ends f a are one listens connects =
     let first = and_parts (same_kind f.kind ends.kind) ((f.listen_port == ends.listen_port) && bytes_eq f.listen_host ends.listen_host.now) listens in
     let second = and_parts (f.listen_port == ends.listen_port) (bytes_eq f.listen_host ends.listen_host.now) first.1 in
@@ -333,11 +333,11 @@ same-many serials old new e = omega (arith, e)
 pub one-many : (serials : ℕ) (fs : List Forwarding) (f : Forwarding) → serials + 1 ≡ more_than serials fs (fs ++ f ∷ [])
 one-many serials fs f = omega (arith, length-append fs (f ∷ []))
 
-never : (o : Outcome) (comes : Comes) (serial : ℕ) (P : Type 0) → comes ≡ Now o → comes ≡ Later serial → P
+never : (o : RequestOutcome) (comes : Comes) (serial : ℕ) (P : Type 0) → comes ≡ Now o → comes ≡ Later serial → P
 never o comes serial P e f = cc
 
 now : (home : ℕ → Forwarding) (serials : ℕ) (forwarder_events : List ForwarderEvent) (rules : ListenRules) (opening : Bool) (ask : StartAsk) (comes : Comes)
-    (o : Outcome) (fs new : List Forwarding) → All (Stands home serials forwarder_events) fs → comes ≡ Now o → new ≡ fs
+    (o : RequestOutcome) (fs new : List Forwarding) → All (Stands home serials forwarder_events) fs → comes ≡ Now o → new ≡ fs
     → Leaves home serials forwarder_events rules opening ask comes new (more_than serials fs new)
 now home serials forwarder_events rules opening ask comes o fs new k e same =
     let grown : Grown home serials forwarder_events new (more_than serials fs new) =
@@ -375,7 +375,7 @@ new-one home serials forwarder_events rules ask comes ends fs new f k are e a mo
 -- one that stands
 same-one : (home : ℕ → Forwarding) (serials : ℕ) (forwarder_events : List ForwarderEvent) (rules : ListenRules) (opening : Bool) (ask : StartAsk) (ends : Ends) (f : Forwarding)
     → AreEnds rules ask ends → Stands home serials forwarder_events f → listens_at ends f ≡ true
-    → (opening ≡ true → connects_to ends f ≡ true) → WaitsFor home serials rules opening ask f.serial
+    → (opening ≡ true → connects_same_end ends f ≡ true) → WaitsFor home serials rules opening ask f.serial
 same-one home serials forwarder_events rules opening ask ends f are s listens connects = record {
   below = s.below;
   serial_is = s.same.serial;
@@ -383,7 +383,7 @@ same-one home serials forwarder_events rules opening ask ends f are s listens co
 }
 
 as-found : (home : ℕ → Forwarding) (serials : ℕ) (forwarder_events : List ForwarderEvent) (rules : ListenRules) (ask : StartAsk) (comes : Comes)
-    (fs new : List Forwarding) (f : Forwarding) (o : Option Outcome) → All (Stands home serials forwarder_events) fs
+    (fs new : List Forwarding) (f : Forwarding) (o : Option RequestOutcome) → All (Stands home serials forwarder_events) fs
     → comes ≡ as_first f o → new ≡ fs → WaitsFor home serials rules true ask f.serial
     → Leaves home serials forwarder_events rules true ask comes new (more_than serials fs new)
 unfolding as-many
@@ -401,7 +401,7 @@ as-found home serials forwarder_events rules ask comes fs new f None k e same w 
 
 opens-none : (home : ℕ → Forwarding) (serials : ℕ) (forwarder_events : List ForwarderEvent) (rules : ListenRules) (ask : StartAsk) (comes : Comes) (ends : Ends)
     (fs new : List Forwarding) (b : Bool) → All (Stands home serials forwarder_events) fs → AreEnds rules ask ends
-    → comes ≡ (if b then Later serials else Now Refused) → Opens b ends serials None fs new
+    → comes ≡ (if b then Later serials else Now Refused) → OpensForwarding b ends serials None fs new
     → Leaves home serials forwarder_events rules true ask comes new (more_than serials fs new)
 opens-none home serials forwarder_events rules ask comes ends fs new true k are e o =
     new-one home serials forwarder_events rules ask comes ends fs new o.0 k are e o.1 o.2
@@ -420,14 +420,14 @@ opens-some home serials forwarder_events rules ask comes fs new f false k e same
 
 opens-by : (home : ℕ → Forwarding) (serials : ℕ) (forwarder_events : List ForwarderEvent) (rules : ListenRules) (ask : StartAsk) (comes : Comes) (ends : Ends)
     (fs new : List Forwarding) (o : Option Forwarding) → standing ends fs ≡ o → All (Stands home serials forwarder_events) fs
-    → AreEnds rules ask ends → comes ≡ opens_of serials ends fs o → Opens (is_new ends fs o) ends serials None fs new
+    → AreEnds rules ask ends → comes ≡ opens_of serials ends fs o → OpensForwarding (is_new ends fs o) ends serials None fs new
     → Leaves home serials forwarder_events rules true ask comes new (more_than serials fs new)
 opens-by home serials forwarder_events rules ask comes ends fs new None is k are e o =
     opens-none home serials forwarder_events rules ask comes ends fs new (nat_lt (how_many fs) MOST_FORWARDINGS) k are e o
 opens-by home serials forwarder_events rules ask comes ends fs new (Some f) is k are e o =
-    let at = found (Stands home serials forwarder_events) (λ g. counts g && listens_at ends g) fs f is k in
-    let listens = (and_parts (counts f) (listens_at ends f) at.1).1 in
-    opens-some home serials forwarder_events rules ask comes fs new f (connects_to ends f) k e o
+    let at = found (Stands home serials forwarder_events) (λ g. is_asked_or_live g && listens_at ends g) fs f is k in
+    let listens = (and_parts (is_asked_or_live f) (listens_at ends f) at.1).1 in
+    opens-some home serials forwarder_events rules ask comes fs new f (connects_same_end ends f) k e o
     (λ there. same-one home serials forwarder_events rules true ask ends f are at.0 listens (λ _. there))
 
 -- one closes
@@ -440,10 +440,10 @@ unfolding as-many
 closes-one home serials forwarder_events rules ask comes fs new f true k e same w =
     now home serials forwarder_events rules false ask comes Refused fs new k e same
 closes-one home serials forwarder_events rules ask comes fs new f false k e same w =
-    let all : All (Stands home serials forwarder_events) (map (changed change.Close f.serial) fs) =
+    let all : All (Stands home serials forwarder_events) (map (forwarding_changed change.Close f.serial) fs) =
     all-changed home serials forwarder_events change.Close f.serial fs
     (λ g is one h. steady-stage change.Close g.listen_port g.stage (home g.serial) forwarder_events tt h) k in
-    let closed = map (changed change.Close f.serial) fs in
+    let closed = map (forwarding_changed change.Close f.serial) fs in
     let got : Leaves home serials forwarder_events rules false ask comes closed serials = record {
       grown = as-many home serials forwarder_events closed all;
       waits = λ serial is.
@@ -452,7 +452,7 @@ closes-one home serials forwarder_events rules ask comes fs new f false k e same
     } in
     subst (λ (xs : List Forwarding). Leaves home serials forwarder_events rules false ask comes xs (more_than serials fs xs)) (sym same)
     (subst (λ (m : ℕ). Leaves home serials forwarder_events rules false ask comes closed m)
-    (same-many serials fs closed (length-map fs (changed change.Close f.serial))) got)
+    (same-many serials fs closed (length-map fs (forwarding_changed change.Close f.serial))) got)
 
 closes-by : (home : ℕ → Forwarding) (serials : ℕ) (forwarder_events : List ForwarderEvent) (rules : ListenRules) (ask : StartAsk) (comes : Comes) (ends : Ends)
     (fs new : List Forwarding) (o : Option Forwarding) → standing ends fs ≡ o → All (Stands home serials forwarder_events) fs
@@ -461,8 +461,8 @@ closes-by : (home : ℕ → Forwarding) (serials : ℕ) (forwarder_events : List
 closes-by home serials forwarder_events rules ask comes ends fs new None is k are e same =
     now home serials forwarder_events rules false ask comes Refused fs new k e same
 closes-by home serials forwarder_events rules ask comes ends fs new (Some f) is k are e same =
-    let at = found (Stands home serials forwarder_events) (λ g. counts g && listens_at ends g) fs f is k in
-    let listens = (and_parts (counts f) (listens_at ends f) at.1).1 in
+    let at = found (Stands home serials forwarder_events) (λ g. is_asked_or_live g && listens_at ends g) fs f is k in
+    let listens = (and_parts (is_asked_or_live f) (listens_at ends f) at.1).1 in
     closes-one home serials forwarder_events rules ask comes fs new f f.closing k e same
     (same-one home serials forwarder_events rules false ask ends f are at.0 listens (λ o. cc))
 
@@ -502,7 +502,7 @@ waits-more : (home : ℕ → Forwarding) (serials : ℕ) (forwarder_events : Lis
 waits-more home serials forwarder_events client id opening ask answer (Now o) ws e waits h = h
 waits-more home serials forwarder_events client id opening ask answer (Later serial) ws e waits h =
     let w = waits serial refl in
-    All-push (Waits home serials (Asks client id opening ask answer ∷ forwarder_events)) ws (waiting_for client id opening serial) h (record {
+    All-push (Waits home serials (Asks client id opening ask answer ∷ forwarder_events)) ws (request_waiting_for client id opening serial) h (record {
       below = w.below;
       serial = w.serial_is;
       ask = ask;
@@ -517,7 +517,7 @@ waits-more home serials forwarder_events client id opening ask answer (Later ser
 apart-came : (comes : Comes) (client id : ℕ) (opening : Bool) (ws : List Waiting) → has_open client id ws ≡ false → Apart ws
     → Apart (waiting_after comes client id opening ws)
 apart-came (Now o) client id opening ws e h = h
-apart-came (Later serial) client id opening ws e h = apart-more ws (waiting_for client id opening serial) h e
+apart-came (Later serial) client id opening ws e h = apart-more ws (request_waiting_for client id opening serial) h e
 
 -- a request waits where its client has none with its id
 apart-asked : (client id : ℕ) (opening : Bool) (ask : StartAsk) (comes : Comes) (rules : ListenRules) (serials : ℕ)
@@ -542,8 +542,8 @@ after-ask client id opening ask answer forwarder_events old new k a =
       rules = ap (λ (d : ForwardingState). d.rules) a.others ∙ k.rules;
       requests = ap (λ (d : ForwardingState). d.requests) a.others ∙ k.requests;
       all = subst (λ (n : ℕ). All (Stands g.to n (forwarder_event ∷ forwarder_events)) new.all) serials g.all;
-      asked = subst (λ (n : ℕ). All (Asked g.to n) (unanswered forwarder_events)) serials
-          (all-asked-grown k.home g.to old.serials more (unanswered forwarder_events) g.less g.keeps k.asked);
+      asked = subst (λ (n : ℕ). All (Asked g.to n) (unanswered_requests forwarder_events)) serials
+          (all-asked-grown k.home g.to old.serials more (unanswered_requests forwarder_events) g.less g.keeps k.asked);
       waiting = subst (λ (n : ℕ). All (Waits g.to n (forwarder_event ∷ forwarder_events)) new.waiting) serials
           (subst (λ (ws : List Waiting). All (Waits g.to more (forwarder_event ∷ forwarder_events)) ws) (sym (ap (λ (d : ForwardingState). d.waiting) a.others))
           (waits-more g.to more forwarder_events client id opening ask answer a.came_to old.waiting a.replies
@@ -560,11 +560,11 @@ after-ask client id opening ask answer forwarder_events old new k a =
 -- it answers no other ask
 all-answered : (home : ℕ → Forwarding) (serials client id : ℕ) (answer : HouseReply) (forwarder_events : List ForwarderEvent) (ws : List Waiting) (o : Option ℕ)
     → position (is_waiting client id) ws ≡ o → Apart ws → All (Waits home serials forwarder_events) ws
-    → All (Waits home serials (Answers client id answer ∷ forwarder_events)) (taken_at o ws)
+    → All (Waits home serials (Answers client id answer ∷ forwarder_events)) (without_request_at o ws)
 all-answered home serials client id answer forwarder_events ws o e apart h =
     let rest = all-taken (Waits home serials forwarder_events) o ws h in
     let not = others ws client id o e apart in
-    λ k d lt. waits-later home serials (Answers client id answer) forwarder_events (get_or (taken_at o ws) k d) (not k d lt) (rest k d lt)
+    λ k d lt. waits-later home serials (Answers client id answer) forwarder_events (get_or (without_request_at o ws) k d) (not k d lt) (rest k d lt)
 
 after-answering : (client id : ℕ) (answer : HouseReply) (forwarder_events : List ForwarderEvent) (old new : ForwardingState) → Knows forwarder_events old
     → IsAnswered client id answer old new → Knows (Answers client id answer ∷ forwarder_events) new
@@ -598,7 +598,7 @@ after-greeting forwarder_events old new k e =
 
 -- ---- a request
 
--- one that has a request to say is to be listened for by the server
+-- one that has a request to send is to be listened for by the server
 asks-there : (s : Stage) (a : Forwarding) (forwarder_events : List ForwarderEvent) (closing : Bool) → requests_at s closing ≡ true → StageFits s a forwarder_events
     → listens_here a.kind ≡ false
 asks-there (ToListen host) a forwarder_events closing e h = cc
@@ -610,7 +610,7 @@ asks-there (Live port) a forwarder_events closing e h = h.0
 asks-there (Cancelling port) a forwarder_events closing e h = cc
 
 said-all : (r : ForwardingRequest) (home : ℕ → Forwarding) (serials : ℕ) (forwarder_events : List ForwarderEvent) (fs : List Forwarding)
-    → All (Stands home serials forwarder_events) fs → All (Stands home serials forwarder_events) (after_sending r fs)
+    → All (Stands home serials forwarder_events) fs → All (Stands home serials forwarder_events) (after_request_sent r fs)
 said-all (Listen serial) home serials forwarder_events fs h = all-changed home serials forwarder_events change.ForwardingRequest serial fs
     (λ g is one k. steady-stage change.ForwardingRequest g.listen_port g.stage (home g.serial) forwarder_events tt k) h
 said-all (Cancel serial) home serials forwarder_events fs h = all-changed home serials forwarder_events change.Cancel serial fs
@@ -624,10 +624,10 @@ after-request f forwarder_events old new k is e =
     let got : Knows (forwarder_event ∷ forwarder_events) (request_sent f old) = record {
       home = k.home;
       rules = k.rules;
-      requests = ap (λ rs. rs ++ forwarding_request_of f ∷ []) k.requests ∙ sym (map-append forwarding_request_of (unanswered forwarder_events) (f ∷ []));
+      requests = ap (λ rs. rs ++ forwarding_request_of f ∷ []) k.requests ∙ sym (map-append forwarding_request_of (unanswered_requests forwarder_events) (f ∷ []));
       all = said-all (forwarding_request_of f) k.home old.serials (forwarder_event ∷ forwarder_events) old.all
           (all-later k.home old.serials forwarder_event forwarder_events old.all (λ l. refl) k.all);
-      asked = All-push (Asked k.home old.serials) (unanswered forwarder_events) f k.asked (record {
+      asked = All-push (Asked k.home old.serials) (unanswered_requests forwarder_events) f k.asked (record {
         below = at.0.below;
         same = at.0.same;
         there = asks-there f.stage (k.home f.serial) forwarder_events f.closing at.1 at.0.stage;
@@ -639,15 +639,15 @@ after-request f forwarder_events old new k is e =
 
 -- ---- a reply
 
-live-fits : (asked : ℕ) (chosen : Option ℕ) (s : Stage) (a : Forwarding) (forwarder_events : List ForwarderEvent) → IsGranted a (bound_to asked chosen) forwarder_events
-    → StageFits s a forwarder_events → StageFits (stage_after (change.Live chosen) asked s) a forwarder_events
-live-fits asked chosen (ToListen host) a forwarder_events granted h = h
-live-fits asked chosen Ordered a forwarder_events granted h = h
-live-fits asked chosen (Listening l) a forwarder_events granted h = h
-live-fits asked chosen ToRequest a forwarder_events granted h = h
-live-fits asked chosen Requested a forwarder_events granted h = (h, granted)
-live-fits asked chosen (Live p) a forwarder_events granted h = h
-live-fits asked chosen (Cancelling p) a forwarder_events granted h = h
+live-fits : (asked : ℕ) (chosen : Option ℕ) (s : Stage) (a : Forwarding) (forwarder_events : List ForwarderEvent) → IsGranted a (bound_port asked chosen) forwarder_events
+    → StageFits s a forwarder_events → StageFits (listener_stage_after (change.Live chosen) asked s) a forwarder_events
+live-fits asked chosen (ToListen host) a forwarder_events outcome_of_grant h = h
+live-fits asked chosen Ordered a forwarder_events outcome_of_grant h = h
+live-fits asked chosen (Listening l) a forwarder_events outcome_of_grant h = h
+live-fits asked chosen ToRequest a forwarder_events outcome_of_grant h = h
+live-fits asked chosen Requested a forwarder_events outcome_of_grant h = (h, outcome_of_grant)
+live-fits asked chosen (Live p) a forwarder_events outcome_of_grant h = h
+live-fits asked chosen (Cancelling p) a forwarder_events outcome_of_grant h = h
 
 -- what a reply leaves, where the first request is this
 record Replied (home : ℕ → Forwarding) (serials : ℕ) (forwarder_events : List ForwarderEvent) (fs : List Forwarding) (ws : List Waiting) : Type 0 where
@@ -655,7 +655,7 @@ record Replied (home : ℕ → Forwarding) (serials : ℕ) (forwarder_events : L
   waiting : All (Waits home serials forwarder_events) ws
 
 next-is : (home : ℕ → Forwarding) (serials : ℕ) (forwarder_events : List ForwarderEvent) (what : ℕ → ForwardingRequest) (g : Forwarding) (gs : List Forwarding)
-    → unanswered forwarder_events ≡ g ∷ gs → Asked home serials g → forwarding_request_of g ≡ what g.serial → IsNextRequest what (home g.serial) forwarder_events
+    → unanswered_requests forwarder_events ≡ g ∷ gs → Asked home serials g → forwarding_request_of g ≡ what g.serial → IsNextRequest what (home g.serial) forwarder_events
 next-is home serials forwarder_events what g gs e a is =
     record { first = g; others = gs; were = e; is = a.same; asks = is; there = a.there }
 
@@ -665,19 +665,19 @@ refused-either a forwarder_events port next true = (next, refl)
 refused-either a forwarder_events port next false = (inl next, refl)
 
 opened : (home : ℕ → Forwarding) (serials : ℕ) (forwarder_events : List ForwarderEvent) (port : Option ℕ) (serial at : ℕ) (fs : List Forwarding)
-    (ws : List Waiting) (o : Option Forwarding) → find (is_asked serial) fs ≡ o → IsNextRequest Listen (home serial) forwarder_events
+    (ws : List Waiting) (o : Option Forwarding) → find (is_listen_unanswered serial) fs ≡ o → IsNextRequest Listen (home serial) forwarder_events
     → All (Stands home serials forwarder_events) fs → All (Waits home serials forwarder_events) ws
     → All (Waits home serials (Replies true port ∷ forwarder_events)) (opened_asks (live_outcome_in port o) serial at ws)
 opened home serials forwarder_events port serial at fs ws None e next all h = all-wait-later home serials (Replies true port) forwarder_events (λ c i. refl) ws h
 opened home serials forwarder_events port serial at fs ws (Some f) e next all h =
-    let one = found (Stands home serials forwarder_events) (is_asked serial) fs f e all in
+    let one = found (Stands home serials forwarder_events) (is_listen_unanswered serial) fs f e all in
     let is = eqb-true f.serial serial (and_parts (f.serial == serial) (asks_at f.stage) one.1).0 in
     let same : (home serial).listen_port ≡ f.listen_port = ap (λ n. (home n).listen_port) (sym is) ∙ one.0.same.listen_port in
-    all-settled home serials (Replies true port) forwarder_events (λ c i. refl) serial true at (granted f.listen_port (bound_to f.listen_port port)) ws
-    (next, ap (λ n. granted n (bound_to n port)) (sym same)) h
+    all-settled home serials (Replies true port) forwarder_events (λ c i. refl) serial true at (outcome_of_grant f.listen_port (bound_port f.listen_port port)) ws
+    (next, ap (λ n. outcome_of_grant n (bound_port n port)) (sym same)) h
 
 replied : (success : Bool) (r : ForwardingRequest) (home : ℕ → Forwarding) (serials : ℕ) (forwarder_events : List ForwarderEvent) (port : Option ℕ) (at : ℕ)
-    (fs : List Forwarding) (ws : List Waiting) (g : Forwarding) (gs : List Forwarding) → unanswered forwarder_events ≡ g ∷ gs
+    (fs : List Forwarding) (ws : List Waiting) (g : Forwarding) (gs : List Forwarding) → unanswered_requests forwarder_events ≡ g ∷ gs
     → Asked home serials g → forwarding_request_of g ≡ r → (r ≡ Listen g.serial) ⊎ (r ≡ Cancel g.serial)
     → All (Stands home serials forwarder_events) fs → All (Waits home serials forwarder_events) ws
     → Replied home serials (Replies success port ∷ forwarder_events) (replied_all success port (Some r) fs)
@@ -695,10 +695,10 @@ replied true (Listen serial) home serials forwarder_events port at fs ws g gs e 
             earlier = forwarder_events;
             were = refl;
             next = subst (λ (n : ℕ). IsNextRequest Listen (home n) forwarder_events) (sym its) next;
-            bound = ap (λ n. bound_to n port) (sym one.listen_port);
+            bound = ap (λ n. bound_port n port) (sym one.listen_port);
           }) k)
           (all-later home serials forwarder_event forwarder_events fs (λ l. refl) all);
-      waiting = opened home serials forwarder_events port serial at fs ws (find (is_asked serial) fs) refl next all h;
+      waiting = opened home serials forwarder_events port serial at fs ws (find (is_listen_unanswered serial) fs) refl next all h;
     }
 replied true (Listen serial) home serials forwarder_events port at fs ws g gs e a is (inr which) all h = cc
 replied true (Cancel serial) home serials forwarder_events port at fs ws g gs e a is (inl which) all h = cc
@@ -718,7 +718,7 @@ replied false (Listen serial) home serials forwarder_events port at fs ws g gs e
     let next : IsNextRequest Listen (home serial) forwarder_events = subst (λ (n : ℕ). IsNextRequest Listen (home n) forwarder_events) (sym same)
     (next-is home serials forwarder_events Listen g gs e a (is ∙ which)) in
     record {
-      all = all-removed (Stands home serials (forwarder_event ∷ forwarder_events)) (position (is_asked serial) fs) fs
+      all = all-removed (Stands home serials (forwarder_event ∷ forwarder_events)) (position (is_listen_unanswered serial) fs) fs
           (all-later home serials forwarder_event forwarder_events fs (λ l. refl) all);
       waiting = all-refused home serials forwarder_event forwarder_events (λ c i. refl) serial at ws (refused-either (home serial) forwarder_events port next) h;
     }
@@ -747,9 +747,9 @@ request-is (Cancelling port) serial = inl refl
 
 -- what a reply leaves, with the requests that wait then
 replied-by : (success : Bool) (port : Option ℕ) (forwarder_events : List ForwarderEvent) (old : ForwardingState) (gs : List Forwarding) (k : Knows forwarder_events old)
-    → unanswered forwarder_events ≡ gs → Replied k.home old.serials (Replies success port ∷ forwarder_events)
-    (replied_all success port (first_of (map forwarding_request_of gs)) old.all)
-    (replied_asks success port (first_of (map forwarding_request_of gs)) old.all old.done old.waiting)
+    → unanswered_requests forwarder_events ≡ gs → Replied k.home old.serials (Replies success port ∷ forwarder_events)
+    (replied_all success port (first_forwarding_request (map forwarding_request_of gs)) old.all)
+    (replied_asks success port (first_forwarding_request (map forwarding_request_of gs)) old.all old.done old.waiting)
 replied-by success port forwarder_events old [] k e = record {
   all = all-later k.home old.serials (Replies success port) forwarder_events old.all (λ l. refl) k.all;
   waiting = all-wait-later k.home old.serials (Replies success port) forwarder_events (λ c i. refl) old.waiting k.waiting;
@@ -767,17 +767,17 @@ after-reply : (success : Bool) (port : Option ℕ) (forwarder_events : List Forw
     → new ≡ reply_received success port old → Knows (Replies success port ∷ forwarder_events) new
 after-reply success port forwarder_events old new k e =
     let forwarder_event : ForwarderEvent = Replies success port in
-    let left = replied-by success port forwarder_events old (unanswered forwarder_events) k refl in
+    let left = replied-by success port forwarder_events old (unanswered_requests forwarder_events) k refl in
     let got : Knows (forwarder_event ∷ forwarder_events) (reply_received success port old) = record {
       home = k.home;
       rules = k.rules;
-      requests = ap (λ (rs : List ForwardingRequest). drop 1 rs) k.requests ∙ drop-map (unanswered forwarder_events);
+      requests = ap (λ (rs : List ForwardingRequest). drop 1 rs) k.requests ∙ drop-map (unanswered_requests forwarder_events);
       all = subst (λ (rs : List ForwardingRequest). All (Stands k.home old.serials (forwarder_event ∷ forwarder_events))
-          (replied_all success port (first_of rs) old.all)) (sym k.requests) left.all;
-      asked = All-drop (Asked k.home old.serials) 1 (unanswered forwarder_events) k.asked;
+          (replied_all success port (first_forwarding_request rs) old.all)) (sym k.requests) left.all;
+      asked = All-drop (Asked k.home old.serials) 1 (unanswered_requests forwarder_events) k.asked;
       waiting = subst (λ (rs : List ForwardingRequest). All (Waits k.home old.serials (forwarder_event ∷ forwarder_events))
-          (replied_asks success port (first_of rs) old.all old.done old.waiting)) (sym k.requests) left.waiting;
-      apart = apart-replied success port (first_of old.requests) old.all old.done old.waiting k.apart;
+          (replied_asks success port (first_forwarding_request rs) old.all old.done old.waiting)) (sym k.requests) left.waiting;
+      apart = apart-replied success port (first_forwarding_request old.requests) old.all old.done old.waiting k.apart;
     } in
     subst (Knows (forwarder_event ∷ forwarder_events)) (sym e) got
 
@@ -934,10 +934,10 @@ next-at P ws f serial l (Live port) next is h e rest = rest e
 next-at P ws f serial l (Cancelling port) next is h e rest = rest e
 
 pub next-closing : (P : Forwarding → Type 0) (ws : List Waiting) (fs : List Forwarding) (serial l : ℕ) → All P fs
-    → next_of ws fs ≡ Some (want.Unlisten serial l) → Closing P serial l
+    → next_listener_order ws fs ≡ Some (want.Unlisten serial l) → Closing P serial l
 next-closing P ws [] serial l h e = cc
 next-closing P ws (f ∷ fs) serial l h e =
-    next-at P ws f serial l f.stage (next_of ws fs) refl (All-head P f fs h) e
+    next-at P ws f serial l f.stage (next_listener_order ws fs) refl (All-head P f fs h) e
     (λ rest. next-closing P ws fs serial l (All-tail P f fs h) rest)
 
 -- a listener that stays isn't the one that is closed
@@ -945,7 +945,7 @@ stays : (l : ℕ) (f : Forwarding) → not (has_listener l f) ≡ true → Lets 
 stays l f e k is = not-true (k == l) (subst (λ (s : Stage). not (is_listener l (listener_at s)) ≡ true) is e)
 
 pub closing-of : (l : ℕ) (forwarder_events : List ForwarderEvent) (old : ForwardingState) (k : Knows forwarder_events old) (serial : ℕ)
-    → next_of old.waiting old.all ≡ Some (want.Unlisten serial l) → Closing (Stands k.home old.serials forwarder_events) serial l
+    → next_listener_order old.waiting old.all ≡ Some (want.Unlisten serial l) → Closing (Stands k.home old.serials forwarder_events) serial l
 closing-of l forwarder_events old k serial e = next-closing (Stands k.home old.serials forwarder_events) old.waiting old.all serial l k.all e
 
 after-unlisten : (l : ℕ) (forwarder_events : List ForwarderEvent) (old new : ForwardingState) → Knows forwarder_events old → EndsListener l old new
@@ -962,8 +962,8 @@ after-unlisten l forwarder_events old new k h =
     let pass = filter_passes (λ f. not (has_listener l f)) old.all in
     let t : ForwardingState = record old {
       all = kept;
-      waiting = settled h.serial false old.done Done old.waiting;
-      done = counted old.done;
+      waiting = requests_settled h.serial false old.done Done old.waiting;
+      done = one_more_outcome old.done;
     } in
     let got : Knows (forwarder_event ∷ forwarder_events) t = record {
       home = k.home;

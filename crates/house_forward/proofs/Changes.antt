@@ -11,7 +11,7 @@ use Rattle.mux_outside.specs.declared.own_streams.OwnStream.{OwnStream}
 use Rattle.mux_outside.specs.declared.piece.TheConstants.{LONGEST_PIECE}
 use Rattle.house_relay.specs.declared.relay.Relay.{Relay}
 use Rattle.house_forward.specs.Due.{stream_due, link_due, count_if, turns}
-use Rattle.house_forward.specs.Links.{own_stream_of, streams_of, are_distinct, is_left, is_without, is_offered, is_awaited, offers, awaits, is_taken, made_stream, made_streams}
+use Rattle.house_forward.specs.Links.{own_stream_of, streams_of, are_distinct, is_left, is_without, is_offered, is_awaited, offers, awaits_stream, is_taken, made_stream, made_streams}
 use Rattle.house_forward.specs.declared.link.Link.{Link}
 use Rattle.house_forward.specs.declared.link.LinkStream.{LinkStream}
 use Rattle.house_forward.specs.declared.link.LinkStream.TheVariants.{Offered, Awaited, Made, Gone}
@@ -138,13 +138,13 @@ ordered ls i x y e at few distinct is =
 
 -- ---- a stream is made
 
-awaits-none : (s : LinkStream) → awaits s ≡ true → own_stream_of s ≡ None
+awaits-none : (s : LinkStream) → awaits_stream s ≡ true → own_stream_of s ≡ None
 awaits-none (Offered host port) e = cc
 awaits-none Awaited e = refl
 awaits-none (Made own) e = cc
 awaits-none Gone e = cc
 
-awaits-due : (s : LinkStream) (r : Relay) → awaits s ≡ true → stream_due s r ≡ 4
+awaits-due : (s : LinkStream) (r : Relay) → awaits_stream s ≡ true → stream_due s r ≡ 4
 awaits-due (Offered host port) r e = cc
 awaits-due Awaited r e = refl
 awaits-due (Made own) r e = cc

@@ -13,28 +13,28 @@ use Rattle.socks_dialog.specs.declared.outcome.Outcome.{Outcome}
 use Rattle.socks_dialog.specs.declared.outcome.Outcome.TheVariants.{Wants, Connects, Breaks}
 use Rattle.socks_dialog.proofs.Dialogs.{socks-parse}
 use Rattle.house_relay.specs.Acts.{RelayAct, Reads, Ends, Takes, Fails, Confirms, Refuses, Delivers, ReceivesEof, ReceivesClose, SendsData, SendsAdjust, SendsEof, SendsClose, Other}
-use Rattle.house_relay.specs.Acts.{answer, read, outcome_in, socket_has_ended, received_close, sent_close}
-use Rattle.house_relay.specs.ChannelState.{in_live, over_if, takes_in, receives_close, has_no_more}
+use Rattle.house_relay.specs.Acts.{answer, read, outcome_in, socket_has_ended, received_close, was_close_sent}
+use Rattle.house_relay.specs.ChannelState.{step_if_live, over_if, takes_in, receives_close, has_no_more}
 use Rattle.house_relay.specs.Next.{sends_of, sends_offered, sends_live, chunk}
-use Rattle.house_relay.specs.Relay.{LineStands, IsDialing, socket_stream_of, delivers, is_broken, is_done, answered_in, received_in}
-use Rattle.house_relay.specs.Steps.{fresh_relay, made_as, confirmed_in, refused_in, connected, failing, no_channel_left_of, ComesOf, DialsIn, IsToDial, IsOpenAskedFor}
+use Rattle.house_relay.specs.Relay.{LineStands, IsDialing, socket_stream_of, delivers, is_broken, is_done, answered_in, received_if_live}
+use Rattle.house_relay.specs.Steps.{fresh_relay, made_as, confirmed_in, refused_in, socket_connected, failing, no_channel_left_of, ComesOf, DialsIn, IsToDial, IsOpenAskedFor}
 use Rattle.house_relay.specs.declared.line.Live.{Live as LiveState}
 use Rattle.house_relay.specs.declared.line.ChannelState.{ChannelState}
 use Rattle.house_relay.specs.declared.line.ChannelState.TheVariants.{Dialing, Asked, Opened, Offered, Live, Over}
 use Rattle.house_relay.specs.declared.relay.Relay.{Relay}
 use Rattle.house_relay.specs.declared.relay.Outgoing.{Outgoing}
 use Rattle.house_relay.specs.declared.relay.Outgoing.TheVariants as outgoing
-use Rattle.house_relay.specs.declared.relay.Socket.{Socket}
-use Rattle.house_relay.specs.declared.relay.Socket.TheVariants as socket
+use Rattle.house_relay.specs.declared.relay.RelaySocket.{RelaySocket}
+use Rattle.house_relay.specs.declared.relay.RelaySocket.TheVariants as socket
 use Rattle.house_relay.proofs.Whole.{keeps}
-use Rattle.house_forward.specs.Closing.{ClosesHaveCause, socket_has_failed, IsClosed, IsRefused, HasBroken, IsThrough, IsServed, IsStream, HasNoChannel}
+use Rattle.house_forward.specs.Closing.{ClosesHaveCause, socket_has_failed, IsClosed, IsOpenRefused, HasBroken, IsThrough, IsSocketServed, IsStream, HasNoChannel}
 use Rattle.house_forward.specs.Forwardings.{has_listener}
 use Rattle.house_forward.specs.Going.{act_of_sending}
 use Rattle.house_forward.specs.Heard.{received_of, act_received}
-use Rattle.house_forward.specs.Links.{IsRelayJoined, IsJoinedAt, IsDialed, HasNoChannelLeft, after_sending, relay_after}
+use Rattle.house_forward.specs.Links.{IsRelayJoined, IsJoinedAt, DialsOrCloses, HasNoChannelLeft, relay_after_sending, relay_after}
 use Rattle.house_forward.specs.RelayTraces.{Life, Trace, RelayGoesBy, TraceReaches, first_trace}
 use Rattle.house_forward.specs.RelayTraces.{has_stream, is_stream, unmade, are_full, are_dialogs_full, link_own_after, relay_act_of, made_life}
-use Rattle.house_forward.specs.Numbers.{number_of}
+use Rattle.house_forward.specs.Numbers.{own_stream_number}
 use Rattle.house_forward.specs.Opening.{IsCallBefore}
 use Rattle.house_forward.specs.declared.forwarding.Forwarding.{Forwarding}
 use Rattle.house_forward.specs.declared.link.LinkStep.{LinkStep}
@@ -80,7 +80,7 @@ heard-more SendsEof acts e = e
 heard-more SendsClose acts e = e
 heard-more Other acts e = e
 
-said-more : (act : RelayAct) (acts : List RelayAct) → sent_close acts ≡ true → sent_close (act ∷ acts) ≡ true
+said-more : (act : RelayAct) (acts : List RelayAct) → was_close_sent acts ≡ true → was_close_sent (act ∷ acts) ≡ true
 said-more (Reads bytes) acts e = e
 said-more Ends acts e = e
 said-more (Takes bytes) acts e = e
@@ -107,7 +107,7 @@ outcome-more bytes piece ne = ap (λ (d : Dialog). d.outcome) (socks-parse.stays
 -- ---- why a channel is over, where its socket isn't broken
 
 abbrev OverBy : Bool → List RelayAct → Type 0
-OverBy dials acts = IsClosed acts ⊎ (IsRefused acts ⊎ HasBroken dials acts)
+OverBy dials acts = IsClosed acts ⊎ (IsOpenRefused acts ⊎ HasBroken dials acts)
 
 over-more : (dials : Bool) (act : RelayAct) (acts : List RelayAct) → answer (act ∷ acts) ≡ answer acts → read (act ∷ acts) ≡ read acts
     → OverBy dials acts → OverBy dials (act ∷ acts)
@@ -125,7 +125,7 @@ over-reads dials bytes acts (inr (inr h)) =
     clash : Breaks h.reply ≡ Wants → ⊥
     clash e = cc
 
-abbrev OverRight : ChannelState → Socket → Bool → List RelayAct → Type 0
+abbrev OverRight : ChannelState → RelaySocket → Bool → List RelayAct → Type 0
 OverRight (Dialing dialog) s dials acts = Unit {0}
 OverRight (Asked host port version) s dials acts = Unit {0}
 OverRight (Opened version) s dials acts = Unit {0}
@@ -133,7 +133,7 @@ OverRight (Offered remote window maximum) s dials acts = Unit {0}
 OverRight (Live live) s dials acts = Unit {0}
 OverRight Over s dials acts = is_broken s ≡ false → OverBy dials acts
 
-right-more : (line : ChannelState) (s : Socket) (dials : Bool) (act : RelayAct) (acts : List RelayAct) → answer (act ∷ acts) ≡ answer acts
+right-more : (line : ChannelState) (s : RelaySocket) (dials : Bool) (act : RelayAct) (acts : List RelayAct) → answer (act ∷ acts) ≡ answer acts
     → read (act ∷ acts) ≡ read acts → OverRight line s dials acts → OverRight line s dials (act ∷ acts)
 right-more (Dialing dialog) s dials act acts e f h = tt
 right-more (Asked host port version) s dials act acts e f h = tt
@@ -142,7 +142,7 @@ right-more (Offered remote window maximum) s dials act acts e f h = tt
 right-more (Live live) s dials act acts e f h = tt
 right-more Over s dials act acts e f h = λ whole. over-more dials act acts e f (h whole)
 
-right-reads : (line : ChannelState) (s : Socket) (dials : Bool) (bytes : List ℕ) (acts : List RelayAct) → OverRight line s dials acts
+right-reads : (line : ChannelState) (s : RelaySocket) (dials : Bool) (bytes : List ℕ) (acts : List RelayAct) → OverRight line s dials acts
     → OverRight line s dials (Reads bytes ∷ acts)
 right-reads (Dialing dialog) s dials bytes acts h = tt
 right-reads (Asked host port version) s dials bytes acts h = tt
@@ -152,7 +152,7 @@ right-reads (Live live) s dials bytes acts h = tt
 right-reads Over s dials bytes acts h = λ whole. over-reads dials bytes acts (h whole)
 
 -- where another socket is no less broken
-right-socket : (line : ChannelState) (s s' : Socket) (dials : Bool) (acts : List RelayAct) → (is_broken s' ≡ false → is_broken s ≡ false)
+right-socket : (line : ChannelState) (s s' : RelaySocket) (dials : Bool) (acts : List RelayAct) → (is_broken s' ≡ false → is_broken s ≡ false)
     → OverRight line s dials acts → OverRight line s' dials acts
 right-socket (Dialing dialog) s s' dials acts f h = tt
 right-socket (Asked host port version) s s' dials acts f h = tt
@@ -182,13 +182,13 @@ live-says P r live none close failure adjust data-of eof =
 abbrev with-line : ChannelState → Relay → Relay
 with-line line r = record r { line = line }
 
-over-said : (b : Bool) (live : LiveState) (s : Socket) (dials : Bool) (acts : List RelayAct) → b ≡ received_close acts
+over-said : (b : Bool) (live : LiveState) (s : RelaySocket) (dials : Bool) (acts : List RelayAct) → b ≡ received_close acts
     → OverRight (over_if b live) s dials (SendsClose ∷ acts)
 over-said true live s dials acts e = λ whole. inl (record { heard = sym e; said = refl })
 over-said false live s dials acts e = tt
 
-says-offer : (s : Socket) (remote window maximum : ℕ) (r : Relay) (dials : Bool) (acts : List RelayAct) → is_some (sends_offered s) ≡ true
-    → OverRight (after_sending (sends_offered s) (with-line (Offered remote window maximum) r)).line s dials
+says-offer : (s : RelaySocket) (remote window maximum : ℕ) (r : Relay) (dials : Bool) (acts : List RelayAct) → is_some (sends_offered s) ≡ true
+    → OverRight (relay_after_sending (sends_offered s) (with-line (Offered remote window maximum) r)).line s dials
     (act_of_sending (sends_offered s) (with-line (Offered remote window maximum) r) ∷ acts)
 says-offer (socket.Open t) remote window maximum r dials acts e = tt
 says-offer socket.Unmade remote window maximum r dials acts e = cc
@@ -199,27 +199,27 @@ says-offer socket.Closed remote window maximum r dials acts e = λ whole. cc
 
 says-right : (line : ChannelState) (r : Relay) (dials : Bool) (acts : List RelayAct) → is_some (sends_of (with-line line r)) ≡ true
     → LineStands line dials acts
-    → OverRight (after_sending (sends_of (with-line line r)) (with-line line r)).line r.socket dials
+    → OverRight (relay_after_sending (sends_of (with-line line r)) (with-line line r)).line r.socket dials
     (act_of_sending (sends_of (with-line line r)) (with-line line r) ∷ acts)
 says-right (Dialing dialog) r dials acts e stands = cc
 says-right (Asked host port version) r dials acts e stands = tt
 says-right (Opened version) r dials acts e stands = cc
 says-right (Offered remote window maximum) r dials acts e stands = says-offer r.socket remote window maximum r dials acts e
 says-right (Live live) r dials acts e stands =
-    live-says (λ (o : Option Outgoing). OverRight (after_sending o (with-line (Live live) r)).line r.socket dials
+    live-says (λ (o : Option Outgoing). OverRight (relay_after_sending o (with-line (Live live) r)).line r.socket dials
     (act_of_sending o (with-line (Live live) r) ∷ acts))
     (with-line (Live live) r) live tt (over-said live.close_received _ r.socket dials acts stands.close_received) tt (λ n. tt) (λ n. tt) tt
 says-right Over r dials acts e stands = cc
 
 -- ---- what is received
 
-over-heard : (b : Bool) (live : LiveState) (s : Socket) (dials : Bool) (acts : List RelayAct) → b ≡ sent_close acts
+over-heard : (b : Bool) (live : LiveState) (s : RelaySocket) (dials : Bool) (acts : List RelayAct) → b ≡ was_close_sent acts
     → OverRight (over_if b live) s dials (ReceivesClose ∷ acts)
 over-heard true live s dials acts e = λ whole. inl (record { heard = refl; said = sym e })
 over-heard false live s dials acts e = tt
 
-receives-live : (f : LiveState → LiveState) (act : ChannelState → RelayAct) (line : ChannelState) (s : Socket) (dials : Bool) (acts : List RelayAct) → act Over ≡ Other
-    → OverRight line s dials acts → OverRight (in_live (λ live. Live (f live)) line) s dials (act line ∷ acts)
+receives-live : (f : LiveState → LiveState) (act : ChannelState → RelayAct) (line : ChannelState) (s : RelaySocket) (dials : Bool) (acts : List RelayAct) → act Over ≡ Other
+    → OverRight line s dials acts → OverRight (step_if_live (λ live. Live (f live)) line) s dials (act line ∷ acts)
 receives-live f act (Dialing dialog) s dials acts e h = tt
 receives-live f act (Asked host port version) s dials acts e h = tt
 receives-live f act (Opened version) s dials acts e h = tt
@@ -255,8 +255,8 @@ receives-data (Offered theirs room most) bytes r dials acts h = tt
 receives-data (Live live) bytes r dials acts h = tt
 receives-data Over bytes r dials acts h = λ whole. over-more dials Other acts refl refl (h whole)
 
-receives-end : (line : ChannelState) (s : Socket) (dials : Bool) (acts : List RelayAct) → LineStands line dials acts → OverRight line s dials acts
-    → OverRight (in_live receives_close line) s dials (received_in line ReceivesClose ∷ acts)
+receives-end : (line : ChannelState) (s : RelaySocket) (dials : Bool) (acts : List RelayAct) → LineStands line dials acts → OverRight line s dials acts
+    → OverRight (step_if_live receives_close line) s dials (received_if_live line ReceivesClose ∷ acts)
 receives-end (Dialing dialog) s dials acts stands h = tt
 receives-end (Asked host port version) s dials acts stands h = tt
 receives-end (Opened version) s dials acts stands h = tt
@@ -264,7 +264,7 @@ receives-end (Offered remote window maximum) s dials acts stands h = tt
 receives-end (Live live) s dials acts stands h = over-heard live.close_sent _ s dials acts stands.close_sent
 receives-end Over s dials acts stands h = λ whole. over-more dials Other acts refl refl (h whole)
 
-receives-other : (line : ChannelState) (s : Socket) (dials : Bool) (acts : List RelayAct) → OverRight line s dials acts
+receives-other : (line : ChannelState) (s : RelaySocket) (dials : Bool) (acts : List RelayAct) → OverRight line s dials acts
     → OverRight line s dials (Other ∷ acts)
 receives-other line s dials acts h = right-more line s dials Other acts refl refl h
 
@@ -285,14 +285,14 @@ receives-right (message.Data recipient bytes) r dials acts s h =
     (sym (data-same (delivers r) bytes.now r)) (receives-data r.line bytes.now r dials acts h)
 receives-right (message.Extended recipient code bytes) r dials acts s h = receives-other r.line r.socket dials acts h
 receives-right (message.Eof recipient) r dials acts s h =
-    receives-live _ (λ line. received_in line ReceivesEof) r.line r.socket dials acts refl h
+    receives-live _ (λ line. received_if_live line ReceivesEof) r.line r.socket dials acts refl h
 receives-right (message.Close recipient) r dials acts s h = receives-end r.line r.socket dials acts s h
 receives-right (message.Request recipient kind want rest) r dials acts s h =
     receives-live _ (λ line. Other) r.line r.socket dials acts refl h
 receives-right (message.Success recipient) r dials acts s h = receives-other r.line r.socket dials acts h
 receives-right (message.Failure recipient) r dials acts s h = receives-other r.line r.socket dials acts h
 
-takes-right : (bytes : List ℕ) (line : ChannelState) (s : Socket) (dials : Bool) (acts : List RelayAct) → OverRight line s dials acts
+takes-right : (bytes : List ℕ) (line : ChannelState) (s : RelaySocket) (dials : Bool) (acts : List RelayAct) → OverRight line s dials acts
     → OverRight (takes_in (length bytes) line) s dials (Takes bytes ∷ acts)
 takes-right bytes (Dialing dialog) s dials acts h = tt
 takes-right bytes (Asked host port version) s dials acts h = tt
@@ -303,7 +303,7 @@ takes-right bytes Over s dials acts h = λ whole. over-more dials (Takes bytes) 
 
 -- ---- why a socket is broken
 
-abbrev Cause : List HouseCall → Option OwnStream → List RelayAct → Socket → Type 0
+abbrev Cause : List HouseCall → Option OwnStream → List RelayAct → RelaySocket → Type 0
 Cause calls own acts socket.Unmade = Unit {0}
 Cause calls own acts (socket.Connecting t) = Unit {0}
 Cause calls own acts (socket.Open t) = Unit {0}
@@ -311,7 +311,7 @@ Cause calls own acts (socket.Failed t) = socket_has_failed acts ≡ true
 Cause calls own acts (socket.NoChannelLeft t) = HasNoChannel calls own
 Cause calls own acts socket.Closed = Unit {0}
 
-cause-more : (calls : List HouseCall) (own : Option OwnStream) (act : RelayAct) (acts : List RelayAct) (s : Socket) → Cause calls own acts s
+cause-more : (calls : List HouseCall) (own : Option OwnStream) (act : RelayAct) (acts : List RelayAct) (s : RelaySocket) → Cause calls own acts s
     → Cause calls own (act ∷ acts) s
 cause-more calls own act acts socket.Unmade h = tt
 cause-more calls own act acts (socket.Connecting t) h = tt
@@ -338,7 +338,7 @@ none-after calls s own (inr h) = inr (record {
   cause = h.cause;
 })
 
-cause-own : (calls : List HouseCall) (s : LinkStep) (own : Option OwnStream) (act : RelayAct) (acts : List RelayAct) (k : Socket) → Cause calls own acts k
+cause-own : (calls : List HouseCall) (s : LinkStep) (own : Option OwnStream) (act : RelayAct) (acts : List RelayAct) (k : RelaySocket) → Cause calls own acts k
     → Cause calls (link_own_after s own) (act ∷ acts) k
 cause-own calls s own act acts socket.Unmade h = tt
 cause-own calls s own act acts (socket.Connecting t) h = tt
@@ -347,8 +347,8 @@ cause-own calls s own act acts (socket.Failed t) h = failed-more act acts h
 cause-own calls s own act acts (socket.NoChannelLeft t) h = none-after calls s own h
 cause-own calls s own act acts socket.Closed h = tt
 
-cause-connected : (calls : List HouseCall) (own : Option OwnStream) (acts : List RelayAct) (k : Socket) → Cause calls own acts k
-    → Cause calls own acts (connected k)
+cause-connected : (calls : List HouseCall) (own : Option OwnStream) (acts : List RelayAct) (k : RelaySocket) → Cause calls own acts k
+    → Cause calls own acts (socket_connected k)
 cause-connected calls own acts socket.Unmade h = tt
 cause-connected calls own acts (socket.Connecting t) h = tt
 cause-connected calls own acts (socket.Open t) h = tt
@@ -356,7 +356,7 @@ cause-connected calls own acts (socket.Failed t) h = h
 cause-connected calls own acts (socket.NoChannelLeft t) h = h
 cause-connected calls own acts socket.Closed h = tt
 
-cause-failing : (calls : List HouseCall) (own : Option OwnStream) (acts : List RelayAct) (k : Socket) → socket_has_failed acts ≡ true
+cause-failing : (calls : List HouseCall) (own : Option OwnStream) (acts : List RelayAct) (k : RelaySocket) → socket_has_failed acts ≡ true
     → Cause calls own acts (failing k)
 cause-failing calls own acts socket.Unmade h = tt
 cause-failing calls own acts (socket.Connecting t) h = h
@@ -375,7 +375,7 @@ cause-step calls step.Writable own acts r h =
     cause-connected calls (link_own_after step.Writable own) (Other ∷ acts) r.socket (cause-own calls step.Writable own Other acts r.socket h)
 cause-step calls step.Failed own acts r h = cause-failing calls (link_own_after step.Failed own) (Fails ∷ acts) r.socket refl
 
-whole-connected : (s : Socket) → is_broken (connected s) ≡ false → is_broken s ≡ false
+whole-connected : (s : RelaySocket) → is_broken (socket_connected s) ≡ false → is_broken s ≡ false
 whole-connected socket.Unmade e = refl
 whole-connected (socket.Connecting t) e = refl
 whole-connected (socket.Open t) e = refl
@@ -383,7 +383,7 @@ whole-connected (socket.Failed t) e = e
 whole-connected (socket.NoChannelLeft t) e = e
 whole-connected socket.Closed e = e
 
-whole-failing : (s : Socket) → is_broken (failing s) ≡ false → is_broken s ≡ false
+whole-failing : (s : RelaySocket) → is_broken (failing s) ≡ false → is_broken s ≡ false
 whole-failing socket.Unmade e = refl
 whole-failing (socket.Connecting t) e = refl
 whole-failing (socket.Open t) e = refl
@@ -426,18 +426,18 @@ caused-on : (calls : List HouseCall) (so : Relay → Relay → Type 0) (act : Re
     → b.relay.socket ≡ a.relay.socket → OverRight b.relay.line a.relay.socket a.dials (act ∷ a.acts)
     → Cause calls a.own a.acts a.relay.socket → Caused calls b
 caused-on calls so act a b h same over broken = record {
-  broken = subst (λ (s : Socket). Cause calls b.own b.acts s) (sym same)
+  broken = subst (λ (s : RelaySocket). Cause calls b.own b.acts s) (sym same)
       (subst (λ (acts : List RelayAct). Cause calls b.own acts a.relay.socket) (sym h.acts)
       (subst (λ (own : Option OwnStream). Cause calls own (act ∷ a.acts) a.relay.socket) (sym h.own)
       (cause-more calls a.own act a.acts a.relay.socket broken)));
-  over = subst (λ (s : Socket). OverRight b.relay.line s b.dials b.acts) (sym same)
+  over = subst (λ (s : RelaySocket). OverRight b.relay.line s b.dials b.acts) (sym same)
       (subst (λ (acts : List RelayAct). OverRight b.relay.line a.relay.socket b.dials acts) (sym h.acts)
       (subst (λ (d : Bool). OverRight b.relay.line a.relay.socket d (act ∷ a.acts)) (sym h.dials) over));
 }
 
 -- ---- its socket gives bytes
 
-dialing-right : (line : ChannelState) (s : Socket) (dials : Bool) (acts : List RelayAct) → IsToDial line → OverRight line s dials acts
+dialing-right : (line : ChannelState) (s : RelaySocket) (dials : Bool) (acts : List RelayAct) → IsToDial line → OverRight line s dials acts
 dialing-right (Dialing dialog) s dials acts h = tt
 dialing-right (Asked host port version) s dials acts h = absurd h
 dialing-right (Opened version) s dials acts h = absurd h
@@ -445,7 +445,7 @@ dialing-right (Offered remote window maximum) s dials acts h = absurd h
 dialing-right (Live live) s dials acts h = absurd h
 dialing-right Over s dials acts h = absurd h
 
-asked-right : (host : List ℕ) (port : ℕ) (line : ChannelState) (s : Socket) (dials : Bool) (acts : List RelayAct) → IsOpenAskedFor host port line
+asked-right : (host : List ℕ) (port : ℕ) (line : ChannelState) (s : RelaySocket) (dials : Bool) (acts : List RelayAct) → IsOpenAskedFor host port line
     → OverRight line s dials acts
 asked-right host port (Dialing dialog) s dials acts h = absurd h
 asked-right host port (Asked host' port' version) s dials acts h = tt
@@ -454,7 +454,7 @@ asked-right host port (Offered remote window maximum) s dials acts h = absurd h
 asked-right host port (Live live) s dials acts h = absurd h
 asked-right host port Over s dials acts h = absurd h
 
-no_channel_left-broken : (s : Socket) (n : ℕ) → socket_stream_of s ≡ Some n → is_broken (no_channel_left_of s) ≡ true
+no_channel_left-broken : (s : RelaySocket) (n : ℕ) → socket_stream_of s ≡ Some n → is_broken (no_channel_left_of s) ≡ true
 no_channel_left-broken (socket.Connecting t) n e = refl
 no_channel_left-broken (socket.Open t) n e = refl
 no_channel_left-broken socket.Unmade n e = cc
@@ -462,7 +462,7 @@ no_channel_left-broken (socket.Failed t) n e = refl
 no_channel_left-broken (socket.NoChannelLeft t) n e = refl
 no_channel_left-broken socket.Closed n e = cc
 
-no_channel_left-cause : (calls : List HouseCall) (own : Option OwnStream) (acts : List RelayAct) (s : Socket) → HasNoChannel calls own
+no_channel_left-cause : (calls : List HouseCall) (own : Option OwnStream) (acts : List RelayAct) (s : RelaySocket) → HasNoChannel calls own
     → Cause calls own acts (no_channel_left_of s)
 no_channel_left-cause calls own acts (socket.Connecting t) h = h
 no_channel_left-cause calls own acts (socket.Open t) h = h
@@ -471,7 +471,7 @@ no_channel_left-cause calls own acts (socket.Failed t) h = h
 no_channel_left-cause calls own acts (socket.NoChannelLeft t) h = h
 no_channel_left-cause calls own acts socket.Closed h = tt
 
-streamed : (t : ℕ) (own : Option OwnStream) (s : Socket) → is_stream t own ≡ true → socket_stream_of s ≡ number_of own
+streamed : (t : ℕ) (own : Option OwnStream) (s : RelaySocket) → is_stream t own ≡ true → socket_stream_of s ≡ own_stream_number own
     → (n : ℕ) × (socket_stream_of s ≡ Some n)
 streamed t None s is e = cc
 streamed t (Some own) s is e = (own.number, e)
@@ -522,7 +522,7 @@ same-gets : (calls : List HouseCall) (bytes : List ℕ) (a b : Life) → Caused 
     → Cause calls a.own (Reads bytes ∷ a.acts) b.relay.socket × OverRight b.relay.line b.relay.socket a.dials (Reads bytes ∷ a.acts)
 same-gets calls bytes a b p e f = (
   subst (Cause calls a.own (Reads bytes ∷ a.acts)) (sym f) (cause-more calls a.own (Reads bytes) a.acts a.relay.socket p.broken),
-  subst (λ (s : Socket). OverRight b.relay.line s a.dials (Reads bytes ∷ a.acts)) (sym f)
+  subst (λ (s : RelaySocket). OverRight b.relay.line s a.dials (Reads bytes ∷ a.acts)) (sym f)
       (subst (λ (line : ChannelState). OverRight line a.relay.socket a.dials (Reads bytes ∷ a.acts)) (sym e)
       (right-reads a.relay.line a.relay.socket a.dials bytes a.acts p.over)),
 )
@@ -543,7 +543,7 @@ gets-right calls t bytes old before a b s p is (Offered remote window maximum) e
 gets-right calls t bytes old before a b s p is (Live live) e h = same-gets calls bytes a b p h.0 h.1
 gets-right calls t bytes old before a b s p is Over e h = same-gets calls bytes a b p h.0 h.1
 
--- ---- one is joined
+-- ---- one is accepted
 
 no_channel_left-caused : (calls : List HouseCall) (joins t : ℕ) (r : Relay) → HasNoChannelLeft t r → HasNoChannel calls (Some (new_stream t))
     → Caused calls (joined_life joins t r)
@@ -560,7 +560,7 @@ asked-caused calls joins t r host port e = record {
 }
 
 dialed-caused : (calls : List HouseCall) (joins t : ℕ) (r : Relay) (dialogs_full : Bool) → (dialogs_full ≡ true → HasNoChannel calls (Some (new_stream t)))
-    → IsDialed dialogs_full t r → Caused calls (joined_life joins t r)
+    → DialsOrCloses dialogs_full t r → Caused calls (joined_life joins t r)
 dialed-caused calls joins t r true none h = no_channel_left-caused calls joins t r h (none refl)
 dialed-caused calls joins t r false none h = record {
   broken = subst (λ (x : Relay). Cause calls (Some (new_stream t)) [] x.socket) (sym h) tt;
@@ -589,7 +589,7 @@ made-cause : (calls : List HouseCall) (number : Option ℕ) (own : Option OwnStr
 made-cause calls None own acts = tt
 made-cause calls (Some t) own acts = tt
 
-unmade-whole : (s : Socket) → unmade s ≡ true → is_broken s ≡ false
+unmade-whole : (s : RelaySocket) → unmade s ≡ true → is_broken s ≡ false
 unmade-whole socket.Unmade e = refl
 unmade-whole (socket.Connecting t) e = cc
 unmade-whole (socket.Open t) e = cc
@@ -651,7 +651,7 @@ through-over dials acts (inl h) = inl h
 through-over dials acts (inr (inl h)) = inr (inl h)
 through-over dials acts (inr (inr h)) = inr (inr (inl h))
 
-through : (line : ChannelState) (s : Socket) (dials : Bool) (acts : List RelayAct) (ended : Bool) → ended ≡ socket_has_ended acts → LineStands line dials acts
+through : (line : ChannelState) (s : RelaySocket) (dials : Bool) (acts : List RelayAct) (ended : Bool) → ended ≡ socket_has_ended acts → LineStands line dials acts
     → OverRight line s dials acts → is_broken s ≡ false → has_no_more ended line ≡ true → IsThrough dials acts
 through (Dialing dialog) s dials acts ended e stands right whole no-more =
     inr (inr (inr (record { dialed = stands.socks; wants = stands.wants; ended = sym e ∙ no-more })))
@@ -662,9 +662,9 @@ through (Live live) s dials acts ended e stands right whole no-more = cc
 through Over s dials acts ended e stands right whole no-more = through-over dials acts (right whole)
 
 abbrev Reason : List HouseCall → Life → Type 0
-Reason calls l = (socket_has_failed l.acts ≡ true) ⊎ (IsServed l.dials l.acts ⊎ HasNoChannel calls l.own)
+Reason calls l = (socket_has_failed l.acts ≡ true) ⊎ (IsSocketServed l.dials l.acts ⊎ HasNoChannel calls l.own)
 
-broken-reason : (calls : List HouseCall) (l : Life) (n : ℕ) (s : Socket) → socket_stream_of s ≡ Some n → Cause calls l.own l.acts s
+broken-reason : (calls : List HouseCall) (l : Life) (n : ℕ) (s : RelaySocket) → socket_stream_of s ≡ Some n → Cause calls l.own l.acts s
     → is_broken s ≡ true → Reason calls l
 broken-reason calls l n socket.Unmade e h is = cc
 broken-reason calls l n (socket.Connecting t) e h is = cc
@@ -695,7 +695,7 @@ reason calls l own e p done =
     by : (is_broken l.relay.socket ≡ true)
         ⊎ ((is_broken l.relay.socket ≡ false) × ((has_no_more l.relay.ended l.relay.line && (length l.relay.queue.waiting == 0)) ≡ true))
         → Reason calls l
-    by (inl h) = broken-reason calls l own.number l.relay.socket (p.0.stream ∙ ap number_of e) p.1.broken h
+    by (inl h) = broken-reason calls l own.number l.relay.socket (p.0.stream ∙ ap own_stream_number e) p.1.broken h
     by (inr h) = served calls l p h.0 h.1
 
 pub closes-have-cause : ClosesHaveCause

@@ -12,24 +12,24 @@ use Rattle.socks_dialog.specs.declared.outcome.Outcome.TheVariants.{Wants, Conne
 use Rattle.house_relay.specs.Acts.{RelayAct, outcome_in}
 use Rattle.house_relay.specs.Next.{sends_of, sends_offered}
 use Rattle.house_relay.specs.Relay.{LineStands, IsDialing, socket_stream_of, is_broken, is_done}
-use Rattle.house_relay.specs.Steps.{made_as, connected, failing, ComesOf, DialsIn, IsToDial, IsOpenAskedFor}
+use Rattle.house_relay.specs.Steps.{made_as, socket_connected, failing, ComesOf, DialsIn, IsToDial, IsOpenAskedFor}
 use Rattle.house_relay.specs.declared.line.Live.{Live as LiveState}
 use Rattle.house_relay.specs.declared.line.ChannelState.{ChannelState}
 use Rattle.house_relay.specs.declared.line.ChannelState.TheVariants.{Dialing, Asked, Opened, Offered, Live, Over}
 use Rattle.house_relay.specs.declared.relay.Relay.{Relay}
 use Rattle.house_relay.specs.declared.relay.Outgoing.{Outgoing}
 use Rattle.house_relay.specs.declared.relay.Outgoing.TheVariants as outgoing
-use Rattle.house_relay.specs.declared.relay.Socket.{Socket}
-use Rattle.house_relay.specs.declared.relay.Socket.TheVariants as socket
+use Rattle.house_relay.specs.declared.relay.RelaySocket.{RelaySocket}
+use Rattle.house_relay.specs.declared.relay.RelaySocket.TheVariants as socket
 use Rattle.house_forward.specs.Closing.{IsStream}
 use Rattle.house_forward.specs.Confirming.{ConfirmsConnected, RefusesUnconnected, is_confirmation, is_failure, HasHappened, HasNoNumber, HasFailedSince, IsConfirmationOf, IsFailureOf}
 use Rattle.house_forward.specs.Connects.{ConnectPlace}
 use Rattle.house_forward.specs.Forwardings.{has_request}
-use Rattle.house_forward.specs.Links.{IsRelayJoined, IsJoinedAt, after_sending, relay_after}
+use Rattle.house_forward.specs.Links.{IsRelayJoined, IsJoinedAt, relay_after_sending, relay_after}
 use Rattle.house_forward.specs.RelayTraces.{Life, Trace, RelayGoesBy, TraceReaches, Follows, SendsBy, first_trace}
 use Rattle.house_forward.specs.RelayTraces.{has_stream, is_stream, are_full}
-use Rattle.house_forward.specs.Numbers.{open_streams, number_of}
-use Rattle.house_forward.specs.Said.{framed, relay_sent_by, confirmed, not_connected, payload_if}
+use Rattle.house_forward.specs.Numbers.{open_streams, own_stream_number}
+use Rattle.house_forward.specs.Said.{framed, relay_sent_by, confirmation_of_open, not_connected, payload_if}
 use Rattle.house_forward.specs.declared.forwarding.Forwarding.{Forwarding}
 use Rattle.house_forward.specs.declared.link.LinkStep.{LinkStep}
 use Rattle.house_forward.specs.declared.link.LinkStep.TheVariants as step
@@ -58,12 +58,12 @@ Sets old new = SettlesBy offer old new
 later : FailsLater offer
 later = record { live = λ live. refl; over = refl }
 
-live-said : (o : Option Outgoing) (live : LiveState) (r : Relay) → offer (after_sending o (with-line (Live live) r)).line ≡ false
+live-said : (o : Option Outgoing) (live : LiveState) (r : Relay) → offer (relay_after_sending o (with-line (Live live) r)).line ≡ false
 live-said None live r = refl
 live-said (Some s) live r = settled-said offer later s live r
 
-offered-said : (s : Socket) (remote window maximum : ℕ) (r : Relay) → is_some (sends_offered s) ≡ true
-    → offer (after_sending (sends_offered s) (with-line (Offered remote window maximum) r)).line ≡ false
+offered-said : (s : RelaySocket) (remote window maximum : ℕ) (r : Relay) → is_some (sends_offered s) ≡ true
+    → offer (relay_after_sending (sends_offered s) (with-line (Offered remote window maximum) r)).line ≡ false
 offered-said (socket.Open t) remote window maximum r e = refl
 offered-said socket.Unmade remote window maximum r e = cc
 offered-said (socket.Connecting t) remote window maximum r e = cc
@@ -72,7 +72,7 @@ offered-said (socket.NoChannelLeft t) remote window maximum r e = refl
 offered-said socket.Closed remote window maximum r e = refl
 
 said : (line : ChannelState) (r : Relay) → is_some (sends_of (with-line line r)) ≡ true
-    → offer (after_sending (sends_of (with-line line r)) (with-line line r)).line ≡ false
+    → offer (relay_after_sending (sends_of (with-line line r)) (with-line line r)).line ≡ false
 said (Dialing dialog) r e = cc
 said (Asked host port version) r e = refl
 said (Opened version) r e = cc
@@ -183,7 +183,7 @@ Shut (Offered remote window maximum) calls to = Lost calls to
 Shut (Live live) calls to = Unit {0}
 Shut Over calls to = Unit {0}
 
-abbrev At : List HouseCall → ConnectPlace → ChannelState → Socket → Type 0
+abbrev At : List HouseCall → ConnectPlace → ChannelState → RelaySocket → Type 0
 At calls to line socket.Unmade = Unit {0}
 At calls to line (socket.Connecting t) = Made calls to t
 At calls to line (socket.Open t) = HasHappened calls to t (Writable t)
@@ -191,7 +191,7 @@ At calls to line (socket.Failed t) = HasHappened calls to t (Failed t)
 At calls to line (socket.NoChannelLeft t) = ⊥
 At calls to line socket.Closed = Shut line calls to
 
-abbrev WiredTo : Option ConnectPlace → List HouseCall → Bool → ChannelState → Socket → Type 0
+abbrev WiredTo : Option ConnectPlace → List HouseCall → Bool → ChannelState → RelaySocket → Type 0
 WiredTo None calls dials line s = offer line ≡ false
 WiredTo (Some to) calls dials line s = (dials ≡ false) × At calls to line s
 
@@ -210,7 +210,7 @@ shut-more calls call to (Offered remote window maximum) h = lost-more calls call
 shut-more calls call to (Live live) h = tt
 shut-more calls call to Over h = tt
 
-at-more : (calls : List HouseCall) (call : HouseCall) (to : ConnectPlace) (line : ChannelState) (s : Socket) → At calls to line s
+at-more : (calls : List HouseCall) (call : HouseCall) (to : ConnectPlace) (line : ChannelState) (s : RelaySocket) → At calls to line s
     → At (calls ++ call ∷ []) to line s
 at-more calls call to line socket.Unmade h = tt
 at-more calls call to line (socket.Connecting t) h = made-more calls call to t h
@@ -219,7 +219,7 @@ at-more calls call to line (socket.Failed t) h = happened-more calls call to t (
 at-more calls call to line (socket.NoChannelLeft t) h = absurd h
 at-more calls call to line socket.Closed h = shut-more calls call to line h
 
-wired-more : (calls : List HouseCall) (call : HouseCall) (o : Option ConnectPlace) (dials : Bool) (line : ChannelState) (s : Socket)
+wired-more : (calls : List HouseCall) (call : HouseCall) (o : Option ConnectPlace) (dials : Bool) (line : ChannelState) (s : RelaySocket)
     → WiredTo o calls dials line s → WiredTo o (calls ++ call ∷ []) dials line s
 wired-more calls call None dials line s h = h
 wired-more calls call (Some to) dials line s h = (h.0, at-more calls call to line s h.1)
@@ -236,7 +236,7 @@ shut-sets : (calls : List HouseCall) (to : ConnectPlace) (old new : ChannelState
 shut-sets calls to old new (inl e) h = shut-none calls to new e
 shut-sets calls to old new (inr e) h = subst (λ (line : ChannelState). Shut line calls to) (sym e) h
 
-at-sets : (calls : List HouseCall) (to : ConnectPlace) (old new : ChannelState) (s : Socket) → Sets old new → At calls to old s → At calls to new s
+at-sets : (calls : List HouseCall) (to : ConnectPlace) (old new : ChannelState) (s : RelaySocket) → Sets old new → At calls to old s → At calls to new s
 at-sets calls to old new socket.Unmade e h = tt
 at-sets calls to old new (socket.Connecting t) e h = h
 at-sets calls to old new (socket.Open t) e h = h
@@ -248,7 +248,7 @@ none-sets : (old new : ChannelState) → Sets old new → offer old ≡ false �
 none-sets old new (inl e) h = e
 none-sets old new (inr e) h = ap offer e ∙ h
 
-wired-sets : (calls : List HouseCall) (o : Option ConnectPlace) (dials : Bool) (old new : ChannelState) (s : Socket) → Sets old new
+wired-sets : (calls : List HouseCall) (o : Option ConnectPlace) (dials : Bool) (old new : ChannelState) (s : RelaySocket) → Sets old new
     → WiredTo o calls dials old s → WiredTo o calls dials new s
 wired-sets calls None dials old new s e h = none-sets old new e h
 wired-sets calls (Some to) dials old new s e h = (h.0, at-sets calls to old new s e h.1)
@@ -260,7 +260,7 @@ wired-on : (calls : List HouseCall) (so : Relay → Relay → Type 0) (act : Rel
 wired-on calls so act a b h sets same p =
     subst (λ (o : Option ConnectPlace). WiredTo o calls b.dials b.relay.line b.relay.socket) (sym h.to)
     (subst (λ (d : Bool). WiredTo a.to calls d b.relay.line b.relay.socket) (sym h.dials)
-    (subst (λ (s : Socket). WiredTo a.to calls a.dials b.relay.line s) (sym same)
+    (subst (λ (s : RelaySocket). WiredTo a.to calls a.dials b.relay.line s) (sym same)
     (wired-sets calls a.to a.dials a.relay.line b.relay.line a.relay.socket sets p)))
 
 gets-wired : (calls : List HouseCall) (free : Bool) (bytes : List ℕ) (o : Option ConnectPlace) (a b : Life) → Sound a
@@ -270,19 +270,19 @@ gets-wired calls free bytes None a b s h p =
     none-sets a.relay.line b.relay.line (gets-sets a.relay.line free bytes a b refl s h) p
 gets-wired calls free bytes (Some to) a b s h p = (
   p.0,
-  subst (λ (k : Socket). At calls to b.relay.line k) (sym (gets-socket a.relay.line free bytes a b refl s p.0 h))
+  subst (λ (k : RelaySocket). At calls to b.relay.line k) (sym (gets-socket a.relay.line free bytes a b refl s p.0 h))
       (at-sets calls to a.relay.line b.relay.line a.relay.socket (gets-sets a.relay.line free bytes a b refl s h) p.1),
 )
 
 -- its stream is this one
-its-number : (t n : ℕ) (own : Option OwnStream) → is_stream t own ≡ true → Some n ≡ number_of own → n ≡ t
+its-number : (t n : ℕ) (own : Option OwnStream) → is_stream t own ≡ true → Some n ≡ own_stream_number own → n ≡ t
 its-number t n None is e = cc
 its-number t n (Some own) is e = the n own.number e ∙ eqb-true own.number t is
   where
     the : (x y : ℕ) → Some x ≡ Some y → x ≡ y
     the x y e = cc
 
-no-stream : (t : ℕ) (own : Option OwnStream) → is_stream t own ≡ true → None ≡ number_of own → ⊥
+no-stream : (t : ℕ) (own : Option OwnStream) → is_stream t own ≡ true → None ≡ own_stream_number own → ⊥
 no-stream t None is e = cc
 no-stream t (Some own) is e = cc
 
@@ -291,9 +291,9 @@ turned : (calls : List HouseCall) (call : HouseCall) (to : ConnectPlace) (t n : 
 turned calls call to t n so e f h =
     subst (λ (c : HouseCall). HasHappened (calls ++ c ∷ []) to n (so n)) (ap (λ (k : ℕ). Turns (so k)) f ∙ sym e) (happens calls to n (so n) h)
 
-writable-at : (calls : List HouseCall) (call : HouseCall) (to : ConnectPlace) (t : ℕ) (own : Option OwnStream) (line : ChannelState) (s : Socket)
-    → call ≡ Turns (Writable t) → is_stream t own ≡ true → socket_stream_of s ≡ number_of own → At calls to line s
-    → At (calls ++ call ∷ []) to line (connected s)
+writable-at : (calls : List HouseCall) (call : HouseCall) (to : ConnectPlace) (t : ℕ) (own : Option OwnStream) (line : ChannelState) (s : RelaySocket)
+    → call ≡ Turns (Writable t) → is_stream t own ≡ true → socket_stream_of s ≡ own_stream_number own → At calls to line s
+    → At (calls ++ call ∷ []) to line (socket_connected s)
 writable-at calls call to t own line socket.Unmade e is same h = tt
 writable-at calls call to t own line (socket.Connecting n) e is same h =
     turned calls call to t n (λ k. Writable k) e (its-number t n own is same) h
@@ -302,8 +302,8 @@ writable-at calls call to t own line (socket.Failed n) e is same h = at-more cal
 writable-at calls call to t own line (socket.NoChannelLeft n) e is same h = absurd h
 writable-at calls call to t own line socket.Closed e is same h = shut-more calls call to line h
 
-failed-at : (calls : List HouseCall) (call : HouseCall) (to : ConnectPlace) (t : ℕ) (own : Option OwnStream) (line : ChannelState) (s : Socket)
-    → call ≡ Turns (Failed t) → is_stream t own ≡ true → socket_stream_of s ≡ number_of own → At calls to line s
+failed-at : (calls : List HouseCall) (call : HouseCall) (to : ConnectPlace) (t : ℕ) (own : Option OwnStream) (line : ChannelState) (s : RelaySocket)
+    → call ≡ Turns (Failed t) → is_stream t own ≡ true → socket_stream_of s ≡ own_stream_number own → At calls to line s
     → At (calls ++ call ∷ []) to line (failing s)
 failed-at calls call to t own line socket.Unmade e is same h = tt
 failed-at calls call to t own line (socket.Connecting n) e is same h =
@@ -314,8 +314,8 @@ failed-at calls call to t own line (socket.Failed n) e is same h = at-more calls
 failed-at calls call to t own line (socket.NoChannelLeft n) e is same h = absurd h
 failed-at calls call to t own line socket.Closed e is same h = shut-more calls call to line h
 
-broken-lost : (calls : List HouseCall) (call : HouseCall) (to : ConnectPlace) (t : ℕ) (own : Option OwnStream) (line : ChannelState) (s : Socket)
-    → is_broken s ≡ true → is_stream t own ≡ true → socket_stream_of s ≡ number_of own → At calls to line s → Lost (calls ++ call ∷ []) to
+broken-lost : (calls : List HouseCall) (call : HouseCall) (to : ConnectPlace) (t : ℕ) (own : Option OwnStream) (line : ChannelState) (s : RelaySocket)
+    → is_broken s ≡ true → is_stream t own ≡ true → socket_stream_of s ≡ own_stream_number own → At calls to line s → Lost (calls ++ call ∷ []) to
 broken-lost calls call to t own line socket.Unmade e is same h = cc
 broken-lost calls call to t own line (socket.Connecting n) e is same h = cc
 broken-lost calls call to t own line (socket.Open n) e is same h = cc
@@ -331,7 +331,7 @@ offered-broken r remote window maximum h = by (is_broken r.socket) h
     by false h = cc
 
 shut-at : (calls : List HouseCall) (call : HouseCall) (to : ConnectPlace) (t : ℕ) (own : Option OwnStream) (line : ChannelState) (r : Relay)
-    → is_done (with-line line r) ≡ true → is_stream t own ≡ true → socket_stream_of r.socket ≡ number_of own → At calls to line r.socket
+    → is_done (with-line line r) ≡ true → is_stream t own ≡ true → socket_stream_of r.socket ≡ own_stream_number own → At calls to line r.socket
     → Shut line (calls ++ call ∷ []) to
 shut-at calls call to t own (Dialing dialog) r done is same h = tt
 shut-at calls call to t own (Asked host port version) r done is same h = tt
@@ -374,7 +374,7 @@ made-at : (calls : List HouseCall) (number : Option ℕ) (to : ConnectPlace) (li
 made-at calls None to line = shut-lost _ to line (inl (record { before = calls; behind = []; are = refl }))
 made-at calls (Some t) to line = record { before = calls; behind = []; are = refl }
 
-makes-wired : (calls : List HouseCall) (to : ConnectPlace) (number : Option ℕ) (o : Option ConnectPlace) (dials : Bool) (line : ChannelState) (s : Socket) → o ≡ Some to
+makes-wired : (calls : List HouseCall) (to : ConnectPlace) (number : Option ℕ) (o : Option ConnectPlace) (dials : Bool) (line : ChannelState) (s : RelaySocket) → o ≡ Some to
     → WiredTo o calls dials line s
     → WiredTo o (calls ++ Marks (HouseOrder (order.Connect to.0 to.1) number) ∷ []) dials line (made_as number)
 makes-wired calls to number None dials line s e h = cc
@@ -429,7 +429,7 @@ record Confirmed (remote window maximum : ℕ) (r : Relay) : Type 0 where
   line : r.line ≡ Offered remote window maximum
   stream : ℕ
   socket_is : r.socket ≡ socket.Open stream
-  words : relay_sent_by r ≡ confirmed remote r.number
+  words : relay_sent_by r ≡ confirmation_of_open remote r.number
 
 record Denied (remote window maximum : ℕ) (r : Relay) : Type 0 where
   line : r.line ≡ Offered remote window maximum
@@ -444,10 +444,10 @@ abbrev Answers : Relay → Type 0
 Answers r = Neither r ⊎ (((remote : ℕ) × (window : ℕ) × (maximum : ℕ) × Confirmed remote window maximum r)
     ⊎ ((remote : ℕ) × (window : ℕ) × (maximum : ℕ) × Denied remote window maximum r))
 
-abbrev with-socket : Socket → Relay → Relay
+abbrev with-socket : RelaySocket → Relay → Relay
 with-socket s r = record r { socket = s }
 
-answers-offer : (s : Socket) (remote window maximum : ℕ) (r : Relay) → is_some (sends_offered s) ≡ true
+answers-offer : (s : RelaySocket) (remote window maximum : ℕ) (r : Relay) → is_some (sends_offered s) ≡ true
     → Answers (with-socket s (with-line (Offered remote window maximum) r))
 answers-offer (socket.Open t) remote window maximum r e =
     inr (inl (remote, window, maximum, record { line = refl; stream = t; socket_is = refl; words = refl }))
@@ -513,11 +513,11 @@ there : (calls : List HouseCall) (o : Option ConnectPlace) (l : Life) → l.to �
 there calls None l e is h = absurd (both_ways (offer l.relay.line) h is)
 there calls (Some to) l e is h = record { to = to; is = e; at = h.1 }
 
-number-its : (n : ℕ) (own : Option OwnStream) → Some n ≡ number_of own → IsStream own n
+number-its : (n : ℕ) (own : Option OwnStream) → Some n ≡ own_stream_number own → IsStream own n
 number-its n None e = tt
 number-its n (Some own) e = cc
 
-none-its : (n : ℕ) (own : Option OwnStream) → None ≡ number_of own → IsStream own n
+none-its : (n : ℕ) (own : Option OwnStream) → None ≡ own_stream_number own → IsStream own n
 none-its n None e = tt
 none-its n (Some own) e = cc
 
@@ -544,11 +544,11 @@ confirmation calls relay_traces bytes is x (inr (inl c)) =
       };
       says = x.says ∙ ap framed c.3.words;
       its = number-its c.3.stream x.life.own (sym (ap socket_stream_of c.3.socket_is) ∙ x.sounds.stream);
-      writable = subst (λ (s : Socket). At calls where_to.to x.life.relay.line s) c.3.socket_is where_to.at;
+      writable = subst (λ (s : RelaySocket). At calls where_to.to x.life.relay.line s) c.3.socket_is where_to.at;
     }
 
-lost-since : (calls : List HouseCall) (l : Life) (to : ConnectPlace) (remote window maximum : ℕ) (s : Socket) → is_broken s ≡ true
-    → socket_stream_of s ≡ number_of l.own → At calls to (Offered remote window maximum) s → HasNoNumber calls to ⊎ HasFailedSince calls l to
+lost-since : (calls : List HouseCall) (l : Life) (to : ConnectPlace) (remote window maximum : ℕ) (s : RelaySocket) → is_broken s ≡ true
+    → socket_stream_of s ≡ own_stream_number l.own → At calls to (Offered remote window maximum) s → HasNoNumber calls to ⊎ HasFailedSince calls l to
 lost-since calls l to remote window maximum socket.Unmade e same h = cc
 lost-since calls l to remote window maximum (socket.Connecting n) e same h = cc
 lost-since calls l to remote window maximum (socket.Open n) e same h = cc

@@ -14,20 +14,20 @@ use Rattle.mux_outside.specs.declared.order.Order.{Order}
 use Rattle.mux_outside.specs.declared.order.Order.TheVariants as order
 use Rattle.mux_outside.specs.declared.own_streams.OwnStream.{OwnStream}
 use Rattle.house_relay.specs.Acts.{RelayAct, Reads, Takes}
-use Rattle.house_relay.specs.ChannelState.{counts}
+use Rattle.house_relay.specs.ChannelState.{is_counted_channel}
 use Rattle.house_relay.specs.Next.{sends_of}
 use Rattle.house_relay.specs.Relay.{socket_stream_of}
-use Rattle.house_relay.specs.Steps.{is_socket_closed, is_gone, connected, failing}
+use Rattle.house_relay.specs.Steps.{is_socket_closed, is_gone, socket_connected, failing}
 use Rattle.house_relay.specs.declared.relay.Relay.{Relay}
-use Rattle.house_relay.specs.declared.relay.Socket.{Socket}
-use Rattle.house_relay.specs.declared.relay.Socket.TheVariants as socket
-use Rattle.house_forward.specs.Connects.{ConnectPlace, OneConnectEach, still_to_connect, places_connected_by, connect_marked, connect_in, connects_in, taken_call, taken_in, place_of}
+use Rattle.house_relay.specs.declared.relay.RelaySocket.{RelaySocket}
+use Rattle.house_relay.specs.declared.relay.RelaySocket.TheVariants as socket
+use Rattle.house_forward.specs.Connects.{ConnectPlace, OneConnectEach, still_to_connect, places_connected_by, connect_marked, connect_in, connects_in, taken_call, accepted_places_in, connect_places_of}
 use Rattle.house_forward.specs.Forwardings.{has_request, has_listener}
 use Rattle.house_forward.specs.Going.{GetsOn, TakesOn}
 use Rattle.house_forward.specs.Links.{relay_after}
-use Rattle.house_forward.specs.RelayTraces.{Life, Trace, RelayGoesBy, Speaks, Listens, StepsBy, MakesOne, TraceReaches, Follows, SendsBy, MarksIn, OrdersIn, TurnsTo, first_trace, with_received}
-use Rattle.house_forward.specs.RelayTraces.{has_channel, has_stream, is_stream, has_words, is_socket_unmade, unmade, are_full, stepped, made_life, kept_in}
-use Rattle.house_forward.specs.Numbers.{number_of}
+use Rattle.house_forward.specs.RelayTraces.{Life, Trace, RelayGoesBy, Speaks, Listens, StepsBy, MakesOne, TraceReaches, Follows, SendsBy, MarksIn, OrdersInTrace, TurnsTo, first_trace, with_received}
+use Rattle.house_forward.specs.RelayTraces.{has_channel, has_stream, is_stream, has_words, is_socket_unmade, unmade, are_full, life_stepped, made_life, kept_in}
+use Rattle.house_forward.specs.Numbers.{own_stream_number}
 use Rattle.house_forward.specs.declared.forwarding.Forwarding.{Forwarding}
 use Rattle.house_forward.specs.declared.link.LinkStep.{LinkStep}
 use Rattle.house_forward.specs.declared.link.LinkStep.TheVariants as step
@@ -42,7 +42,7 @@ abbrev due : Life → Option ConnectPlace
 due l = if is_socket_unmade l then l.to else None
 
 -- one with a stream has a socket
-pub streamed : (s : Socket) (t : ℕ) → socket_stream_of s ≡ Some t → unmade s ≡ false
+pub streamed : (s : RelaySocket) (t : ℕ) → socket_stream_of s ≡ Some t → unmade s ≡ false
 streamed (socket.Connecting stream) t e = refl
 streamed (socket.Open stream) t e = refl
 streamed socket.Unmade t e = cc
@@ -50,7 +50,7 @@ streamed (socket.Failed stream) t e = refl
 streamed (socket.NoChannelLeft stream) t e = refl
 streamed socket.Closed t e = refl
 
-pub owned : (t : ℕ) (own : Option OwnStream) (s : Socket) → is_stream t own ≡ true → socket_stream_of s ≡ number_of own → unmade s ≡ false
+pub owned : (t : ℕ) (own : Option OwnStream) (s : RelaySocket) → is_stream t own ≡ true → socket_stream_of s ≡ own_stream_number own → unmade s ≡ false
 owned t None s is e = cc
 owned t (Some own) s is e = streamed s own.number e
 
@@ -58,9 +58,9 @@ not-due : (l : Life) → is_socket_unmade l ≡ false → due l ≡ None
 not-due l e = ap (λ (b : Bool). if b then l.to else None) e
 
 gone-due : (l : Life) → Sound l → is_gone l.relay ≡ true → due l ≡ None
-gone-due l s e = not-due l (closed l.relay.socket (and_parts (is_socket_closed l.relay.socket) (not (counts l.relay.line)) e).0)
+gone-due l s e = not-due l (closed l.relay.socket (and_parts (is_socket_closed l.relay.socket) (not (is_counted_channel l.relay.line)) e).0)
   where
-    closed : (s : Socket) → is_socket_closed s ≡ true → unmade s ≡ false
+    closed : (s : RelaySocket) → is_socket_closed s ≡ true → unmade s ≡ false
     closed (socket.Connecting t) e = refl
     closed (socket.Open t) e = refl
     closed socket.Unmade e = cc
@@ -72,7 +72,7 @@ gone-due l s e = not-due l (closed l.relay.socket (and_parts (is_socket_closed l
 due-same : (so : Relay → Relay → Type 0) (act : RelayAct) (a b : Life) → RelayGoesBy so act a b → b.relay.socket ≡ a.relay.socket
     → due b ≡ due a
 due-same so act a b h e =
-    ap (λ (s : Socket). if unmade s then b.to else None) e ∙ ap (λ (to : Option ConnectPlace). if is_socket_unmade a then to else None) h.to
+    ap (λ (s : RelaySocket). if unmade s then b.to else None) e ∙ ap (λ (to : Option ConnectPlace). if is_socket_unmade a then to else None) h.to
 
 due-says : (bytes : List ℕ) (a b : Life) → Speaks bytes a b → due b ≡ due a
 due-says bytes a b h = due-same _ _ a b h.1
@@ -98,7 +98,7 @@ step-made step.End r e = e
 step-made step.Close r e = refl
 step-made step.Writable r e = becomes r.socket e
   where
-    becomes : (s : Socket) → unmade s ≡ false → unmade (connected s) ≡ false
+    becomes : (s : RelaySocket) → unmade s ≡ false → unmade (socket_connected s) ≡ false
     becomes (socket.Connecting t) e = refl
     becomes (socket.Open t) e = refl
     becomes socket.Unmade e = e
@@ -107,7 +107,7 @@ step-made step.Writable r e = becomes r.socket e
     becomes socket.Closed e = refl
 step-made step.Failed r e = becomes r.socket e
   where
-    becomes : (s : Socket) → unmade s ≡ false → unmade (failing s) ≡ false
+    becomes : (s : RelaySocket) → unmade s ≡ false → unmade (failing s) ≡ false
     becomes (socket.Connecting t) e = refl
     becomes (socket.Open t) e = refl
     becomes socket.Unmade e = e
@@ -120,7 +120,7 @@ due-step s t l sounds is =
     let made = owned t l.own l.relay.socket is sounds.stream in
     not-due (step_of s l) (step-made s l.relay made) ∙ sym (not-due l made)
 
-steps-due : (s : LinkStep) (t : ℕ) (ls : List Life) → Each Sound ls → still_to_connect (map (stepped s t) ls) ≡ still_to_connect ls
+steps-due : (s : LinkStep) (t : ℕ) (ls : List Life) → Each Sound ls → still_to_connect (map (life_stepped s t) ls) ≡ still_to_connect ls
 steps-due s t ls all = pick-stepped due Sound s t (due-step s t) ls all
 
 kept-due : (ls : List Life) → Each Sound ls → still_to_connect (kept_in ls) ≡ still_to_connect ls
@@ -138,7 +138,7 @@ applies connects = record {
       (sym (kept-due new (each-one Sound (has_channel n) (Listens m) old new (λ a b s is goes. sound-receives m a b s goes) one sounds)
       ∙ one-picks due Sound (has_channel n) (Listens m) old new (λ a b s is goes. due-receives m a b goes) sounds one));
   offers = λ f number remote window maximum old taken free h.
-      ap (λ ps. ps ++ place_of (Some f)) h ∙ append_assoc connects (still_to_connect old) (place_of (Some f))
+      ap (λ ps. ps ++ connect_places_of (Some f)) h ∙ append_assoc connects (still_to_connect old) (connect_places_of (Some f))
       ∙ ap (λ ps. connects ++ ps) (sym (pick-push due old (offered_life f number remote window maximum)));
 }
 
@@ -157,7 +157,7 @@ due-steps-by : (o : Order) (k : LinkStep) (t : ℕ) (old new : Trace) → StepsB
     → still_to_connect new.relay_traces ≡ still_to_connect old.relay_traces
 due-steps-by o k t old new h s =
     ap (λ (c : Trace). still_to_connect c.relay_traces) h.1
-    ∙ kept-due (map (stepped k t) old.relay_traces) (stepped-sound k t old.relay_traces s.relay_traces)
+    ∙ kept-due (map (life_stepped k t) old.relay_traces) (stepped-sound k t old.relay_traces s.relay_traces)
     ∙ steps-due k t old.relay_traces s.relay_traces
 
 -- none is to be connected of those in front
@@ -185,7 +185,7 @@ due-makes host port number old new h =
     ∙ ap (λ o. cons_option o (still_to_connect h.behind)) its
     ∙ ap (λ ps. (host, port) ∷ ps) (sym left)
 
-due-orders : (o : Order) (number : Option ℕ) (old new : Trace) → OrdersIn o number old new → All Sound old
+due-orders : (o : Order) (number : Option ℕ) (old new : Trace) → OrdersInTrace o number old new → All Sound old
     → still_to_connect old.relay_traces ≡ connect_in o ++ still_to_connect new.relay_traces
 due-orders (order.Listen host port) number old new h s = sym (ap (λ (c : Trace). still_to_connect c.relay_traces) h.2)
 due-orders (order.Connect host port) number old new h s = due-makes host port number old new h
@@ -243,14 +243,14 @@ due-follow (TakesBytes t bytes) old new h connects taken s owes =
     ∙ most-picks due Sound (has_stream t) (RelayGoesBy (TakesOn bytes) (Takes bytes)) old.relay_traces h.0 (λ a b x is goes. due-takes bytes a b goes) s.relay_traces h.1)) owes
 
 due-reach : (calls : List HouseCall) (old new : Trace) (h : TraceReaches old calls new) (connects taken : List ConnectPlace) → All Sound old
-    → Owes connects old.relay_traces taken → Owes (connects ++ connects_in calls) new.relay_traces (taken ++ taken_in calls old new h)
+    → Owes connects old.relay_traces taken → Owes (connects ++ connects_in calls) new.relay_traces (taken ++ accepted_places_in calls old new h)
 due-reach [] old new h connects taken s owes =
     connected-more connects [] old.relay_traces new.relay_traces taken (sym (ap (λ (c : Trace). still_to_connect c.relay_traces) h)) owes
 due-reach (call ∷ calls) old new h connects taken s owes =
     let one = due-follow call old h.0 h.1 connects taken s owes in
     let rest = due-reach calls h.0 new h.2 (connects ++ places_connected_by call) (taken ++ taken_call call old h.0 h.1)
     (follow-sound call old h.0 h.1 s) one in
-    sym (append_assoc taken (taken_call call old h.0 h.1) (taken_in calls h.0 new h.2)) ∙ rest
+    sym (append_assoc taken (taken_call call old h.0 h.1) (accepted_places_in calls h.0 new h.2)) ∙ rest
     ∙ ap (λ ps. ps ++ still_to_connect new.relay_traces) (append_assoc connects (places_connected_by call) (connects_in calls))
 
 pub one-connect-each : OneConnectEach

@@ -2,8 +2,8 @@
 use Rattle.std.proofs.Common.{◌≡◌, refl, ap, ℕ, zero, suc, ◌≤◌, ◌==◌, Bool, true, false, cond, List, [], ◌∷◌, ◌++◌, length, map, filter, take, drop, Option, arith}
 use Rattle.std.specs.Prelude.{if◌then◌else◌}
 use Rattle.std.specs.List.{remove}
-use Rattle.house_forward.specs.Asks.{how_many_of, settle_one, settled, is_ask_about, ask_settled_at}
-use Rattle.house_forward.specs.declared.asks.Outcome.{Outcome}
+use Rattle.house_forward.specs.Asks.{how_many_of, settle_one, requests_settled, is_ask_about, ask_settled_at}
+use Rattle.house_forward.specs.declared.asks.RequestOutcome.{RequestOutcome}
 use Rattle.house_forward.specs.declared.asks.Waiting.{Waiting}
 use Rattle.house_forward.specs.declared.rules.TheConstants.{MOST_ASKS}
 
@@ -39,12 +39,12 @@ mapped p f same (x ∷ xs) = same-more (p (f x)) (p x) (f x) x (filter p (map f 
 abbrev pub AreFew : List Waiting → Type 0
 AreFew ws = (client : ℕ) → how_many_of client ws ≤ MOST_ASKS
 
-if-settled : (b : Bool) (o : Option (ℕ × Outcome)) (w : Waiting) → (if b then record w { outcome = o } else w).client ≡ w.client
+if-settled : (b : Bool) (o : Option (ℕ × RequestOutcome)) (w : Waiting) → (if b then record w { outcome = o } else w).client ≡ w.client
 if-settled true o w = refl
 if-settled false o w = refl
 
 -- as some have an outcome
-pub few-settled : (serial : ℕ) (opening : Bool) (at : ℕ) (outcome : Outcome) (ws : List Waiting) → AreFew ws → AreFew (settled serial opening at outcome ws)
+pub few-settled : (serial : ℕ) (opening : Bool) (at : ℕ) (outcome : RequestOutcome) (ws : List Waiting) → AreFew ws → AreFew (requests_settled serial opening at outcome ws)
 few-settled serial opening at outcome ws few client =
     let same = mapped (λ (w : Waiting). w.client == client) (settle_one serial opening at outcome)
     (λ w. ap (λ (c : ℕ). c == client) (if-settled (is_ask_about serial opening w) (ask_settled_at at outcome w.outcome) w)) ws in

@@ -11,12 +11,12 @@ use Rattle.house_relay.specs.Steps.{fresh_relay, DialsIn}
 use Rattle.house_relay.specs.declared.line.ChannelState.{ChannelState}
 use Rattle.house_relay.specs.declared.line.ChannelState.TheVariants.{Dialing, Asked, Opened, Offered, Live, Over}
 use Rattle.house_relay.specs.declared.relay.Relay.{Relay}
-use Rattle.house_relay.specs.declared.relay.Socket.TheVariants as socket
+use Rattle.house_relay.specs.declared.relay.RelaySocket.TheVariants as socket
 use Rattle.house_forward.specs.Forwardings.{has_request, has_listener}
-use Rattle.house_forward.specs.Links.{IsRelayJoined, IsJoinedAt, IsDialed as DialsFor, HasNoChannelLeft}
+use Rattle.house_forward.specs.Links.{IsRelayJoined, IsJoinedAt, DialsOrCloses as DialsFor, HasNoChannelLeft}
 use Rattle.house_forward.specs.RelayTraces.{Life, Trace, RelayGoesBy, TraceReaches, SendsBy, first_trace}
 use Rattle.house_forward.specs.RelayTraces.{is_stream, is_socket_unmade, unmade, are_full, are_dialogs_full, link_own_after, made_life}
-use Rattle.house_forward.specs.Opening.{OpensGoRight, is_open, may_open, IsCallBefore, IsJoinedFor, IsPlainKind, ConnectsTo, IsDynamic, IsDialed, IsOpenOf}
+use Rattle.house_forward.specs.Opening.{OpensGoRight, is_open_message, may_send_open, IsCallBefore, IsJoinedFor, IsPlainKind, ConnectsTo, IsDynamic, IsDialedEnd, IsOpenOf}
 use Rattle.house_forward.specs.Said.{framed, relay_sent_by}
 use Rattle.house_forward.specs.declared.forwarding.Forwarding.{Forwarding}
 use Rattle.house_forward.specs.declared.link.LinkStep.{LinkStep}
@@ -30,7 +30,7 @@ use Rattle.house_forward.proofs.Opening.{Settles, may-later, SendsOpen, spoken}
 use Rattle.house_forward.proofs.Settling.{settles-receives, settles-takes, line-step}
 use Rattle.house_forward.proofs.Sound.{Each, All, Sound, KeptSound, Both, with-sound, all-reach, each-back, joined_life, step_of}
 
--- ---- where an OPEN is to be sent, it is for what was joined
+-- ---- where an OPEN is to be sent, it is for what was accepted
 
 abbrev pub RightFor : List HouseCall → Option OwnStream → Option ℕ → List ℕ → ℕ → Option ℕ → Type 0
 RightFor calls own nth host port None = IsJoinedFor calls own nth (ConnectsTo host port)
@@ -46,9 +46,9 @@ Right calls own nth Over = Unit {0}
 
 pub record Aimed (calls : List HouseCall) (l : Life) : Type 0 where
   pub right : Right calls l.own l.joined l.relay.line
-  pub unmade_none : is_socket_unmade l ≡ true → may_open l.relay.line ≡ false
+  pub unmade_none : is_socket_unmade l ≡ true → may_send_open l.relay.line ≡ false
 
-none-right : (calls : List HouseCall) (own : Option OwnStream) (nth : Option ℕ) (line : ChannelState) → may_open line ≡ false → Right calls own nth line
+none-right : (calls : List HouseCall) (own : Option OwnStream) (nth : Option ℕ) (line : ChannelState) → may_send_open line ≡ false → Right calls own nth line
 none-right calls own nth (Dialing dialog) e = cc
 none-right calls own nth (Asked host port version) e = cc
 none-right calls own nth (Opened version) e = tt
@@ -61,9 +61,9 @@ settles-right : (calls : List HouseCall) (own : Option OwnStream) (nth : Option 
 settles-right calls own nth old new (inl e) h = none-right calls own nth new e
 settles-right calls own nth old new (inr e) h = subst (Right calls own nth) (sym e) h
 
-settles-none : (old new : ChannelState) → Settles old new → may_open old ≡ false → may_open new ≡ false
+settles-none : (old new : ChannelState) → Settles old new → may_send_open old ≡ false → may_send_open new ≡ false
 settles-none old new (inl e) h = e
-settles-none old new (inr e) h = ap may_open e ∙ h
+settles-none old new (inr e) h = ap may_send_open e ∙ h
 
 -- its channel settles or stays, and so does all else
 aimed-on : (calls : List HouseCall) (so : Relay → Relay → Type 0) (act : RelayAct) (a b : Life) → RelayGoesBy so act a b
@@ -141,10 +141,10 @@ gets-right calls (Offered remote window maximum) free bytes a b e h s s' same ri
 gets-right calls (Live live) free bytes a b e h s s' same right = subst (Right calls a.own a.joined) (sym (h.0 ∙ e)) right
 gets-right calls Over free bytes a b e h s s' same right = subst (Right calls a.own a.joined) (sym (h.0 ∙ e)) right
 
--- ---- one is joined
+-- ---- one is accepted
 
 no_channel_left-right : (calls : List HouseCall) (joins t : ℕ) (r : Relay) → HasNoChannelLeft t r → Right calls (Some (new_stream t)) (Some joins) r.line
-no_channel_left-right calls joins t r h = none-right calls (Some (new_stream t)) (Some joins) r.line (ap (λ (x : Relay). may_open x.line) h)
+no_channel_left-right calls joins t r h = none-right calls (Some (new_stream t)) (Some joins) r.line (ap (λ (x : Relay). may_send_open x.line) h)
 
 record JoinedThere (calls : List HouseCall) (joins l t : ℕ) (f : Forwarding) : Type 0 where
   trace : Trace
@@ -194,7 +194,7 @@ joined-right calls l t false dialogs_full (Some f) trace r before e h =
 
 -- ---- all steps
 
-not-unmade : (l : Life) → is_socket_unmade l ≡ false → is_socket_unmade l ≡ true → may_open l.relay.line ≡ false
+not-unmade : (l : Life) → is_socket_unmade l ≡ false → is_socket_unmade l ≡ true → may_send_open l.relay.line ≡ false
 not-unmade l e f = absurd (both_ways (is_socket_unmade l) e f)
 
 made-none : (number : Option ℕ) (a : Life) → is_socket_unmade (made_life number a) ≡ false
@@ -204,10 +204,10 @@ made-none (Some t) a = refl
 aimed : (calls : List HouseCall) → KeptSound (IsCallBefore calls) (Aimed calls)
 aimed calls = record {
   says = λ bytes a b s p is h. (
-      let none = ap (λ (r : Relay). may_open r.line) h.1.relay.0 ∙ (spoken a.relay is).settled in
+      let none = ap (λ (r : Relay). may_send_open r.line) h.1.relay.0 ∙ (spoken a.relay is).settled in
       record { right = none-right calls b.own b.joined b.relay.line none; unmade_none = λ e. none }
       );
-  receives = λ m a b s p h. aimed-on calls _ _ a b h (settles-receives may_open may-later m a b h)
+  receives = λ m a b s p h. aimed-on calls _ _ a b h (settles-receives may_send_open may-later m a b h)
       (ap (λ (r : Relay). r.socket) h.relay.0 ∙ (stays-heard m a.relay).socket_is) p;
   gets = λ t bytes old now a b s s' p is h. record {
     right = subst (λ (own : Option OwnStream). Right calls own b.joined b.relay.line) (sym h.own)
@@ -215,7 +215,7 @@ aimed calls = record {
         (gets-right calls a.relay.line (not (are_full old.relay_traces)) bytes a b refl h.relay.0 s s' h.dials p.right));
     unmade_none = not-unmade b (owned t b.own b.relay.socket (ap (is_stream t) h.own ∙ is) s'.stream);
   };
-  takes = λ t bytes a b s p is h. aimed-on calls _ _ a b h (settles-takes may_open may-later bytes a b h) (ap (λ (r : Relay). r.socket) h.relay.0) p;
+  takes = λ t bytes a b s p is h. aimed-on calls _ _ a b h (settles-takes may_send_open may-later bytes a b h) (ap (λ (r : Relay). r.socket) h.relay.0) p;
   steps = λ s t call old now causes a sounds p is. record {
     right = subst (Right calls (link_own_after s a.own) a.joined) (sym (line-step s a.relay)) (right-after calls s a.own a.joined a.relay.line p.right);
     unmade_none = not-unmade (step_of s a) (step-made s a.relay (owned t a.own a.relay.socket is sounds.stream));
@@ -241,17 +241,17 @@ all-aimed calls trace h =
 -- ---- what is sent
 
 goes-to : (calls : List HouseCall) (l : Life) (host : List ℕ) (port : ℕ) (version : Option ℕ) → LineStands (Asked host port version) l.dials l.acts
-    → RightFor calls l.own l.joined host port version → IsJoinedFor calls l.own l.joined (ConnectsTo host port) ⊎ IsDialed calls l host port
+    → RightFor calls l.own l.joined host port version → IsJoinedFor calls l.own l.joined (ConnectsTo host port) ⊎ IsDialedEnd calls l host port
 goes-to calls l host port None stands h = inl h
 goes-to calls l host port (Some version) stands h = inr (record { joined = h; asks = stands.waits.2 })
 
 says-right : (calls : List HouseCall) (relay_traces before : List Life) (l : Life) (behind : List Life) (bytes : List ℕ)
-    → relay_traces ≡ before ++ l ∷ behind → Both (Aimed calls) l → is_open bytes ≡ true → bytes ≡ framed (relay_sent_by l.relay)
-    → (is_open (framed (relay_sent_by l.relay)) ≡ false)
+    → relay_traces ≡ before ++ l ∷ behind → Both (Aimed calls) l → is_open_message bytes ≡ true → bytes ≡ framed (relay_sent_by l.relay)
+    → (is_open_message (framed (relay_sent_by l.relay)) ≡ false)
     ⊎ ((host : List ℕ) × (port : ℕ) × (version : Option ℕ) × SendsOpen host port version l.relay)
     → IsOpenOf calls relay_traces bytes
 says-right calls relay_traces before l behind bytes were p is e (inl none) =
-    absurd (both_ways (is_open (framed (relay_sent_by l.relay))) none (ap is_open (sym e) ∙ is))
+    absurd (both_ways (is_open_message (framed (relay_sent_by l.relay))) none (ap is_open_message (sym e) ∙ is))
 says-right calls relay_traces before l behind bytes were p is e (inr x) = record {
   before = before;
   life = l;
@@ -265,9 +265,9 @@ says-right calls relay_traces before l behind bytes were p is e (inr x) = record
 }
 
 opens-right : (calls : List HouseCall) (b : Bool) (o : Option Forwarding) (bytes : List ℕ) (old new : Trace)
-    → SendsBy b o bytes old new → Each (Both (Aimed calls)) old.relay_traces → is_open bytes ≡ true → IsOpenOf calls old.relay_traces bytes
-opens-right calls false o bytes old new h all is = absurd (both_ways (is_open bytes) (ap is_open h.0) is)
-opens-right calls true (Some f) bytes old new h all is = absurd (both_ways (is_open bytes) (ap is_open h.0) is)
+    → SendsBy b o bytes old new → Each (Both (Aimed calls)) old.relay_traces → is_open_message bytes ≡ true → IsOpenOf calls old.relay_traces bytes
+opens-right calls false o bytes old new h all is = absurd (both_ways (is_open_message bytes) (ap is_open_message h.0) is)
+opens-right calls true (Some f) bytes old new h all is = absurd (both_ways (is_open_message bytes) (ap is_open_message h.0) is)
 opens-right calls true None bytes old new h all is =
     let one = h.1 in
     let its = each-back (Both (Aimed calls)) one.before (one.life ∷ one.behind) (subst (Each (Both (Aimed calls))) one.were all) in

@@ -21,16 +21,16 @@ use Rattle.mux_outside.specs.declared.house_mark.HouseMark.{HouseMark}
 use Rattle.mux_outside.specs.declared.house_mark.HouseMark.TheVariants.{HouseIn, HouseSaid, HouseTook, HouseAsked, HouseAnswer, HouseOrder}
 use Rattle.mux_outside.specs.declared.order.Order.{Order}
 use Rattle.mux_outside.specs.declared.order.Order.TheVariants as order
-use Rattle.house_forward.specs.ForwarderEvents.{ForwarderEvent, Does, Leave, recorded, recorded_if, events_recorded_by, recorded_in, stage_next, IsSentAs, AreMarked, ordered_by, HappenBy, Happen, EachHappens}
+use Rattle.house_forward.specs.ForwarderEvents.{ForwarderEvent, Does, Leave, events_of_message, recorded_if, events_recorded_by, recorded_in, stage_next, IsSentAs, AreMarked, ordered_by, HappenBy, Happen, EachHappens}
 use Rattle.house_forward.specs.ForwarderEvents.{Begins, Asks, Answers, Greets, Requests, Replies, Listens, Unlistens}
 use Rattle.house_forward.specs.ForwardingState.{ForwardingState, reply_received}
 use Rattle.house_forward.specs.Forwardings.{has_request, served_at}
-use Rattle.house_forward.specs.RelayTraces.{Trace, first_trace, OnForwardingState, SendsBy, RelayReceivesAt, OpensFor, ReceivesOpen, ReceivesMessage, ReceivesReading, ReceivesFrame, RelaysReceiveFrames, OrdersIn, MarksIn, Follows, TraceReaches, is_grant, with_received, cut_off}
+use Rattle.house_forward.specs.RelayTraces.{Trace, first_trace, OnForwardingState, SendsBy, RelayReceivesAt, OpensFor, ReceivesOpen, ReceivesMessage, ReceivesReading, ReceivesFrame, RelaysReceiveFrames, OrdersInTrace, MarksIn, Follows, TraceReaches, is_grant, with_received, cut_off}
 use Rattle.house_forward.specs.declared.forwarding.Forwarding.{Forwarding}
-use Rattle.house_forward.specs.declared.forwarder_state.Stage.{Stage}
-use Rattle.house_forward.specs.declared.forwarder_state.Stage.TheVariants.{Control, Proxy}
+use Rattle.house_forward.specs.declared.forwarder_state.ForwarderStage.{ForwarderStage}
+use Rattle.house_forward.specs.declared.forwarder_state.ForwarderStage.TheVariants.{Control, Proxy}
 
--- ---- one deed, or none
+-- ---- one event, or none
 
 one : (forwarder_event : ForwarderEvent) (forwarder_events : List ForwarderEvent) (old new : Trace) → Leave forwarder_events old.forwarding_state → OnForwardingState (Does forwarder_event) old new
     → Leave (forwarder_event ∷ forwarder_events) new.forwarding_state
@@ -46,7 +46,7 @@ Goes so forwarder_events forwarding_state = (more : List ForwarderEvent) × so m
 
 -- ---- what is received
 
-record Heard (more forwarder_events : List ForwarderEvent) (stage : Stage) (new : Trace) : Type 0 where
+record Heard (more forwarder_events : List ForwarderEvent) (stage : ForwarderStage) (new : Trace) : Type 0 where
   left : Leave (more ++ forwarder_events) new.forwarding_state
   stage_is : new.stage ≡ stage
 
@@ -90,7 +90,7 @@ replies success port forwarder_events old new left h = record {
 }
 
 receives-message : (m : Message) (forwarder_events : List ForwarderEvent) (old new : Trace) → Leave forwarder_events old.forwarding_state → ReceivesMessage m old new
-    → Heard (recorded (message_of m)) forwarder_events old.stage new
+    → Heard (events_of_message (message_of m)) forwarder_events old.stage new
 receives-message (message.Transport number rest) forwarder_events old new left h = nothing forwarder_events old new left h
 receives-message (message.GlobalRequest name want rest what) forwarder_events old new left h = nothing forwarder_events old new left h
 receives-message (message.RequestSuccess rest) forwarder_events old new left h = replies true _ forwarder_events old new left h
@@ -122,7 +122,7 @@ receives-reading : (r : Result Said Bad) (forwarder_events : List ForwarderEvent
     → Heard (recorded_if r) forwarder_events old.stage new
 receives-reading (Err bad) forwarder_events old new left h = nothing forwarder_events old new left h
 receives-reading (Ok said) forwarder_events old new left h =
-    subst (λ (s : Said). Heard (recorded s) forwarder_events old.stage new) h.1 (receives-message h.0 forwarder_events old new left h.2)
+    subst (λ (s : Said). Heard (events_of_message s) forwarder_events old.stage new) h.1 (receives-message h.0 forwarder_events old new left h.2)
 
 grants : (b : Bool) (forwarder_events : List ForwarderEvent) (old to new : Trace) → Leave forwarder_events old.forwarding_state → old.stage ≡ Control
     → to.forwarding_state ≡ old.forwarding_state → to.stage ≡ Proxy → new ≡ (if b then to else old) → Heard [] forwarder_events (if b then Proxy else Control) new
@@ -135,21 +135,21 @@ grants false forwarder_events old to new left e forwarding_state stage h = recor
   stage_is = ap (λ (c : Trace). c.stage) h ∙ e;
 }
 
-receives-frame : (stage : Stage) (content : List ℕ) (forwarder_events : List ForwarderEvent) (old new : Trace) → old.stage ≡ stage
+receives-frame : (stage : ForwarderStage) (content : List ℕ) (forwarder_events : List ForwarderEvent) (old new : Trace) → old.stage ≡ stage
     → Leave forwarder_events old.forwarding_state → ReceivesFrame stage content old new → Heard (events_recorded_by stage content) forwarder_events (stage_next stage content) new
 receives-frame Control content forwarder_events old new e left h =
     grants (is_grant (take_u32 content)) forwarder_events old
     (record old { stage = Proxy; framer = switched framing.Proxy old.framer }) new left e refl refl h
 receives-frame Proxy content forwarder_events old new e left h =
-    subst (λ (s : Stage). Heard (events_recorded_by Proxy content) forwarder_events s new) e (receives-reading (reading content) forwarder_events old new left h)
+    subst (λ (s : ForwarderStage). Heard (events_recorded_by Proxy content) forwarder_events s new) e (receives-reading (reading content) forwarder_events old new left h)
 
-receives-frames : (contents : List (List ℕ)) (stage : Stage) (forwarder_events : List ForwarderEvent) (old new : Trace) → old.stage ≡ stage
+receives-frames : (contents : List (List ℕ)) (stage : ForwarderStage) (forwarder_events : List ForwarderEvent) (old new : Trace) → old.stage ≡ stage
     → Leave forwarder_events old.forwarding_state → RelaysReceiveFrames contents old new → Leave (recorded_in stage contents ++ forwarder_events) new.forwarding_state
 receives-frames [] stage forwarder_events old new e left h = same forwarder_events old new left (ap (λ (c : Trace). c.forwarding_state) h.1)
 receives-frames (content ∷ more) stage forwarder_events old new e left h =
     let middle = h.2.0 in
     let frame : ReceivesFrame stage content (cut_off (Frame content h.0) old) middle =
-    subst (λ (s : Stage). ReceivesFrame s content (cut_off (Frame content h.0) old) middle) e h.2.1 in
+    subst (λ (s : ForwarderStage). ReceivesFrame s content (cut_off (Frame content h.0) old) middle) e h.2.1 in
     let first = receives-frame stage content forwarder_events (cut_off (Frame content h.0) old) middle e left frame in
     let rest = receives-frames more (stage_next stage content) (events_recorded_by stage content ++ forwarder_events) middle new first.stage_is
     first.left h.2.2 in
@@ -169,7 +169,7 @@ says true None bytes forwarder_events old new e first left h =
     ([], (h.1.life.relay, h.1.is, h.1.goes.0), same forwarder_events old new left (ap (λ (c : Trace). c.forwarding_state) h.2))
 
 orders : (o : Order) (number : Option ℕ) (forwarder_events : List ForwarderEvent) (old new : Trace) → Leave forwarder_events old.forwarding_state
-    → OrdersIn o number old new → Leave (ordered_by o number ++ forwarder_events) new.forwarding_state
+    → OrdersInTrace o number old new → Leave (ordered_by o number ++ forwarder_events) new.forwarding_state
 orders (order.Listen host port) number forwarder_events old new left h = one (Listens host port number) forwarder_events old new left h
 orders (order.Connect host port) number forwarder_events old new left h = same forwarder_events old new left (ap (λ (c : Trace). c.forwarding_state) h.are)
 orders (order.Unlisten l) number forwarder_events old new left h = one (Unlistens l) forwarder_events old new left h

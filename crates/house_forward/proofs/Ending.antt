@@ -3,15 +3,15 @@ use Rattle.std.proofs.Common.{◌≡◌, ◌∙◌, refl, sym, ap, subst, ℕ, B
 use Rattle.std.specs.List.{Contains}
 use Rattle.std.proofs.lemmas.Bool.{and_from, eq-eqb}
 use Rattle.mux_outside.specs.declared.house.HouseReply.TheVariants as given
-use Rattle.house_forward.specs.Asks.{settled, settle_one, ask_settled_at, is_ask_about, same, waiting_for}
-use Rattle.house_forward.specs.Causes.{rules_in, AreOne, IsFor, ServesAt, WaitsToClose, EachUnlisten, EachCancel, EachCancelReply, come_to, cancelled}
+use Rattle.house_forward.specs.Asks.{requests_settled, settle_one, ask_settled_at, is_ask_about, same, request_waiting_for}
+use Rattle.house_forward.specs.Causes.{rules_in, AreOne, IsFor, ServesAt, WaitsToClose, EachUnlisten, EachCancel, EachCancelReply, come_to, outcome_of_cancel}
 use Rattle.house_forward.specs.ForwarderEvents.{ForwarderEvent}
 use Rattle.house_forward.specs.ForwarderEvents.{Asks}
 use Rattle.house_forward.specs.ForwardingState.{ForwardingState}
-use Rattle.house_forward.specs.Forwardings.{has_request, requests_at, forwarding_request_at, listener_at, cancels_at, first_of, replied_asks}
+use Rattle.house_forward.specs.Forwardings.{has_request, requests_at, forwarding_request_at, listener_at, cancels_at, first_forwarding_request, replied_asks}
 use Rattle.house_forward.specs.Rules.{listens_here}
-use Rattle.house_forward.specs.declared.asks.Outcome.{Outcome}
-use Rattle.house_forward.specs.declared.asks.Outcome.TheVariants.{Done}
+use Rattle.house_forward.specs.declared.asks.RequestOutcome.{RequestOutcome}
+use Rattle.house_forward.specs.declared.asks.RequestOutcome.TheVariants.{Done}
 use Rattle.house_forward.specs.declared.asks.Waiting.{Waiting}
 use Rattle.house_forward.specs.declared.forwarding.Forwarding.{Forwarding}
 use Rattle.house_forward.specs.declared.forwarding.ForwardingRequest.{ForwardingRequest}
@@ -26,10 +26,10 @@ use Rattle.house_forward.proofs.Wanting.{IsCloser, wants}
 
 -- ---- its ask
 
-is-waiting-for : (n : ℕ) (w : Waiting) → IsCloser n w → w ≡ waiting_for w.client w.id false n
+is-waiting-for : (n : ℕ) (w : Waiting) → IsCloser n w → w ≡ request_waiting_for w.client w.id false n
 is-waiting-for n w c =
     ap (λ (b : Bool). record w { opening = b }) c.closes
-    ∙ ap (λ (o : Option (ℕ × Outcome)). record w { opening = false; outcome = o }) c.open_yet
+    ∙ ap (λ (o : Option (ℕ × RequestOutcome)). record w { opening = false; outcome = o }) c.open_yet
     ∙ ap (λ (m : ℕ). record w { opening = false; outcome = None; forwarding = m }) c.of_it
 
 -- it waits, and has no answer yet
@@ -45,7 +45,7 @@ waits-to-close home serials forwarder_events ws n w here c h is = record {
   open_yet = h.open_yet;
   is_for = subst (λ (m : ℕ). IsFor (rules_in h.earlier) false h.ask (home m)) c.of_it
       (subst (λ (b : Bool). IsFor (rules_in h.earlier) b h.ask (home w.forwarding)) c.closes h.is_for);
-  waits = subst (Contains ws) (is-waiting-for n w c ∙ ap (λ (m : ℕ). waiting_for w.client w.id false m) (sym is)) (in-contains w ws here);
+  waits = subst (Contains ws) (is-waiting-for n w c ∙ ap (λ (m : ℕ). request_waiting_for w.client w.id false m) (sym is)) (in-contains w ws here);
 }
 
 one-waits : (a f : Forwarding) (ws : List Waiting) (forwarder_events : List ForwarderEvent) → AreOne a f → WaitsToClose a ws forwarder_events → WaitsToClose f ws forwarder_events
@@ -58,7 +58,7 @@ one-waits a f ws forwarder_events one h = record {
   were = h.were;
   open_yet = h.open_yet;
   is_for = one-is-for (rules_in h.earlier) false h.ask a f one h.is_for;
-  waits = subst (λ (m : ℕ). Contains ws (waiting_for h.client h.id false m)) one.serial h.waits;
+  waits = subst (λ (m : ℕ). Contains ws (request_waiting_for h.client h.id false m)) one.serial h.waits;
 }
 
 -- ---- a listener
@@ -66,15 +66,15 @@ one-waits a f ws forwarder_events one h = record {
 is-its : (n : ℕ) (w : Waiting) → IsCloser n w → is_ask_about n false w ≡ true
 is-its n w c = and_from _ _ (eq-eqb w.forwarding n c.of_it) (ap (λ b. same b false) c.closes)
 
-settled-one : (n at : ℕ) (o : Outcome) (w : Waiting) → IsCloser n w → settle_one n false at o w ≡ come_to at o w
-settled-one n at o w c = rw (is-its n w c) (ap (λ (x : Option (ℕ × Outcome)). record w { outcome = ask_settled_at at o x }) c.open_yet)
+settled-one : (n at : ℕ) (o : RequestOutcome) (w : Waiting) → IsCloser n w → settle_one n false at o w ≡ come_to at o w
+settled-one n at o w c = rw (is-its n w c) (ap (λ (x : Option (ℕ × RequestOutcome)). record w { outcome = ask_settled_at at o x }) c.open_yet)
 
 -- it has this outcome
-comes-to : (n at : ℕ) (o : Outcome) (w : Waiting) (ws : List Waiting) → In w ws → IsCloser n w
-    → Contains (settled n false at o ws) (come_to at o (waiting_for w.client w.id false n))
+comes-to : (n at : ℕ) (o : RequestOutcome) (w : Waiting) (ws : List Waiting) → In w ws → IsCloser n w
+    → Contains (requests_settled n false at o ws) (come_to at o (request_waiting_for w.client w.id false n))
 comes-to n at o w ws here c =
-    subst (Contains (settled n false at o ws)) (settled-one n at o w c ∙ ap (come_to at o) (is-waiting-for n w c))
-    (in-contains (settle_one n false at o w) (settled n false at o ws) (in-map (settle_one n false at o) w ws here))
+    subst (Contains (requests_settled n false at o ws)) (settled-one n at o w c ∙ ap (come_to at o) (is-waiting-for n w c))
+    (in-contains (settle_one n false at o w) (requests_settled n false at o ws) (in-map (settle_one n false at o) w ws here))
 
 pub each-unlisten : EachUnlisten
 unfolding waits-to-close one-waits
@@ -96,8 +96,8 @@ each-unlisten l forwarder_events old new left h =
       serves = one-listens (k.home n) f l forwarder_events at.same fits.1;
       asked = one-waits (k.home n) f old.waiting forwarder_events at.same
           (waits-to-close k.home old.serials forwarder_events old.waiting n w ask.1 ask.2 its at.same.serial);
-      comes = subst (λ (ws : List Waiting). Contains ws (come_to old.done Done (waiting_for w.client w.id false n)))
-          (ap (λ (m : ℕ). settled m false old.done Done old.waiting) c.serial_is ∙ sym (ap (λ (d : ForwardingState). d.waiting) h.others))
+      comes = subst (λ (ws : List Waiting). Contains ws (come_to old.done Done (request_waiting_for w.client w.id false n)))
+          (ap (λ (m : ℕ). requests_settled m false old.done Done old.waiting) c.serial_is ∙ sym (ap (λ (d : ForwardingState). d.waiting) h.others))
           (comes-to n old.done Done w old.waiting ask.1 ask.2);
     }
 
@@ -129,7 +129,7 @@ each-cancel f forwarder_events old new left h e =
 
 -- ---- its reply
 
-first-in : (rs : List ForwardingRequest) (r : ForwardingRequest) → first_of rs ≡ Some r → In r rs
+first-in : (rs : List ForwardingRequest) (r : ForwardingRequest) → first_forwarding_request rs ≡ Some r → In r rs
 first-in [] r e = cc
 first-in (q ∷ rs) r e = let same : q ≡ r = cc in inl same
 
@@ -143,7 +143,7 @@ serves-still (Live p) a f forwarder_events one e h = cc
 serves-still (Cancelling p) a f forwarder_events one e h = (ap listens_here (sym one.kind) ∙ h.0, one-granted a f p forwarder_events one h.1)
 
 replied-asks : (success : Bool) (port : Option ℕ) (n : ℕ) (fs : List Forwarding) (at : ℕ) (ws : List Waiting)
-    → replied_asks success port (Some (Cancel n)) fs at ws ≡ settled n false at (cancelled success) ws
+    → replied_asks success port (Some (Cancel n)) fs at ws ≡ requests_settled n false at (outcome_of_cancel success) ws
 replied-asks true port n fs at ws = refl
 replied-asks false port n fs at ws = refl
 
@@ -166,11 +166,11 @@ each-cancel-reply n success port forwarder_events old new left h first =
         asked = one-waits (k.home f.serial) f old.waiting forwarder_events at.same
             (waits-to-close k.home old.serials forwarder_events old.waiting f.serial w ask.1 ask.2 waits at.same.serial);
       };
-      comes = subst (λ (ws : List Waiting). Contains ws (come_to old.done (cancelled success) (waiting_for w.client w.id false n)))
+      comes = subst (λ (ws : List Waiting). Contains ws (come_to old.done (outcome_of_cancel success) (request_waiting_for w.client w.id false n)))
           (sym (ap (λ (d : ForwardingState). d.waiting) h
           ∙ ap (λ (o : Option ForwardingRequest). replied_asks success port o old.all old.done old.waiting) first
           ∙ replied-asks success port n old.all old.done old.waiting))
-          (subst (λ (m : ℕ). Contains (settled m false old.done (cancelled success) old.waiting)
-          (come_to old.done (cancelled success) (waiting_for w.client w.id false m))) its.2
-          (comes-to f.serial old.done (cancelled success) w old.waiting ask.1 ask.2));
+          (subst (λ (m : ℕ). Contains (requests_settled m false old.done (outcome_of_cancel success) old.waiting)
+          (come_to old.done (outcome_of_cancel success) (request_waiting_for w.client w.id false m))) its.2
+          (comes-to f.serial old.done (outcome_of_cancel success) w old.waiting ask.1 ask.2));
     }

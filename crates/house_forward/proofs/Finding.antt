@@ -8,7 +8,7 @@ use Rattle.std.proofs.lemmas.List.Quantifiers.{position-Some}
 use Rattle.std.proofs.lemmas.List.Sums.{position_or_len_is}
 use Rattle.mux_outside.specs.OwnStreams.{is_one, is_finished}
 use Rattle.house_relay.specs.Relay.{socket_stream_of}
-use Rattle.house_forward.specs.Links.{streams_of, are_distinct, has_number, numbered, is_link_number, is_of, finishes}
+use Rattle.house_forward.specs.Links.{streams_of, are_distinct, has_number, numbered, is_link_number, is_relay_stream, is_stream_finished}
 use Rattle.house_forward.specs.declared.link.Link.{Link}
 use Rattle.house_forward.specs.declared.link.LinkStream.{LinkStream}
 use Rattle.house_forward.specs.declared.link.LinkStream.TheVariants.{Offered, Awaited, Made, Gone}
@@ -55,15 +55,15 @@ pub has-there : (ls : List Link) (i t : ℕ) (x : Link) → are_distinct (stream
 has-there ls i t x d l at n = first-of (has_number t) ls i x l (subst (λ (z : Link). has_number t z ≡ true) at n)
     (before-in ls i t x d l (sym at) n)
 
-not-of : (t : ℕ) (l : Link) → has_number t l ≡ false → is_of t l ≡ false
+not-of : (t : ℕ) (l : Link) → has_number t l ≡ false → is_relay_stream t l ≡ false
 not-of t l e = and_left (has_number t l) (is_link_number t (socket_stream_of l.relay.socket)) e
 
 -- it is that of its relay too
 pub of-there : (ls : List Link) (i t : ℕ) (x : Link) → position (has_number t) ls ≡ Some i → x ≡ get_or ls i x
-    → is_of t x ≡ true → position (is_of t) ls ≡ Some i
+    → is_relay_stream t x ≡ true → position (is_relay_stream t) ls ≡ Some i
 of-there ls i t x e at is =
     let first = position-Some (has_number t) ls i x e in
-    first-of (is_of t) ls i x first.0 (subst (λ (z : Link). is_of t z ≡ true) at is)
+    first-of (is_relay_stream t) ls i x first.0 (subst (λ (z : Link). is_relay_stream t z ≡ true) at is)
     (λ k lt. not-of t (get_or ls k x) (first.2 k lt))
 
 same-place : (i k : ℕ) (o : Option ℕ) → o ≡ Some i → o ≡ Some k → i ≡ k
@@ -72,28 +72,28 @@ same-place i k (Some j) a b = cc
 
 -- or isn't
 pub of-none : (ls : List Link) (i t : ℕ) (x : Link) → are_distinct (streams_of ls) ≡ true → position (has_number t) ls ≡ Some i
-    → x ≡ get_or ls i x → is_of t x ≡ false → position (is_of t) ls ≡ None
-of-none ls i t x d e at isnt = none-of (position (is_of t) ls) (λ k there.
-    let first = position-Some (is_of t) ls k x there in
+    → x ≡ get_or ls i x → is_relay_stream t x ≡ false → position (is_relay_stream t) ls ≡ None
+of-none ls i t x d e at isnt = none-of (position (is_relay_stream t) ls) (λ k there.
+    let first = position-Some (is_relay_stream t) ls k x there in
     let z : Link = get_or ls k x in
     let has : has_number t z ≡ true = (and_parts (has_number t z) (is_link_number t (socket_stream_of z.relay.socket)) first.1).0 in
     let same : i ≡ k = same-place i k (position (has_number t) ls) e
     (has-there ls k t z d first.0 (get_or_default ls k x z first.0) has) in
-    both_ways (is_of t x) isnt (subst (λ (y : Link). is_of t y ≡ true) (sym at)
-    (subst (λ (j : ℕ). is_of t (get_or ls j x) ≡ true) (sym same) first.1)))
+    both_ways (is_relay_stream t x) isnt (subst (λ (y : Link). is_relay_stream t y ≡ true) (sym at)
+    (subst (λ (j : ℕ). is_relay_stream t (get_or ls j x) ≡ true) (sym same) first.1)))
 
 -- none has the number
-pub of-nowhere : (ls : List Link) (t : ℕ) → position (has_number t) ls ≡ None → position (is_of t) ls ≡ None
-of-nowhere ls t e = none-at (is_of t) ls (none-weaker (has_number t) (is_of t) (not-of t) ls (none-passes (has_number t) ls e))
+pub of-nowhere : (ls : List Link) (t : ℕ) → position (has_number t) ls ≡ None → position (is_relay_stream t) ls ≡ None
+of-nowhere ls t e = none-at (is_relay_stream t) ls (none-weaker (has_number t) (is_relay_stream t) (not-of t) ls (none-passes (has_number t) ls e))
 
 -- ---- what is reported of a stream
 
-pub found-of : (ls : List Link) (i t : ℕ) (x : Link) → position (is_of t) ls ≡ Some i → x ≡ get_or ls i x
-    → find (is_of t) ls ≡ Some x
-found-of ls i t x e at = first-is (is_of t) ls i x e at
+pub found-of : (ls : List Link) (i t : ℕ) (x : Link) → position (is_relay_stream t) ls ≡ Some i → x ≡ get_or ls i x
+    → find (is_relay_stream t) ls ≡ Some x
+found-of ls i t x e at = first-is (is_relay_stream t) ls i x e at
 
-pub found-nowhere : (ls : List Link) (t : ℕ) → position (is_of t) ls ≡ None → find (is_of t) ls ≡ None
-found-nowhere ls t e = none-found (is_of t) ls (none-passes (is_of t) ls e)
+pub found-nowhere : (ls : List Link) (t : ℕ) → position (is_relay_stream t) ls ≡ None → find (is_relay_stream t) ls ≡ None
+found-nowhere ls t e = none-found (is_relay_stream t) ls (none-passes (is_relay_stream t) ls e)
 
 owned-there : (ls : List Link) (i t : ℕ) → position (has_number t) ls ≡ Some i → is_one t (streams_of ls) ≡ true
 owned-there ls i t e = sym (one_of_links t ls) ∙ one-there (has_number t) ls i e
@@ -108,14 +108,14 @@ owned-if ls t (Some i) e = sym (owned-there ls i t e)
 pub owned : (ls : List Link) (t : ℕ) → is_some (position (has_number t) ls) ≡ is_one t (streams_of ls)
 owned ls t = owned-if ls t (position (has_number t) ls) refl
 
-not-finished : (s : LinkStream) (t : ℕ) → numbered t s ≡ false → finishes t s ≡ false
+not-finished : (s : LinkStream) (t : ℕ) → numbered t s ≡ false → is_stream_finished t s ≡ false
 not-finished (Offered host port) t e = refl
 not-finished Awaited t e = refl
 not-finished (Made own) t e = and_left _ own.finished e
 not-finished Gone t e = refl
 
-none-finished : (ls : List Link) (t : ℕ) → list_any (has_number t) ls ≡ false → list_any (λ l. finishes t l.stream) ls ≡ false
-none-finished ls t e = none-weaker (has_number t) (λ (l : Link). finishes t l.stream) (λ l n. not-finished l.stream t n) ls e
+none-finished : (ls : List Link) (t : ℕ) → list_any (has_number t) ls ≡ false → list_any (λ l. is_stream_finished t l.stream) ls ≡ false
+none-finished ls t e = none-weaker (has_number t) (λ (l : Link). is_stream_finished t l.stream) (λ l n. not-finished l.stream t n) ls e
 
 or-none : (a b : Bool) → b ≡ false → (a || b) ≡ a
 or-none true b e = refl
@@ -126,20 +126,20 @@ or-last true b e = cc
 or-last false b e = refl
 
 finished-at : (ls : List Link) (i t : ℕ) (x : Link) → are_distinct (streams_of ls) ≡ true → i < length ls → get_or ls i x ≡ x
-    → has_number t x ≡ true → list_any (λ l. finishes t l.stream) ls ≡ finishes t x.stream
+    → has_number t x ≡ true → list_any (λ l. is_stream_finished t l.stream) ls ≡ is_stream_finished t x.stream
 finished-at [] i t x d l e n = absurd (omega arith)
 finished-at (y ∷ ls) zero t x d l e n =
     let is : has_number t y ≡ true = subst (λ (z : Link). has_number t z ≡ true) (sym e) n in
     let others = none-finished ls t (one_of_links t ls ∙ alone y.stream (streams_of ls) t d is) in
-    or-none (finishes t y.stream) _ others ∙ ap (λ (z : Link). finishes t z.stream) e
+    or-none (is_stream_finished t y.stream) _ others ∙ ap (λ (z : Link). is_stream_finished t z.stream) e
 finished-at (y ∷ ls) (suc i) t x d l e n =
     let isnt : has_number t y ≡ false = differs-in y.stream (streams_of ls) t _ refl d (has-stream ls i t x (omega arith) e n) in
-    or-last (finishes t y.stream) _ (not-finished y.stream t isnt)
+    or-last (is_stream_finished t y.stream) _ (not-finished y.stream t isnt)
     ∙ finished-at ls i t x (rest-distinct y ls d) (omega arith) e n
 
 -- whether it accepts no more bytes
 pub finished-there : (ls : List Link) (i t : ℕ) (x : Link) → are_distinct (streams_of ls) ≡ true → position (has_number t) ls ≡ Some i
-    → x ≡ get_or ls i x → finishes t x.stream ≡ is_finished t (streams_of ls)
+    → x ≡ get_or ls i x → is_stream_finished t x.stream ≡ is_finished t (streams_of ls)
 finished-there ls i t x d e at =
     let first = position-Some (has_number t) ls i x e in
     sym (finished-at ls i t x d first.0 (sym at) (subst (λ (z : Link). has_number t z ≡ true) (sym at) first.1))

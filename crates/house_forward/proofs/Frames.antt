@@ -13,13 +13,13 @@ use Rattle.conn_messages.specs.declared.message.Message.{Message}
 use Rattle.conn_messages.specs.declared.message.Message.TheVariants as message
 use Rattle.conn_messages.specs.declared.message.Opening.TheVariants as opens
 use Rattle.conn_messages.specs.declared.key.Key.TheVariants as keys
-use Rattle.house_forward.specs.Connects.{ConnectPlace, place_of, taken_message, taken_reading, taken_frame, taken_frames}
+use Rattle.house_forward.specs.Connects.{ConnectPlace, connect_places_of, taken_message, taken_reading, taken_frame, taken_frames}
 use Rattle.house_forward.specs.Forwardings.{served_at}
 use Rattle.house_forward.specs.RelayTraces.{Life, Trace, One, Listens, RelayReceivesAt, OpensFor, ReceivesMessage, ReceivesReading, ReceivesFrame, RelaysReceiveFrames}
 use Rattle.house_forward.specs.RelayTraces.{has_channel, is_grant, cut_off, kept_in}
 use Rattle.house_forward.specs.declared.forwarding.Forwarding.{Forwarding}
-use Rattle.house_forward.specs.declared.forwarder_state.Stage.{Stage}
-use Rattle.house_forward.specs.declared.forwarder_state.Stage.TheVariants.{Control, Proxy}
+use Rattle.house_forward.specs.declared.forwarder_state.ForwarderStage.{ForwarderStage}
+use Rattle.house_forward.specs.declared.forwarder_state.ForwarderStage.TheVariants.{Control, Proxy}
 use Rattle.house_forward.proofs.Sound.{Each, All, Sound, offered_life, frame-sound}
 
 -- what a message keeps, by the relays and the OPENs that were accepted
@@ -28,7 +28,7 @@ pub record Applies (K : List Life → List ConnectPlace → Type 0) : Type 0 whe
       → One (has_channel n) (Listens m) old new → K (kept_in new) taken
   pub offers : (f : Forwarding) (number remote window maximum : ℕ) (old : List Life) (taken : List ConnectPlace)
       → list_any (has_channel number) old ≡ false → K old taken
-      → K (old ++ offered_life f number remote window maximum ∷ []) (taken ++ place_of (Some f))
+      → K (old ++ offered_life f number remote window maximum ∷ []) (taken ++ connect_places_of (Some f))
 
 nothing : (K : List Life → List ConnectPlace → Type 0) (old new : Trace) (taken : List ConnectPlace) → new.relay_traces ≡ old.relay_traces → K old.relay_traces taken
     → K new.relay_traces (taken ++ [])
@@ -47,10 +47,10 @@ at K applies n m old new taken (inl h) s k =
 at K applies n m old new taken (inr h) s k = same K old new taken h.1 k
 
 opens-for : (K : List Life → List ConnectPlace → Type 0) → Applies K → (o : Option Forwarding) (remote window maximum : ℕ) (old new : Trace)
-    (taken : List ConnectPlace) → OpensFor o remote window maximum old new → K old.relay_traces taken → K new.relay_traces (taken ++ place_of o)
+    (taken : List ConnectPlace) → OpensFor o remote window maximum old new → K old.relay_traces taken → K new.relay_traces (taken ++ connect_places_of o)
 opens-for K applies None remote window maximum old new taken h k = same K old new taken h k
 opens-for K applies (Some f) remote window maximum old new taken h k =
-    subst (λ (c : Trace). K c.relay_traces (taken ++ place_of (Some f))) (sym h.more)
+    subst (λ (c : Trace). K c.relay_traces (taken ++ connect_places_of (Some f))) (sym h.more)
     (applies.offers f h.number remote window maximum old.relay_traces taken h.free k)
 
 heard : (K : List Life → List ConnectPlace → Type 0) → Applies K → (m : Message) (old new : Trace) (taken : List ConnectPlace) → ReceivesMessage m old new
@@ -86,7 +86,7 @@ either : (b : Bool) (a old : Trace) → a.relay_traces ≡ old.relay_traces → 
 either true a old e = e
 either false a old e = refl
 
-frame : (K : List Life → List ConnectPlace → Type 0) → Applies K → (stage : Stage) (content : List ℕ) (old new : Trace) (taken : List ConnectPlace)
+frame : (K : List Life → List ConnectPlace → Type 0) → Applies K → (stage : ForwarderStage) (content : List ℕ) (old new : Trace) (taken : List ConnectPlace)
     → ReceivesFrame stage content old new → Each Sound old.relay_traces → K old.relay_traces taken
     → K new.relay_traces (taken ++ taken_frame stage content old.forwarding_state.all)
 frame K applies Control content old new taken h s k =

@@ -8,9 +8,9 @@ use Rattle.house_relay.specs.Steps.{fresh_relay, fresh_dialing}
 use Rattle.house_relay.specs.declared.line.ChannelState.{ChannelState}
 use Rattle.house_relay.specs.declared.line.ChannelState.TheVariants.{Asked, Offered, Over}
 use Rattle.house_relay.specs.declared.relay.Relay.{Relay}
-use Rattle.house_relay.specs.declared.relay.Socket.{Socket}
-use Rattle.house_relay.specs.declared.relay.Socket.TheVariants as socket
-use Rattle.house_forward.specs.Links.{IsRelayJoined, IsJoinedAt, IsDialed, HasNoChannelLeft, dials}
+use Rattle.house_relay.specs.declared.relay.RelaySocket.{RelaySocket}
+use Rattle.house_relay.specs.declared.relay.RelaySocket.TheVariants as socket
+use Rattle.house_forward.specs.Links.{IsRelayJoined, IsJoinedAt, DialsOrCloses, HasNoChannelLeft, dials}
 use Rattle.house_forward.specs.declared.forwarding.Forwarding.{Forwarding}
 use Rattle.house_forward.specs.declared.rules.ForwardingKind.{ForwardingKind}
 use Rattle.house_forward.specs.declared.rules.ForwardingKind.TheVariants.{Local, Remote, Dynamic}
@@ -27,7 +27,7 @@ nothing-yet dials = record {
   none_closed = refl;
 }
 
-plain : (number : ℕ) (line : ChannelState) (s : Socket) → LineStands line false [] → RelayRepresents false [] (fresh_relay number line s)
+plain : (number : ℕ) (line : ChannelState) (s : RelaySocket) → LineStands line false [] → RelayRepresents false [] (fresh_relay number line s)
 plain number line s h = record {
   sends = refl;
   delivers = refl;
@@ -38,18 +38,18 @@ plain number line s h = record {
 }
 
 -- that of an OPEN of the server
-pub offered : (number remote window maximum : ℕ) (s : Socket)
+pub offered : (number remote window maximum : ℕ) (s : RelaySocket)
     → RelayRepresents false [] (fresh_relay number (Offered remote window maximum) s)
 offered number remote window maximum s =
     plain number (Offered remote window maximum) s (record { plain = refl; nothing = nothing-yet false })
 
-asked : (number : ℕ) (host : List ℕ) (port : ℕ) (s : Socket) → RelayRepresents false [] (fresh_relay number (Asked host port None) s)
+asked : (number : ℕ) (host : List ℕ) (port : ℕ) (s : RelaySocket) → RelayRepresents false [] (fresh_relay number (Asked host port None) s)
 asked number host port s = plain number (Asked host port None) s (record { waits = refl; nothing = nothing-yet false })
 
-over : (number : ℕ) (s : Socket) → RelayRepresents false [] (fresh_relay number Over s)
+over : (number : ℕ) (s : RelaySocket) → RelayRepresents false [] (fresh_relay number Over s)
 over number s = plain number Over s (record { most = omega arith; settled = tt })
 
-dialed : (number : ℕ) (s : Socket) → RelayRepresents true [] (fresh_relay number fresh_dialing s)
+dialed : (number : ℕ) (s : RelaySocket) → RelayRepresents true [] (fresh_relay number fresh_dialing s)
 unfolding outcome_in before_in behind_in replies_in
 dialed number s = record {
   sends = refl;
@@ -76,7 +76,7 @@ asking : (t : ℕ) (r : Relay) (host : List ℕ) (port : ℕ)
 asking t r host port e = subst (Begins t) (sym e)
     (record { stands = asked r.number host port (socket.Open t); stream = refl; going = refl; none = refl })
 
-dialing : (dialogs_full : Bool) (t : ℕ) (r : Relay) → IsDialed dialogs_full t r → Begins t r
+dialing : (dialogs_full : Bool) (t : ℕ) (r : Relay) → DialsOrCloses dialogs_full t r → Begins t r
 dialing true t r e = no_channel_left t r e
 dialing false t r e = subst (Begins t) (sym e)
     (record { stands = dialed r.number (socket.Open t); stream = refl; going = refl; none = refl })
@@ -86,7 +86,7 @@ joined-at Local dialogs_full f t r e = asking t r f.connect_host f.connect_port 
 joined-at Remote dialogs_full f t r e = asking t r f.connect_host f.connect_port e
 joined-at Dynamic dialogs_full f t r e = dialing dialogs_full t r e
 
--- that of a socket that is joined
+-- that of a socket that is accepted
 pub joined : (full dialogs_full : Bool) (f : Option Forwarding) (t : ℕ) (r : Relay) → IsRelayJoined full dialogs_full f t r → Begins t r
 joined true dialogs_full f t r e = no_channel_left t r e
 joined false dialogs_full None t r e = no_channel_left t r e

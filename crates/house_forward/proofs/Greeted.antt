@@ -52,7 +52,7 @@ greeted-said old new calls bytes so first h =
     subst (λ (b : Bool). HasGreeted b (sent_in (calls ++ Marks (HouseSaid bytes) ∷ []))) (sym so)
     (subst (HasGreeted true) (sym (said-more calls (Marks (HouseSaid bytes) ∷ []))) (says-first old (sent_in calls) bytes first h))
 
--- orders say nothing
+-- orders send nothing
 pub given-silent : (o : Option Order) → sent_in (calls_of (order_marks o)) ≡ []
 given-silent None = refl
 given-silent (Some (order.Listen host port)) = refl

@@ -13,15 +13,15 @@ use Rattle.mux_outside.specs.declared.house_mark.HouseMark.{HouseMark}
 use Rattle.mux_outside.specs.declared.house_mark.HouseMark.TheVariants.{HouseIn, HouseSaid, HouseTook, HouseAsked, HouseAnswer, HouseOrder}
 use Rattle.mux_outside.specs.declared.order.Order.{Order}
 use Rattle.mux_outside.specs.declared.order.Order.TheVariants as order
-use Rattle.house_forward.specs.ForwarderEvents.{ForwarderEvent, Does, Leave, HappenBy, recorded, events_recorded_by, recorded_in, recorded_if, stage_next, ordered_by, AreMarked}
+use Rattle.house_forward.specs.ForwarderEvents.{ForwarderEvent, Does, Leave, HappenBy, events_of_message, events_recorded_by, recorded_in, recorded_if, stage_next, ordered_by, AreMarked}
 use Rattle.house_forward.specs.ForwarderEvents.{Begins, Asks, Answers, Greets, Requests, Replies, Listens, Unlistens}
 use Rattle.house_forward.specs.ForwardingState.{ForwardingState}
 use Rattle.house_forward.specs.Forwardings.{has_request}
 use Rattle.house_forward.specs.Greeting.{IsFrame, GreetsOnce, sent_in, sent_on, sent_at, EachGreets}
 use Rattle.house_forward.specs.RelayTraces.{Trace, first_trace, Follows, TraceReaches, SendsBy, RelaySendsIn}
 use Rattle.house_forward.specs.declared.forwarding.Forwarding.{Forwarding}
-use Rattle.house_forward.specs.declared.forwarder_state.Stage.{Stage}
-use Rattle.house_forward.specs.declared.forwarder_state.Stage.TheVariants.{Control, Proxy}
+use Rattle.house_forward.specs.declared.forwarder_state.ForwarderStage.{ForwarderStage}
+use Rattle.house_forward.specs.declared.forwarder_state.ForwarderStage.TheVariants.{Control, Proxy}
 use Rattle.mux_outside.specs.declared.greeting.TheConstants.{GREETING}
 use Rattle.house_forward.proofs.Doing.{happens}
 
@@ -37,7 +37,7 @@ greets (Replies success port) = false
 greets (Listens host port number) = false
 greets (Unlistens l) = false
 
--- whether all the deeds leave it as it was
+-- whether all the events leave it as it was
 abbrev Silent : List ForwarderEvent → Type 0
 Silent [] = Unit {0}
 Silent (forwarder_event ∷ forwarder_events) = (greets forwarder_event ≡ false) × Silent forwarder_events
@@ -97,7 +97,7 @@ silent-in (Unlistens l ∷ a) forwarder_events h = silent-in a forwarder_events 
 
 -- ---- what is received greets not
 
-recorded-silent : (m : Said) → Silent (recorded m)
+recorded-silent : (m : Said) → Silent (events_of_message m)
 recorded-silent (Plain (grammar.Transport number rest)) = tt
 recorded-silent (Plain (grammar.GlobalRequest name want rest what)) = tt
 recorded-silent (Plain (grammar.RequestSuccess rest)) = (refl, tt)
@@ -109,11 +109,11 @@ if-silent : (r : Result Said Bad) → Silent (recorded_if r)
 if-silent (Ok m) = recorded-silent m
 if-silent (Err bad) = tt
 
-by-silent : (s : Stage) (content : List ℕ) → Silent (events_recorded_by s content)
+by-silent : (s : ForwarderStage) (content : List ℕ) → Silent (events_recorded_by s content)
 by-silent Control content = tt
 by-silent Proxy content = if-silent (reading content)
 
-in-silent : (s : Stage) (contents : List (List ℕ)) → Silent (recorded_in s contents)
+in-silent : (s : ForwarderStage) (contents : List (List ℕ)) → Silent (recorded_in s contents)
 in-silent s [] = tt
 in-silent s (content ∷ more) =
     silent-both (recorded_in (stage_next s content) more) (events_recorded_by s content) (in-silent (stage_next s content) more) (by-silent s content)
@@ -181,7 +181,7 @@ says-greeting bytes old new e h =
     subst (λ (b : Bool). SendsBy b (find has_request old.forwarding_state.all) bytes old new) e h in
     (greets.0, ap (λ (c : Trace). c.forwarding_state.greeted) greets.1)
 
--- a call says one thing, or nothing
+-- a call sends one thing, or nothing
 is-said : (call : HouseCall) → (sent_on call ≡ []) ⊎ ((bytes : List ℕ) × (call ≡ Marks (HouseSaid bytes)))
 is-said (IsBegun starts) = inl refl
 is-said (Marks HouseIn) = inl refl

@@ -8,7 +8,7 @@ use Rattle.std.proofs.lemmas.List.Sums.{sum_by-cons, sum_by-set, sum_by-remove}
 use Rattle.mux_outside.specs.Streams.{among, without}
 use Rattle.house_forward.specs.Asks.{owes_opening}
 use Rattle.house_forward.specs.Due.{forwarding_due, listener_due}
-use Rattle.house_forward.specs.Forwardings.{listener_of, listener_at, listeners_of, listens, to_listen, waits_at, is_in_order, has_listener, is_listener, changed, stage_after, next_of, next_at, is_ordered_first, is_to_listen, is_first, asks_at, cancels_at, is_asked, is_cancelled, serial_of, want_in, pends, is_pending, is_first_to_listen}
+use Rattle.house_forward.specs.Forwardings.{listener_of, listener_at, listeners_of, has_a_listener, to_listen, waits_at, is_in_order, has_listener, is_listener, forwarding_changed, listener_stage_after, next_listener_order, next_at, is_ordered_first, is_to_listen, is_first, asks_at, cancels_at, is_listen_unanswered, is_cancelled, serial_of, want_in, pends, is_order_pending, is_first_to_listen}
 use Rattle.house_forward.specs.declared.asks.Waiting.{Waiting}
 use Rattle.house_forward.specs.declared.forwarding.Change.{Change}
 use Rattle.house_forward.specs.declared.forwarding.Change.TheVariants as change
@@ -22,11 +22,11 @@ use Rattle.house_forward.proofs.Lists.{kept-remove, kept-set, none-found, none-p
 -- ---- in order, of what is after a forwarding
 
 abbrev before : Stage → List Forwarding → Bool
-before s fs = not (waits_at s && listens fs)
+before s fs = not (waits_at s && has_a_listener fs)
 
 -- ---- what changes no listener
 
-stage-listener : (c : Change) (port : ℕ) (s : Stage) → listener_at (stage_after c port s) ≡ listener_at s
+stage-listener : (c : Change) (port : ℕ) (s : Stage) → listener_at (listener_stage_after c port s) ≡ listener_at s
 stage-listener c port (ToListen host) = refl
 stage-listener c port Ordered = refl
 stage-listener c port (Listening l) = refl
@@ -51,7 +51,7 @@ stage-listener change.Cancel port (Cancelling p) = refl
 stage-listener (change.Live q) port (Cancelling p) = refl
 stage-listener change.Stay port (Cancelling p) = refl
 
-stage-waits : (c : Change) (port : ℕ) (s : Stage) → waits_at (stage_after c port s) ≡ waits_at s
+stage-waits : (c : Change) (port : ℕ) (s : Stage) → waits_at (listener_stage_after c port s) ≡ waits_at s
 stage-waits c port (ToListen host) = refl
 stage-waits c port Ordered = refl
 stage-waits c port (Listening l) = refl
@@ -84,34 +84,34 @@ waits-if : (b : Bool) (x y : Forwarding) → to_listen x ≡ to_listen y → to_
 waits-if true x y e = e
 waits-if false x y e = refl
 
-pub changed-listener : (c : Change) (serial : ℕ) (f : Forwarding) → listener_of (changed c serial f) ≡ listener_of f
+pub changed-listener : (c : Change) (serial : ℕ) (f : Forwarding) → listener_of (forwarding_changed c serial f) ≡ listener_of f
 changed-listener c serial f = listener-if (f.serial == serial) _ f (stage-listener c f.listen_port f.stage)
 
-changed-waits : (c : Change) (serial : ℕ) (f : Forwarding) → to_listen (changed c serial f) ≡ to_listen f
+changed-waits : (c : Change) (serial : ℕ) (f : Forwarding) → to_listen (forwarding_changed c serial f) ≡ to_listen f
 changed-waits c serial f = waits-if (f.serial == serial) _ f (stage-waits c f.listen_port f.stage)
 
-pub changed-listeners : (c : Change) (serial : ℕ) (fs : List Forwarding) → listeners_of (map (changed c serial) fs) ≡ listeners_of fs
+pub changed-listeners : (c : Change) (serial : ℕ) (fs : List Forwarding) → listeners_of (map (forwarding_changed c serial) fs) ≡ listeners_of fs
 changed-listeners c serial [] = refl
 changed-listeners c serial (f ∷ fs) =
-    ap (λ o. cons_option o (listeners_of (map (changed c serial) fs))) (changed-listener c serial f)
+    ap (λ o. cons_option o (listeners_of (map (forwarding_changed c serial) fs))) (changed-listener c serial f)
     ∙ ap (λ ls. cons_option (listener_of f) ls) (changed-listeners c serial fs)
 
-changed-listens : (c : Change) (serial : ℕ) (fs : List Forwarding) → listens (map (changed c serial) fs) ≡ listens fs
+changed-listens : (c : Change) (serial : ℕ) (fs : List Forwarding) → has_a_listener (map (forwarding_changed c serial) fs) ≡ has_a_listener fs
 changed-listens c serial [] = refl
 changed-listens c serial (f ∷ fs) =
-    ap (λ o. is_some o || listens (map (changed c serial) fs)) (changed-listener c serial f)
+    ap (λ o. is_some o || has_a_listener (map (forwarding_changed c serial) fs)) (changed-listener c serial f)
     ∙ ap (λ b. is_some (listener_of f) || b) (changed-listens c serial fs)
 
-pub changed-order : (c : Change) (serial : ℕ) (fs : List Forwarding) → is_in_order (map (changed c serial) fs) ≡ is_in_order fs
+pub changed-order : (c : Change) (serial : ℕ) (fs : List Forwarding) → is_in_order (map (forwarding_changed c serial) fs) ≡ is_in_order fs
 changed-order c serial [] = refl
 changed-order c serial (f ∷ fs) =
-    ap (λ b. not (b && listens (map (changed c serial) fs)) && is_in_order (map (changed c serial) fs)) (changed-waits c serial f)
-    ∙ ap (λ b. not (to_listen f && b) && is_in_order (map (changed c serial) fs)) (changed-listens c serial fs)
-    ∙ ap (λ b. not (to_listen f && listens fs) && b) (changed-order c serial fs)
+    ap (λ b. not (b && has_a_listener (map (forwarding_changed c serial) fs)) && is_in_order (map (forwarding_changed c serial) fs)) (changed-waits c serial f)
+    ∙ ap (λ b. not (to_listen f && b) && is_in_order (map (forwarding_changed c serial) fs)) (changed-listens c serial fs)
+    ∙ ap (λ b. not (to_listen f && has_a_listener fs) && b) (changed-order c serial fs)
 
 -- ---- one more, that has no listener
 
-listens-more : (fs : List Forwarding) (f : Forwarding) → listener_of f ≡ None → listens (fs ++ f ∷ []) ≡ listens fs
+listens-more : (fs : List Forwarding) (f : Forwarding) → listener_of f ≡ None → has_a_listener (fs ++ f ∷ []) ≡ has_a_listener fs
 listens-more [] f e = rw e refl
 listens-more (g ∷ fs) f e = ap (λ b. is_some (listener_of g) || b) (listens-more fs f e)
 
@@ -127,7 +127,7 @@ pub order_more : (fs : List Forwarding) (f : Forwarding) → listener_of f ≡ N
 order_more [] f e = last-in (to_listen f)
 order_more (g ∷ fs) f e =
     ap (λ b. not (to_listen g && b) && is_in_order (fs ++ f ∷ [])) (listens-more fs f e)
-    ∙ ap (λ b. not (to_listen g && listens fs) && b) (order_more fs f e)
+    ∙ ap (λ b. not (to_listen g && has_a_listener fs) && b) (order_more fs f e)
 
 -- ---- some are gone
 
@@ -135,12 +135,12 @@ part-in : (w b c : Bool) → (b ≡ false → c ≡ false) → not (w && b) ≡ 
 part-in false b c less e = refl
 part-in true b c less e = not_from_false c (less (not-true b e))
 
-listens-remove : (fs : List Forwarding) (i : ℕ) → listens fs ≡ false → listens (remove fs i) ≡ false
+listens-remove : (fs : List Forwarding) (i : ℕ) → has_a_listener fs ≡ false → has_a_listener (remove fs i) ≡ false
 listens-remove [] zero e = refl
 listens-remove [] (suc i) e = refl
-listens-remove (f ∷ fs) zero e = (or_parts (is_some (listener_of f)) (listens fs) e).1
+listens-remove (f ∷ fs) zero e = (or_parts (is_some (listener_of f)) (has_a_listener fs) e).1
 listens-remove (f ∷ fs) (suc i) e =
-    let both = or_parts (is_some (listener_of f)) (listens fs) e in
+    let both = or_parts (is_some (listener_of f)) (has_a_listener fs) e in
     or_from (is_some (listener_of f)) _ both.0 (listens-remove fs i both.1)
 
 pub order-remove : (fs : List Forwarding) (i : ℕ) → is_in_order fs ≡ true → is_in_order (remove fs i) ≡ true
@@ -149,17 +149,17 @@ order-remove [] (suc i) e = refl
 order-remove (f ∷ fs) zero e = (and_parts (before f.stage fs) (is_in_order fs) e).1
 order-remove (f ∷ fs) (suc i) e =
     let both = and_parts (before f.stage fs) (is_in_order fs) e in
-    and_from _ _ (part-in (to_listen f) (listens fs) (listens (remove fs i)) (listens-remove fs i) both.0) (order-remove fs i both.1)
+    and_from _ _ (part-in (to_listen f) (has_a_listener fs) (has_a_listener (remove fs i)) (listens-remove fs i) both.0) (order-remove fs i both.1)
 
-listens-cond : (b : Bool) (f : Forwarding) (fs : List Forwarding) → is_some (listener_of f) ≡ false → listens fs ≡ false
-    → listens (cond b (f ∷ fs) fs) ≡ false
-listens-cond true f fs e n = or_from (is_some (listener_of f)) (listens fs) e n
+listens-cond : (b : Bool) (f : Forwarding) (fs : List Forwarding) → is_some (listener_of f) ≡ false → has_a_listener fs ≡ false
+    → has_a_listener (cond b (f ∷ fs) fs) ≡ false
+listens-cond true f fs e n = or_from (is_some (listener_of f)) (has_a_listener fs) e n
 listens-cond false f fs e n = n
 
-listens-filter : (p : Forwarding → Bool) (fs : List Forwarding) → listens fs ≡ false → listens (filter p fs) ≡ false
+listens-filter : (p : Forwarding → Bool) (fs : List Forwarding) → has_a_listener fs ≡ false → has_a_listener (filter p fs) ≡ false
 listens-filter p [] e = refl
 listens-filter p (f ∷ fs) e =
-    let both = or_parts (is_some (listener_of f)) (listens fs) e in
+    let both = or_parts (is_some (listener_of f)) (has_a_listener fs) e in
     listens-cond (p f) f (filter p fs) both.0 (listens-filter p fs both.1)
 
 order-cond : (b : Bool) (f : Forwarding) (fs : List Forwarding) → before f.stage fs ≡ true → is_in_order fs ≡ true
@@ -171,7 +171,7 @@ pub order-filter : (p : Forwarding → Bool) (fs : List Forwarding) → is_in_or
 order-filter p [] e = refl
 order-filter p (f ∷ fs) e =
     let both = and_parts (before f.stage fs) (is_in_order fs) e in
-    order-cond (p f) f (filter p fs) (part-in (to_listen f) (listens fs) (listens (filter p fs)) (listens-filter p fs) both.0)
+    order-cond (p f) f (filter p fs) (part-in (to_listen f) (has_a_listener fs) (has_a_listener (filter p fs)) (listens-filter p fs) both.0)
     (order-filter p fs both.1)
 
 -- ---- the one of a listener is gone
@@ -252,8 +252,8 @@ ends-with true serial serial' l k e = cc
 ends-with false serial serial' l k e = cc
 
 unlistens-at : (s : Stage) (b : Bool) (ws : List Waiting) (f : Forwarding) (fs : List Forwarding) (serial l : ℕ) → f.stage ≡ s
-    → next_at s b f.serial ws (next_of ws fs) ≡ Some (want.Unlisten serial l)
-    → (next_of ws fs ≡ Some (want.Unlisten serial l) → Unlistens l fs) → Unlistens l (f ∷ fs)
+    → next_at s b f.serial ws (next_listener_order ws fs) ≡ Some (want.Unlisten serial l)
+    → (next_listener_order ws fs ≡ Some (want.Unlisten serial l) → Unlistens l fs) → Unlistens l (f ∷ fs)
 unlistens-at (ToListen host) b ws f fs serial l is e more = cc
 unlistens-at Ordered b ws f fs serial l is e more = cc
 unlistens-at (Listening k) true ws f fs serial l is e more =
@@ -265,7 +265,7 @@ unlistens-at Requested b ws f fs serial l is e more = unlistens-more f fs l (mor
 unlistens-at (Live port) b ws f fs serial l is e more = unlistens-more f fs l (more e)
 unlistens-at (Cancelling port) b ws f fs serial l is e more = unlistens-more f fs l (more e)
 
-pub unlistens : (ws : List Waiting) (fs : List Forwarding) (serial l : ℕ) → next_of ws fs ≡ Some (want.Unlisten serial l) → Unlistens l fs
+pub unlistens : (ws : List Waiting) (fs : List Forwarding) (serial l : ℕ) → next_listener_order ws fs ≡ Some (want.Unlisten serial l) → Unlistens l fs
 unlistens ws [] serial l e = cc
 unlistens ws (f ∷ fs) serial l e = unlistens-at f.stage f.closing ws f fs serial l refl e (unlistens ws fs serial l)
 
@@ -275,8 +275,8 @@ never false serial k e = cc
 
 -- where one is to listen next, the first that has no listener yet isn't ordered
 listens-at : (s : Stage) (b : Bool) (ws : List Waiting) (f : Forwarding) (fs : List Forwarding) → f.stage ≡ s
-    → next_at s b f.serial ws (next_of ws fs) ≡ Some want.Listen
-    → (next_of ws fs ≡ Some want.Listen → is_first_to_listen (find to_listen fs) ≡ true)
+    → next_at s b f.serial ws (next_listener_order ws fs) ≡ Some want.Listen
+    → (next_listener_order ws fs ≡ Some want.Listen → is_first_to_listen (find to_listen fs) ≡ true)
     → is_first_to_listen (find to_listen (f ∷ fs)) ≡ true
 listens-at (ToListen host) b ws f fs is e more = rw is refl
 listens-at Ordered b ws f fs is e more = cc
@@ -287,7 +287,7 @@ listens-at Requested b ws f fs is e more = rw is (more e)
 listens-at (Live port) b ws f fs is e more = rw is (more e)
 listens-at (Cancelling port) b ws f fs is e more = rw is (more e)
 
-pub listens-first : (ws : List Waiting) (fs : List Forwarding) → next_of ws fs ≡ Some want.Listen
+pub listens-first : (ws : List Waiting) (fs : List Forwarding) → next_listener_order ws fs ≡ Some want.Listen
     → is_first_to_listen (find to_listen fs) ≡ true
 listens-first ws [] e = cc
 listens-first ws (f ∷ fs) e = listens-at f.stage f.closing ws f fs refl e (listens-first ws fs)
@@ -313,7 +313,7 @@ pub set-order : (fs : List Forwarding) (i : ℕ) (g d : Forwarding) → i < leng
 set-order [] i g d l first keeps e = absurd (omega arith)
 set-order (f ∷ fs) zero g d l first keeps e =
     let both = and_parts (before f.stage fs) (is_in_order fs) e in
-    and_from _ _ (waits-less (to_listen g) (to_listen f) (listens fs) keeps both.0) both.1
+    and_from _ _ (waits-less (to_listen g) (to_listen f) (has_a_listener fs) keeps both.0) both.1
 set-order (f ∷ fs) (suc i) g d l first keeps e =
     let both = and_parts (before f.stage fs) (is_in_order fs) e in
     let not-yet : to_listen f ≡ false = first 0 (omega arith) in
@@ -323,10 +323,10 @@ none-at : (o : Option ℕ) (ls : List ℕ) → is_some o ≡ false → ls ≡ []
 none-at None ls e n = n
 none-at (Some k) ls e n = cc
 
-none-listen : (fs : List Forwarding) → listens fs ≡ false → listeners_of fs ≡ []
+none-listen : (fs : List Forwarding) → has_a_listener fs ≡ false → listeners_of fs ≡ []
 none-listen [] e = refl
 none-listen (f ∷ fs) e =
-    let both = or_parts (is_some (listener_of f)) (listens fs) e in
+    let both = or_parts (is_some (listener_of f)) (has_a_listener fs) e in
     none-at (listener_of f) (listeners_of fs) both.0 (none-listen fs both.1)
 
 waits-none : (s : Stage) → waits_at s ≡ true → listener_at s ≡ None
@@ -344,7 +344,7 @@ pub made-listeners : (fs : List Forwarding) (i : ℕ) (g d : Forwarding) (l : �
 made-listeners [] i g d l lt is e o = absurd (omega arith)
 made-listeners (f ∷ fs) zero g d l lt is e o =
     let both = and_parts (before f.stage fs) (is_in_order fs) o in
-    let none : listeners_of fs ≡ [] = none-listen fs (behind-it (to_listen f) (listens fs) is both.0) in
+    let none : listeners_of fs ≡ [] = none-listen fs (behind-it (to_listen f) (has_a_listener fs) is both.0) in
     rw (e, waits-none f.stage is, none) refl
 made-listeners (f ∷ fs) (suc i) g d l lt is e o =
     let both = and_parts (before f.stage fs) (is_in_order fs) o in
@@ -387,10 +387,10 @@ cancels-none (Live port) e = cc
 cancels-none (Cancelling port) e = refl
 
 -- the request of the forwarding at this place is refused, or its cancel granted
-pub asked-remove : (serial : ℕ) (fs : List Forwarding) (i : ℕ) (d : Forwarding) → position (is_asked serial) fs ≡ Some i
+pub asked-remove : (serial : ℕ) (fs : List Forwarding) (i : ℕ) (d : Forwarding) → position (is_listen_unanswered serial) fs ≡ Some i
     → listeners_of (remove fs i) ≡ listeners_of fs
 asked-remove serial fs i d e =
-    let at = position-Some (is_asked serial) fs i d e in
+    let at = position-Some (is_listen_unanswered serial) fs i d e in
     kept-remove listener_of fs i d at.0 (asked-none (get_or fs i d).stage (and_parts ((get_or fs i d).serial == serial) _ at.1).1)
 
 cancelled-remove : (serial : ℕ) (fs : List Forwarding) (i : ℕ) (d : Forwarding) → position (is_cancelled serial) fs ≡ Some i
@@ -474,11 +474,11 @@ found-at Requested b ws f o r is closing e = e
 found-at (Live port) b ws f o r is closing e = e
 found-at (Cancelling port) b ws f o r is closing e = e
 
-pub found_next : (ws : List Waiting) (fs : List Forwarding) → next_of ws fs ≡ want_in ws (find is_pending fs)
+pub found_next : (ws : List Waiting) (fs : List Forwarding) → next_listener_order ws fs ≡ want_in ws (find is_order_pending fs)
 found_next ws [] = refl
-found_next ws (f ∷ fs) = found-at f.stage f.closing ws f (next_of ws fs) (find is_pending fs) refl refl (found_next ws fs)
+found_next ws (f ∷ fs) = found-at f.stage f.closing ws f (next_listener_order ws fs) (find is_order_pending fs) refl refl (found_next ws fs)
 
-pub asked-there : (serial : ℕ) (fs : List Forwarding) (i : ℕ) → position (is_asked serial) fs ≡ Some i
+pub asked-there : (serial : ℕ) (fs : List Forwarding) (i : ℕ) → position (is_listen_unanswered serial) fs ≡ Some i
     → listeners_of (remove fs i) ≡ listeners_of fs
 asked-there serial [] i e = cc
 asked-there serial (f ∷ fs) i e = asked-remove serial (f ∷ fs) i f e

@@ -3,8 +3,8 @@ use Rattle.std.proofs.Common.{◌≡◌, refl, sym, ℕ, Bool, true, false, Opti
 use Rattle.house_relay.specs.Steps.{fresh_relay, fresh_dialing}
 use Rattle.house_relay.specs.declared.line.ChannelState.TheVariants.{Over}
 use Rattle.house_relay.specs.declared.relay.Relay.{Relay}
-use Rattle.house_relay.specs.declared.relay.Socket.TheVariants as socket
-use Rattle.house_forward.specs.Links.{IsRelayJoined, IsJoinedAt, IsDialed, HasNoChannelLeft}
+use Rattle.house_relay.specs.declared.relay.RelaySocket.TheVariants as socket
+use Rattle.house_forward.specs.Links.{IsRelayJoined, IsJoinedAt, DialsOrCloses, HasNoChannelLeft}
 use Rattle.house_forward.specs.declared.forwarding.Forwarding.{Forwarding}
 
 is-no_channel_left : (n t : ℕ) (r : Relay) → r ≡ fresh_relay n Over (socket.NoChannelLeft t) → HasNoChannelLeft t r
@@ -27,11 +27,11 @@ joined-one true dialogs_full f g t r e one is = cc
 joined-one false dialogs_full f g t r e one is = rw (sym one) is
 
 pub dialed-over : (dialogs_full : Bool) (n t : ℕ) (r : Relay) → dialogs_full ≡ true → r ≡ fresh_relay n Over (socket.NoChannelLeft t)
-    → IsDialed dialogs_full t r
+    → DialsOrCloses dialogs_full t r
 dialed-over true n t r e is = is-no_channel_left n t r is
 dialed-over false n t r e is = cc
 
 pub dialed-one : (dialogs_full : Bool) (n t : ℕ) (r : Relay) → dialogs_full ≡ false → r ≡ fresh_relay n fresh_dialing (socket.Open t)
-    → IsDialed dialogs_full t r
+    → DialsOrCloses dialogs_full t r
 dialed-one true n t r e is = cc
 dialed-one false n t r e is = rw is refl

@@ -3,25 +3,25 @@ use Rattle.std.proofs.Common.{◌≡◌, ◌∙◌, refl, sym, ap, subst, arith,
 use Rattle.std.specs.Prelude.{if◌then◌else◌}
 use Rattle.conn_messages.specs.declared.message.Message.{Message}
 use Rattle.conn_messages.specs.declared.message.Message.TheVariants as message
-use Rattle.socks_dialog.specs.State.{State}
+use Rattle.socks_dialog.specs.State.{DialogState}
 use Rattle.socks_dialog.specs.declared.outcome.Outcome.{Outcome}
 use Rattle.socks_dialog.specs.declared.outcome.Outcome.TheVariants.{Wants, Connects, Breaks}
-use Rattle.house_relay.specs.Acts.{RelayAct, Confirms, Refuses, Delivers, ReceivesEof, ReceivesClose, Other, taken, outcome_in, before_in}
+use Rattle.house_relay.specs.Acts.{RelayAct, Confirms, Refuses, Delivers, ReceivesEof, ReceivesClose, Other, accepted_length, outcome_in, before_in}
 use Rattle.house_relay.specs.Dialing.{IsDialogReading}
-use Rattle.house_relay.specs.ChannelState.{owed_in, in_live, receives_room, receives_close, receives_request, takes_in, takes_more, closes, answers, sends, ends, grants, over_if}
-use Rattle.house_relay.specs.Relay.{RelayRepresents, LineStands, IsDialing, socket_stream_of, delivers, answered_in, received_in, sent_act}
-use Rattle.house_relay.specs.Steps.{sent_of, connected, failing, sent_open, sent_confirmation, room_received, eof_received, close_received, request_received, confirmed_in, refused_in, data_received, no_channel_left_of, IsToDial, IsOpenAskedFor, ComesOf, DialsIn, Dials}
+use Rattle.house_relay.specs.ChannelState.{owed_in, step_if_live, receives_room, receives_close, receives_request, takes_in, takes_more, live_after_close, answers_failure, live_after_sending, ends, live_after_grant, over_if}
+use Rattle.house_relay.specs.Relay.{RelayRepresents, LineStands, IsDialing, socket_stream_of, delivers, answered_in, received_if_live, sent_act}
+use Rattle.house_relay.specs.Steps.{sent_of, socket_connected, failing, channel_after_open, sent_confirmation, room_received, eof_received, close_received, request_received, confirmed_in, refused_in, data_received, no_channel_left_of, IsToDial, IsOpenAskedFor, ComesOf, DialsIn, Dials}
 use Rattle.house_relay.specs.declared.line.Live.{Live as LiveState}
 use Rattle.house_relay.specs.declared.line.ChannelState.{ChannelState}
 use Rattle.house_relay.specs.declared.line.ChannelState.TheVariants.{Dialing, Asked, Opened, Offered, Live, Over}
 use Rattle.house_relay.specs.declared.relay.Relay.{Relay}
 use Rattle.house_relay.specs.declared.relay.Outgoing.{Outgoing}
 use Rattle.house_relay.specs.declared.relay.Outgoing.TheVariants as outgoing
-use Rattle.house_relay.specs.declared.relay.Socket.{Socket}
-use Rattle.house_relay.specs.declared.relay.Socket.TheVariants as socket
+use Rattle.house_relay.specs.declared.relay.RelaySocket.{RelaySocket}
+use Rattle.house_relay.specs.declared.relay.RelaySocket.TheVariants as socket
 use Rattle.house_forward.specs.Going.{act_of_sending}
 use Rattle.house_forward.specs.Heard.{received_of, act_received}
-use Rattle.house_forward.specs.Links.{after_sending}
+use Rattle.house_forward.specs.Links.{relay_after_sending}
 
 -- the socket stays, and no more is owed
 pub record Stays (old new : Relay) : Type 0 where
@@ -35,7 +35,7 @@ stays r = record { socket_is = refl; ended_is = refl; owes = omega arith }
 -- ---- lines
 
 owed-live : (step : LiveState → ChannelState) → ((live : LiveState) → owed_in (step live) ≤ live.owed) → (line : ChannelState)
-    → owed_in (in_live step line) ≤ owed_in line
+    → owed_in (step_if_live step line) ≤ owed_in line
 owed-live step f (Dialing dialog) = omega arith
 owed-live step f (Asked host port version) = omega arith
 owed-live step f (Opened version) = omega arith
@@ -107,8 +107,8 @@ stays-heard (message.Success recipient) r = stays r
 stays-heard (message.Failure recipient) r = stays r
 
 -- nothing is accepted by that
-answered-none : (line : ChannelState) (act : RelayAct) (acts : List RelayAct) → taken (act ∷ acts) ≡ taken acts
-    → taken (answered_in line act ∷ acts) ≡ taken acts
+answered-none : (line : ChannelState) (act : RelayAct) (acts : List RelayAct) → accepted_length (act ∷ acts) ≡ accepted_length acts
+    → accepted_length (answered_in line act ∷ acts) ≡ accepted_length acts
 answered-none (Dialing dialog) act acts e = refl
 answered-none (Asked host port version) act acts e = refl
 answered-none (Opened version) act acts e = e
@@ -116,8 +116,8 @@ answered-none (Offered remote window maximum) act acts e = refl
 answered-none (Live live) act acts e = refl
 answered-none Over act acts e = refl
 
-heard-none : (line : ChannelState) (act : RelayAct) (acts : List RelayAct) → taken (act ∷ acts) ≡ taken acts
-    → taken (received_in line act ∷ acts) ≡ taken acts
+heard-none : (line : ChannelState) (act : RelayAct) (acts : List RelayAct) → accepted_length (act ∷ acts) ≡ accepted_length acts
+    → accepted_length (received_if_live line act ∷ acts) ≡ accepted_length acts
 heard-none (Dialing dialog) act acts e = refl
 heard-none (Asked host port version) act acts e = refl
 heard-none (Opened version) act acts e = refl
@@ -125,11 +125,11 @@ heard-none (Offered remote window maximum) act acts e = refl
 heard-none (Live live) act acts e = e
 heard-none Over act acts e = refl
 
-data-none : (b : Bool) (bytes : List ℕ) (acts : List RelayAct) → taken ((if b then Delivers bytes else Other) ∷ acts) ≡ taken acts
+data-none : (b : Bool) (bytes : List ℕ) (acts : List RelayAct) → accepted_length ((if b then Delivers bytes else Other) ∷ acts) ≡ accepted_length acts
 data-none true bytes acts = refl
 data-none false bytes acts = refl
 
-pub none-heard : (m : Message) (r : Relay) (acts : List RelayAct) → taken (act_received m r ∷ acts) ≡ taken acts
+pub none-heard : (m : Message) (r : Relay) (acts : List RelayAct) → accepted_length (act_received m r ∷ acts) ≡ accepted_length acts
 none-heard (message.Transport number rest) r acts = refl
 none-heard (message.GlobalRequest name want rest what) r acts = refl
 none-heard (message.RequestSuccess rest) r acts = refl
@@ -148,7 +148,7 @@ none-heard (message.Failure recipient) r acts = refl
 
 -- ---- what is sent
 
-owed-open : (line : ChannelState) → owed_in (sent_open line) ≤ owed_in line
+owed-open : (line : ChannelState) → owed_in (channel_after_open line) ≤ owed_in line
 owed-open (Dialing dialog) = omega arith
 owed-open (Asked host port version) = omega arith
 owed-open (Opened version) = omega arith
@@ -171,18 +171,18 @@ stays-said outgoing.OpenFailure r = record { socket_is = refl; ended_is = refl; 
 stays-said outgoing.Close r = record {
   socket_is = refl;
   ended_is = refl;
-  owes = owed-live closes
+  owes = owed-live live_after_close
       (λ live. owed-over live.close_received (record live { close_sent = true; failures = 0; owed = 0 }) live.owed (omega arith)) r.line;
 }
 stays-said outgoing.Failure r = record {
   socket_is = refl;
   ended_is = refl;
-  owes = owed-live (λ live. Live (answers live)) (λ live. omega arith) r.line;
+  owes = owed-live (λ live. Live (answers_failure live)) (λ live. omega arith) r.line;
 }
 stays-said (outgoing.Data n) r = record {
   socket_is = refl;
   ended_is = refl;
-  owes = owed-live (λ live. Live (sends n live)) (λ live. omega arith) r.line;
+  owes = owed-live (λ live. Live (live_after_sending n live)) (λ live. omega arith) r.line;
 }
 stays-said outgoing.Eof r = record {
   socket_is = refl;
@@ -192,14 +192,14 @@ stays-said outgoing.Eof r = record {
 stays-said (outgoing.Adjust n) r = record {
   socket_is = refl;
   ended_is = refl;
-  owes = owed-live (λ live. Live (grants n live)) (λ live. omega arith) r.line;
+  owes = owed-live (λ live. Live (live_after_grant n live)) (λ live. omega arith) r.line;
 }
 
-pub stays-after : (o : Option Outgoing) (r : Relay) → Stays r (after_sending o r)
+pub stays-after : (o : Option Outgoing) (r : Relay) → Stays r (relay_after_sending o r)
 stays-after None r = stays r
 stays-after (Some s) r = stays-said s r
 
-none-said : (s : Outgoing) (r : Relay) (acts : List RelayAct) → taken (sent_act s r ∷ acts) ≡ taken acts
+none-said : (s : Outgoing) (r : Relay) (acts : List RelayAct) → accepted_length (sent_act s r ∷ acts) ≡ accepted_length acts
 none-said outgoing.Open r acts = refl
 none-said outgoing.Confirmation r acts = refl
 none-said outgoing.OpenFailure r acts = refl
@@ -209,7 +209,7 @@ none-said (outgoing.Data n) r acts = refl
 none-said outgoing.Eof r acts = refl
 none-said (outgoing.Adjust n) r acts = refl
 
-pub none-after : (o : Option Outgoing) (r : Relay) (acts : List RelayAct) → taken (act_of_sending o r ∷ acts) ≡ taken acts
+pub none-after : (o : Option Outgoing) (r : Relay) (acts : List RelayAct) → accepted_length (act_of_sending o r ∷ acts) ≡ accepted_length acts
 none-after None r acts = refl
 none-after (Some s) r acts = none-said s r acts
 
@@ -220,7 +220,7 @@ pub record KeepsStream (old new : Relay) : Type 0 where
   pub stream_is : socket_stream_of new.socket ≡ socket_stream_of old.socket
   pub owes : owed_in new.line ≤ owed_in old.line
 
-no_channel_left-stream : (s : Socket) → socket_stream_of (no_channel_left_of s) ≡ socket_stream_of s
+no_channel_left-stream : (s : RelaySocket) → socket_stream_of (no_channel_left_of s) ≡ socket_stream_of s
 no_channel_left-stream (socket.Connecting stream) = refl
 no_channel_left-stream (socket.Open stream) = refl
 no_channel_left-stream socket.Unmade = refl
@@ -264,7 +264,7 @@ same-keeps old new line socket =
     record { stream_is = ap socket_stream_of socket; owes = omega (arith, same) }
 
 dials-keeps : (line : ChannelState) (free : Bool) (bytes : List ℕ) (old new : Relay)
-    → ((dialog : State) → line ≡ Dialing dialog → IsDialogReading dialog) → DialsIn line free bytes old new → KeepsStream old new
+    → ((dialog : DialogState) → line ≡ Dialing dialog → IsDialogReading dialog) → DialsIn line free bytes old new → KeepsStream old new
 dials-keeps (Dialing dialog) free bytes old new reads h =
     comes-keeps (outcome_in (dialog.bytes ++ bytes)) free old new (h (reads dialog refl))
 dials-keeps (Asked host port version) free bytes old new reads h = same-keeps old new h.0 h.1
@@ -274,7 +274,7 @@ dials-keeps (Live live) free bytes old new reads h = same-keeps old new h.0 h.1
 dials-keeps Over free bytes old new reads h = same-keeps old new h.0 h.1
 
 -- a dialog that stands has given all replies, and wants more bytes
-pub is-reading : (dials : Bool) (acts : List RelayAct) (r : Relay) → RelayRepresents dials acts r → (dialog : State) → r.line ≡ Dialing dialog
+pub is-reading : (dials : Bool) (acts : List RelayAct) (r : Relay) → RelayRepresents dials acts r → (dialog : DialogState) → r.line ≡ Dialing dialog
     → IsDialogReading dialog
 is-reading dials acts r s dialog e =
     let d : IsDialing dialog dials acts = subst (λ (l : ChannelState). LineStands l dials acts) e s.line in
@@ -302,7 +302,7 @@ owed-takes n Over = omega arith
 
 -- ---- steps
 
-pub connected-stream : (s : Socket) → socket_stream_of (connected s) ≡ socket_stream_of s
+pub connected-stream : (s : RelaySocket) → socket_stream_of (socket_connected s) ≡ socket_stream_of s
 connected-stream (socket.Connecting stream) = refl
 connected-stream (socket.Open stream) = refl
 connected-stream socket.Unmade = refl
@@ -310,7 +310,7 @@ connected-stream (socket.Failed stream) = refl
 connected-stream (socket.NoChannelLeft stream) = refl
 connected-stream socket.Closed = refl
 
-pub failing-stream : (s : Socket) → socket_stream_of (failing s) ≡ socket_stream_of s
+pub failing-stream : (s : RelaySocket) → socket_stream_of (failing s) ≡ socket_stream_of s
 failing-stream (socket.Connecting stream) = refl
 failing-stream (socket.Open stream) = refl
 failing-stream socket.Unmade = refl

@@ -27,14 +27,14 @@ use Rattle.house_forward.specs.ForwardingState.{ForwardingState, forwarding_stat
 use Rattle.house_forward.specs.Forwardings.{has_request, listeners_of, served_at}
 use Rattle.house_forward.specs.Going.{LeavesAt, RelayReceivesOn, RelaySendsOn, MakesAt}
 use Rattle.house_forward.specs.Links.{Offers, has_sending, is_awaited}
-use Rattle.house_forward.specs.RelayTraces.{Trace, Held, IsTrace, GoesFurther, LinksGo, HouseGoes, ForwardingStateGoes, GetsNumber, held, forwarder_held_of, Follows, with_received, cut_off, RelaySendsIn}
+use Rattle.house_forward.specs.RelayTraces.{Trace, Held, IsTrace, GoesFurther, LinksGo, HouseGoes, ForwardingStateGoes, GetsNumber, as_held, forwarder_held_of, Follows, with_received, cut_off, RelaySendsIn}
 use Rattle.house_forward.specs.Said.{framed, relay_sent_by}
 use Rattle.house_forward.specs.RelayTraces.{RelayReceivesAt, OpensFor, ReceivesReply, ReceivesMessage, ReceivesReading, ReceivesFrame, RelaysReceiveFrames, ReceivesNext, is_grant, port_in}
-use Rattle.house_forward.specs.declared.asks.Asks.{Asks}
+use Rattle.house_forward.specs.declared.asks.PendingRequests.{PendingRequests}
 use Rattle.house_forward.specs.declared.forwarding.Forwarding.{Forwarding}
 use Rattle.house_forward.specs.declared.forwardings.Forwardings.{Forwardings}
-use Rattle.house_forward.specs.declared.forwarder_state.Stage.{Stage}
-use Rattle.house_forward.specs.declared.forwarder_state.Stage.TheVariants.{Control, Proxy}
+use Rattle.house_forward.specs.declared.forwarder_state.ForwarderStage.{ForwarderStage}
+use Rattle.house_forward.specs.declared.forwarder_state.ForwarderStage.TheVariants.{Control, Proxy}
 use Rattle.house_forward.specs.declared.link.Link.{Link}
 use Rattle.house_forward.specs.declared.ordering.Ordering.{Ordering}
 use Rattle.house_forward.specs.declared.ordering.Ordering.TheVariants as ordering
@@ -52,24 +52,24 @@ further P Q old new f goes most trace is =
 pub links-further : (P Q : Trace → Trace → Type 0) (old new : List Link) → ((a b : Trace) → P a b → Q a b)
     → LinksGo P old new → LinksGo Q old new
 links-further P Q old new f goes framer stage forwarding_state =
-    further P Q (held old framer stage forwarding_state) (held new framer stage forwarding_state) f (goes framer stage forwarding_state)
+    further P Q (as_held old framer stage forwarding_state) (as_held new framer stage forwarding_state) f (goes framer stage forwarding_state)
 
 -- what changes nothing
 pub stays : (P : Trace → Trace → Type 0) (h : Held) → ((a : Trace) → P a a) → GoesFurther P h h
 stays P h same most trace is = (trace, same trace, is)
 
 pub links-stay : (P : Trace → Trace → Type 0) (links : List Link) → ((a : Trace) → P a a) → LinksGo P links links
-links-stay P links same framer stage forwarding_state = stays P (held links framer stage forwarding_state) same
+links-stay P links same framer stage forwarding_state = stays P (as_held links framer stage forwarding_state) same
 
 -- where the links alone go on
-pub links-house : (P : Trace → Trace → Type 0) (relays relays' : Relays) (fs : Forwardings) (asks : Asks)
+pub links-house : (P : Trace → Trace → Type 0) (relays relays' : Relays) (fs : Forwardings) (asks : PendingRequests)
     → LinksGo P relays.all.items relays'.all.items → HouseGoes P relays fs asks relays' fs asks
 links-house P relays relays' fs asks goes framer stage rules greeted = goes framer stage (forwarding_state_of rules greeted fs asks)
 
 -- ---- a payload
 
 -- what is no message
-pub no-message : (reading : Result Said Bad) (bad : Bad) (relays : Relays) (fs : Forwardings) (asks : Asks) → reading ≡ Err bad
+pub no-message : (reading : Result Said Bad) (bad : Bad) (relays : Relays) (fs : Forwardings) (asks : PendingRequests) → reading ≡ Err bad
     → HouseGoes (ReceivesReading reading) relays fs asks relays fs asks
 no-message reading bad relays fs asks e =
     links-house (ReceivesReading reading) relays relays fs asks
@@ -77,8 +77,8 @@ no-message reading bad relays fs asks e =
     (links-stay (ReceivesReading (Err bad)) relays.all.items (λ a. refl)))
 
 -- a message
-pub a-message : (reading : Result Said Bad) (m : Message) (relays : Relays) (fs : Forwardings) (asks : Asks)
-    (relays' : Relays) (fs' : Forwardings) (asks' : Asks) → reading ≡ Ok (message_of m)
+pub a-message : (reading : Result Said Bad) (m : Message) (relays : Relays) (fs : Forwardings) (asks : PendingRequests)
+    (relays' : Relays) (fs' : Forwardings) (asks' : PendingRequests) → reading ≡ Ok (message_of m)
     → HouseGoes (ReceivesMessage m) relays fs asks relays' fs' asks' → HouseGoes (ReceivesReading reading) relays fs asks relays' fs' asks'
 a-message reading m relays fs asks relays' fs' asks' e goes framer stage rules greeted =
     let old = forwarder_held_of relays framer stage rules greeted fs asks in
@@ -88,10 +88,10 @@ a-message reading m relays fs asks relays' fs' asks' e goes framer stage rules g
 
 -- an OPEN for a forwarding
 an-open : (address : List ℕ) (port remote window maximum : ℕ) (o : Option Forwarding) (old new : List Link) (framer : FramerState)
-    (stage : Stage) (forwarding_state : ForwardingState) → o ≡ find (served_at address port) forwarding_state.all → (o ≡ None → new ≡ old)
+    (stage : ForwarderStage) (forwarding_state : ForwardingState) → o ≡ find (served_at address port) forwarding_state.all → (o ≡ None → new ≡ old)
     → IfSome o (λ f. Offers f remote window maximum old new)
     → GoesFurther (λ (a : Trace) (b : Trace). OpensFor (find (served_at address port) a.forwarding_state.all) remote window maximum a b)
-    (held old framer stage forwarding_state) (held new framer stage forwarding_state)
+    (as_held old framer stage forwarding_state) (as_held new framer stage forwarding_state)
 an-open address port remote window maximum None old new framer stage forwarding_state is none some = λ most trace its.
     let same = ap (λ (d : ForwardingState). find (served_at address port) d.all) its.forwarding_state_is ∙ sym is in (
       trace,
@@ -107,7 +107,7 @@ an-open address port remote window maximum (Some f) old new framer stage forward
     )
 
 pub a-forwarded : (reading : Result Said Bad) (m : Message) (kind rest address : Bor (List ℕ)) (remote window maximum port : ℕ) (what : Opening)
-    (o : Option Forwarding) (relays relays' : Relays) (fs : Forwardings) (asks : Asks) → reading ≡ Ok (message_of m)
+    (o : Option Forwarding) (relays relays' : Relays) (fs : Forwardings) (asks : PendingRequests) → reading ≡ Ok (message_of m)
     → m ≡ message.Open kind remote window maximum rest what → what ≡ opens.Forwarded (keys.Tcp address port)
     → o ≡ find (served_at address.now port) fs.all.items → (o ≡ None → relays'.all.items ≡ relays.all.items)
     → IfSome o (λ f. Offers f remote window maximum relays.all.items relays'.all.items)
@@ -120,13 +120,13 @@ a-forwarded reading m kind rest address remote window maximum port what o relays
     an-open address.now port remote window maximum o relays.all.items relays'.all.items framer stage (forwarding_state_of rules greeted fs asks) found none some)))
 
 -- a reply of the server
-replies : (success : Bool) (port : Option ℕ) (relays : Relays) (fs : Forwardings) (asks : Asks) (fs' : Forwardings) (asks' : Asks)
+replies : (success : Bool) (port : Option ℕ) (relays : Relays) (fs : Forwardings) (asks : PendingRequests) (fs' : Forwardings) (asks' : PendingRequests)
     → ForwardingsGo (λ old new. new ≡ reply_received success port old) fs asks fs' asks'
     → HouseGoes (ReceivesReply success port) relays fs asks relays fs' asks'
 replies success port relays fs asks fs' asks' goes framer stage rules greeted =
     forwarding_state-becomes (reply_received success port) (forwarder_held_of relays framer stage rules greeted fs asks)
     (forwarder_held_of relays framer stage rules greeted fs' asks')
-    (ap (λ (d : ForwardingState). held relays.all.items framer stage d) (goes rules greeted))
+    (ap (λ (d : ForwardingState). as_held relays.all.items framer stage d) (goes rules greeted))
 
 -- the port that a success carries
 pub port-read : (o : Option ℕ) (bytes rest : List ℕ) → IfSome o (λ n. take_u32 bytes ≡ Some (n, rest))
@@ -134,16 +134,16 @@ pub port-read : (o : Option ℕ) (bytes rest : List ℕ) → IfSome o (λ n. tak
 port-read None bytes rest some none = sym (ap port_in none)
 port-read (Some n) bytes rest some none = sym (ap port_in some)
 
-pub a-success : (reading : Result Said Bad) (m : Message) (rest : Bor (List ℕ)) (port : Option ℕ) (relays : Relays) (fs : Forwardings) (asks : Asks)
-    (fs' : Forwardings) (asks' : Asks) → reading ≡ Ok (message_of m) → m ≡ message.RequestSuccess rest → port ≡ port_in (take_u32 rest.now)
+pub a-success : (reading : Result Said Bad) (m : Message) (rest : Bor (List ℕ)) (port : Option ℕ) (relays : Relays) (fs : Forwardings) (asks : PendingRequests)
+    (fs' : Forwardings) (asks' : PendingRequests) → reading ≡ Ok (message_of m) → m ≡ message.RequestSuccess rest → port ≡ port_in (take_u32 rest.now)
     → ForwardingsGo (λ old new. new ≡ reply_received true port old) fs asks fs' asks' → HouseGoes (ReceivesReading reading) relays fs asks relays fs' asks'
 a-success reading m rest port relays fs asks fs' asks' e is its r =
     a-message reading m relays fs asks relays fs' asks' e
     (subst (λ (x : Message). HouseGoes (ReceivesMessage x) relays fs asks relays fs' asks') (sym is)
     (subst (λ (o : Option ℕ). HouseGoes (ReceivesReply true o) relays fs asks relays fs' asks') its (replies true port relays fs asks fs' asks' r)))
 
-pub a-failure : (reading : Result Said Bad) (m : Message) (relays : Relays) (fs : Forwardings) (asks : Asks)
-    (fs' : Forwardings) (asks' : Asks) → reading ≡ Ok (message_of m) → m ≡ message.RequestFailure
+pub a-failure : (reading : Result Said Bad) (m : Message) (relays : Relays) (fs : Forwardings) (asks : PendingRequests)
+    (fs' : Forwardings) (asks' : PendingRequests) → reading ≡ Ok (message_of m) → m ≡ message.RequestFailure
     → ForwardingsGo (λ old new. new ≡ reply_received false None old) fs asks fs' asks' → HouseGoes (ReceivesReading reading) relays fs asks relays fs' asks'
 a-failure reading m relays fs asks fs' asks' e is r =
     a-message reading m relays fs asks relays fs' asks' e
@@ -225,7 +225,7 @@ in-channel (message.Failure recipient) n e a b h =
     subst (λ (k : ℕ). RelayReceivesAt k (message.Failure recipient) a b) (its n recipient e) h
 
 -- a message in a channel
-pub a-channel-message : (reading : Result Said Bad) (m : Message) (n : ℕ) (relays relays' : Relays) (fs : Forwardings) (asks : Asks)
+pub a-channel-message : (reading : Result Said Bad) (m : Message) (n : ℕ) (relays relays' : Relays) (fs : Forwardings) (asks : PendingRequests)
     → reading ≡ Ok (message_of m) → channel_of m ≡ Some n
     → LeavesAt (position (λ l. l.relay.number == n) relays.all.items) (RelayReceivesOn m) relays.all.items relays'.all.items
     → HouseGoes (ReceivesReading reading) relays fs asks relays' fs asks
@@ -238,7 +238,7 @@ a-channel-message reading m n relays relays' fs asks e in-it goes =
 -- ---- a frame
 
 pub grants : (content : List ℕ) (links : List Link) (framer : FramerState) (forwarding_state : ForwardingState) → is_grant (take_u32 content) ≡ true
-    → GoesFurther (ReceivesFrame Control content) (held links framer Control forwarding_state) (held links (switched framing.Proxy framer) Proxy forwarding_state)
+    → GoesFurther (ReceivesFrame Control content) (as_held links framer Control forwarding_state) (as_held links (switched framing.Proxy framer) Proxy forwarding_state)
 grants content links framer forwarding_state e most trace is = (
   record trace { stage = Proxy; framer = switched framing.Proxy trace.framer },
   rw e refl,
@@ -252,12 +252,12 @@ grants content links framer forwarding_state e most trace is = (
 )
 
 pub grants-none : (content : List ℕ) (links : List Link) (framer : FramerState) (forwarding_state : ForwardingState) → is_grant (take_u32 content) ≡ false
-    → GoesFurther (ReceivesFrame Control content) (held links framer Control forwarding_state) (held links framer Control forwarding_state)
+    → GoesFurther (ReceivesFrame Control content) (as_held links framer Control forwarding_state) (as_held links framer Control forwarding_state)
 grants-none content links framer forwarding_state e most trace is = (trace, rw e refl, is)
 
 -- where the next is no frame
-pub receives-none : (links : List Link) (framer : FramerState) (stage : Stage) (forwarding_state : ForwardingState) → answer_to (front_of framer) ≢ next.Frame
-    → GoesFurther (ReceivesNext false) (held links framer stage forwarding_state) (held links (after_front (front_of framer) framer) stage forwarding_state)
+pub receives-none : (links : List Link) (framer : FramerState) (stage : ForwarderStage) (forwarding_state : ForwardingState) → answer_to (front_of framer) ≢ next.Frame
+    → GoesFurther (ReceivesNext false) (as_held links framer stage forwarding_state) (as_held links (after_front (front_of framer) framer) stage forwarding_state)
 receives-none links framer stage forwarding_state none most trace is = (
   cut_off (front_of trace.framer) trace,
   (subst (λ (f : FramerState). answer_to (front_of f) ≢ next.Frame) (sym is.framer_is) none, refl),
@@ -271,10 +271,10 @@ receives-none links framer stage forwarding_state none most trace is = (
 )
 
 -- where it is one
-receives-it : (content rest : List ℕ) (links : List Link) (framer : FramerState) (stage : Stage) (forwarding_state : ForwardingState) (new : Held)
+receives-it : (content rest : List ℕ) (links : List Link) (framer : FramerState) (stage : ForwarderStage) (forwarding_state : ForwardingState) (new : Held)
     → front_of framer ≡ Frame content rest
-    → GoesFurther (ReceivesFrame stage content) (held links (after_front (Frame content rest) framer) stage forwarding_state) new
-    → GoesFurther (ReceivesNext true) (held links framer stage forwarding_state) new
+    → GoesFurther (ReceivesFrame stage content) (as_held links (after_front (Frame content rest) framer) stage forwarding_state) new
+    → GoesFurther (ReceivesNext true) (as_held links framer stage forwarding_state) new
 receives-it content rest links framer stage forwarding_state new front goes most trace is =
     let n = goes most (cut_off (Frame content rest) trace) (record {
       relay_traces = is.relay_traces;
@@ -288,16 +288,16 @@ receives-it content rest links framer stage forwarding_state new front goes most
         content,
         rest,
         ap front_of is.framer_is ∙ front,
-        subst (λ (s : Stage). ReceivesFrame s content (cut_off (Frame content rest) trace) n.0) (sym is.stage_is) n.1,
+        subst (λ (s : ForwarderStage). ReceivesFrame s content (cut_off (Frame content rest) trace) n.0) (sym is.stage_is) n.1,
       ),
       n.2,
     )
 
-pub receives-front : (front : Front) (links : List Link) (framer : FramerState) (stage : Stage) (forwarding_state : ForwardingState) (new : Held)
+pub receives-front : (front : Front) (links : List Link) (framer : FramerState) (stage : ForwarderStage) (forwarding_state : ForwardingState) (new : Held)
     → front_of framer ≡ front → answer_to front ≡ next.Frame
     → IfSome (after_front front framer).current (λ content. GoesFurther (ReceivesFrame stage content)
-    (held links (after_front front framer) stage forwarding_state) new)
-    → GoesFurther (ReceivesNext true) (held links framer stage forwarding_state) new
+    (as_held links (after_front front framer) stage forwarding_state) new)
+    → GoesFurther (ReceivesNext true) (as_held links framer stage forwarding_state) new
 receives-front (Frame content rest) links framer stage forwarding_state new front is goes =
     receives-it content rest links framer stage forwarding_state new front goes
 receives-front More links framer stage forwarding_state new front is goes = cc
@@ -306,35 +306,35 @@ receives-front (Faulty fault) links framer stage forwarding_state new front is g
 -- ---- as the frame is current
 
 -- one that grants the proxy
-pub grants-frame : (current : Option (List ℕ)) (content : List ℕ) (links : List Link) (framer after : FramerState) (stage : Stage) (forwarding_state : ForwardingState)
+pub grants-frame : (current : Option (List ℕ)) (content : List ℕ) (links : List Link) (framer after : FramerState) (stage : ForwarderStage) (forwarding_state : ForwardingState)
     → stage ≡ Control → current ≡ Some content → is_grant (take_u32 content) ≡ true → after ≡ switched framing.Proxy framer
-    → IfSome current (λ x. GoesFurther (ReceivesFrame stage x) (held links framer stage forwarding_state) (held links after Proxy forwarding_state))
+    → IfSome current (λ x. GoesFurther (ReceivesFrame stage x) (as_held links framer stage forwarding_state) (as_held links after Proxy forwarding_state))
 grants-frame current content links framer after stage forwarding_state control is grant same =
-    subst (λ (o : Option (List ℕ)). IfSome o (λ x. GoesFurther (ReceivesFrame stage x) (held links framer stage forwarding_state) (held links after Proxy forwarding_state))) (sym is)
-    (subst (λ (s : Stage). GoesFurther (ReceivesFrame s content) (held links framer s forwarding_state) (held links after Proxy forwarding_state)) (sym control)
-    (subst (λ (f : FramerState). GoesFurther (ReceivesFrame Control content) (held links framer Control forwarding_state) (held links f Proxy forwarding_state)) (sym same)
+    subst (λ (o : Option (List ℕ)). IfSome o (λ x. GoesFurther (ReceivesFrame stage x) (as_held links framer stage forwarding_state) (as_held links after Proxy forwarding_state))) (sym is)
+    (subst (λ (s : ForwarderStage). GoesFurther (ReceivesFrame s content) (as_held links framer s forwarding_state) (as_held links after Proxy forwarding_state)) (sym control)
+    (subst (λ (f : FramerState). GoesFurther (ReceivesFrame Control content) (as_held links framer Control forwarding_state) (as_held links f Proxy forwarding_state)) (sym same)
     (grants content links framer forwarding_state grant)))
 
 -- a payload
-pub proxy-frame : (current : Option (List ℕ)) (content : List ℕ) (relays : Relays) (fs : Forwardings) (asks : Asks)
-    (relays' : Relays) (fs' : Forwardings) (asks' : Asks) (framer : FramerState) (stage : Stage) (rules : ListenRules) (greeted : Bool)
+pub proxy-frame : (current : Option (List ℕ)) (content : List ℕ) (relays : Relays) (fs : Forwardings) (asks : PendingRequests)
+    (relays' : Relays) (fs' : Forwardings) (asks' : PendingRequests) (framer : FramerState) (stage : ForwarderStage) (rules : ListenRules) (greeted : Bool)
     → stage ≡ Proxy → current ≡ Some content → HouseGoes (ReceivesReading (reading content)) relays fs asks relays' fs' asks'
     → IfSome current (λ x. GoesFurther (ReceivesFrame stage x) (forwarder_held_of relays framer stage rules greeted fs asks)
     (forwarder_held_of relays' framer stage rules greeted fs' asks'))
 proxy-frame current content relays fs asks relays' fs' asks' framer stage rules greeted proxy is goes =
     subst (λ (o : Option (List ℕ)). IfSome o (λ x. GoesFurther (ReceivesFrame stage x) (forwarder_held_of relays framer stage rules greeted fs asks)
     (forwarder_held_of relays' framer stage rules greeted fs' asks'))) (sym is)
-    (subst (λ (s : Stage). GoesFurther (ReceivesFrame s content) (forwarder_held_of relays framer s rules greeted fs asks)
+    (subst (λ (s : ForwarderStage). GoesFurther (ReceivesFrame s content) (forwarder_held_of relays framer s rules greeted fs asks)
     (forwarder_held_of relays' framer s rules greeted fs' asks')) (sym proxy) (goes framer Proxy rules greeted))
 
 -- as it is cut
-pub next-receives : (answer : Next) (links : List Link) (framer cut : FramerState) (stage : Stage) (forwarding_state : ForwardingState) (new : Held)
+pub next-receives : (answer : Next) (links : List Link) (framer cut : FramerState) (stage : ForwarderStage) (forwarding_state : ForwardingState) (new : Held)
     → answer ≡ answer_to (front_of framer) → answer ≡ next.Frame → cut ≡ after_front (front_of framer) framer
-    → IfSome cut.current (λ content. GoesFurther (ReceivesFrame stage content) (held links cut stage forwarding_state) new)
-    → GoesFurther (ReceivesNext true) (held links framer stage forwarding_state) new
+    → IfSome cut.current (λ content. GoesFurther (ReceivesFrame stage content) (as_held links cut stage forwarding_state) new)
+    → GoesFurther (ReceivesNext true) (as_held links framer stage forwarding_state) new
 next-receives answer links framer cut stage forwarding_state new is one same goes =
     receives-front (front_of framer) links framer stage forwarding_state new refl (sym is ∙ one)
-    (subst (λ (f : FramerState). IfSome f.current (λ content. GoesFurther (ReceivesFrame stage content) (held links f stage forwarding_state) new))
+    (subst (λ (f : FramerState). IfSome f.current (λ content. GoesFurther (ReceivesFrame stage content) (as_held links f stage forwarding_state) new))
     same goes)
 
 -- ---- frame by frame
@@ -355,9 +355,9 @@ leads-next old now new leads goes most trace is =
     let n = goes most m.0 m.1 in
     (n.0, n.2, λ contents last more. m.2 (n.1.0 ∷ contents) last (n.1.1, n.1.2, (n.0, n.1.3, more)))
 
-pub leads-last : (bytes : List ℕ) (links : List Link) (framer : FramerState) (stage : Stage) (forwarding_state : ForwardingState) (now new : Held)
-    → LeadsOn (held links (pushed bytes framer) stage forwarding_state) now → GoesFurther (ReceivesNext false) now new
-    → GoesFurther (Follows (ReceivesBytes bytes)) (held links framer stage forwarding_state) new
+pub leads-last : (bytes : List ℕ) (links : List Link) (framer : FramerState) (stage : ForwarderStage) (forwarding_state : ForwardingState) (now new : Held)
+    → LeadsOn (as_held links (pushed bytes framer) stage forwarding_state) now → GoesFurther (ReceivesNext false) now new
+    → GoesFurther (Follows (ReceivesBytes bytes)) (as_held links framer stage forwarding_state) new
 leads-last bytes links framer stage forwarding_state now new leads goes most trace is =
     let m = leads most (with_received bytes trace) (record {
       relay_traces = is.relay_traces;
@@ -376,12 +376,12 @@ one-is true e = refl
 one-is false e = cc
 
 -- a relay, where the forwarder greeted and has no request, and one has something to send
-pub says-one : {E : Type 0} (o : Result Bool E) (bytes : List ℕ) (old new : List Link) (framer : FramerState) (stage : Stage) (forwarding_state : ForwardingState)
+pub says-one : {E : Type 0} (o : Result Bool E) (bytes : List ℕ) (old new : List Link) (framer : FramerState) (stage : ForwarderStage) (forwarding_state : ForwardingState)
     → forwarding_state.greeted ≡ true → find has_request forwarding_state.all ≡ None
     → OnOk o (sends_nothing o ≡ not (list_any has_sending old))
     → OnOk o (IfSome (find has_sending old) (λ l. bytes ≡ framed (relay_sent_by l.relay)))
     → OnOk o (LeavesAt (position has_sending old) RelaySendsOn old new)
-    → IfOk o (λ said. said ≡ true → GoesFurther (RelaySendsIn bytes) (held old framer stage forwarding_state) (held new framer stage forwarding_state))
+    → IfOk o (λ said. said ≡ true → GoesFurther (RelaySendsIn bytes) (as_held old framer stage forwarding_state) (as_held new framer stage forwarding_state))
 says-one (Ok true) bytes old new framer stage forwarding_state greeted none is spelled goes =
     λ yes. says bytes old new framer stage forwarding_state greeted none (one-is (list_any has_sending old) is) spelled goes
 says-one (Ok false) bytes old new framer stage forwarding_state greeted none is spelled goes = λ yes. absurd (false≢true yes)
@@ -390,14 +390,14 @@ says-one (Err e) bytes old new framer stage forwarding_state greeted none is spe
 -- ---- what a call leaves
 
 -- where it changes the relays alone
-pub relays-alone : (P : Trace → Trace → Type 0) (old : Held) (links : List Link) (f g : FramerState) (s t : Stage) (d e : ForwardingState)
-    → g ≡ f → t ≡ s → e ≡ d → GoesFurther P old (held links f s d) → GoesFurther P old (held links g t e)
+pub relays-alone : (P : Trace → Trace → Type 0) (old : Held) (links : List Link) (f g : FramerState) (s t : ForwarderStage) (d e : ForwardingState)
+    → g ≡ f → t ≡ s → e ≡ d → GoesFurther P old (as_held links f s d) → GoesFurther P old (as_held links g t e)
 relays-alone P old links f g s t d e framer stage forwarding_state goes =
-    subst (λ (x : FramerState). GoesFurther P old (held links x t e)) (sym framer)
-    (subst (λ (x : Stage). GoesFurther P old (held links f x e)) (sym stage)
-    (subst (λ (x : ForwardingState). GoesFurther P old (held links f s x)) (sym forwarding_state) goes))
+    subst (λ (x : FramerState). GoesFurther P old (as_held links x t e)) (sym framer)
+    (subst (λ (x : ForwarderStage). GoesFurther P old (as_held links f x e)) (sym stage)
+    (subst (λ (x : ForwardingState). GoesFurther P old (as_held links f s x)) (sym forwarding_state) goes))
 
-pub same-forwarding_state : (rules rules' : ListenRules) (greeted greeted' : Bool) (fs fs' : Forwardings) (asks asks' : Asks) → rules' ≡ rules → greeted' ≡ greeted
+pub same-forwarding_state : (rules rules' : ListenRules) (greeted greeted' : Bool) (fs fs' : Forwardings) (asks asks' : PendingRequests) → rules' ≡ rules → greeted' ≡ greeted
     → fs' ≡ fs → asks' ≡ asks → forwarding_state_of rules' greeted' fs' asks' ≡ forwarding_state_of rules greeted fs asks
 same-forwarding_state rules rules' greeted greeted' fs fs' asks asks' e f g h = rw (e, f, g, h) refl
 
@@ -436,8 +436,8 @@ made-so o number old new is others goes =
     subst (λ (x : Option Ordering). GetsNumber x number old new) (sym c.2) (made-number c.0 c.1 number old new others goes)
 
 -- what goes on of the forwardings does so of the forwarder
-pub forwarding_state-by : (so : ForwardingState → ForwardingState → Type 0) (relays : Relays) (framer : FramerState) (stage : Stage) (rules : ListenRules) (greeted : Bool)
-    (fs : Forwardings) (asks : Asks) (fs' : Forwardings) (asks' : Asks) → ForwardingsGo so fs asks fs' asks'
+pub forwarding_state-by : (so : ForwardingState → ForwardingState → Type 0) (relays : Relays) (framer : FramerState) (stage : ForwarderStage) (rules : ListenRules) (greeted : Bool)
+    (fs : Forwardings) (asks : PendingRequests) (fs' : Forwardings) (asks' : PendingRequests) → ForwardingsGo so fs asks fs' asks'
     → ForwardingStateGoes so (forwarder_held_of relays framer stage rules greeted fs asks) (forwarder_held_of relays framer stage rules greeted fs' asks')
 forwarding_state-by so relays framer stage rules greeted fs asks fs' asks' goes = (refl, goes rules greeted)
 

@@ -8,17 +8,17 @@ use Rattle.std.proofs.lemmas.List.Quantifiers.{position-Some}
 use Rattle.mux_outside.specs.Streams.{among, without}
 use Rattle.mux_outside.specs.declared.start_ask.StartAsk.{StartAsk}
 use Rattle.house_forward.specs.Rules.{AreEnds, first_rules}
-use Rattle.house_forward.specs.Asks.{settled, settle_one, ask_settled_at, is_ask_about, refused, counted}
+use Rattle.house_forward.specs.Asks.{requests_settled, settle_one, ask_settled_at, is_ask_about, all_requests_refused, one_more_outcome}
 use Rattle.house_forward.specs.ForwardingState.{ForwardingState, reply_received, ForwardingsGo, OrdersListener, MakesListener, EndsListener}
 use Rattle.house_forward.specs.Due.{forwarding_due}
-use Rattle.house_forward.specs.Forwardings.{listeners_of, listeners_made, to_listen, is_in_order, has_listener, changed, is_asked, is_cancelled, MadeAt, ordered_asks, serial_of, after_close, after_sending, Opens}
-use Rattle.house_forward.specs.Forwardings.{Standing, StartsAt, StartsIf, opened_asks, live_outcome_in, replied_asks, replied_all, first_of}
+use Rattle.house_forward.specs.Forwardings.{listeners_of, listeners_made, to_listen, is_in_order, has_listener, forwarding_changed, is_listen_unanswered, is_cancelled, MadeAt, ordered_asks, serial_of, after_close, after_request_sent, OpensForwarding}
+use Rattle.house_forward.specs.Forwardings.{Standing, StartsAt, StartsIf, opened_asks, live_outcome_in, replied_asks, replied_all, first_forwarding_request}
 use Rattle.house_forward.specs.Known.{open_ask, open_asks}
-use Rattle.house_forward.specs.declared.asks.Asked.{Asked}
-use Rattle.house_forward.specs.declared.asks.Asked.TheVariants.{Now, Later}
-use Rattle.house_forward.specs.declared.asks.Asks.{Asks}
-use Rattle.house_forward.specs.declared.asks.Outcome.{Outcome}
-use Rattle.house_forward.specs.declared.asks.Outcome.TheVariants.{Done, Refused}
+use Rattle.house_forward.specs.declared.asks.ImmediateOutcome.{ImmediateOutcome}
+use Rattle.house_forward.specs.declared.asks.ImmediateOutcome.TheVariants.{Now, Later}
+use Rattle.house_forward.specs.declared.asks.PendingRequests.{PendingRequests}
+use Rattle.house_forward.specs.declared.asks.RequestOutcome.{RequestOutcome}
+use Rattle.house_forward.specs.declared.asks.RequestOutcome.TheVariants.{Done, Refused}
 use Rattle.house_forward.specs.declared.asks.Waiting.{Waiting}
 use Rattle.house_forward.specs.declared.forwarding.Change.{Change}
 use Rattle.house_forward.specs.declared.forwarding.Change.TheVariants as change
@@ -34,20 +34,20 @@ use Rattle.house_forward.proofs.Replying.{HoldsOnReply, on-reply}
 
 -- ---- requests have an outcome
 
-open-if : (b : Bool) (w : Waiting) (o : Option (ℕ × Outcome)) → open_ask (if b then record w { outcome = o } else w) ≡ open_ask w
+open-if : (b : Bool) (w : Waiting) (o : Option (ℕ × RequestOutcome)) → open_ask (if b then record w { outcome = o } else w) ≡ open_ask w
 open-if true w o = refl
 open-if false w o = refl
 
-pub settled-open : (serial : ℕ) (opening : Bool) (at : ℕ) (outcome : Outcome) (ws : List Waiting)
-    → open_asks (settled serial opening at outcome ws) ≡ open_asks ws
+pub settled-open : (serial : ℕ) (opening : Bool) (at : ℕ) (outcome : RequestOutcome) (ws : List Waiting)
+    → open_asks (requests_settled serial opening at outcome ws) ≡ open_asks ws
 settled-open serial opening at outcome [] = refl
 settled-open serial opening at outcome (w ∷ ws) =
-    ap (λ a. a ∷ open_asks (settled serial opening at outcome ws))
+    ap (λ a. a ∷ open_asks (requests_settled serial opening at outcome ws))
     (open-if (is_ask_about serial opening w) w (ask_settled_at at outcome w.outcome))
     ∙ ap (λ rest. open_ask w ∷ rest) (settled-open serial opening at outcome ws)
 
-pub settled-count : (serial : ℕ) (opening : Bool) (at : ℕ) (outcome : Outcome) (ws : List Waiting)
-    → length (settled serial opening at outcome ws) ≡ length ws
+pub settled-count : (serial : ℕ) (opening : Bool) (at : ℕ) (outcome : RequestOutcome) (ws : List Waiting)
+    → length (requests_settled serial opening at outcome ws) ≡ length ws
 settled-count serial opening at outcome ws = length-map ws (settle_one serial opening at outcome)
 
 -- the same requests wait, whatever their outcome
@@ -58,21 +58,21 @@ pub record SameAsks (old new : List Waiting) : Type 0 where
 same-asks : (ws : List Waiting) → SameAsks ws ws
 same-asks ws = record { asks = refl; count = refl }
 
-pub settles : (serial : ℕ) (opening : Bool) (at : ℕ) (outcome : Outcome) (ws : List Waiting)
-    → SameAsks ws (settled serial opening at outcome ws)
+pub settles : (serial : ℕ) (opening : Bool) (at : ℕ) (outcome : RequestOutcome) (ws : List Waiting)
+    → SameAsks ws (requests_settled serial opening at outcome ws)
 settles serial opening at outcome ws = record {
   asks = settled-open serial opening at outcome ws;
   count = settled-count serial opening at outcome ws;
 }
 
-refuses : (serial at : ℕ) (ws : List Waiting) → SameAsks ws (refused serial at ws)
+refuses : (serial at : ℕ) (ws : List Waiting) → SameAsks ws (all_requests_refused serial at ws)
 refuses serial at ws =
-    let first = settled serial true at Refused ws in record {
-      asks = settled-open serial false (counted at) Refused first ∙ settled-open serial true at Refused ws;
-      count = settled-count serial false (counted at) Refused first ∙ settled-count serial true at Refused ws;
+    let first = requests_settled serial true at Refused ws in record {
+      asks = settled-open serial false (one_more_outcome at) Refused first ∙ settled-open serial true at Refused ws;
+      count = settled-count serial false (one_more_outcome at) Refused first ∙ settled-count serial true at Refused ws;
     }
 
-opens : (o : Option Outcome) (serial at : ℕ) (ws : List Waiting) → SameAsks ws (opened_asks o serial at ws)
+opens : (o : Option RequestOutcome) (serial at : ℕ) (ws : List Waiting) → SameAsks ws (opened_asks o serial at ws)
 opens None serial at ws = same-asks ws
 opens (Some outcome) serial at ws = settles serial true at outcome ws
 
@@ -80,7 +80,7 @@ replied-asks : (success : Bool) (port : Option ℕ) (r : Option ForwardingReques
     → SameAsks ws (replied_asks success port r fs at ws)
 replied-asks true port None fs at ws = same-asks ws
 replied-asks false port None fs at ws = same-asks ws
-replied-asks true port (Some (Listen serial)) fs at ws = opens (live_outcome_in port (find (is_asked serial) fs)) serial at ws
+replied-asks true port (Some (Listen serial)) fs at ws = opens (live_outcome_in port (find (is_listen_unanswered serial) fs)) serial at ws
 replied-asks false port (Some (Listen serial)) fs at ws = refuses serial at ws
 replied-asks true port (Some (Cancel serial)) fs at ws = settles serial false at Done ws
 replied-asks false port (Some (Cancel serial)) fs at ws = settles serial false at Refused ws
@@ -103,7 +103,7 @@ pub record AddsOne (old new : List Forwarding) : Type 0 where
 adds-none : (old new : List Forwarding) → new ≡ old → AddsOne old new
 adds-none old new e = subst (AddsOne old) (sym e) (record { listeners = refl; count = omega arith })
 
-pub opens-one : (b : Bool) (ends : Ends) (serial : ℕ) (start : Option ℕ) (old new : List Forwarding) → Opens b ends serial start old new
+pub opens-one : (b : Bool) (ends : Ends) (serial : ℕ) (start : Option ℕ) (old new : List Forwarding) → OpensForwarding b ends serial start old new
     → AddsOne old new
 opens-one false ends serial start old new h = adds-none old new h
 opens-one true ends serial start old new h =
@@ -114,8 +114,8 @@ opens-one true ends serial start old new h =
     })
 
 -- or none, where it wanted memory
-pub opens-most : {E : Type 0} (r : Result Asked E) (b : Bool) (ends : Ends) (serial : ℕ) (start : Option ℕ) (old new : List Forwarding)
-    → OnOk r (Opens b ends serial start old new) → OnErr r (new ≡ old) → AddsOne old new
+pub opens-most : {E : Type 0} (r : Result ImmediateOutcome E) (b : Bool) (ends : Ends) (serial : ℕ) (start : Option ℕ) (old new : List Forwarding)
+    → OnOk r (OpensForwarding b ends serial start old new) → OnErr r (new ≡ old) → AddsOne old new
 opens-most (Ok asked) b ends serial start old new h none = opens-one b ends serial start old new h
 opens-most (Err e) b ends serial start old new h none = adds-none old new none
 
@@ -126,14 +126,14 @@ pub record SameListeners (old new : List Forwarding) : Type 0 where
   pub listeners : listeners_of new ≡ listeners_of old
   pub count : length new ≡ length old
 
-changes : (c : Change) (serial : ℕ) (fs : List Forwarding) → SameListeners fs (map (changed c serial) fs)
-changes c serial fs = record { listeners = changed-listeners c serial fs; count = length-map fs (changed c serial) }
+changes : (c : Change) (serial : ℕ) (fs : List Forwarding) → SameListeners fs (map (forwarding_changed c serial) fs)
+changes c serial fs = record { listeners = changed-listeners c serial fs; count = length-map fs (forwarding_changed c serial) }
 
-pub closes-same : (comes : Asked) (fs : List Forwarding) → SameListeners fs (after_close comes fs)
+pub closes-same : (comes : ImmediateOutcome) (fs : List Forwarding) → SameListeners fs (after_close comes fs)
 closes-same (Now outcome) fs = record { listeners = refl; count = refl }
 closes-same (Later serial) fs = changes change.Close serial fs
 
-pub says-same : (r : ForwardingRequest) (fs : List Forwarding) → SameListeners fs (after_sending r fs)
+pub says-same : (r : ForwardingRequest) (fs : List Forwarding) → SameListeners fs (after_request_sent r fs)
 says-same (Listen serial) fs = changes change.ForwardingRequest serial fs
 says-same (Cancel serial) fs = changes change.Cancel serial fs
 
@@ -160,7 +160,7 @@ on-reply-keeps = record {
       record { listeners = s.listeners; fewer = omega (arith, same) };
   refused = λ serial fs i e. record {
     listeners = asked-there serial fs i e;
-    fewer = remove-fewer fs i (found-in (is_asked serial) fs i e);
+    fewer = remove-fewer fs i (found-in (is_listen_unanswered serial) fs i e);
   };
   granted = λ serial fs i e. record {
     listeners = cancelled-there serial fs i e;
@@ -169,16 +169,16 @@ on-reply-keeps = record {
 }
 
 -- what is known stays as it was
-pub record RepliedMore (fs : Forwardings) (asks : Asks) (fs' : Forwardings) (asks' : Asks) : Type 0 where
+pub record RepliedMore (fs : Forwardings) (asks : PendingRequests) (fs' : Forwardings) (asks' : PendingRequests) : Type 0 where
   pub same : SameAsks asks.waiting.items asks'.waiting.items
   pub listeners : listeners_of fs'.all.items ≡ listeners_of fs.all.items
   pub fewer : length fs'.all.items ≤ length fs.all.items
 
-pub replied-more : (success : Bool) (port : Option ℕ) (fs : Forwardings) (asks : Asks) (fs' : Forwardings) (asks' : Asks)
+pub replied-more : (success : Bool) (port : Option ℕ) (fs : Forwardings) (asks : PendingRequests) (fs' : Forwardings) (asks' : PendingRequests)
     → ForwardingsGo (λ old new. new ≡ reply_received success port old) fs asks fs' asks' → RepliedMore fs asks fs' asks'
 replied-more success port fs asks fs' asks' goes =
     let e = goes first_rules false in
-    let r = first_of fs.requests.items in
+    let r = first_forwarding_request fs.requests.items in
     let all : fs'.all.items ≡ replied_all success port r fs.all.items = ap (λ (d : ForwardingState). d.all) e in
     let waiting : asks'.waiting.items ≡ replied_asks success port r fs.all.items asks.done asks.waiting.items = ap (λ (d : ForwardingState). d.waiting) e in
     let keeps = subst (KeepsListeners fs.all.items) (sym all) (on-reply KeepsListeners on-reply-keeps success port r fs.all.items) in record {
@@ -206,7 +206,7 @@ pub record EndedMore (l : ℕ) (old new : ForwardingState) : Type 0 where
 pub ended-more : (l : ℕ) (old new : ForwardingState) → EndsListener l old new → EndedMore l old new
 ended-more l old new h =
     let all : new.all ≡ filter (λ f. not (has_listener l f)) old.all = ap (λ (d : ForwardingState). d.all) h.others in
-    let waiting : new.waiting ≡ settled h.serial false old.done Done old.waiting = ap (λ (d : ForwardingState). d.waiting) h.others in
+    let waiting : new.waiting ≡ requests_settled h.serial false old.done Done old.waiting = ap (λ (d : ForwardingState). d.waiting) h.others in
     let u = unlistens old.waiting old.all h.serial l h.next in record {
       among = u.among;
       listeners = ap listeners_of all ∙ listeners-without l old.all;

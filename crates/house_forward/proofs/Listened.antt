@@ -8,7 +8,7 @@ use Rattle.house_forward.specs.Causes.{ListenersAreTheirs, EachListenerIsNew, li
 use Rattle.house_forward.specs.ForwarderEvents.{ForwarderEvent, Does, Leave}
 use Rattle.house_forward.specs.ForwarderEvents.{Begins, Asks, Answers, Greets, Requests, Replies, Listens, Unlistens}
 use Rattle.house_forward.specs.ForwardingState.{ForwardingState, GetsListener, standing_at}
-use Rattle.house_forward.specs.Forwardings.{changed, forwarding_request_of, first_of, to_listen, is_in_order, listeners_of, has_listener}
+use Rattle.house_forward.specs.Forwardings.{forwarding_changed, forwarding_request_of, first_forwarding_request, to_listen, is_in_order, listeners_of, has_listener}
 use Rattle.house_forward.specs.Rules.{rules_of}
 use Rattle.house_forward.specs.declared.forwarding.Change.{Change}
 use Rattle.house_forward.specs.declared.forwarding.Change.TheVariants as change
@@ -28,7 +28,7 @@ record Stays (old new : List Forwarding) : Type 0 where
 stays-same : (fs : List Forwarding) → Stays fs fs
 stays-same fs = record { order = λ o. o; listeners = refl }
 
-stays-changed : (c : Change) (serial : ℕ) (fs : List Forwarding) → Stays fs (map (changed c serial) fs)
+stays-changed : (c : Change) (serial : ℕ) (fs : List Forwarding) → Stays fs (map (forwarding_changed c serial) fs)
 stays-changed c serial fs = record { order = λ o. changed-order c serial fs ∙ o; listeners = changed-listeners c serial fs }
 
 on-ask-stays : HoldsOnAsk Stays
@@ -97,7 +97,7 @@ after Greets forwarder_events old new d h = have forwarder_events (Greets ∷ fo
 after (Requests f) forwarder_events old new d h = have forwarder_events (Requests f ∷ forwarder_events) old.all new.all refl
     (subst (Stays old.all) (sym (ap (λ (x : ForwardingState). x.all) d.2)) (on-outgoing Stays on-reply-stays (forwarding_request_of f) old.all)) h
 after (Replies success port) forwarder_events old new d h = have forwarder_events (Replies success port ∷ forwarder_events) old.all new.all refl
-    (subst (Stays old.all) (sym (ap (λ (x : ForwardingState). x.all) d)) (on-reply Stays on-reply-stays success port (first_of old.requests) old.all)) h
+    (subst (Stays old.all) (sym (ap (λ (x : ForwardingState). x.all) d)) (on-reply Stays on-reply-stays success port (first_forwarding_request old.requests) old.all)) h
 after (Listens host port number) forwarder_events old new d h = after-listen host port number forwarder_events old new d h
 after (Unlistens l) forwarder_events old new d h =
     subst (Have (Unlistens l ∷ forwarder_events)) (sym (ap (λ (x : ForwardingState). x.all) d.others)) (record {

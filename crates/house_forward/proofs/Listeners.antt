@@ -8,7 +8,7 @@ use Rattle.house_forward.specs.Asks.{turns_away}
 use Rattle.house_forward.specs.ForwarderEvents.{ForwarderEvent, Does, Leave}
 use Rattle.house_forward.specs.ForwarderEvents.{Begins, Asks, Answers, Greets, Requests, Replies, Listens, Unlistens}
 use Rattle.house_forward.specs.ForwardingState.{ForwardingState, GetsListener, standing_at}
-use Rattle.house_forward.specs.Forwardings.{is_numbered, changed, forwarding_request_of, first_of, MadeAt, listener_of, listeners_of, has_listener}
+use Rattle.house_forward.specs.Forwardings.{is_numbered, forwarding_changed, forwarding_request_of, first_forwarding_request, MadeAt, listener_of, listeners_of, has_listener}
 use Rattle.house_forward.specs.Rules.{rules_of}
 use Rattle.house_forward.specs.declared.forwarding.Change.{Change}
 use Rattle.house_forward.specs.declared.forwarding.Change.TheVariants as change
@@ -44,9 +44,9 @@ from-both a b c first second l g here is =
     let y = first l x.0 x.1 x.3 in
     (y.0, y.1, y.2 ∙ x.2, y.3)
 
-from-changed : (c : Change) (serial : ℕ) (fs : List Forwarding) → From fs (map (changed c serial) fs)
+from-changed : (c : Change) (serial : ℕ) (fs : List Forwarding) → From fs (map (forwarding_changed c serial) fs)
 from-changed c serial fs l g here is =
-    let at = out-map (changed c serial) g fs here in (
+    let at = out-map (forwarding_changed c serial) g fs here in (
       at.0,
       at.1,
       sym (changed-serial c serial at.0) ∙ ap (λ (x : Forwarding). x.serial) at.2,
@@ -145,7 +145,7 @@ after Greets old new d one = subst OneEach (sym (ap (λ (x : ForwardingState). x
 after (Requests f) old new d one =
     kept old.all new.all (subst (From old.all) (sym (ap (λ (x : ForwardingState). x.all) d.2)) (on-outgoing From on-reply-from (forwarding_request_of f) old.all)) one
 after (Replies success port) old new d one =
-    kept old.all new.all (subst (From old.all) (sym (ap (λ (x : ForwardingState). x.all) d)) (on-reply From on-reply-from success port (first_of old.requests) old.all)) one
+    kept old.all new.all (subst (From old.all) (sym (ap (λ (x : ForwardingState). x.all) d)) (on-reply From on-reply-from success port (first_forwarding_request old.requests) old.all)) one
 after (Listens host port number) old new d one = one-listened host port number old new d one
 after (Unlistens l) old new d one =
     kept old.all new.all (subst (From old.all) (sym (ap (λ (x : ForwardingState). x.all) d.others))

@@ -5,7 +5,7 @@ use Rattle.std.specs.List.{All, list_any}
 use Rattle.std.proofs.lemmas.Bool.{and_parts, or_parts, eq-eqb, not-true}
 use Rattle.std.proofs.lemmas.List.Elements.{All-nil, All-cons, All-append, All-weaker}
 use Rattle.mux_outside.specs.declared.own_streams.OwnStream.{OwnStream}
-use Rattle.house_relay.specs.Acts.{RelayAct, Relays, adjusted, delivered, replies, taken, to_take}
+use Rattle.house_relay.specs.Acts.{RelayAct, Relays, adjusted, delivered, dialog_replies, accepted_length, to_take}
 use Rattle.house_relay.specs.Next.{sends_of, orders_of}
 use Rattle.house_relay.specs.Relay.{RelayRepresents, RelayKeeps, SilentIn, IsResting, socket_stream_of}
 use Rattle.house_relay.specs.declared.TheConstants.{WINDOW}
@@ -54,14 +54,14 @@ bound-by : (window replied came took room : ℕ) → room ≤ took - replied →
 bound-by window replied came took room granted kept = omega arith
 
 bounded : (dials : Bool) (acts : List RelayAct) (r : Relay) → RelayRepresents dials acts r → KeepsWindow acts
-    → length r.queue.waiting ≤ WINDOW + (length (replies dials acts) - taken acts)
+    → length r.queue.waiting ≤ WINDOW + (length (dialog_replies dials acts) - accepted_length acts)
 bounded dials acts r stands kept =
-    let size : length r.queue.waiting ≡ (length (replies dials acts) + length (delivered acts)) - taken acts =
+    let size : length r.queue.waiting ≡ (length (dialog_replies dials acts) + length (delivered acts)) - accepted_length acts =
     ap length (keeps dials acts r stands).waits
-    ∙ length-drop (taken acts) (to_take dials acts)
-    ∙ ap (λ n. n - taken acts) (length-append (replies dials acts) (delivered acts)) in
-    subst (λ n. n ≤ WINDOW + (length (replies dials acts) - taken acts)) (sym size)
-    (bound-by WINDOW (length (replies dials acts)) (length (delivered acts)) (taken acts) (adjusted acts)
+    ∙ length-drop (accepted_length acts) (to_take dials acts)
+    ∙ ap (λ n. n - accepted_length acts) (length-append (dialog_replies dials acts) (delivered acts)) in
+    subst (λ n. n ≤ WINDOW + (length (dialog_replies dials acts) - accepted_length acts)) (sym size)
+    (bound-by WINDOW (length (dialog_replies dials acts)) (length (delivered acts)) (accepted_length acts) (adjusted acts)
     (relays dials acts r stands).granted kept)
 
 pub each-is-bounded : EachIsBounded

@@ -5,18 +5,18 @@ use Rattle.std.proofs.lemmas.Bool.{and_left, and_parts, false≢true}
 use Rattle.conn_messages.specs.declared.message.Message.{Message}
 use Rattle.mux_outside.specs.declared.own_streams.OwnStream.{OwnStream}
 use Rattle.mux_outside.specs.declared.piece.TheConstants.{LONGEST_PIECE}
-use Rattle.house_relay.specs.Acts.{RelayAct, Reads, Takes, taken}
-use Rattle.house_relay.specs.ChannelState.{owed_in, counts}
+use Rattle.house_relay.specs.Acts.{RelayAct, Reads, Takes, accepted_length}
+use Rattle.house_relay.specs.ChannelState.{owed_in, is_counted_channel}
 use Rattle.house_relay.specs.Next.{sends_of}
 use Rattle.house_relay.specs.Relay.{RelayGoesOn, RelayMayRead, socket_stream_of}
 use Rattle.house_relay.specs.Steps.{is_socket_closed, is_gone, made_as, relay_taken_of}
 use Rattle.house_relay.specs.declared.relay.Relay.{Relay}
-use Rattle.house_relay.specs.declared.relay.Socket.{Socket}
-use Rattle.house_relay.specs.declared.relay.Socket.TheVariants as socket
+use Rattle.house_relay.specs.declared.relay.RelaySocket.{RelaySocket}
+use Rattle.house_relay.specs.declared.relay.RelaySocket.TheVariants as socket
 use Rattle.house_forward.specs.Going.{Gets, GetsOn, TakesOf, TakesOn, RelaySendsOn, RelayReceivesOn, act_of_sending}
 use Rattle.house_forward.specs.Heard.{act_received}
-use Rattle.house_forward.specs.Links.{own_stream_of, numbered, is_link_number, has_number, is_of, is_without, is_left, is_offered, is_awaited, awaits, offers, made_stream, relay_after, stream_after, link_after}
-use Rattle.house_forward.specs.RelayTraces.{Life, RelayGoesBy, IsLife, IsSocketOf, IsEndOf, is_stream, has_stream, link_own_after, own_made, relay_act_of, stepped, made_life, is_socket_unmade, unmade}
+use Rattle.house_forward.specs.Links.{own_stream_of, numbered, is_link_number, has_number, is_relay_stream, is_without, is_left, is_offered, is_awaited, awaits_stream, offers, made_stream, relay_after, stream_after, link_after}
+use Rattle.house_forward.specs.RelayTraces.{Life, RelayGoesBy, IsLife, IsSocketOf, IsEndOf, is_stream, has_stream, link_own_after, own_made, relay_act_of, life_stepped, made_life, is_socket_unmade, unmade}
 use Rattle.house_forward.specs.declared.link.Link.{Link}
 use Rattle.house_forward.specs.declared.link.LinkStep.{LinkStep}
 use Rattle.house_forward.specs.declared.link.LinkStep.TheVariants.{Pause, Finish, End, Close, Writable, Failed as Fail}
@@ -46,14 +46,14 @@ of-in t Awaited r h = refl
 of-in t (Made own) r h = and-same (own.number == t) ∙ ap (λ o. (own.number == t) && is_link_number t o) (sym h.0)
 of-in t Gone r h = refl
 
-pub is-of : (t most : ℕ) (life : Life) (link : Link) → IsLife most life link → has_stream t life ≡ is_of t link
+pub is-of : (t most : ℕ) (life : Life) (link : Link) → IsLife most life link → has_stream t life ≡ is_relay_stream t link
 is-of t most life link is = has-number t most life link is ∙ of-in t link.stream link.relay is.socket
 
 pub has-channel : (n most : ℕ) (life : Life) (link : Link) → IsLife most life link
     → (life.relay.number == n) ≡ (link.relay.number == n)
 has-channel n most life link is = ap (λ (r : Relay). r.number == n) is.relay_is
 
-not-closed : (s : Socket) (t : ℕ) → socket_stream_of s ≡ Some t → is_socket_closed s ≡ false
+not-closed : (s : RelaySocket) (t : ℕ) → socket_stream_of s ≡ Some t → is_socket_closed s ≡ false
 not-closed (socket.Connecting stream) t e = refl
 not-closed (socket.Open stream) t e = refl
 not-closed socket.Unmade t e = refl
@@ -62,9 +62,9 @@ not-closed (socket.NoChannelLeft stream) t e = refl
 not-closed socket.Closed t e = cc
 
 left-in : (s : LinkStream) (r : Relay) → IsSocketOf s r → is_gone r ≡ (is_without s && is_gone r)
-left-in (Offered host port) r h = and_left (is_socket_closed r.socket) (not (counts r.line)) (ap is_socket_closed h.0)
-left-in Awaited r h = and_left (is_socket_closed r.socket) (not (counts r.line)) (ap is_socket_closed h.0)
-left-in (Made own) r h = and_left (is_socket_closed r.socket) (not (counts r.line)) (not-closed r.socket own.number h.0)
+left-in (Offered host port) r h = and_left (is_socket_closed r.socket) (not (is_counted_channel r.line)) (ap is_socket_closed h.0)
+left-in Awaited r h = and_left (is_socket_closed r.socket) (not (is_counted_channel r.line)) (ap is_socket_closed h.0)
+left-in (Made own) r h = and_left (is_socket_closed r.socket) (not (is_counted_channel r.line)) (not-closed r.socket own.number h.0)
 left-in Gone r h = refl
 
 -- nothing is left of both
@@ -88,7 +88,7 @@ pub record Onward (so : Relay → Relay → Type 0) (act : Relay → RelayAct) (
 
 onward : (so : Relay → Relay → Type 0) (act : Relay → RelayAct) (least most : ℕ) (life : Life) (link : Link) (r : Relay)
     → IsLife least life link → so link.relay r → RelayGoesOn link.relay r (act link.relay) → IsSocketOf link.stream r
-    → owed_in r.line ≤ taken (act link.relay ∷ life.acts) → taken (act link.relay ∷ life.acts) ≤ most
+    → owed_in r.line ≤ accepted_length (act link.relay ∷ life.acts) → accepted_length (act link.relay ∷ life.acts) ≤ most
     → Onward so act most life (record link { relay = r })
 onward so act least most life link r is goes on socket owed few = record {
   next = record life { relay = r; acts = act link.relay ∷ life.acts };
@@ -114,7 +114,7 @@ onward so act least most life link r is goes on socket owed few = record {
 -- where its socket stays and nothing is written to it
 onward-same : (so : Relay → Relay → Type 0) (act : Relay → RelayAct) (most : ℕ) (life : Life) (link : Link) (r : Relay)
     → IsLife most life link → so link.relay r → RelayGoesOn link.relay r (act link.relay) → Stays link.relay r
-    → taken (act link.relay ∷ life.acts) ≡ taken life.acts → Onward so act most life (record link { relay = r })
+    → accepted_length (act link.relay ∷ life.acts) ≡ accepted_length life.acts → Onward so act most life (record link { relay = r })
 onward-same so act most life link r is goes on stays none =
     let owed = is.owed in
     let few = is.few in
@@ -166,7 +166,7 @@ unended t (Made own) r n h f = h.1 ∙ f own refl
 unended t Gone r n h f = cc
 
 pub gets : (free : Bool) (bytes : List ℕ) (t most : ℕ) (life : Life) (link : Link) (r : Relay) → IsLife most life link
-    → is_of t link ≡ true → ((own : OwnStream) → own_stream_of link.stream ≡ Some own → own.ended ≡ false)
+    → is_relay_stream t link ≡ true → ((own : OwnStream) → own_stream_of link.stream ≡ Some own → own.ended ≡ false)
     → link.relay.held.waiting ≡ [] → length bytes ≤ LONGEST_PIECE → Gets free bytes link.relay r
     → Onward (GetsOn free bytes) (λ (z : Relay). Reads bytes) most life (record link { relay = r })
 gets free bytes t most life link r is of going rests short h =
@@ -252,7 +252,7 @@ owed-after Close r = refl
 owed-after Writable r = refl
 owed-after Fail r = refl
 
-none-after-step : (step : LinkStep) (acts : List RelayAct) → taken (relay_act_of step ∷ acts) ≡ taken acts
+none-after-step : (step : LinkStep) (acts : List RelayAct) → accepted_length (relay_act_of step ∷ acts) ≡ accepted_length acts
 none-after-step (Pause b) acts = refl
 none-after-step Finish acts = refl
 none-after-step End acts = refl
@@ -281,7 +281,7 @@ steps-if true step t most life link n is =
 steps-if false step t most life link n is = is
 
 pub steps : (step : LinkStep) (t most : ℕ) (life : Life) (link : Link) → IsLife most life link
-    → IsLife most (stepped step t life) (link_after step t link)
+    → IsLife most (life_stepped step t life) (link_after step t link)
 steps step t most life link is =
     subst (λ (b : Bool). IsLife most
     (if b then record life { relay = relay_after step life.relay; own = link_own_after step life.own; acts = relay_act_of step ∷ life.acts } else life)
@@ -290,7 +290,7 @@ steps step t most life link is =
 
 -- ---- its socket is made
 
-not-unmade : (s : Socket) (t : ℕ) → socket_stream_of s ≡ Some t → unmade s ≡ false
+not-unmade : (s : RelaySocket) (t : ℕ) → socket_stream_of s ≡ Some t → unmade s ≡ false
 not-unmade (socket.Connecting stream) t e = refl
 not-unmade (socket.Open stream) t e = refl
 not-unmade socket.Unmade t e = cc
@@ -310,7 +310,7 @@ pub is-unmade : (most : ℕ) (life : Life) (link : Link) → IsLife most life li
 is-unmade most life link is =
     ap (λ (r : Relay). unmade r.socket) is.relay_is ∙ unmade-in link.stream link.relay life.to is.socket is.end
 
-none-awaits : (s : LinkStream) (to : Option (List ℕ × ℕ)) → IsEndOf s to → awaits s ≡ false
+none-awaits : (s : LinkStream) (to : Option (List ℕ × ℕ)) → IsEndOf s to → awaits_stream s ≡ false
 none-awaits (Offered host port) to end = refl
 none-awaits Awaited to end = absurd end
 none-awaits (Made own) to end = refl

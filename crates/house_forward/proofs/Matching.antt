@@ -6,13 +6,13 @@ use Rattle.std.proofs.lemmas.Bool.{or_parts, or_from, both_ways}
 use Rattle.std.proofs.lemmas.List.{get_or_default}
 use Rattle.std.proofs.lemmas.List.Elements.{All-nil, All-push}
 use Rattle.std.proofs.lemmas.List.Quantifiers.{position-Some}
-use Rattle.house_relay.specs.ChannelState.{counts}
+use Rattle.house_relay.specs.ChannelState.{is_counted_channel}
 use Rattle.house_relay.specs.Relay.{RelayRepresents}
 use Rattle.house_relay.specs.Steps.{is_gone}
 use Rattle.house_relay.specs.declared.relay.Relay.{Relay}
 use Rattle.house_forward.specs.Going.{swept, without_at}
-use Rattle.house_forward.specs.Links.{is_left, link_after, is_full, has_full_dialogs, is_channel, is_dialog, is_awaited, dials}
-use Rattle.house_forward.specs.RelayTraces.{Life, One, IsLife, AreRelayTraces, kept_in, first_life_in, stepped, are_full, are_dialogs_full}
+use Rattle.house_forward.specs.Links.{is_left, link_after, has_all_channels, has_full_dialogs, is_channel, is_dialog, is_awaited, dials}
+use Rattle.house_forward.specs.RelayTraces.{Life, One, IsLife, AreRelayTraces, kept_in, first_life_in, life_stepped, are_full, are_dialogs_full}
 use Rattle.house_forward.specs.declared.link.Link.{Link}
 use Rattle.house_forward.specs.declared.link.LinkStep.{LinkStep}
 use Rattle.house_forward.proofs.Lists.{none-passes}
@@ -127,9 +127,9 @@ same-count most which p tests (l ∷ relay_traces) (x ∷ links) are =
     (same-count most which p tests relay_traces links are.1)
 
 -- they are as many as may be
-pub full-same : (most : ℕ) (relay_traces : List Life) (links : List Link) → AreRelayTraces most relay_traces links → are_full relay_traces ≡ is_full links
+pub full-same : (most : ℕ) (relay_traces : List Life) (links : List Link) → AreRelayTraces most relay_traces links → are_full relay_traces ≡ has_all_channels links
 full-same most relay_traces links are = ap (λ n. nat_le MOST_CHANNELS n)
-    (same-count most (λ l. counts l.relay.line) is_channel (λ l x is. ap (λ (r : Relay). counts r.line) is.relay_is) relay_traces links are)
+    (same-count most (λ l. is_counted_channel l.relay.line) is_channel (λ l x is. ap (λ (r : Relay). is_counted_channel r.line) is.relay_is) relay_traces links are)
 
 pub dialogs_full-same : (most : ℕ) (relay_traces : List Life) (links : List Link) → AreRelayTraces most relay_traces links
     → are_dialogs_full relay_traces ≡ has_full_dialogs links
@@ -293,7 +293,7 @@ sweeps most relay_traces links are = sweeps-at most relay_traces links (position
 -- ---- all take a step
 
 pub all-step : (step : LinkStep) (t most : ℕ) (relay_traces : List Life) (links : List Link) → AreRelayTraces most relay_traces links
-    → AreRelayTraces most (map (stepped step t) relay_traces) (map (link_after step t) links)
+    → AreRelayTraces most (map (life_stepped step t) relay_traces) (map (link_after step t) links)
 all-step step t most [] [] are = tt
 all-step step t most [] (x ∷ links) are = absurd are
 all-step step t most (l ∷ relay_traces) [] are = absurd are

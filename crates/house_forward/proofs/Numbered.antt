@@ -4,7 +4,7 @@ use Rattle.std.specs.Prelude.{◌==◌, nat_le, if◌then◌else◌}
 use Rattle.std.specs.List.{position, remove}
 use Rattle.std.proofs.lemmas.Bool.{and_parts, and_from, leb-true, le-leb}
 use Rattle.std.proofs.lemmas.List.Quantifiers.{position-Some}
-use Rattle.house_forward.specs.Forwardings.{is_numbered, changed}
+use Rattle.house_forward.specs.Forwardings.{is_numbered, forwarding_changed}
 use Rattle.house_forward.specs.declared.forwarding.Change.{Change}
 use Rattle.house_forward.specs.declared.forwarding.Forwarding.{Forwarding}
 
@@ -81,15 +81,15 @@ serial-if : (b : Bool) (f g : Forwarding) → g.serial ≡ f.serial → (if b th
 serial-if true f g e = e
 serial-if false f g e = refl
 
-serial-same : (c : Change) (serial : ℕ) (f : Forwarding) → (changed c serial f).serial ≡ f.serial
+serial-same : (c : Change) (serial : ℕ) (f : Forwarding) → (forwarding_changed c serial f).serial ≡ f.serial
 serial-same c serial f = serial-if (f.serial == serial) f _ refl
 
 changes : (c : Change) (serial : ℕ) (fs : List Forwarding) (low high : ℕ) → IsNumbered low fs high
-    → IsNumbered low (map (changed c serial) fs) high
+    → IsNumbered low (map (forwarding_changed c serial) fs) high
 changes c serial [] low high h = h
 changes c serial (f ∷ fs) low high h =
     rw (serial-same c serial f) (h.0, changes c serial fs (f.serial + 1) high h.1)
 
 pub numbered-changed : (c : Change) (serial : ℕ) (fs : List Forwarding) (high : ℕ) → is_numbered 0 fs high ≡ true
-    → is_numbered 0 (map (changed c serial) fs) high ≡ true
-numbered-changed c serial fs high h = shown (map (changed c serial) fs) 0 high (changes c serial fs 0 high (known fs 0 high h))
+    → is_numbered 0 (map (forwarding_changed c serial) fs) high ≡ true
+numbered-changed c serial fs high h = shown (map (forwarding_changed c serial) fs) 0 high (changes c serial fs 0 high (known fs 0 high h))

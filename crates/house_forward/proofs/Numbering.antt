@@ -13,7 +13,7 @@ use Rattle.house_forward.specs.Due.{forwarding_due}
 use Rattle.house_forward.specs.Forwardings.{listeners_of, listeners_made, to_listen, is_in_order, is_ordered_first}
 use Rattle.house_forward.specs.Known.{ordering_of}
 use Rattle.house_forward.specs.Links.{made_streams}
-use Rattle.house_forward.specs.declared.asks.Asks.{Asks}
+use Rattle.house_forward.specs.declared.asks.PendingRequests.{PendingRequests}
 use Rattle.house_forward.specs.declared.forwardings.Forwardings.{Forwardings}
 use Rattle.house_forward.specs.declared.ordering.Ordering.{Ordering}
 use Rattle.house_forward.specs.declared.ordering.Ordering.TheVariants as ordering
@@ -31,13 +31,13 @@ same-known ls ls' ts ts' ws ws' o o' e f g h = rw (e, f, g, h) refl
 
 -- ---- a listener is ordered
 
-pub record ListenKnown (fs : Forwardings) (asks : Asks) (fs' : Forwardings) (asks' : Asks) : Type 0 where
+pub record ListenKnown (fs : Forwardings) (asks : PendingRequests) (fs' : Forwardings) (asks' : PendingRequests) : Type 0 where
   pub listeners : listeners_of fs'.all.items ≡ listeners_of fs.all.items
   pub first : is_ordered_first (find to_listen fs'.all.items) ≡ true
   pub due : sum_by forwarding_due fs'.all.items ≡ sum_by forwarding_due fs.all.items
   pub waiting : asks'.waiting.items ≡ asks.waiting.items
 
-pub listen-known : (host : List ℕ) (port : ℕ) (fs : Forwardings) (asks : Asks) (fs' : Forwardings) (asks' : Asks)
+pub listen-known : (host : List ℕ) (port : ℕ) (fs : Forwardings) (asks : PendingRequests) (fs' : Forwardings) (asks' : PendingRequests)
     → ForwardingsGo (OrdersListener host port) fs asks fs' asks' → is_in_order fs.all.items ≡ true → ListenKnown fs asks fs' asks'
 listen-known host port fs asks fs' asks' goes order =
     let old = forwarding_state_of first_rules true fs asks in

@@ -13,7 +13,7 @@ use Rattle.house_relay.specs.Relay.{stuck_in, is_stuck}
 use Rattle.house_relay.specs.declared.line.ChannelState.{ChannelState}
 use Rattle.house_relay.specs.declared.relay.Relay.{Relay}
 use Rattle.house_forward.specs.Due.{stream_due, link_due, turns}
-use Rattle.house_forward.specs.Links.{streams_of, are_distinct, numbered, has_number, link_after, stream_after, relay_after, obeyed, OrdersIn, IsOrderOf}
+use Rattle.house_forward.specs.Links.{streams_of, are_distinct, numbered, has_number, link_after, stream_after, relay_after, obeyed, OrdersInLink, IsOrderOf}
 use Rattle.house_forward.specs.declared.link.Link.{Link}
 use Rattle.house_forward.specs.declared.link.LinkStep.{LinkStep}
 use Rattle.house_forward.specs.declared.link.LinkStep.TheVariants.{Pause, Finish, Close}
@@ -40,7 +40,7 @@ free-turn : (held : List ℕ) (line : ChannelState) (paused : Bool) → held ≡
     → (if length held == 0 then paused else (stuck_in line && not paused)) ≡ paused
 free-turn held line paused e = rw e refl
 
-pauses : (t : ℕ) (s : LinkStream) (r : Relay) → OrdersIn (order.Pause t) s r → Takes (Pause true) t s r
+pauses : (t : ℕ) (s : LinkStream) (r : Relay) → OrdersInLink (order.Pause t) s r → Takes (Pause true) t s r
 pauses t (Offered host port) r o = absurd o
 pauses t Awaited r o = absurd o
 pauses t (Made own) r o = record {
@@ -52,7 +52,7 @@ pauses t (Made own) r o = record {
 }
 pauses t Gone r o = absurd o
 
-resumes : (t : ℕ) (s : LinkStream) (r : Relay) → OrdersIn (order.Resume t) s r → Takes (Pause false) t s r
+resumes : (t : ℕ) (s : LinkStream) (r : Relay) → OrdersInLink (order.Resume t) s r → Takes (Pause false) t s r
 resumes t (Offered host port) r o = absurd o
 resumes t Awaited r o = absurd o
 resumes t (Made own) r o = record {
@@ -64,7 +64,7 @@ resumes t (Made own) r o = record {
 }
 resumes t Gone r o = absurd o
 
-finishes : (t : ℕ) (s : LinkStream) (r : Relay) → OrdersIn (order.Finish t) s r → Takes Finish t s r
+finishes : (t : ℕ) (s : LinkStream) (r : Relay) → OrdersInLink (order.Finish t) s r → Takes Finish t s r
 finishes t (Offered host port) r o = absurd o
 finishes t Awaited r o = absurd o
 finishes t (Made own) r o = record {
@@ -73,7 +73,7 @@ finishes t (Made own) r o = record {
 }
 finishes t Gone r o = absurd o
 
-closes : (t : ℕ) (s : LinkStream) (r : Relay) → OrdersIn (order.Close t) s r → Takes Close t s r
+closes : (t : ℕ) (s : LinkStream) (r : Relay) → OrdersInLink (order.Close t) s r → Takes Close t s r
 closes t (Offered host port) r o = absurd o
 closes t Awaited r o = absurd o
 closes t (Made own) r o = record {
@@ -112,19 +112,19 @@ less-due step t (y ∷ ls) (suc k) x d l e takes =
 
 -- ---- orders
 
-none-listens : (host : List ℕ) (port : ℕ) (s : LinkStream) (r : Relay) → OrdersIn (order.Listen host port) s r → ⊥
+none-listens : (host : List ℕ) (port : ℕ) (s : LinkStream) (r : Relay) → OrdersInLink (order.Listen host port) s r → ⊥
 none-listens host port (Offered h p) r o = o
 none-listens host port Awaited r o = o
 none-listens host port (Made own) r o = o
 none-listens host port Gone r o = o
 
-none-connects : (host : List ℕ) (port : ℕ) (s : LinkStream) (r : Relay) → OrdersIn (order.Connect host port) s r → ⊥
+none-connects : (host : List ℕ) (port : ℕ) (s : LinkStream) (r : Relay) → OrdersInLink (order.Connect host port) s r → ⊥
 none-connects host port (Offered h p) r o = o
 none-connects host port Awaited r o = o
 none-connects host port (Made own) r o = o
 none-connects host port Gone r o = o
 
-none-unlistens : (l : ℕ) (s : LinkStream) (r : Relay) → OrdersIn (order.Unlisten l) s r → ⊥
+none-unlistens : (l : ℕ) (s : LinkStream) (r : Relay) → OrdersInLink (order.Unlisten l) s r → ⊥
 none-unlistens l (Offered h p) r o = o
 none-unlistens l Awaited r o = o
 none-unlistens l (Made own) r o = o

@@ -1,4 +1,4 @@
--- Of each socket that was joined one OPEN is sent at most.
+-- Of each socket that was accepted one OPEN is sent at most.
 use Rattle.std.proofs.Common.{◌≡◌, ◌≢◌, ◌∙◌, refl, sym, ap, subst, inl, inr, arith, ℕ, zero, suc, ◌+◌, ◌<◌, ◌≤◌, Bool, true, false, cond, List, [], ◌∷◌, ◌++◌, append_assoc, length, length-append, get_or, map, filter, Option, Some, None}
 use Rattle.std.specs.Prelude.{◌==◌, not, nat_le, if◌then◌else◌, find, Result, Ok, Err}
 use Rattle.std.specs.List.{All, AllPairs}
@@ -27,13 +27,13 @@ use Rattle.house_relay.specs.declared.line.ChannelState.{ChannelState}
 use Rattle.house_relay.specs.declared.line.ChannelState.TheVariants.{Dialing, Asked, Opened, Offered, Live, Over}
 use Rattle.house_forward.specs.Forwardings.{has_request, served_at}
 use Rattle.house_forward.specs.Going.{TakesOn}
-use Rattle.house_forward.specs.RelayTraces.{Life, Trace, RelayGoesBy, One, OneAtMost, Speaks, Listens, StepsBy, MakesOne, TraceReaches, Follows, SendsBy, MarksIn, OrdersIn, TurnsTo, first_trace, with_received}
+use Rattle.house_forward.specs.RelayTraces.{Life, Trace, RelayGoesBy, One, OneAtMost, Speaks, Listens, StepsBy, MakesOne, TraceReaches, Follows, SendsBy, MarksIn, OrdersInTrace, TurnsTo, first_trace, with_received}
 use Rattle.house_forward.specs.RelayTraces.{RelayReceivesAt, ReceivesOpen, OpensFor, ReceivesMessage, ReceivesReading, ReceivesFrame, RelaysReceiveFrames, cut_off, is_grant}
-use Rattle.house_forward.specs.RelayTraces.{joins_after, has_channel, has_stream, has_words, are_full, stepped, made_life, kept_in}
-use Rattle.house_forward.specs.Opening.{EachIsRecorded, EachWasJoined, OneOpenEach, IsOneJoined, IsJoinedFor, is_open, may_open, opens_by, opens_in, joins_by, joins_by_turn, joins_in, opener_by, opener_marked, opener_of, openers_in, openers_left}
+use Rattle.house_forward.specs.RelayTraces.{joins_after, has_channel, has_stream, has_words, are_full, life_stepped, made_life, kept_in}
+use Rattle.house_forward.specs.Opening.{EachIsRecorded, EachWasJoined, OneOpenEach, IsOneJoined, IsJoinedFor, is_open_message, may_send_open, opens_sent_by, opens_in, joins_by, joins_by_turn, joins_in, opener_by, opener_marked, opener_of, openers_in, openers_left}
 use Rattle.house_forward.specs.declared.forwarding.Forwarding.{Forwarding}
-use Rattle.house_forward.specs.declared.forwarder_state.Stage.{Stage}
-use Rattle.house_forward.specs.declared.forwarder_state.Stage.TheVariants.{Control, Proxy}
+use Rattle.house_forward.specs.declared.forwarder_state.ForwarderStage.{ForwarderStage}
+use Rattle.house_forward.specs.declared.forwarder_state.ForwarderStage.TheVariants.{Control, Proxy}
 use Rattle.house_forward.specs.declared.link.LinkStep.{LinkStep}
 use Rattle.house_forward.specs.declared.link.LinkStep.TheVariants as step
 use Rattle.house_forward.proofs.Traces.{reaches-more}
@@ -92,7 +92,7 @@ differ (o ∷ os) are most (suc i) (suc j) d l k =
 -- ---- of the relays for which an OPEN is to be sent
 
 abbrev weigh : ℕ → Life → ℕ
-weigh n l = cond (may_open l.relay.line) (hit n l.joined) 0
+weigh n l = cond (may_send_open l.relay.line) (hit n l.joined) 0
 
 abbrev total : ℕ → List Life → ℕ
 total n [] = 0
@@ -112,7 +112,7 @@ left-total : (n : ℕ) (ls : List Life) → times n (openers_left ls) ≡ total 
 left-total n [] = refl
 left-total n (l ∷ ls) =
     let rest = left-total n ls in
-    let all = left-if n (may_open l.relay.line) l (filter (λ (x : Life). may_open x.relay.line) ls) in
+    let all = left-if n (may_send_open l.relay.line) l (filter (λ (x : Life). may_send_open x.relay.line) ls) in
     omega (arith, rest, all)
 
 less-if : (x y : Bool) (h : ℕ) → cond {A = ℕ} x 1 0 ≤ cond y 1 0 → cond x h 0 ≤ cond y h 0
@@ -133,15 +133,15 @@ says-if false x y h l = let its = less-if x y h (omega (arith, l)) in omega (ari
 
 weighs-less : (n : ℕ) (a b : Life) → b.joined ≡ a.joined → one b ≤ one a → weigh n b ≤ weigh n a
 weighs-less n a b e l =
-    let same = ap (λ (o : Option ℕ). cond (may_open b.relay.line) (hit n o) 0) e in
-    let its = less-if (may_open b.relay.line) (may_open a.relay.line) (hit n a.joined) l in
+    let same = ap (λ (o : Option ℕ). cond (may_send_open b.relay.line) (hit n o) 0) e in
+    let its = less-if (may_send_open b.relay.line) (may_send_open a.relay.line) (hit n a.joined) l in
     omega (arith, same, its)
 
 weighs-said : (n : ℕ) (bytes : List ℕ) (a b : Life) → b.joined ≡ a.joined → opening bytes + one b ≤ one a
-    → cond (is_open bytes) (hit n a.joined) 0 + weigh n b ≤ weigh n a
+    → cond (is_open_message bytes) (hit n a.joined) 0 + weigh n b ≤ weigh n a
 weighs-said n bytes a b e l =
-    let same = ap (λ (o : Option ℕ). cond (may_open b.relay.line) (hit n o) 0) e in
-    let its = says-if (is_open bytes) (may_open b.relay.line) (may_open a.relay.line) (hit n a.joined) l in
+    let same = ap (λ (o : Option ℕ). cond (may_send_open b.relay.line) (hit n o) 0) e in
+    let its = says-if (is_open_message bytes) (may_send_open b.relay.line) (may_send_open a.relay.line) (hit n a.joined) l in
     omega (arith, same, its)
 
 total-one : (n : ℕ) (which : Life → Bool) (so : Life → Life → Type 0) (old new : List Life) (h : One which so old new) (k : ℕ)
@@ -171,10 +171,10 @@ total-kept n [] = omega arith
 total-kept n (l ∷ ls) = kept-if n (is_gone l.relay) l ls (kept_in ls) (total-kept n ls)
 
 stepped-one : (n : ℕ) (s : LinkStep) (b : Bool) (l : Life) → weigh n (if b then step_of s l else l) ≡ weigh n l
-stepped-one n s true l = ap (λ (line : ChannelState). cond (may_open line) (hit n l.joined) 0) (line-step s l.relay)
+stepped-one n s true l = ap (λ (line : ChannelState). cond (may_send_open line) (hit n l.joined) 0) (line-step s l.relay)
 stepped-one n s false l = refl
 
-total-stepped : (n : ℕ) (s : LinkStep) (t : ℕ) (ls : List Life) → total n (map (stepped s t) ls) ≡ total n ls
+total-stepped : (n : ℕ) (s : LinkStep) (t : ℕ) (ls : List Life) → total n (map (life_stepped s t) ls) ≡ total n ls
 total-stepped n s t [] = refl
 total-stepped n s t (l ∷ ls) =
     let its = stepped-one n s (has_stream t l) l in
@@ -208,8 +208,8 @@ says-total n true None bytes old new h =
     let goes = h.1.goes in
     let a = h.1.life in
     let its = weighs-said n bytes a h.1.next goes.1.joined (says-one bytes a h.1.next h.1.is goes) in
-    let less = total-one n has_words (Speaks bytes) old.relay_traces h.0 h.1 (cond (is_open bytes) (hit n a.joined) 0) its in
-    let recorded = said-if n (is_open bytes) a.joined in
+    let less = total-one n has_words (Speaks bytes) old.relay_traces h.0 h.1 (cond (is_open_message bytes) (hit n a.joined) 0) its in
+    let recorded = said-if n (is_open_message bytes) a.joined in
     let kept = total-kept n h.0 in
     let are = ap (λ (c : Trace). total n c.relay_traces) h.2 in
     omega (arith, less, recorded, kept, are)
@@ -217,7 +217,7 @@ says-total n true None bytes old new h =
 steps-total : (n : ℕ) (o : Order) (s : LinkStep) (t : ℕ) (old new : Trace) → StepsBy o s t old new → total n new.relay_traces ≤ total n old.relay_traces
 steps-total n o s t old new h =
     let same = total-stepped n s t old.relay_traces in
-    let kept = total-kept n (map (stepped s t) old.relay_traces) in
+    let kept = total-kept n (map (life_stepped s t) old.relay_traces) in
     let are = ap (λ (c : Trace). total n c.relay_traces) h.1 in
     omega (arith, same, kept, are)
 
@@ -234,7 +234,7 @@ makes-total n host port number old new h =
 same-total : (n : ℕ) (old new : Trace) → new.relay_traces ≡ old.relay_traces → total n new.relay_traces ≤ total n old.relay_traces
 same-total n old new e = let same = ap (total n) e in omega (arith, same)
 
-orders-total : (n : ℕ) (o : Order) (number : Option ℕ) (old new : Trace) → OrdersIn o number old new → total n new.relay_traces ≤ total n old.relay_traces
+orders-total : (n : ℕ) (o : Order) (number : Option ℕ) (old new : Trace) → OrdersInTrace o number old new → total n new.relay_traces ≤ total n old.relay_traces
 orders-total n (order.Listen host port) number old new h = same-total n old new (ap (λ (c : Trace). c.relay_traces) h.2)
 orders-total n (order.Connect host port) number old new h = makes-total n host port number old new h
 orders-total n (order.Unlisten l) number old new h = same-total n old new (ap (λ (c : Trace). c.relay_traces) h.2)
@@ -254,7 +254,7 @@ marks-total n (HouseAnswer client id reply) old new h =
     let all = same-total n old new (ap (λ (c : Trace). c.relay_traces) h.2) in omega (arith, all)
 marks-total n (HouseOrder o number) old new h = let all = orders-total n o number old new h in omega (arith, all)
 
--- ---- how many were joined
+-- ---- how many were accepted
 
 joins-at : (n : ℕ) (m : Message) (old new : Trace) → RelayReceivesAt n m old new → new.joins ≡ old.joins
 joins-at n m old new (inl h) = ap (λ (c : Trace). c.joins) h.2
@@ -299,7 +299,7 @@ either-joins : (b : Bool) (a old : Trace) → a.joins ≡ old.joins → (if b th
 either-joins true a old e = e
 either-joins false a old e = refl
 
-joins-frame : (stage : Stage) (content : List ℕ) (old new : Trace) → ReceivesFrame stage content old new → new.joins ≡ old.joins
+joins-frame : (stage : ForwarderStage) (content : List ℕ) (old new : Trace) → ReceivesFrame stage content old new → new.joins ≡ old.joins
 joins-frame Control content old new h =
     ap (λ (c : Trace). c.joins) h ∙ either-joins (is_grant (take_u32 content)) _ old refl
 joins-frame Proxy content old new h = joins-reading (reading content) old new h
@@ -314,7 +314,7 @@ joins-says false o bytes old new h = ap (λ (c : Trace). c.joins) h.1
 joins-says true (Some f) bytes old new h = ap (λ (c : Trace). c.joins) h.1
 joins-says true None bytes old new h = ap (λ (c : Trace). c.joins) h.2
 
-joins-order : (o : Order) (number : Option ℕ) (old new : Trace) → OrdersIn o number old new → new.joins ≡ old.joins
+joins-order : (o : Order) (number : Option ℕ) (old new : Trace) → OrdersInTrace o number old new → new.joins ≡ old.joins
 joins-order (order.Listen host port) number old new h = ap (λ (c : Trace). c.joins) h.2
 joins-order (order.Connect host port) number old new h = ap (λ (c : Trace). c.joins) h.are
 joins-order (order.Unlisten l) number old new h = ap (λ (c : Trace). c.joins) h.2
@@ -412,7 +412,7 @@ turns-total : (n : ℕ) (happening : Happening) (joins : ℕ) (fs : List Forward
     → total n new + room n joins ≤ room n (joins_after happening joins) + total n old
 turns-total n (Joined l t) joins fs old new h =
     let more = total-append n old (joined_life joins t h.relay ∷ []) in
-    let most = hit-if (may_open h.relay.line) (hit n (Some joins)) in
+    let most = hit-if (may_send_open h.relay.line) (hit n (Some joins)) in
     let are = ap (total n) h.more in
     let given = room-more n joins in
     omega (arith, more, most, are, given)
@@ -481,10 +481,10 @@ says-recorded : (b : Bool) (o : Option Forwarding) (bytes : List ℕ) (old new :
     → length (opener_by b o bytes old new h) ≡ opening bytes
 says-recorded false o bytes old new h = let none = ap opening h.0 in omega (arith, none)
 says-recorded true (Some f) bytes old new h = let none = ap opening h.0 in omega (arith, none)
-says-recorded true None bytes old new h = recorded-if (is_open bytes) h.1.life.joined
+says-recorded true None bytes old new h = recorded-if (is_open_message bytes) h.1.life.joined
 
 marks-recorded : (mark : HouseMark) (old new : Trace) (h : MarksIn mark old new)
-    → length (opener_marked mark old new h) ≡ opens_by (Marks mark)
+    → length (opener_marked mark old new h) ≡ opens_sent_by (Marks mark)
 marks-recorded HouseIn old new h = refl
 marks-recorded (HouseSaid bytes) old new h = says-recorded old.forwarding_state.greeted (find has_request old.forwarding_state.all) bytes old new h
 marks-recorded (HouseTook size) old new h = refl
@@ -492,7 +492,7 @@ marks-recorded (HouseAsked client id opening ask reply) old new h = refl
 marks-recorded (HouseAnswer client id reply) old new h = refl
 marks-recorded (HouseOrder o number) old new h = refl
 
-follow-recorded : (call : HouseCall) (old new : Trace) (h : Follows call old new) → length (opener_of call old new h) ≡ opens_by call
+follow-recorded : (call : HouseCall) (old new : Trace) (h : Follows call old new) → length (opener_of call old new h) ≡ opens_sent_by call
 follow-recorded (Begins starts) old new h = refl
 follow-recorded (Marks mark) old new h = marks-recorded mark old new h
 follow-recorded (ReceivesBytes bytes) old new h = refl
@@ -510,7 +510,7 @@ reach-recorded (call ∷ calls) old new h =
 pub each-is-recorded : EachIsRecorded
 each-is-recorded calls trace h = reach-recorded calls first_trace trace h
 
--- ---- each was joined
+-- ---- each was accepted
 
 was-joined : (calls : List HouseCall) (own : Option OwnStream) (socket : Option ℕ) (so : Forwarding → Type 0)
     → IsJoinedFor calls own socket so → IsOneJoined calls socket
@@ -521,7 +521,7 @@ was-joined calls own socket so h =
     let both = joins-append h.joined.before (call ∷ h.joined.behind) in
     record { number = h.trace.joins; is = h.which; joined = omega (arith, are, all, both) }
 
-right-joined : (calls : List HouseCall) (own : Option OwnStream) (socket : Option ℕ) (line : ChannelState) → may_open line ≡ true
+right-joined : (calls : List HouseCall) (own : Option OwnStream) (socket : Option ℕ) (line : ChannelState) → may_send_open line ≡ true
     → Right calls own socket line → IsOneJoined calls socket
 right-joined calls own socket (Dialing dialog) e h = was-joined calls own socket _ h
 right-joined calls own socket (Asked host port None) e h = was-joined calls own socket _ h
@@ -531,7 +531,7 @@ right-joined calls own socket (Offered remote window maximum) e h = cc
 right-joined calls own socket (Live live) e h = cc
 right-joined calls own socket Over e h = cc
 
-left-joined-if : (calls : List HouseCall) (b : Bool) (l : Life) (ls : List Life) → may_open l.relay.line ≡ b → Aimed calls l
+left-joined-if : (calls : List HouseCall) (b : Bool) (l : Life) (ls : List Life) → may_send_open l.relay.line ≡ b → Aimed calls l
     → All (IsOneJoined calls) (map (λ (x : Life). x.joined) ls) → All (IsOneJoined calls) (map (λ (x : Life). x.joined) (cond b (l ∷ ls) ls))
 left-joined-if calls true l ls e p h =
     All-cons (IsOneJoined calls) l.joined (map (λ (x : Life). x.joined) ls) (right-joined calls l.own l.joined l.relay.line e p.right) h
@@ -540,7 +540,7 @@ left-joined-if calls false l ls e p h = h
 left-joined : (calls : List HouseCall) (ls : List Life) → Each (Both (Aimed calls)) ls → All (IsOneJoined calls) (openers_left ls)
 left-joined calls [] h = All-nil (IsOneJoined calls)
 left-joined calls (l ∷ ls) h =
-    left-joined-if calls (may_open l.relay.line) l (filter (λ (x : Life). may_open x.relay.line) ls) refl h.0.1 (left-joined calls ls h.1)
+    left-joined-if calls (may_send_open l.relay.line) l (filter (λ (x : Life). may_send_open x.relay.line) ls) refl h.0.1 (left-joined calls ls h.1)
 
 joined-more : (calls more : List HouseCall) (socket : Option ℕ) → IsOneJoined calls socket → IsOneJoined (calls ++ more) socket
 joined-more calls more socket h =
@@ -549,10 +549,10 @@ joined-more calls more socket h =
     record { number = h.number; is = h.is; joined = omega (arith, l, both) }
 
 -- one that sends its OPEN was to
-said-opens : (l : Life) (bytes : List ℕ) → has_words l ≡ true → is_open bytes ≡ true → (opening bytes ≤ one l) → may_open l.relay.line ≡ true
-said-opens l bytes words is most = by (may_open l.relay.line) refl
+said-opens : (l : Life) (bytes : List ℕ) → has_words l ≡ true → is_open_message bytes ≡ true → (opening bytes ≤ one l) → may_send_open l.relay.line ≡ true
+said-opens l bytes words is most = by (may_send_open l.relay.line) refl
   where
-    by : (b : Bool) → may_open l.relay.line ≡ b → may_open l.relay.line ≡ true
+    by : (b : Bool) → may_send_open l.relay.line ≡ b → may_send_open l.relay.line ≡ true
     by true e = e
     by false e =
         let none = ap {B = ℕ} (λ (b : Bool). cond b 1 0) e in
@@ -572,7 +572,7 @@ says-joined before true None bytes old new h p =
     let a = h.1.life in
     let its = each-back (Both (Aimed before)) h.1.before (a ∷ h.1.behind) (subst (Each (Both (Aimed before))) h.1.were p) in
     let said = says-one bytes a h.1.next h.1.is h.1.goes in
-    says-joined-if before (is_open bytes) a.joined
+    says-joined-if before (is_open_message bytes) a.joined
     (λ is. right-joined before a.own a.joined a.relay.line (said-opens a bytes h.1.is is (omega (arith, said))) its.0.1.right)
 
 marks-joined : (before : List HouseCall) (mark : HouseMark) (old new : Trace) (h : MarksIn mark old new)

@@ -20,10 +20,10 @@ use Rattle.house_relay.specs.declared.relay.Outgoing.{Outgoing}
 use Rattle.house_relay.specs.declared.relay.Outgoing.TheVariants as outgoing
 use Rattle.house_forward.specs.Forwardings.{has_request}
 use Rattle.house_forward.specs.Going.{GetsOn, TakesOn}
-use Rattle.house_forward.specs.Links.{after_sending}
-use Rattle.house_forward.specs.RelayTraces.{Life, Trace, RelayGoesBy, One, OneAtMost, Speaks, Listens, StepsBy, MakesOne, TraceReaches, Follows, SendsBy, MarksIn, OrdersIn, TurnsTo, first_trace, with_received}
-use Rattle.house_forward.specs.RelayTraces.{has_channel, has_stream, has_words, are_full, stepped, made_life, kept_in}
-use Rattle.house_forward.specs.Opening.{OneOpenAtMost, is_open, opens_by, opens_by_mark, opens_in, joins_by, joins_by_turn, joins_in, may_open, still_to_open}
+use Rattle.house_forward.specs.Links.{relay_after_sending}
+use Rattle.house_forward.specs.RelayTraces.{Life, Trace, RelayGoesBy, One, OneAtMost, Speaks, Listens, StepsBy, MakesOne, TraceReaches, Follows, SendsBy, MarksIn, OrdersInTrace, TurnsTo, first_trace, with_received}
+use Rattle.house_forward.specs.RelayTraces.{has_channel, has_stream, has_words, are_full, life_stepped, made_life, kept_in}
+use Rattle.house_forward.specs.Opening.{OneOpenAtMost, is_open_message, opens_sent_by, opens_by_mark, opens_in, joins_by, joins_by_turn, joins_in, may_send_open, still_to_open}
 use Rattle.house_forward.specs.Said.{framed, relay_sent_by, direct, payload_of, payload_if}
 use Rattle.house_forward.specs.declared.forwarding.Forwarding.{Forwarding}
 use Rattle.house_forward.specs.declared.link.LinkStep.{LinkStep}
@@ -35,7 +35,7 @@ use Rattle.house_forward.proofs.Sound.{All, Sound, follow-sound, offered_life, j
 -- ---- where an OPEN is to be sent, as the channel goes on
 
 abbrev opens : ChannelState → ℕ
-opens line = cond (may_open line) 1 0
+opens line = cond (may_send_open line) 1 0
 
 pub one-most : (b : Bool) → cond b 1 0 ≤ 1
 one-most true = omega arith
@@ -43,9 +43,9 @@ one-most false = omega arith
 
 -- it isn't to be from now on, or the channel stays
 abbrev pub Settles : ChannelState → ChannelState → Type 0
-Settles old new = SettlesBy may_open old new
+Settles old new = SettlesBy may_send_open old new
 
-pub may-later : FailsLater may_open
+pub may-later : FailsLater may_send_open
 may-later = record { live = λ live. refl; over = refl }
 
 settled-most : (old new : ChannelState) → Settles old new → opens new ≤ opens old
@@ -55,8 +55,8 @@ settled-most old new (inr e) = let same = ap opens e in omega (arith, same)
 -- what isn't dialing keeps its channel as its socket gives bytes
 gets-line : (line : ChannelState) (free : Bool) (bytes : List ℕ) (old new : Relay) → old.line ≡ line → DialsIn line free bytes old new
     → opens new.line ≤ opens line
-gets-line (Dialing dialog) free bytes old new e h = one-most (may_open new.line)
-gets-line (Asked host port version) free bytes old new e h = one-most (may_open new.line)
+gets-line (Dialing dialog) free bytes old new e h = one-most (may_send_open new.line)
+gets-line (Asked host port version) free bytes old new e h = one-most (may_send_open new.line)
 gets-line (Opened version) free bytes old new e h = let same = ap opens (h.0 ∙ e) in omega (arith, same)
 gets-line (Offered remote window maximum) free bytes old new e h = let same = ap opens (h.0 ∙ e) in omega (arith, same)
 gets-line (Live live) free bytes old new e h = let same = ap opens (h.0 ∙ e) in omega (arith, same)
@@ -65,10 +65,10 @@ gets-line Over free bytes old new e h = let same = ap opens (h.0 ∙ e) in omega
 -- ---- what is sent
 
 abbrev pub opening : List ℕ → ℕ
-opening bytes = if is_open bytes then 1 else 0
+opening bytes = if is_open_message bytes then 1 else 0
 
 -- in a channel that is confirmed, or offered, no OPEN is sent
-live-none : (s : Outgoing) (live : LiveState) (r : Relay) → is_open (framed (payload_of (with-line (Live live) r) s)) ≡ false
+live-none : (s : Outgoing) (live : LiveState) (r : Relay) → is_open_message (framed (payload_of (with-line (Live live) r) s)) ≡ false
 live-none outgoing.Open live r = refl
 live-none outgoing.Confirmation live r = refl
 live-none outgoing.OpenFailure live r = refl
@@ -79,7 +79,7 @@ live-none outgoing.Eof live r = refl
 live-none (outgoing.Adjust n) live r = refl
 
 offered-none : (s : Outgoing) (remote window maximum : ℕ) (r : Relay)
-    → is_open (framed (payload_of (with-line (Offered remote window maximum) r) s)) ≡ false
+    → is_open_message (framed (payload_of (with-line (Offered remote window maximum) r) s)) ≡ false
 offered-none outgoing.Open remote window maximum r = refl
 offered-none outgoing.Confirmation remote window maximum r = refl
 offered-none outgoing.OpenFailure remote window maximum r = refl
@@ -90,7 +90,7 @@ offered-none outgoing.Eof remote window maximum r = refl
 offered-none (outgoing.Adjust n) remote window maximum r = refl
 
 offered-said : (s : Outgoing) (remote window maximum : ℕ) (r : Relay)
-    → may_open (sent_of s (with-line (Offered remote window maximum) r)).line ≡ false
+    → may_send_open (sent_of s (with-line (Offered remote window maximum) r)).line ≡ false
 offered-said outgoing.Open remote window maximum r = refl
 offered-said outgoing.Confirmation remote window maximum r = refl
 offered-said outgoing.OpenFailure remote window maximum r = refl
@@ -106,19 +106,19 @@ pub record SendsOpen (host : List ℕ) (port : ℕ) (version : Option ℕ) (r : 
   pub words : relay_sent_by r ≡ direct r.number host port
 
 pub record Spoken (r : Relay) : Type 0 where
-  pub settled : may_open (after_sending (sends_of r) r).line ≡ false
-  pub either : (is_open (framed (relay_sent_by r)) ≡ false)
+  pub settled : may_send_open (relay_after_sending (sends_of r) r).line ≡ false
+  pub either : (is_open_message (framed (relay_sent_by r)) ≡ false)
       ⊎ ((host : List ℕ) × (port : ℕ) × (version : Option ℕ) × SendsOpen host port version r)
 
 live-spoken : (live : LiveState) (r : Relay) (o : Option Outgoing) → is_some o ≡ true
-    → (may_open (after_sending o (with-line (Live live) r)).line ≡ false)
-    × (is_open (framed (payload_if (with-line (Live live) r) o)) ≡ false)
+    → (may_send_open (relay_after_sending o (with-line (Live live) r)).line ≡ false)
+    × (is_open_message (framed (payload_if (with-line (Live live) r) o)) ≡ false)
 live-spoken live r None e = cc
-live-spoken live r (Some s) e = (settled-said may_open may-later s live r, live-none s live r)
+live-spoken live r (Some s) e = (settled-said may_send_open may-later s live r, live-none s live r)
 
 offered-spoken : (remote window maximum : ℕ) (r : Relay) (o : Option Outgoing) → is_some o ≡ true
-    → (may_open (after_sending o (with-line (Offered remote window maximum) r)).line ≡ false)
-    × (is_open (framed (payload_if (with-line (Offered remote window maximum) r) o)) ≡ false)
+    → (may_send_open (relay_after_sending o (with-line (Offered remote window maximum) r)).line ≡ false)
+    × (is_open_message (framed (payload_if (with-line (Offered remote window maximum) r) o)) ≡ false)
 offered-spoken remote window maximum r None e = cc
 offered-spoken remote window maximum r (Some s) e = (offered-said s remote window maximum r, offered-none s remote window maximum r)
 
@@ -153,7 +153,7 @@ counted : (ls : List Life) → still_to_open ls ≡ count ls
 counted [] = refl
 counted (l ∷ ls) =
     let rest = counted ls in
-    let all = counted-if (may_open l.relay.line) l (filter (λ (x : Life). may_open x.relay.line) ls) in
+    let all = counted-if (may_send_open l.relay.line) l (filter (λ (x : Life). may_send_open x.relay.line) ls) in
     omega (arith, rest, all)
 
 count-append : (xs ys : List Life) → count (xs ++ ys) ≡ count xs + count ys
@@ -189,7 +189,7 @@ stepped-one : (s : LinkStep) (b : Bool) (l : Life) → one (if b then step_of s 
 stepped-one s true l = ap opens (line-step s l.relay)
 stepped-one s false l = refl
 
-count-stepped : (s : LinkStep) (t : ℕ) (ls : List Life) → count (map (stepped s t) ls) ≡ count ls
+count-stepped : (s : LinkStep) (t : ℕ) (ls : List Life) → count (map (life_stepped s t) ls) ≡ count ls
 count-stepped s t [] = refl
 count-stepped s t (l ∷ ls) =
     let its = stepped-one s (has_stream t l) l in
@@ -197,30 +197,30 @@ count-stepped s t (l ∷ ls) =
     omega (arith, its, rest)
 
 pub receives-one : (m : Message) (a b : Life) → Listens m a b → one b ≤ one a
-receives-one m a b h = settled-most a.relay.line b.relay.line (settles-receives may_open may-later m a b h)
+receives-one m a b h = settled-most a.relay.line b.relay.line (settles-receives may_send_open may-later m a b h)
 
 pub takes-one : (bytes : List ℕ) (a b : Life) → RelayGoesBy (TakesOn bytes) (Takes bytes) a b → one b ≤ one a
-takes-one bytes a b h = settled-most a.relay.line b.relay.line (settles-takes may_open may-later bytes a b h)
+takes-one bytes a b h = settled-most a.relay.line b.relay.line (settles-takes may_send_open may-later bytes a b h)
 
 pub gets-one : (free : Bool) (bytes : List ℕ) (a b : Life) → RelayGoesBy (GetsOn free bytes) (Reads bytes) a b → one b ≤ one a
 gets-one free bytes a b h = gets-line a.relay.line free bytes a.relay b.relay refl h.relay.0
 
-says-after : (r : Relay) → Spoken r → opening (framed (relay_sent_by r)) + opens (after_sending (sends_of r) r).line ≤ opens r.line
+says-after : (r : Relay) → Spoken r → opening (framed (relay_sent_by r)) + opens (relay_after_sending (sends_of r) r).line ≤ opens r.line
 says-after r h = by h.either
   where
-    none : opens (after_sending (sends_of r) r).line ≡ 0
+    none : opens (relay_after_sending (sends_of r) r).line ≡ 0
     none = ap {B = ℕ} (λ (b : Bool). cond b 1 0) h.settled
 
-    by : (is_open (framed (relay_sent_by r)) ≡ false)
+    by : (is_open_message (framed (relay_sent_by r)) ≡ false)
         ⊎ ((host : List ℕ) × (port : ℕ) × (version : Option ℕ) × SendsOpen host port version r)
-        → opening (framed (relay_sent_by r)) + opens (after_sending (sends_of r) r).line ≤ opens r.line
+        → opening (framed (relay_sent_by r)) + opens (relay_after_sending (sends_of r) r).line ≤ opens r.line
     by (inl e) =
         let no = ap {B = ℕ} (λ (b : Bool). cond b 1 0) e in
         let its = none in
         omega (arith, no, its)
     by (inr x) =
         let asked = ap opens x.3.asked in
-        let most = one-most (is_open (framed (relay_sent_by r))) in
+        let most = one-most (is_open_message (framed (relay_sent_by r))) in
         let its = none in
         omega (arith, asked, most, its)
 
@@ -265,7 +265,7 @@ says-count true None bytes old new h =
 steps-count : (o : Order) (s : LinkStep) (t : ℕ) (old new : Trace) → StepsBy o s t old new → count new.relay_traces ≤ count old.relay_traces
 steps-count o s t old new h =
     let same = count-stepped s t old.relay_traces in
-    let kept = count-kept (map (stepped s t) old.relay_traces) in
+    let kept = count-kept (map (life_stepped s t) old.relay_traces) in
     let are = ap (λ (c : Trace). count c.relay_traces) h.1 in
     omega (arith, same, kept, are)
 
@@ -282,7 +282,7 @@ makes-count host port number old new h =
 same-count : (old new : Trace) → new.relay_traces ≡ old.relay_traces → count new.relay_traces ≤ count old.relay_traces
 same-count old new e = let same = ap count e in omega (arith, same)
 
-orders-count : (o : Order) (number : Option ℕ) (old new : Trace) → OrdersIn o number old new → count new.relay_traces ≤ count old.relay_traces
+orders-count : (o : Order) (number : Option ℕ) (old new : Trace) → OrdersInTrace o number old new → count new.relay_traces ≤ count old.relay_traces
 orders-count (order.Listen host port) number old new h = same-count old new (ap (λ (c : Trace). c.relay_traces) h.2)
 orders-count (order.Connect host port) number old new h = makes-count host port number old new h
 orders-count (order.Unlisten l) number old new h = same-count old new (ap (λ (c : Trace). c.relay_traces) h.2)
@@ -305,7 +305,7 @@ turns-count : (happening : Happening) (joins : ℕ) (fs : List Forwarding) (old 
     → count new ≤ joins_by_turn happening + count old
 turns-count (Joined l t) joins fs old new h =
     let more = count-append old (joined_life joins t h.relay ∷ []) in
-    let most = one-most (may_open h.relay.line) in
+    let most = one-most (may_send_open h.relay.line) in
     let are = ap count h.more in
     omega (arith, more, most, are)
 turns-count (Got t bytes) joins fs old new h =
@@ -315,7 +315,7 @@ turns-count (Writable t) joins fs old new h = let are = ap count h in let same =
 turns-count (Failed t) joins fs old new h = let are = ap count h in let same = count-stepped step.Failed t old in omega (arith, are, same)
 
 follow-count : (call : HouseCall) (old new : Trace) → Follows call old new → All Sound old
-    → opens_by call + count new.relay_traces ≤ joins_by call + count old.relay_traces
+    → opens_sent_by call + count new.relay_traces ≤ joins_by call + count old.relay_traces
 follow-count (Begins starts) old new h s = let all = same-count old new (ap (λ (c : Trace). c.relay_traces) h.2) in omega (arith, all)
 follow-count (Marks mark) old new h s = let all = marks-count mark old new h in omega (arith, all)
 follow-count (ReceivesBytes bytes) old new h s =

@@ -20,21 +20,21 @@ use Rattle.house_relay.specs.Next.{sends_of}
 use Rattle.house_relay.specs.Relay.{socket_stream_of}
 use Rattle.house_relay.specs.Steps.{is_socket_closed, is_gone, sent_of, confirmed_in, refused_in, data_received}
 use Rattle.house_relay.specs.Relay.{delivers}
-use Rattle.house_relay.specs.ChannelState.{counts}
+use Rattle.house_relay.specs.ChannelState.{is_counted_channel}
 use Rattle.house_relay.specs.declared.line.ChannelState.{ChannelState}
 use Rattle.house_relay.specs.declared.line.ChannelState.TheVariants.{Dialing, Asked, Opened, Offered, Live, Over}
 use Rattle.house_relay.specs.declared.relay.Relay.{Relay}
 use Rattle.house_relay.specs.declared.relay.Outgoing.{Outgoing}
 use Rattle.house_relay.specs.declared.relay.Outgoing.TheVariants as outgoing
-use Rattle.house_relay.specs.declared.relay.Socket.{Socket}
-use Rattle.house_relay.specs.declared.relay.Socket.TheVariants as socket
+use Rattle.house_relay.specs.declared.relay.RelaySocket.{RelaySocket}
+use Rattle.house_relay.specs.declared.relay.RelaySocket.TheVariants as socket
 use Rattle.house_forward.specs.Forwardings.{has_request}
 use Rattle.house_forward.specs.Going.{GetsOn, TakesOn}
 use Rattle.house_forward.specs.Heard.{received_of}
-use Rattle.house_forward.specs.Links.{after_sending, relay_after}
-use Rattle.house_forward.specs.RelayTraces.{Life, Trace, RelayGoesBy, Speaks, Listens, StepsBy, MakesOne, TraceReaches, Follows, SendsBy, MarksIn, OrdersIn, TurnsTo, first_trace, with_received}
-use Rattle.house_forward.specs.RelayTraces.{has_channel, has_stream, is_stream, has_words, unmade, are_full, link_own_after, own_made, stepped, made_life, kept_in}
-use Rattle.house_forward.specs.Numbers.{ChannelsAreSmall, ChannelsDiffer, StreamsAreTheirs, StreamsDiffer, EachIsNew, BringsNew, relay_channels_of, open_streams, number_of, streams_open_after, made_by, stream_closed_by, without_closed}
+use Rattle.house_forward.specs.Links.{relay_after_sending, relay_after}
+use Rattle.house_forward.specs.RelayTraces.{Life, Trace, RelayGoesBy, Speaks, Listens, StepsBy, MakesOne, TraceReaches, Follows, SendsBy, MarksIn, OrdersInTrace, TurnsTo, first_trace, with_received}
+use Rattle.house_forward.specs.RelayTraces.{has_channel, has_stream, is_stream, has_words, unmade, are_full, link_own_after, own_made, life_stepped, made_life, kept_in}
+use Rattle.house_forward.specs.Numbers.{ChannelsAreSmall, ChannelsDiffer, StreamsAreTheirs, StreamsDiffer, EachIsNew, BringsNew, relay_channels_of, open_streams, own_stream_number, streams_open_after, made_by, stream_closed_by, without_closed}
 use Rattle.house_forward.specs.declared.forwarding.Forwarding.{Forwarding}
 use Rattle.house_forward.specs.declared.link.LinkStep.{LinkStep}
 use Rattle.house_forward.specs.declared.link.LinkStep.TheVariants as step
@@ -117,7 +117,7 @@ number-said (outgoing.Data n) r = refl
 number-said outgoing.Eof r = refl
 number-said (outgoing.Adjust n) r = refl
 
-number-after : (o : Option Outgoing) (r : Relay) → (after_sending o r).number ≡ r.number
+number-after : (o : Option Outgoing) (r : Relay) → (relay_after_sending o r).number ≡ r.number
 number-after None r = refl
 number-after (Some s) r = number-said s r
 
@@ -201,10 +201,10 @@ stepped-if : (s : LinkStep) (b : Bool) (l : Life) → channel (if b then step_of
 stepped-if s true l = number-step s l.relay
 stepped-if s false l = refl
 
-stepped-same : (s : LinkStep) (t : ℕ) (ls : List Life) → relay_channels_of (map (stepped s t) ls) ≡ relay_channels_of ls
+stepped-same : (s : LinkStep) (t : ℕ) (ls : List Life) → relay_channels_of (map (life_stepped s t) ls) ≡ relay_channels_of ls
 stepped-same s t [] = refl
 stepped-same s t (l ∷ ls) =
-    ap (λ n. n ∷ relay_channels_of (map (stepped s t) ls)) (stepped-if s (has_stream t l) l) ∙ ap (λ ns. channel l ∷ ns) (stepped-same s t ls)
+    ap (λ n. n ∷ relay_channels_of (map (life_stepped s t) ls)) (stepped-if s (has_stream t l) l) ∙ ap (λ ns. channel l ∷ ns) (stepped-same s t ls)
 
 says-same : (bytes : List ℕ) (a b : Life) → Speaks bytes a b → channel b ≡ channel a
 says-same bytes a b h = ap (λ (r : Relay). r.number) h.1.relay.0 ∙ number-after (sends_of a.relay) a.relay
@@ -242,7 +242,7 @@ channels-step : (o : Order) (s : LinkStep) (t : ℕ) (old new : Trace) → Steps
     → ChannelsApart new.relay_traces
 channels-step o s t old new h a =
     subst (λ (c : Trace). ChannelsApart c.relay_traces) (sym h.1)
-    (kept-apart (map (stepped s t) old.relay_traces) (subst Apart (sym (stepped-same s t old.relay_traces)) a))
+    (kept-apart (map (life_stepped s t) old.relay_traces) (subst Apart (sym (stepped-same s t old.relay_traces)) a))
 
 channels-make : (host : List ℕ) (port : ℕ) (number : Option ℕ) (old new : Trace) → MakesOne host port number old new
     → ChannelsApart old.relay_traces → ChannelsApart new.relay_traces
@@ -254,7 +254,7 @@ channels-make host port number old new h a =
     (sym (map-append channel (h.before ++ h.behind) (made_life number h.life ∷ []) ∙ ap (λ ns. ns ++ channel h.life ∷ []) (map-append channel h.before h.behind)))
     (apart-push (channel h.life) (relay_channels_of h.before ++ relay_channels_of h.behind) out.0 out.1))
 
-channels-order : (o : Order) (number : Option ℕ) (old new : Trace) → OrdersIn o number old new → ChannelsApart old.relay_traces
+channels-order : (o : Order) (number : Option ℕ) (old new : Trace) → OrdersInTrace o number old new → ChannelsApart old.relay_traces
     → ChannelsApart new.relay_traces
 channels-order (order.Listen host port) number old new h a = subst (λ (c : Trace). ChannelsApart c.relay_traces) (sym h.2) a
 channels-order (order.Connect host port) number old new h a = channels-make host port number old new h a
@@ -339,9 +339,9 @@ channels-small calls trace h =
 -- ---- the streams of a trace
 
 abbrev stream : Life → Option ℕ
-stream l = number_of l.own
+stream l = own_stream_number l.own
 
-closed-none : (s : Socket) → is_socket_closed s ≡ true → socket_stream_of s ≡ None
+closed-none : (s : RelaySocket) → is_socket_closed s ≡ true → socket_stream_of s ≡ None
 closed-none (socket.Connecting t) e = cc
 closed-none (socket.Open t) e = cc
 closed-none socket.Unmade e = refl
@@ -350,9 +350,9 @@ closed-none (socket.NoChannelLeft t) e = cc
 closed-none socket.Closed e = refl
 
 gone-none : (l : Life) → Sound l → is_gone l.relay ≡ true → stream l ≡ None
-gone-none l s e = sym s.stream ∙ closed-none l.relay.socket (and_parts (is_socket_closed l.relay.socket) (not (counts l.relay.line)) e).0
+gone-none l s e = sym s.stream ∙ closed-none l.relay.socket (and_parts (is_socket_closed l.relay.socket) (not (is_counted_channel l.relay.line)) e).0
 
-unmade-none : (s : Socket) → unmade s ≡ true → socket_stream_of s ≡ None
+unmade-none : (s : RelaySocket) → unmade s ≡ true → socket_stream_of s ≡ None
 unmade-none (socket.Connecting t) e = cc
 unmade-none (socket.Open t) e = cc
 unmade-none socket.Unmade e = refl
@@ -361,7 +361,7 @@ unmade-none (socket.NoChannelLeft t) e = cc
 unmade-none socket.Closed e = refl
 
 goes-same : (so : Relay → Relay → Type 0) (act : RelayAct) (a b : Life) → RelayGoesBy so act a b → stream b ≡ stream a
-goes-same so act a b h = ap number_of h.own
+goes-same so act a b h = ap own_stream_number h.own
 
 -- which step closes no stream
 abbrev leaves : LinkStep → Type 0
@@ -372,7 +372,7 @@ leaves step.Close = ⊥
 leaves step.Writable = Unit {0}
 leaves step.Failed = Unit {0}
 
-own-same : (s : LinkStep) → leaves s → (own : Option OwnStream) → number_of (link_own_after s own) ≡ number_of own
+own-same : (s : LinkStep) → leaves s → (own : Option OwnStream) → own_stream_number (link_own_after s own) ≡ own_stream_number own
 own-same s l None = refl
 own-same (step.Pause b) l (Some own) = refl
 own-same step.Finish l (Some own) = refl
@@ -381,24 +381,24 @@ own-same step.Close l (Some own) = absurd l
 own-same step.Writable l (Some own) = refl
 own-same step.Failed l (Some own) = refl
 
-step-streams : (s : LinkStep) → leaves s → (t : ℕ) (ls : List Life) → Each Sound ls → open_streams (map (stepped s t) ls) ≡ open_streams ls
+step-streams : (s : LinkStep) → leaves s → (t : ℕ) (ls : List Life) → Each Sound ls → open_streams (map (life_stepped s t) ls) ≡ open_streams ls
 step-streams s l t ls all = pick-stepped stream Sound s t (λ a h is. own-same s l a.own) ls all
 
 close-own : (t : ℕ) (b : Bool) (l : Life) (rest : List ℕ) (own : Option OwnStream) → l.own ≡ own → is_stream t own ≡ b
-    → cons_option (stream (if b then step_of step.Close l else l)) (without t rest) ≡ without t (cons_option (number_of own) rest)
+    → cons_option (stream (if b then step_of step.Close l else l)) (without t rest) ≡ without t (cons_option (own_stream_number own) rest)
 close-own t true l rest None e is = cc
-close-own t false l rest None e is = ap (λ (o : Option OwnStream). cons_option (number_of o) (without t rest)) e
+close-own t false l rest None e is = ap (λ (o : Option OwnStream). cons_option (own_stream_number o) (without t rest)) e
 close-own t true l rest (Some own) e is =
-    ap (λ (o : Option OwnStream). cons_option (number_of (link_own_after step.Close o)) (without t rest)) e
+    ap (λ (o : Option OwnStream). cons_option (own_stream_number (link_own_after step.Close o)) (without t rest)) e
     ∙ ap (λ (b : Bool). cond (not b) (own.number ∷ without t rest) (without t rest)) (sym is)
 close-own t false l rest (Some own) e is =
-    ap (λ (o : Option OwnStream). cons_option (number_of o) (without t rest)) e
+    ap (λ (o : Option OwnStream). cons_option (own_stream_number o) (without t rest)) e
     ∙ ap (λ (b : Bool). cond (not b) (own.number ∷ without t rest) (without t rest)) (sym is)
 
-close-streams : (t : ℕ) (ls : List Life) → open_streams (map (stepped step.Close t) ls) ≡ without t (open_streams ls)
+close-streams : (t : ℕ) (ls : List Life) → open_streams (map (life_stepped step.Close t) ls) ≡ without t (open_streams ls)
 close-streams t [] = refl
 close-streams t (l ∷ ls) =
-    ap (λ ns. cons_option (stream (stepped step.Close t l)) ns) (close-streams t ls)
+    ap (λ ns. cons_option (stream (life_stepped step.Close t l)) ns) (close-streams t ls)
     ∙ close-own t (has_stream t l) l (open_streams ls) l.own refl refl
 
 kept-streams : (ls : List Life) → Each Sound ls → open_streams (kept_in ls) ≡ open_streams ls
@@ -430,10 +430,10 @@ streams-step : (o : Order) (k : LinkStep) → leaves k → (t : ℕ) (old new : 
     → open_streams new.relay_traces ≡ open_streams old.relay_traces
 streams-step o k l t old new h s =
     ap (λ (c : Trace). open_streams c.relay_traces) h.1
-    ∙ kept-streams (map (stepped k t) old.relay_traces) (stepped-sound k t old.relay_traces s.relay_traces)
+    ∙ kept-streams (map (life_stepped k t) old.relay_traces) (stepped-sound k t old.relay_traces s.relay_traces)
     ∙ step-streams k l t old.relay_traces s.relay_traces
 
-own-list : (number : Option ℕ) → option_to_list (number_of (own_made number)) ≡ option_to_list number
+own-list : (number : Option ℕ) → option_to_list (own_stream_number (own_made number)) ≡ option_to_list number
 own-list None = refl
 own-list (Some t) = refl
 
@@ -450,7 +450,7 @@ streams-make host port number old new h s =
 more : (x y : List ℕ) → x ≡ y → x ≡ y ++ []
 more x y e = e ∙ sym (append-nil y)
 
-streams-order : (o : Order) (number : Option ℕ) (old new : Trace) → OrdersIn o number old new → All Sound old
+streams-order : (o : Order) (number : Option ℕ) (old new : Trace) → OrdersInTrace o number old new → All Sound old
     → open_streams new.relay_traces ≡ after (Marks (HouseOrder o number)) (open_streams old.relay_traces)
 streams-order (order.Listen host port) number old new h s = more _ _ (ap (λ (c : Trace). open_streams c.relay_traces) h.2)
 streams-order (order.Connect host port) number old new h s = streams-make host port number old new h s
@@ -460,7 +460,7 @@ streams-order (order.Resume t) number old new h s = more _ _ (streams-step (orde
 streams-order (order.Finish t) number old new h s = more _ _ (streams-step (order.Finish t) step.Finish tt t old new h s)
 streams-order (order.Close t) number old new h s = more _ _
     (ap (λ (c : Trace). open_streams c.relay_traces) h.1
-    ∙ kept-streams (map (stepped step.Close t) old.relay_traces) (stepped-sound step.Close t old.relay_traces s.relay_traces)
+    ∙ kept-streams (map (life_stepped step.Close t) old.relay_traces) (stepped-sound step.Close t old.relay_traces s.relay_traces)
     ∙ close-streams t old.relay_traces)
 
 streams-mark : (mark : HouseMark) (old new : Trace) → MarksIn mark old new → All Sound old
@@ -528,7 +528,7 @@ apart-after (call ∷ calls) there new h =
 -- ---- each has a new number
 
 none-among : (t : ℕ) (own : Option OwnStream) (rest : List ℕ) → is_stream t own ≡ false → among t rest ≡ false
-    → among t (cons_option (number_of own) rest) ≡ false
+    → among t (cons_option (own_stream_number own) rest) ≡ false
 none-among t None rest e h = h
 none-among t (Some own) rest e h = or_from (own.number == t) (among t rest) e h
 
@@ -546,7 +546,7 @@ made-new (Some t) ls h = among-none t ls h
 abbrev pub IsNew : HouseCall → Trace → Type 0
 IsNew call old = IfSome (made_by call) (λ t. among t (open_streams old.relay_traces) ≡ false)
 
-new-order : (o : Order) (number : Option ℕ) (old new : Trace) → OrdersIn o number old new → IsNew (Marks (HouseOrder o number)) old
+new-order : (o : Order) (number : Option ℕ) (old new : Trace) → OrdersInTrace o number old new → IsNew (Marks (HouseOrder o number)) old
 new-order (order.Listen host port) number old new h = tt
 new-order (order.Connect host port) number old new h = made-new number old.relay_traces h.fresh
 new-order (order.Unlisten l) number old new h = tt

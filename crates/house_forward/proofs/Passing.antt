@@ -19,9 +19,9 @@ use Rattle.house_relay.specs.declared.relay.Relay.{Relay}
 use Rattle.house_forward.specs.Forwardings.{has_request, has_listener}
 use Rattle.house_forward.specs.Going.{GetsOn, TakesOn}
 use Rattle.house_forward.specs.Links.{IsRelayJoined}
-use Rattle.house_forward.specs.RelayTraces.{Life, Trace, RelayGoesBy, One, OneAtMost, MakesOne, OrderIsAllowed, StepsBy, Speaks, Listens, TraceReaches, Follows, SendsBy, MarksIn, OrdersIn, TurnsTo, first_trace, with_received}
-use Rattle.house_forward.specs.RelayTraces.{has_stream, is_stream, has_channel, has_words, is_socket_unmade, are_full, are_dialogs_full, stepped, made_life}
-use Rattle.house_forward.specs.Numbers.{number_of, open_streams}
+use Rattle.house_forward.specs.RelayTraces.{Life, Trace, RelayGoesBy, One, OneAtMost, MakesOne, OrderIsAllowed, StepsBy, Speaks, Listens, TraceReaches, Follows, SendsBy, MarksIn, OrdersInTrace, TurnsTo, first_trace, with_received}
+use Rattle.house_forward.specs.RelayTraces.{has_stream, is_stream, has_channel, has_words, is_socket_unmade, are_full, are_dialogs_full, life_stepped, made_life}
+use Rattle.house_forward.specs.Numbers.{own_stream_number, open_streams}
 use Rattle.house_forward.specs.declared.forwarding.Forwarding.{Forwarding}
 use Rattle.house_forward.specs.declared.link.LinkStep.{LinkStep}
 use Rattle.house_forward.specs.declared.link.LinkStep.TheVariants as step
@@ -36,7 +36,7 @@ use Rattle.house_forward.proofs.Sound.{Each, All, Sound, each-append, each-front
 abbrev pub IsOther : ℕ → List Life → Life → Type 0
 IsOther t relay_traces a = Apart (open_streams relay_traces) → has_stream t a ≡ false
 
-not-one : (t : ℕ) (own : Option OwnStream) (rest : List ℕ) → among t (cons_option (number_of own) rest) ≡ false
+not-one : (t : ℕ) (own : Option OwnStream) (rest : List ℕ) → among t (cons_option (own_stream_number own) rest) ≡ false
     → (is_stream t own ≡ false) × (among t rest ≡ false)
 not-one t None rest e = (refl, e)
 not-one t (Some own) rest e = or_parts (own.number == t) (among t rest) e
@@ -45,11 +45,11 @@ none-of : (t : ℕ) (ls : List Life) → among t (open_streams ls) ≡ false →
 none-of t [] e = tt
 none-of t (l ∷ ls) e = let both = not-one t l.own (open_streams ls) e in (both.0, none-of t ls both.1)
 
-is-one : (t : ℕ) (own : Option OwnStream) (rest : List ℕ) → is_stream t own ≡ true → among t (cons_option (number_of own) rest) ≡ true
+is-one : (t : ℕ) (own : Option OwnStream) (rest : List ℕ) → is_stream t own ≡ true → among t (cons_option (own_stream_number own) rest) ≡ true
 is-one t None rest e = cc
 is-one t (Some own) rest e = or_left (own.number == t) (among t rest) e
 
-later-one : (t : ℕ) (own : Option OwnStream) (rest : List ℕ) → among t rest ≡ true → among t (cons_option (number_of own) rest) ≡ true
+later-one : (t : ℕ) (own : Option OwnStream) (rest : List ℕ) → among t rest ≡ true → among t (cons_option (own_stream_number own) rest) ≡ true
 later-one t None rest e = e
 later-one t (Some own) rest e = or_right (own.number == t) (among t rest) e
 
@@ -58,16 +58,16 @@ has-one : (t : ℕ) (before : List Life) (l : Life) (behind : List Life) → has
 has-one t [] l behind e = is-one t l.own (open_streams behind) e
 has-one t (x ∷ before) l behind e = later-one t x.own (open_streams (before ++ l ∷ behind)) (has-one t before l behind e)
 
-first-apart : (own : Option OwnStream) (rest : List ℕ) → Apart (cons_option (number_of own) rest) → Apart rest
+first-apart : (own : Option OwnStream) (rest : List ℕ) → Apart (cons_option (own_stream_number own) rest) → Apart rest
 first-apart None rest h = h
 first-apart (Some own) rest h = h.1
 
-first-none : (t : ℕ) (own : Option OwnStream) (rest : List ℕ) → is_stream t own ≡ true → Apart (cons_option (number_of own) rest)
+first-none : (t : ℕ) (own : Option OwnStream) (rest : List ℕ) → is_stream t own ≡ true → Apart (cons_option (own_stream_number own) rest)
     → among t rest ≡ false
 first-none t None rest e h = cc
 first-none t (Some own) rest e h = subst (λ (n : ℕ). among n rest ≡ false) (eqb-true own.number t e) h.0
 
-other-first : (t : ℕ) (own : Option OwnStream) (rest : List ℕ) → among t rest ≡ true → Apart (cons_option (number_of own) rest)
+other-first : (t : ℕ) (own : Option OwnStream) (rest : List ℕ) → among t rest ≡ true → Apart (cons_option (own_stream_number own) rest)
     → is_stream t own ≡ false
 other-first t None rest e h = refl
 other-first t (Some own) rest e h = ne_eqb own.number t (λ f. both_ways (among t rest) (subst (λ (n : ℕ). among n rest ≡ false) f h.0) e)
@@ -196,7 +196,7 @@ pass-if Q s false l p k = p refl
 
 pass-stepped : (P Q E : Life → Type 0) (s : LinkStep) (t : ℕ) (ls : List Life) → Each Sound ls → Each P ls
     → Each (λ a. has_stream t a ≡ true → E a) ls → ((a : Life) → P a → Q a)
-    → ((a : Life) → Sound a → E a → P a → has_stream t a ≡ true → Q (step_of s a)) → Each Q (map (stepped s t) ls)
+    → ((a : Life) → Sound a → E a → P a → has_stream t a ≡ true → Q (step_of s a)) → Each Q (map (life_stepped s t) ls)
 pass-stepped P Q E s t [] sounds all may stays goes = tt
 pass-stepped P Q E s t (l ∷ ls) sounds all may stays goes = (
   pass-if Q s (has_stream t l) l (λ no. stays l all.0) (λ is. goes l sounds.0 (may.0 is) all.0 is),
@@ -250,7 +250,7 @@ pass-steps : (o : Order) (number : Option ℕ) (s : LinkStep) (t : ℕ) (old new
     → Each Sound old.relay_traces → Each P old.relay_traces → Each Q new.relay_traces
 pass-steps o number s t old new P Q k causes may h sounds all =
     subst (λ (c : Trace). Each Q c.relay_traces) (sym h.1)
-    (each-kept Q (map (stepped s t) old.relay_traces) (pass-stepped P Q (MayStep s old) s t old.relay_traces sounds all may (λ a p. k.stays a p tt)
+    (each-kept Q (map (life_stepped s t) old.relay_traces) (pass-stepped P Q (MayStep s old) s t old.relay_traces sounds all may (λ a p. k.stays a p tt)
     (λ a sa e p is. k.steps s t causes a sa e p is)))
 
 pass-makes : (host : List ℕ) (port : ℕ) (number : Option ℕ) (old new : Trace) (P Q : Life → Type 0)
@@ -268,7 +268,7 @@ pass-makes host port number old new P Q k h sounds all =
     (k.makes host port number refl h.life its.0 behind.0 h.is h.there, tt))
 
 pass-orders : (o : Order) (number : Option ℕ) (old new : Trace) (P Q : Life → Type 0) → Passes (Marks (HouseOrder o number)) old P Q
-    → OrdersIn o number old new → Each Sound old.relay_traces → Each P old.relay_traces → Each Q new.relay_traces
+    → OrdersInTrace o number old new → Each Sound old.relay_traces → Each P old.relay_traces → Each Q new.relay_traces
 pass-orders (order.Listen host port) number old new P Q k h s all =
     stay-all (Marks (HouseOrder (order.Listen host port) number)) old P Q k new.relay_traces (ap (λ (c : Trace). c.relay_traces) h.2) (λ a. tt) all
 pass-orders (order.Connect host port) number old new P Q k h s all = pass-makes host port number old new P Q k h s all

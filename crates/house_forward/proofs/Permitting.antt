@@ -18,17 +18,17 @@ use Rattle.ssh_grammar.specs.Messages as grammar
 use Rattle.ssh_grammar.specs.ReadMessage.{read_message as reading}
 use Rattle.ssh_grammar.specs.declared.fault.Bad.{Bad}
 use Rattle.house_forward.specs.Asks.{turns_away}
-use Rattle.house_forward.specs.ForwarderEvents.{ForwarderEvent, Does, Leave, HappenBy, Happen, IsSentAs, AreMarked, ordered_by, recorded, recorded_if, recorded_plain, recorded_in, events_recorded_by, stage_next}
+use Rattle.house_forward.specs.ForwarderEvents.{ForwarderEvent, Does, Leave, HappenBy, Happen, IsSentAs, AreMarked, ordered_by, events_of_message, recorded_if, recorded_plain, recorded_in, events_recorded_by, stage_next}
 use Rattle.house_forward.specs.ForwarderEvents.{Begins, Asks, Answers, Greets, Requests, Replies, Listens, Unlistens}
 use Rattle.house_forward.specs.ForwardingState.{ForwardingState, GetsListener, standing_at}
-use Rattle.house_forward.specs.Forwardings.{Begins as BeginsAt, StartsIf, Standing, Opens, IsAskedFor, MadeAt, changed, standing, closes_of, after_close, EndsLeave, ComesIf, ComesUnless, forwarding_request_of, first_of, has_listener, to_listen}
+use Rattle.house_forward.specs.Forwardings.{AskedAtStart as BeginsAt, StartsIf, Standing, OpensForwarding, IsAskedFor, MadeAt, forwarding_changed, standing, closes_of, after_close, EndsLeave, ComesIf, ComesUnless, forwarding_request_of, first_forwarding_request, has_listener, to_listen}
 use Rattle.house_forward.specs.Permitted.{StartsNone, MayListen, EachMayListen, EachListenIsPermitted, BeginsNone, EachOrderIsPermitted}
 use Rattle.house_forward.specs.RelayTraces.{Trace, TraceReaches, first_trace}
 use Rattle.house_forward.specs.Rules.{AreEnds, is_permitted_here, is_refused_alone, is_ruled_out, is_unpermitted, is_unpermitted_of, listen_host, listens_here, rules_of}
-use Rattle.house_forward.specs.declared.asks.Asked.{Asked as Comes}
-use Rattle.house_forward.specs.declared.asks.Asked.TheVariants.{Now, Later}
-use Rattle.house_forward.specs.declared.forwarder_state.Stage.{Stage as Reads}
-use Rattle.house_forward.specs.declared.forwarder_state.Stage.TheVariants.{Control, Proxy}
+use Rattle.house_forward.specs.declared.asks.ImmediateOutcome.{ImmediateOutcome as Comes}
+use Rattle.house_forward.specs.declared.asks.ImmediateOutcome.TheVariants.{Now, Later}
+use Rattle.house_forward.specs.declared.forwarder_state.ForwarderStage.{ForwarderStage as Reads}
+use Rattle.house_forward.specs.declared.forwarder_state.ForwarderStage.TheVariants.{Control, Proxy}
 use Rattle.house_forward.specs.declared.forwarding.Change.{Change}
 use Rattle.house_forward.specs.declared.forwarding.Change.TheVariants as change
 use Rattle.house_forward.specs.declared.forwarding.Forwarding.{Forwarding}
@@ -50,8 +50,8 @@ changed-if : (here : ListenPermit) (b : Bool) (f g : Forwarding) → MayListen h
 changed-if here true f g h k = h
 changed-if here false f g h k = k
 
-each-changed : (here : ListenPermit) (c : Change) (serial : ℕ) (fs : List Forwarding) → Each here fs → Each here (map (changed c serial) fs)
-each-changed here c serial fs h = All-map (MayListen here) (changed c serial) fs (λ i d l. changed-if here _ (get_or fs i d) _ (h i d l) (h i d l))
+each-changed : (here : ListenPermit) (c : Change) (serial : ℕ) (fs : List Forwarding) → Each here fs → Each here (map (forwarding_changed c serial) fs)
+each-changed here c serial fs h = All-map (MayListen here) (forwarding_changed c serial) fs (λ i d l. changed-if here _ (get_or fs i d) _ (h i d l) (h i d l))
 
 each-removed : (here : ListenPermit) (fs : List Forwarding) (i : ℕ) → Each here fs → Each here (remove fs i)
 each-removed here fs i h = All-append (MayListen here) (take i fs) (drop (suc i) fs) (All-take (MayListen here) i fs h) (All-drop (MayListen here) (suc i) fs h)
@@ -92,7 +92,7 @@ new-may here ends serial start f a may listens =
     ap (λ h. is_permitted_here here h f.listen_port) a.listens ∙ ap (λ p. is_permitted_here here ends.listen_host.now p) a.listen_port_is
     ∙ may (sym (ap listens_here a.kind_is) ∙ listens)
 
-each-opens : (here : ListenPermit) (b : Bool) (ends : Ends) (serial : ℕ) (start : Option ℕ) (old new : List Forwarding) → Opens b ends serial start old new
+each-opens : (here : ListenPermit) (b : Bool) (ends : Ends) (serial : ℕ) (start : Option ℕ) (old new : List Forwarding) → OpensForwarding b ends serial start old new
     → EndsMay here ends → Each here old → Each here new
 each-opens here false ends serial start old new o may h = subst (Each here) (sym o) h
 each-opens here true ends serial start old new o may h =
@@ -183,7 +183,7 @@ after starts (Requests f) old new none d p = record {
 after starts (Replies success port) old new none d p = record {
   rules = ap (λ (x : ForwardingState). x.rules) d ∙ p.rules;
   each = subst (Each starts.here) (sym (ap (λ (x : ForwardingState). x.all) d))
-      (on-reply (Stays starts.here) (on-reply-each starts.here) success port (first_of old.requests) old.all p.each);
+      (on-reply (Stays starts.here) (on-reply-each starts.here) success port (first_forwarding_request old.requests) old.all p.each);
 }
 after starts (Listens host port number) old new none d p = record {
   rules = ap (λ (x : ForwardingState). x.rules) d.makes.others ∙ ap (λ (x : ForwardingState). x.rules) d.orders.others ∙ p.rules;
@@ -236,7 +236,7 @@ none-plain (grammar.RequestSuccess rest) = none-one _ tt
 none-plain grammar.RequestFailure = none-one _ tt
 none-plain (grammar.Open kind sender window maximum rest what) = All-nil StartsNone
 
-none-recorded : (m : Message) → All StartsNone (recorded m)
+none-recorded : (m : Message) → All StartsNone (events_of_message m)
 none-recorded (Plain m) = none-plain m
 none-recorded (To recipient m) = All-nil StartsNone
 

@@ -5,7 +5,7 @@ use Rattle.std.specs.List.{filter_map, cons_option}
 use Rattle.std.specs.Option.{option_to_list}
 use Rattle.std.proofs.lemmas.List.Elements.{filter_map-append}
 use Rattle.house_relay.specs.Steps.{is_gone}
-use Rattle.house_forward.specs.RelayTraces.{Life, One, OneAtMost, has_stream, stepped, kept_in}
+use Rattle.house_forward.specs.RelayTraces.{Life, One, OneAtMost, has_stream, life_stepped, kept_in}
 use Rattle.house_forward.specs.declared.link.LinkStep.{LinkStep}
 use Rattle.house_forward.proofs.Sound.{Each, each-back, step_of}
 
@@ -58,10 +58,10 @@ if-stepped h false x l e = refl
 -- the one with a stream makes a step
 pub pick-stepped : {Y : Type 0} (h : Life → Option Y) (P : Life → Type 0) (s : LinkStep) (t : ℕ)
     → ((l : Life) → P l → has_stream t l ≡ true → h (step_of s l) ≡ h l) → (ls : List Life) → Each P ls
-    → filter_map h (map (stepped s t) ls) ≡ filter_map h ls
+    → filter_map h (map (life_stepped s t) ls) ≡ filter_map h ls
 pick-stepped h P s t same [] all = refl
 pick-stepped h P s t same (l ∷ ls) all =
-    ap (λ o. cons_option o (filter_map h (map (stepped s t) ls))) (if-stepped h (has_stream t l) (step_of s l) l (same l all.0))
+    ap (λ o. cons_option o (filter_map h (map (life_stepped s t) ls))) (if-stepped h (has_stream t l) (step_of s l) l (same l all.0))
     ∙ ap (λ ys. cons_option (h l) ys) (pick-stepped h P s t same ls all.1)
 
 -- ---- where one goes on

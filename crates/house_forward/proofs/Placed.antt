@@ -4,7 +4,7 @@ use Rattle.std.specs.Prelude.{if◌then◌else◌, find, is_some, IfSome, IsSome
 use Rattle.std.specs.List.{All, position, remove}
 use Rattle.std.proofs.lemmas.List.Elements.{All-set, All-append, All-take, All-drop, All-filter, All-map, All-push}
 use Rattle.std.proofs.lemmas.List.Quantifiers.{position-Some}
-use Rattle.house_forward.specs.Forwardings.{IsAt, ListensFor, changed, stage_after, to_listen}
+use Rattle.house_forward.specs.Forwardings.{IsAt, ListensFor, forwarding_changed, listener_stage_after, to_listen}
 use Rattle.house_forward.specs.declared.forwarding.Change.{Change}
 use Rattle.house_forward.specs.declared.forwarding.Change.TheVariants as change
 use Rattle.house_forward.specs.declared.forwarding.Forwarding.{Forwarding}
@@ -17,7 +17,7 @@ use Rattle.house_forward.proofs.Lists.{found-first}
 abbrev pub Placed : List Forwarding → Type 0
 Placed fs = All (λ f. IsAt f.stage f.listen_host) fs
 
-stage-at : (c : Change) (port : ℕ) (s : Stage) (host : List ℕ) → IsAt s host → IsAt (stage_after c port s) host
+stage-at : (c : Change) (port : ℕ) (s : Stage) (host : List ℕ) → IsAt s host → IsAt (listener_stage_after c port s) host
 stage-at c port (ToListen texts) host h = h
 stage-at c port Ordered host h = refl
 stage-at c port (Listening l) host h = refl
@@ -47,8 +47,8 @@ changed-if : (b : Bool) (f g : Forwarding) → IsAt f.stage f.listen_host → Is
 changed-if true f g h k = k
 changed-if false f g h k = h
 
-pub placed-changed : (c : Change) (serial : ℕ) (fs : List Forwarding) → Placed fs → Placed (map (changed c serial) fs)
-placed-changed c serial fs h = All-map (λ (f : Forwarding). IsAt f.stage f.listen_host) (changed c serial) fs
+pub placed-changed : (c : Change) (serial : ℕ) (fs : List Forwarding) → Placed fs → Placed (map (forwarding_changed c serial) fs)
+placed-changed c serial fs h = All-map (λ (f : Forwarding). IsAt f.stage f.listen_host) (forwarding_changed c serial) fs
     (λ i d l. changed-if _ (get_or fs i d) _ (h i d l) (stage-at c (get_or fs i d).listen_port (get_or fs i d).stage (get_or fs i d).listen_host (h i d l)))
 
 pub placed-remove : (fs : List Forwarding) (i : ℕ) → Placed fs → Placed (remove fs i)

@@ -16,7 +16,7 @@ use Rattle.house_relay.specs.Steps.{relay_taken_of}
 use Rattle.house_relay.specs.declared.relay.Relay.{Relay}
 use Rattle.house_forward.specs.Due.{stream_due, link_due}
 use Rattle.house_forward.specs.Going.{TakesOf}
-use Rattle.house_forward.specs.Links.{is_of, has_number, numbered, is_link_number, link_queue_in, queue_at, streams_of}
+use Rattle.house_forward.specs.Links.{is_relay_stream, has_number, numbered, is_link_number, link_queue_in, queue_at, streams_of}
 use Rattle.house_forward.specs.declared.link.Link.{Link}
 use Rattle.house_forward.specs.declared.link.LinkStream.{LinkStream}
 use Rattle.house_forward.specs.declared.link.LinkStream.TheVariants.{Offered, Awaited, Made, Gone}
@@ -43,7 +43,7 @@ pub record Took (n : ℕ) (x y : Link) : Type 0 where
   pub held : y.relay.held ≡ x.relay.held
   pub stuck : stuck_in y.relay.line ≡ stuck_in x.relay.line
 
-same-of : (t n : ℕ) (x y : Link) → Took n x y → is_of t y ≡ is_of t x
+same-of : (t n : ℕ) (x y : Link) → Took n x y → is_relay_stream t y ≡ is_relay_stream t x
 same-of t n x y took =
     ap (λ s. numbered t s && is_link_number t (socket_stream_of y.relay.socket)) took.stream
     ∙ ap (λ s. numbered t x.stream && is_link_number t (socket_stream_of s)) took.socket
@@ -52,22 +52,22 @@ taken-if : (b : Bool) (n : ℕ) (q : List ℕ) → b ≡ true → (if b then dro
 taken-if true n q e = refl
 taken-if false n q e = cc
 
-pub took-queues : (ls : List Link) (i stream n : ℕ) (x y : Link) → position (is_of stream) ls ≡ Some i → x ≡ get_or ls i x
-    → Took n x y → (t : ℕ) → link_queue_in (find (is_of t) (set ls i y)) ≡ queue_after_took stream n t (link_queue_in (find (is_of t) ls))
+pub took-queues : (ls : List Link) (i stream n : ℕ) (x y : Link) → position (is_relay_stream stream) ls ≡ Some i → x ≡ get_or ls i x
+    → Took n x y → (t : ℕ) → link_queue_in (find (is_relay_stream t) (set ls i y)) ≡ queue_after_took stream n t (link_queue_in (find (is_relay_stream t) ls))
 took-queues ls i stream n x y e at took t =
-    let first = position-Some (is_of stream) ls i x e in
-    let is : is_of stream x ≡ true = subst (λ (z : Link). is_of stream z ≡ true) (sym at) first.1 in
+    let first = position-Some (is_relay_stream stream) ls i x e in
+    let is : is_relay_stream stream x ≡ true = subst (λ (z : Link). is_relay_stream stream z ≡ true) (sym at) first.1 in
     elim (cases_Bool (t == stream)) [
       | inl same ↦ (let it : t ≡ stream = eqb-true t stream same in
-          let new : find (is_of t) (set ls i y) ≡ Some y = subst (λ (k : ℕ). find (is_of k) (set ls i y) ≡ Some y) (sym it)
-          (found-set (is_of stream) ls i y x first.0 (same-of stream n x y took ∙ is) first.2) in
-          let old : find (is_of t) ls ≡ Some (get_or ls i x) = subst (λ (k : ℕ). find (is_of k) ls ≡ Some (get_or ls i x)) (sym it)
-          (found-first (is_of stream) ls i x first.0 first.1 first.2) in
-          let left : link_queue_in (find (is_of t) (set ls i y)) ≡ drop n x.relay.queue.waiting = ap link_queue_in new ∙ took.queue in
-          let right : link_queue_in (find (is_of t) ls) ≡ x.relay.queue.waiting = ap link_queue_in old ∙ ap (λ (z : Link). z.relay.queue.waiting) (sym at) in
+          let new : find (is_relay_stream t) (set ls i y) ≡ Some y = subst (λ (k : ℕ). find (is_relay_stream k) (set ls i y) ≡ Some y) (sym it)
+          (found-set (is_relay_stream stream) ls i y x first.0 (same-of stream n x y took ∙ is) first.2) in
+          let old : find (is_relay_stream t) ls ≡ Some (get_or ls i x) = subst (λ (k : ℕ). find (is_relay_stream k) ls ≡ Some (get_or ls i x)) (sym it)
+          (found-first (is_relay_stream stream) ls i x first.0 first.1 first.2) in
+          let left : link_queue_in (find (is_relay_stream t) (set ls i y)) ≡ drop n x.relay.queue.waiting = ap link_queue_in new ∙ took.queue in
+          let right : link_queue_in (find (is_relay_stream t) ls) ≡ x.relay.queue.waiting = ap link_queue_in old ∙ ap (λ (z : Link). z.relay.queue.waiting) (sym at) in
           left ∙ sym (ap (λ q. queue_after_took stream n t q) right ∙ taken-if (t == stream) n x.relay.queue.waiting same))
-      | inr other ↦ (let not-it : is_of t x ≡ false = and_left _ _ (other-in x.stream stream t (and_parts (has_number stream x) (is_link_number stream (socket_stream_of x.relay.socket)) is).0 other) in
-          rw (other, find_past (is_of t) ls i y x (subst (λ (z : Link). is_of t z ≡ false) at not-it) (same-of t n x y took ∙ not-it)) refl)
+      | inr other ↦ (let not-it : is_relay_stream t x ≡ false = and_left _ _ (other-in x.stream stream t (and_parts (has_number stream x) (is_link_number stream (socket_stream_of x.relay.socket)) is).0 other) in
+          rw (other, find_past (is_relay_stream t) ls i y x (subst (λ (z : Link). is_relay_stream t z ≡ false) at not-it) (same-of t n x y took ∙ not-it)) refl)
     ]
 
 nil : (n : ℕ) → drop {A = ℕ} n [] ≡ []
@@ -78,13 +78,13 @@ none-if : (b : Bool) (n : ℕ) → [] ≡ (if b then drop {A = ℕ} n [] else []
 none-if true n = sym (nil n)
 none-if false n = refl
 
-pub none-took : (ls : List Link) (stream n : ℕ) → position (is_of stream) ls ≡ None → (t : ℕ)
-    → link_queue_in (find (is_of t) ls) ≡ queue_after_took stream n t (link_queue_in (find (is_of t) ls))
+pub none-took : (ls : List Link) (stream n : ℕ) → position (is_relay_stream stream) ls ≡ None → (t : ℕ)
+    → link_queue_in (find (is_relay_stream t) ls) ≡ queue_after_took stream n t (link_queue_in (find (is_relay_stream t) ls))
 none-took ls stream n e t =
     elim (cases_Bool (t == stream)) [
       | inl same ↦ (let it : t ≡ stream = eqb-true t stream same in
-          let none = none-found (is_of stream) ls (none-passes (is_of stream) ls e) in
-          let here : find (is_of t) ls ≡ None = subst (λ (k : ℕ). find (is_of k) ls ≡ None) (sym it) none in
+          let none = none-found (is_relay_stream stream) ls (none-passes (is_relay_stream stream) ls e) in
+          let here : find (is_relay_stream t) ls ≡ None = subst (λ (k : ℕ). find (is_relay_stream k) ls ≡ None) (sym it) none in
           rw here (none-if (t == stream) n))
       | inr other ↦ rw other refl
     ]
@@ -107,18 +107,18 @@ took-due ls i n x y l at took =
     omega (arith, one, two, three)
 
 -- what waits for the stream of the first that has it
-pub queue-first : (ls : List Link) (i stream : ℕ) (x : Link) → position (is_of stream) ls ≡ Some i → x ≡ get_or ls i x
-    → link_queue_in (find (is_of stream) ls) ≡ x.relay.queue.waiting
+pub queue-first : (ls : List Link) (i stream : ℕ) (x : Link) → position (is_relay_stream stream) ls ≡ Some i → x ≡ get_or ls i x
+    → link_queue_in (find (is_relay_stream stream) ls) ≡ x.relay.queue.waiting
 queue-first ls i stream x e at =
-    let first = position-Some (is_of stream) ls i x e in
-    ap link_queue_in (found-first (is_of stream) ls i x first.0 first.1 first.2) ∙ ap (λ (z : Link). z.relay.queue.waiting) (sym at)
+    let first = position-Some (is_relay_stream stream) ls i x e in
+    ap link_queue_in (found-first (is_relay_stream stream) ls i x first.0 first.1 first.2) ∙ ap (λ (z : Link). z.relay.queue.waiting) (sym at)
 
 -- nothing is held of it
-pub rests-first : (ls : List Link) (i stream : ℕ) (x : Link) → position (is_of stream) ls ≡ Some i → x ≡ get_or ls i x
-    → IfSome (find (is_of stream) ls) (λ l. l.relay.held.waiting ≡ []) → x.relay.held.waiting ≡ []
+pub rests-first : (ls : List Link) (i stream : ℕ) (x : Link) → position (is_relay_stream stream) ls ≡ Some i → x ≡ get_or ls i x
+    → IfSome (find (is_relay_stream stream) ls) (λ l. l.relay.held.waiting ≡ []) → x.relay.held.waiting ≡ []
 rests-first ls i stream x e at rests =
-    let first = position-Some (is_of stream) ls i x e in
-    let found = found-first (is_of stream) ls i x first.0 first.1 first.2 in
+    let first = position-Some (is_relay_stream stream) ls i x e in
+    let found = found-first (is_relay_stream stream) ls i x first.0 first.1 first.2 in
     ap (λ (z : Link). z.relay.held.waiting) at
     ∙ subst (λ (o : Option Link). IfSome o (λ l. l.relay.held.waiting ≡ [])) found rests
 
@@ -137,10 +137,10 @@ takes-of old new n queue is few h = λ small.
     )
 
 -- none, where no stream is that one
-pub none-taken : (ls : List Link) (stream n : ℕ) (queue : List ℕ) → queue ≡ link_queue_in (find (is_of stream) ls)
-    → position (is_of stream) ls ≡ None → take n queue ≡ []
+pub none-taken : (ls : List Link) (stream n : ℕ) (queue : List ℕ) → queue ≡ link_queue_in (find (is_relay_stream stream) ls)
+    → position (is_relay_stream stream) ls ≡ None → take n queue ≡ []
 none-taken ls stream n queue is e =
-    let none = none-found (is_of stream) ls (none-passes (is_of stream) ls e) in
+    let none = none-found (is_relay_stream stream) ls (none-passes (is_relay_stream stream) ls e) in
     ap (take n) (is ∙ ap link_queue_in none) ∙ taken-nil n
   where
     taken-nil : (k : ℕ) → take {A = ℕ} k [] ≡ []
@@ -149,9 +149,9 @@ none-taken ls stream n queue is e =
 
 -- as many wait where the stream is finished or isn't one of the forwarder's: none
 pub front-at : (ls : List Link) (stream n : ℕ) → n ≤ length (queue_at ls stream)
-    → take n (queue_at ls stream) ≡ take n (link_queue_in (find (is_of stream) ls))
+    → take n (queue_at ls stream) ≡ take n (link_queue_in (find (is_relay_stream stream) ls))
 front-at ls stream n few =
-    front-if (is_one stream (streams_of ls) && not (is_finished stream (streams_of ls))) (link_queue_in (find (is_of stream) ls)) few
+    front-if (is_one stream (streams_of ls) && not (is_finished stream (streams_of ls))) (link_queue_in (find (is_relay_stream stream) ls)) few
   where
     front-if : (b : Bool) (q : List ℕ) → n ≤ length (if b then q else []) → take n (if b then q else []) ≡ take n q
     front-if true q few = refl

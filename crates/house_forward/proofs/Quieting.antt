@@ -5,7 +5,7 @@ use Rattle.std.specs.List.{list_any}
 use Rattle.std.proofs.lemmas.Bool.{and_parts, not-true}
 use Rattle.house_forward.specs.Causes.{ForwarderIsAtRest}
 use Rattle.house_forward.specs.ForwardingState.{ForwardingState}
-use Rattle.house_forward.specs.Forwardings.{has_request, next_of}
+use Rattle.house_forward.specs.Forwardings.{has_request, next_listener_order}
 use Rattle.house_forward.specs.Links.{has_order, has_sending, is_offered}
 use Rattle.house_forward.specs.Quiet.{sends_none, orders_none, answers_none}
 use Rattle.house_forward.specs.Starting.{EachQuiet}
@@ -17,11 +17,11 @@ at-rest : (d : ForwardingState) (links : List Link) → sends_none d.greeted d.a
 at-rest d links says orders answers =
     let said = and_parts (not (is_some (find has_request d.all))) (not (list_any has_sending links))
     (and_parts d.greeted _ says).1 in
-    let ordered = and_parts (not (list_any is_offered links)) (not (is_some (next_of d.waiting d.all)))
+    let ordered = and_parts (not (list_any is_offered links)) (not (is_some (next_listener_order d.waiting d.all)))
     (and_parts (not (list_any has_order links)) _ orders).1 in
     record {
       says = none-of (find has_request d.all) (not-true (is_some (find has_request d.all)) said.0);
-      orders = none-of (next_of d.waiting d.all) (not-true (is_some (next_of d.waiting d.all)) ordered.1);
+      orders = none-of (next_listener_order d.waiting d.all) (not-true (is_some (next_listener_order d.waiting d.all)) ordered.1);
       answers = answers;
     }
 

@@ -11,17 +11,17 @@ use Rattle.std.proofs.lemmas.List.Quantifiers.{position-Some}
 use Rattle.mux_outside.specs.declared.house.HouseReply.{HouseReply}
 use Rattle.mux_outside.specs.declared.start_ask.StartAsk.{StartAsk}
 use Rattle.mux_outside.specs.declared.starts.Starts.{Starts}
-use Rattle.house_forward.specs.Asks.{settled, counted, is_ask_about, owes_opening, has_outcome, is_settled, is_waiting, taken_at, waiting_for, turns_away}
+use Rattle.house_forward.specs.Asks.{requests_settled, one_more_outcome, is_ask_about, owes_opening, has_outcome, is_settled, is_waiting, without_request_at, request_waiting_for, turns_away}
 use Rattle.house_forward.specs.Causes.{ForwarderIsAtRest, AwaitsReply, EachAwaits, ListenersDiffer}
 use Rattle.house_forward.specs.ForwarderEvents.{ForwarderEvent, Does, Leave}
 use Rattle.house_forward.specs.ForwarderEvents.{Begins, Asks, Answers, Greets, Requests, Replies, Listens, Unlistens}
-use Rattle.house_forward.specs.ForwardingState.{ForwardingState, empty_forwarding_state, BeginsWith, IsClientAsk, Answers as IsAnswered, greeting_sent, request_sent, reply_received, GetsListener, EndsListener, standing_at}
-use Rattle.house_forward.specs.Forwardings.{Begins as BeginsAt, StartsIf, Standing, Opens, serials_after, IsAskedFor, is_first, has_request, requests_at, forwarding_request_of, after_sending, changed, stage_after, closing_after, standing, counts, how_many, listens_at, connects_to, as_first, forwarding_outcome_of, outcome_at, opens_of, closes_of, comes_of_ends, after_close, is_new, EndsLeave, ComesIf, ComesUnless, waiting_after, is_asked, asks_at, is_cancelled, cancels_at, live_outcome_in, opened_asks, replied_all, replied_asks, removed_at, first_of, to_listen, MadeAt, ordered_asks, serial_of, is_numbered, next_of, next_at, forwarding_ends_at, has_listener, is_listener, listener_of, listener_at, listeners_of}
+use Rattle.house_forward.specs.ForwardingState.{ForwardingState, empty_forwarding_state, BeginsWith, IsClientAsk, GivesFirstAnswer as IsAnswered, greeting_sent, request_sent, reply_received, GetsListener, EndsListener, standing_at}
+use Rattle.house_forward.specs.Forwardings.{AskedAtStart as BeginsAt, StartsIf, Standing, OpensForwarding, serials_after, IsAskedFor, is_first, has_request, requests_at, forwarding_request_of, after_request_sent, forwarding_changed, listener_stage_after, closing_after, standing, is_asked_or_live, how_many, listens_at, connects_same_end, as_first, forwarding_outcome_of, outcome_at, opens_of, closes_of, comes_of_ends, after_close, is_new, EndsLeave, ComesIf, ComesUnless, waiting_after, is_listen_unanswered, asks_at, is_cancelled, cancels_at, live_outcome_in, opened_asks, replied_all, replied_asks, removed_at, first_forwarding_request, to_listen, MadeAt, ordered_asks, serial_of, is_numbered, next_listener_order, next_at, forwarding_ends_at, has_listener, is_listener, listener_of, listener_at, listeners_of}
 use Rattle.house_forward.specs.Rules.{is_ruled_out, rules_of}
-use Rattle.house_forward.specs.declared.asks.Asked.{Asked as Comes}
-use Rattle.house_forward.specs.declared.asks.Asked.TheVariants.{Now, Later}
-use Rattle.house_forward.specs.declared.asks.Outcome.{Outcome}
-use Rattle.house_forward.specs.declared.asks.Outcome.TheVariants.{Done, Refused}
+use Rattle.house_forward.specs.declared.asks.ImmediateOutcome.{ImmediateOutcome as Comes}
+use Rattle.house_forward.specs.declared.asks.ImmediateOutcome.TheVariants.{Now, Later}
+use Rattle.house_forward.specs.declared.asks.RequestOutcome.{RequestOutcome}
+use Rattle.house_forward.specs.declared.asks.RequestOutcome.TheVariants.{Done, Refused}
 use Rattle.house_forward.specs.declared.asks.Waiting.{Waiting}
 use Rattle.house_forward.specs.declared.forwarding.Change.{Change}
 use Rattle.house_forward.specs.declared.forwarding.Change.TheVariants as change
@@ -91,7 +91,7 @@ one-more rs fs serials ends start f a n h = record {
 }
 
 opens-more : (b : Bool) (ends : Ends) (serials : ℕ) (start : Option ℕ) (rs : List ForwardingRequest) (old new : List Forwarding)
-    → is_numbered 0 old serials ≡ true → All (Awaits rs) old → Opens b ends serials start old new
+    → is_numbered 0 old serials ≡ true → All (Awaits rs) old → OpensForwarding b ends serials start old new
     → More rs old new (serials_after b serials)
 opens-more false ends serials start rs old new n h o =
     subst (λ (fs : List Forwarding). More rs old fs serials) (sym o) (none-more rs old serials n h)
@@ -162,12 +162,12 @@ stays rs serials opening comes fs new k same waits =
       waits = waits;
     }))
 
-never : (o : Outcome) (comes : Comes) (opening : Bool) (fs : List Forwarding) → comes ≡ Now o → (serial : ℕ) → comes ≡ Later serial
+never : (o : RequestOutcome) (comes : Comes) (opening : Bool) (fs : List Forwarding) → comes ≡ Now o → (serial : ℕ) → comes ≡ Later serial
     → Has opening serial fs
 never o comes opening fs e serial f = cc
 
 opens-none : (rs : List ForwardingRequest) (serials : ℕ) (comes : Comes) (ends : Ends) (fs new : List Forwarding) (b : Bool) → Asking rs serials fs
-    → comes ≡ (if b then Later serials else Now Refused) → Opens b ends serials None fs new
+    → comes ≡ (if b then Later serials else Now Refused) → OpensForwarding b ends serials None fs new
     → AskTracks rs true comes fs new (more_than serials fs new)
 opens-none rs serials comes ends fs new false k e o = stays rs serials true comes fs new k o (never Refused comes true fs e)
 opens-none rs serials comes ends fs new true k e o =
@@ -183,7 +183,7 @@ opens-none rs serials comes ends fs new true k e o =
           (f, in-last f fs, o.1.serial_is ∙ same, first-outcome f.stage f.listen_port o.1.first);
     }))
 
-again : (comes : Comes) (fs : List Forwarding) (f : Forwarding) (o : Option Outcome) → forwarding_outcome_of f ≡ o → comes ≡ as_first f o → In f fs
+again : (comes : Comes) (fs : List Forwarding) (f : Forwarding) (o : Option RequestOutcome) → forwarding_outcome_of f ≡ o → comes ≡ as_first f o → In f fs
     → (serial : ℕ) → comes ≡ Later serial → Has true serial fs
 again comes fs f None is e h serial later = let same : f.serial ≡ serial = cc in (f, h, same, is)
 again comes fs f (Some o) is e h serial later = cc
@@ -195,19 +195,19 @@ opens-some rs serials comes fs new f true k h e same = stays rs serials true com
 opens-some rs serials comes fs new f false k h e same = stays rs serials true comes fs new k same (never Refused comes true fs e)
 
 opens-by : (rs : List ForwardingRequest) (serials : ℕ) (comes : Comes) (ends : Ends) (fs new : List Forwarding) (o : Option Forwarding)
-    → standing ends fs ≡ o → Asking rs serials fs → comes ≡ opens_of serials ends fs o → Opens (is_new ends fs o) ends serials None fs new
+    → standing ends fs ≡ o → Asking rs serials fs → comes ≡ opens_of serials ends fs o → OpensForwarding (is_new ends fs o) ends serials None fs new
     → AskTracks rs true comes fs new (more_than serials fs new)
 opens-by rs serials comes ends fs new None is k e o =
     opens-none rs serials comes ends fs new (nat_lt (how_many fs) MOST_FORWARDINGS) k e o
 opens-by rs serials comes ends fs new (Some f) is k e o =
-    opens-some rs serials comes fs new f (connects_to ends f) k (found-in (λ g. counts g && listens_at ends g) f fs is) e o
+    opens-some rs serials comes fs new f (connects_same_end ends f) k (found-in (λ g. is_asked_or_live g && listens_at ends g) f fs is) e o
 
 close-if : (rs : List ForwardingRequest) (serial : ℕ) (f : Forwarding) (b : Bool) → Awaits rs f
-    → Awaits rs (if b then record f { stage = stage_after change.Close f.listen_port f.stage; closing = true } else f)
+    → Awaits rs (if b then record f { stage = listener_stage_after change.Close f.listen_port f.stage; closing = true } else f)
 close-if rs serial f true h = close-awaits f.stage f.listen_port f.serial rs h
 close-if rs serial f false h = h
 
-closed-closes : (f : Forwarding) → (changed change.Close f.serial f).closing ≡ true
+closed-closes : (f : Forwarding) → (forwarding_changed change.Close f.serial f).closing ≡ true
 closed-closes f = rw (eq-eqb f.serial f.serial refl) refl
 
 closes-one : (rs : List ForwardingRequest) (serials : ℕ) (comes : Comes) (fs new : List Forwarding) (f : Forwarding) (b : Bool) → Asking rs serials fs
@@ -215,19 +215,19 @@ closes-one : (rs : List ForwardingRequest) (serials : ℕ) (comes : Comes) (fs n
     → AskTracks rs false comes fs new (more_than serials fs new)
 closes-one rs serials comes fs new f true k h e same = stays rs serials false comes fs new k same (never Refused comes false fs e)
 closes-one rs serials comes fs new f false k h e same =
-    let closed = map (changed change.Close f.serial) fs in
+    let closed = map (forwarding_changed change.Close f.serial) fs in
     subst (λ (xs : List Forwarding). AskTracks rs false comes fs xs (more_than serials fs xs)) (sym same)
     (subst (λ (m : ℕ). AskTracks rs false comes fs closed m)
-    (same-many serials fs closed (length-map fs (changed change.Close f.serial))) (record {
+    (same-many serials fs closed (length-map fs (forwarding_changed change.Close f.serial))) (record {
       numbered = numbered-changed change.Close f.serial fs serials k.numbered;
-      stages = All-map (Awaits rs) (changed change.Close f.serial) fs
-          (All-weaker (Awaits rs) (λ (g : Forwarding). Awaits rs (changed change.Close f.serial g))
+      stages = All-map (Awaits rs) (forwarding_changed change.Close f.serial) fs
+          (All-weaker (Awaits rs) (λ (g : Forwarding). Awaits rs (forwarding_changed change.Close f.serial g))
           (λ g a. close-if rs f.serial g (g.serial == f.serial) a) fs k.stages);
       moves = λ w fate. fate-changed change.Close f.serial fs w fate (λ is. said-holds change.Close w.opening fate.0 tt fate.3);
       waits = λ serial later.
           let its : f.serial ≡ serial = cc in (
-            changed change.Close f.serial f,
-            in-map (changed change.Close f.serial) f fs h,
+            forwarding_changed change.Close f.serial f,
+            in-map (forwarding_changed change.Close f.serial) f fs h,
             changed-serial change.Close f.serial f ∙ its,
             closed-closes f,
           );
@@ -238,7 +238,7 @@ closes-by : (rs : List ForwardingRequest) (serials : ℕ) (comes : Comes) (ends 
     → AskTracks rs false comes fs new (more_than serials fs new)
 closes-by rs serials comes ends fs new None is k e same = stays rs serials false comes fs new k same (never Refused comes false fs e)
 closes-by rs serials comes ends fs new (Some f) is k e same =
-    closes-one rs serials comes fs new f f.closing k (found-in (λ g. counts g && listens_at ends g) f fs is) e same
+    closes-one rs serials comes fs new f f.closing k (found-in (λ g. is_asked_or_live g && listens_at ends g) f fs is) e same
 
 comes-by : (opening : Bool) (rs : List ForwardingRequest) (serials : ℕ) (comes : Comes) (ends : Ends) (fs new : List Forwarding) → Asking rs serials fs
     → comes ≡ comes_of_ends opening serials ends fs → EndsLeave opening serials ends fs new
@@ -264,7 +264,7 @@ waits-more : (comes : Comes) (client id : ℕ) (opening : Bool) (all : List Forw
     → All (Unsettled (HasFate all)) (waiting_after comes client id opening ws)
 waits-more (Now o) client id opening all ws waits h = h
 waits-more (Later serial) client id opening all ws waits h =
-    All-push (Unsettled (HasFate all)) ws (waiting_for client id opening serial) h (λ none. waits serial refl)
+    All-push (Unsettled (HasFate all)) ws (request_waiting_for client id opening serial) h (λ none. waits serial refl)
 
 after-ask : (client id : ℕ) (opening : Bool) (ask : StartAsk) (answer : HouseReply) (old new : ForwardingState) → Tracks old
     → IsClientAsk client id opening ask answer old new → Tracks new
@@ -285,11 +285,11 @@ after-answering : (client id : ℕ) (answer : HouseReply) (old new : ForwardingS
     → IsAnswered client id answer old new → Tracks new
 after-answering client id answer old new t a =
     let at = position (is_waiting client id) old.waiting in
-    let left : ForwardingState = record old { waiting = taken_at at old.waiting } in
+    let left : ForwardingState = record old { waiting = without_request_at at old.waiting } in
     let got : Tracks left = record {
       numbered = t.numbered;
       stages = t.stages;
-      fates = moved old.all old.all (taken_at at old.waiting) (λ w h. h)
+      fates = moved old.all old.all (without_request_at at old.waiting) (λ w h. h)
           (all-taken (Unsettled (HasFate old.all)) at old.waiting t.fates);
     } in
     subst (λ (d : ForwardingState). Tracks d) (sym a.others) got
@@ -304,22 +304,22 @@ after-greeting old new t e =
     subst (λ (d : ForwardingState). Tracks d) (sym e) got
 
 awaits-if : (c : Change) (rs more : List ForwardingRequest) (f : Forwarding) (b : Bool)
-    → (b ≡ true → StageAwaits (stage_after c f.listen_port f.stage) f.serial more) → (b ≡ false → Awaits more f)
-    → Awaits more (if b then record f { stage = stage_after c f.listen_port f.stage; closing = closing_after c f.closing } else f)
+    → (b ≡ true → StageAwaits (listener_stage_after c f.listen_port f.stage) f.serial more) → (b ≡ false → Awaits more f)
+    → Awaits more (if b then record f { stage = listener_stage_after c f.listen_port f.stage; closing = closing_after c f.closing } else f)
 awaits-if c rs more f true h k = h refl
 awaits-if c rs more f false h k = k refl
 
 all-awaits : (c : Change) (serial : ℕ) (rs more : List ForwardingRequest) (fs : List Forwarding)
-    → ((f : Forwarding) → f.serial ≡ serial → Awaits rs f → StageAwaits (stage_after c f.listen_port f.stage) f.serial more)
+    → ((f : Forwarding) → f.serial ≡ serial → Awaits rs f → StageAwaits (listener_stage_after c f.listen_port f.stage) f.serial more)
     → ((f : Forwarding) → (f.serial == serial) ≡ false → Awaits rs f → Awaits more f)
-    → All (Awaits rs) fs → All (Awaits more) (map (changed c serial) fs)
+    → All (Awaits rs) fs → All (Awaits more) (map (forwarding_changed c serial) fs)
 all-awaits c serial rs more fs its others h =
-    All-map (Awaits more) (changed c serial) fs
-    (All-weaker (Awaits rs) (λ (f : Forwarding). Awaits more (changed c serial f))
+    All-map (Awaits more) (forwarding_changed c serial) fs
+    (All-weaker (Awaits rs) (λ (f : Forwarding). Awaits more (forwarding_changed c serial f))
     (λ f a. awaits-if c rs more f (f.serial == serial) (λ is. its f (eqb-true f.serial serial is) a) (λ isnt. others f isnt a)) fs h)
 
 said-stages : (r : ForwardingRequest) (rs : List ForwardingRequest) (fs : List Forwarding) → All (Awaits rs) fs
-    → All (Awaits (rs ++ r ∷ [])) (after_sending r fs)
+    → All (Awaits (rs ++ r ∷ [])) (after_request_sent r fs)
 said-stages (Listen serial) rs fs h = all-awaits change.ForwardingRequest serial rs (rs ++ Listen serial ∷ []) fs
     (λ f is a. listen-awaits f.stage f.listen_port f.serial (rs ++ Listen serial ∷ [])
     (subst (λ (n : ℕ). In (Listen n) (rs ++ Listen serial ∷ [])) (sym is) (in-last (Listen serial) rs))
@@ -331,11 +331,11 @@ said-stages (Cancel serial) rs fs h = all-awaits change.Cancel serial rs (rs ++ 
     (awaits-more f.stage f.serial rs (rs ++ Cancel serial ∷ []) (λ x k. in-left x rs (Cancel serial ∷ []) k) a))
     (λ f isnt a. awaits-more f.stage f.serial rs (rs ++ Cancel serial ∷ []) (λ x k. in-left x rs (Cancel serial ∷ []) k) a) h
 
-said-numbered : (r : ForwardingRequest) (fs : List Forwarding) (serials : ℕ) → is_numbered 0 fs serials ≡ true → is_numbered 0 (after_sending r fs) serials ≡ true
+said-numbered : (r : ForwardingRequest) (fs : List Forwarding) (serials : ℕ) → is_numbered 0 fs serials ≡ true → is_numbered 0 (after_request_sent r fs) serials ≡ true
 said-numbered (Listen serial) fs serials h = numbered-changed change.ForwardingRequest serial fs serials h
 said-numbered (Cancel serial) fs serials h = numbered-changed change.Cancel serial fs serials h
 
-said-moves : (r : ForwardingRequest) (fs : List Forwarding) → Moves fs (after_sending r fs)
+said-moves : (r : ForwardingRequest) (fs : List Forwarding) → Moves fs (after_request_sent r fs)
 said-moves (Listen serial) fs w fate = fate-changed change.ForwardingRequest serial fs w fate (λ is. said-holds change.ForwardingRequest w.opening fate.0 tt fate.3)
 said-moves (Cancel serial) fs w fate = fate-changed change.Cancel serial fs w fate (λ is. said-holds change.Cancel w.opening fate.0 tt fate.3)
 
@@ -345,7 +345,7 @@ after-request f old new t e =
     let got : Tracks (request_sent f old) = record {
       numbered = said-numbered (forwarding_request_of f) old.all old.serials t.numbered;
       stages = said-stages (forwarding_request_of f) old.requests old.all t.stages;
-      fates = moved old.all (after_sending (forwarding_request_of f) old.all) old.waiting (said-moves (forwarding_request_of f) old.all) t.fates;
+      fates = moved old.all (after_request_sent (forwarding_request_of f) old.all) old.waiting (said-moves (forwarding_request_of f) old.all) t.fates;
     } in
     subst (λ (d : ForwardingState). Tracks d) (sym e) got
 
@@ -436,19 +436,19 @@ record Replied (rs : List ForwardingRequest) (fs : List Forwarding) (serials : �
 serial-differs : (f : Forwarding) (n serial : ℕ) → f.serial ≡ n → (n == serial) ≡ false → f.serial ≡ serial → ⊥
 serial-differs f n serial is isnt same = both_ways (n == serial) isnt (eq-eqb n serial (sym is ∙ same))
 
-pub not-asked : (f : Forwarding) (serial : ℕ) → f.serial ≡ serial → is_asked serial f ≡ false → asks_at f.stage ≡ false
+pub not-asked : (f : Forwarding) (serial : ℕ) → f.serial ≡ serial → is_listen_unanswered serial f ≡ false → asks_at f.stage ≡ false
 not-asked f serial is e = second-part (f.serial == serial) (asks_at f.stage) (eq-eqb f.serial serial is) e
 
 -- a success makes what is asked for live
 opened : (port : Option ℕ) (serial at : ℕ) (fs : List Forwarding) (ws : List Waiting)
-    (o : Option Forwarding) → find (is_asked serial) fs ≡ o → All (Unsettled (HasFate fs)) ws
-    → All (Unsettled (HasFate (map (changed (change.Live port) serial) fs))) (opened_asks (live_outcome_in port o) serial at ws)
+    (o : Option Forwarding) → find (is_listen_unanswered serial) fs ≡ o → All (Unsettled (HasFate fs)) ws
+    → All (Unsettled (HasFate (map (forwarding_changed (change.Live port) serial) fs))) (opened_asks (live_outcome_in port o) serial at ws)
 opened port serial at fs ws None e h =
-    moved fs (map (changed (change.Live port) serial) fs) ws
+    moved fs (map (forwarding_changed (change.Live port) serial) fs) ws
     (λ w fate. fate-changed (change.Live port) serial fs w fate
-    (λ is. live-holds port w.opening fate.0 (λ _. not-asked fate.0 serial is (none-passes-in (is_asked serial) fs fate.0 e fate.1)) fate.3)) h
+    (λ is. live-holds port w.opening fate.0 (λ _. not-asked fate.0 serial is (none-passes-in (is_listen_unanswered serial) fs fate.0 e fate.1)) fate.3)) h
 opened port serial at fs ws (Some f) e h =
-    all-unsettled (HasFate fs) (HasFate (map (changed (change.Live port) serial) fs)) serial true at _ ws
+    all-unsettled (HasFate fs) (HasFate (map (forwarding_changed (change.Live port) serial) fs)) serial true at _ ws
     (λ w other none fate. fate-changed (change.Live port) serial fs w fate
     (λ is. live-holds port w.opening fate.0
     (λ opens. absurd (serial-differs fate.0 w.forwarding serial fate.2 (of-other serial true w opens other) is)) fate.3)) h
@@ -481,7 +481,7 @@ stays-uncancelled false f w serial opens is holds other = not-its f.serial seria
 
 stay-fate : (opening : Bool) (f : Forwarding) (w : Waiting) (serial : ℕ) → w.opening ≡ opening → f.serial ≡ w.forwarding
     → f.serial ≡ serial → Holds opening f → is_ask_about serial false w ≡ false
-    → Holds opening (record f { stage = stage_after change.Stay f.listen_port f.stage; closing = false })
+    → Holds opening (record f { stage = listener_stage_after change.Stay f.listen_port f.stage; closing = false })
 stay-fate true f w serial opens is its holds other = stay-holds f false holds
 stay-fate false f w serial opens is its holds other =
     absurd (serial-differs f w.forwarding serial is (of-other serial false w opens other) its)
@@ -495,13 +495,13 @@ replied true (Listen serial) port at serials rs fs ws n h k = record {
       (λ f is a. live-awaits f.stage port f.listen_port f.serial serial rs a)
       (λ f isnt a. other-awaits f.stage f.serial (Listen serial) rs (λ _ e. differs-listen f.serial serial isnt e)
       (λ _ e. listen-cancel serial f.serial e) a) h;
-  fates = opened port serial at fs ws (find (is_asked serial) fs) refl k;
+  fates = opened port serial at fs ws (find (is_listen_unanswered serial) fs) refl k;
 }
 replied false (Listen serial) port at serials rs fs ws n h k =
-    let o = position (is_asked serial) fs in
+    let o = position (is_listen_unanswered serial) fs in
     record {
       numbered = numbered-removed o fs serials n;
-      stages = all-both (λ (f : Forwarding). is_asked serial f ≡ false) (Awaits (Listen serial ∷ rs)) (Awaits rs) (removed_at o fs)
+      stages = all-both (λ (f : Forwarding). is_listen_unanswered serial f ≡ false) (Awaits (Listen serial ∷ rs)) (Awaits rs) (removed_at o fs)
           (λ f isnt a. other-awaits f.stage f.serial (Listen serial) rs
           (λ asks e. differs-listen f.serial serial (not-this f.serial serial (asks_at f.stage) isnt asks) e)
           (λ _ e. listen-cancel serial f.serial e) a)
@@ -510,7 +510,7 @@ replied false (Listen serial) port at serials rs fs ws n h k =
       fates = all-unrefused (HasFate fs) (HasFate (removed_at o fs)) serial at ws
           (λ w one two none fate. (
             fate.0,
-            fate-left (is_asked serial) fs o fate.0 refl
+            fate-left (is_listen_unanswered serial) fs o fate.0 refl
                 (not-its fate.0.serial serial (asks_at fate.0.stage)
                 (serial-differs fate.0 w.forwarding serial fate.2 (of-neither serial w one two))) fate.1,
             fate.2,
@@ -536,7 +536,7 @@ replied true (Cancel serial) port at serials rs fs ws n h k =
           )) k;
     }
 replied false (Cancel serial) port at serials rs fs ws n h k =
-    let new = map (changed change.Stay serial) fs in
+    let new = map (forwarding_changed change.Stay serial) fs in
     record {
       numbered = numbered-changed change.Stay serial fs serials n;
       stages = all-awaits change.Stay serial (Cancel serial ∷ rs) rs fs
@@ -549,8 +549,8 @@ replied false (Cancel serial) port at serials rs fs ws n h k =
     }
 
 replied-by : (success : Bool) (port : Option ℕ) (old : ForwardingState) (rs : List ForwardingRequest) → old.requests ≡ rs → Tracks old
-    → Replied (drop 1 rs) (replied_all success port (first_of rs) old.all) old.serials
-    (replied_asks success port (first_of rs) old.all old.done old.waiting)
+    → Replied (drop 1 rs) (replied_all success port (first_forwarding_request rs) old.all) old.serials
+    (replied_asks success port (first_forwarding_request rs) old.all old.done old.waiting)
 replied-by success port old [] e t = record {
   numbered = t.numbered;
   stages = subst (λ (rs : List ForwardingRequest). All (Awaits rs) old.all) e t.stages;
@@ -735,8 +735,8 @@ after-unlisten l forwarder_events old new left t h =
     let c = next-closing (λ (x : Forwarding). In x old.all) old.waiting old.all h.serial l (all-in (λ (x : Forwarding). In x old.all) old.all (λ x k. k)) h.next in
     let to : ForwardingState = record old {
       all = kept;
-      waiting = settled h.serial false old.done Done old.waiting;
-      done = counted old.done;
+      waiting = requests_settled h.serial false old.done Done old.waiting;
+      done = one_more_outcome old.done;
     } in
     let got : Tracks to = record {
       numbered = numbered-filter keep old.all old.serials t.numbered;
@@ -779,7 +779,7 @@ listeners-differ forwarder_events d left =
 
 -- ---- at rest
 
-unsettled : (o : Option (ℕ × Outcome)) → is_settled o ≡ false → o ≡ None
+unsettled : (o : Option (ℕ × RequestOutcome)) → is_settled o ≡ false → o ≡ None
 unsettled None e = refl
 unsettled (Some x) e = cc
 
@@ -847,10 +847,10 @@ next-rest (Cancelling port) closing serial ws rs next owes a e = (tt, e)
 
 pub all-rest : (all : List Forwarding) (serials : ℕ) (rs : List ForwardingRequest) (ws : List Waiting) (fs : List Forwarding)
     → is_numbered 0 all serials ≡ true → All (HasFate all) ws → ((f : Forwarding) → In f fs → In f all) → All (Awaits rs) fs
-    → next_of ws fs ≡ None → (f : Forwarding) → In f fs → Rests f.stage f.closing
+    → next_listener_order ws fs ≡ None → (f : Forwarding) → In f fs → Rests f.stage f.closing
 all-rest all serials rs ws [] n fates within h e f here = absurd here
 all-rest all serials rs ws (g ∷ fs) n fates within h e f here =
-    let one = next-rest g.stage g.closing g.serial ws rs (next_of ws fs)
+    let one = next-rest g.stage g.closing g.serial ws rs (next_listener_order ws fs)
     (λ l is. owes-none all serials l g ws n (within g (inl refl)) is fates) (All-head (Awaits rs) g fs h) e in
     elim here [
       | inl same ↦ subst (λ (x : Forwarding). Rests x.stage x.closing) same one.0

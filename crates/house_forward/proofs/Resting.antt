@@ -10,7 +10,7 @@ use Rattle.house_relay.specs.Relay.{socket_stream_of}
 use Rattle.house_relay.specs.declared.relay.Relay.{Relay}
 use Rattle.house_relay.proofs.Resting.{silent, rests}
 use Rattle.house_relay.proofs.Whole.{empty-at-rest}
-use Rattle.house_forward.specs.Links.{own_stream_of, streams_of, numbered, is_link_number, is_of, order_in, has_order, has_sending}
+use Rattle.house_forward.specs.Links.{own_stream_of, streams_of, numbered, is_link_number, is_relay_stream, order_in, has_order, has_sending}
 use Rattle.house_forward.specs.Quiet.{sends_none, orders_none}
 use Rattle.house_forward.specs.declared.asks.Waiting.{Waiting}
 use Rattle.house_forward.specs.declared.forwarding.Forwarding.{Forwarding}
@@ -68,18 +68,18 @@ first-or P true l o first rest = first refl
 first-or P false l o first rest = rest
 
 nothing-held : (ls : List Link) (t : ℕ) → list_any has_order ls ≡ false → list_any has_sending ls ≡ false
-    → is_silent t (streams_of ls) ≡ false → IfSome (find (is_of t) ls) (λ l. l.relay.held.waiting ≡ [])
+    → is_silent t (streams_of ls) ≡ false → IfSome (find (is_relay_stream t) ls) (λ l. l.relay.held.waiting ≡ [])
 nothing-held [] t order outgoing e = tt
 nothing-held (l ∷ ls) t order outgoing e =
     let orders = or_parts (has_order l) (list_any has_order ls) order in
     let says = or_parts (has_sending l) (list_any has_sending ls) outgoing in
-    first-or (λ (z : Link). z.relay.held.waiting ≡ []) (is_of t l) l (find (is_of t) ls)
+    first-or (λ (z : Link). z.relay.held.waiting ≡ []) (is_relay_stream t l) l (find (is_relay_stream t) ls)
     (λ is. link-rests l.stream l.relay t (streams_of ls) is orders.0 says.0 e)
     (nothing-held ls t orders.1 says.1 (loud-later (own_stream_of l.stream) (streams_of ls) t e))
 
 pub held-at-rest : (greeted : Bool) (fs : List Forwarding) (ls : List Link) (waiting : List Waiting) (t : ℕ)
     → sends_none greeted fs ls ≡ true → orders_none fs ls waiting ≡ true → is_silent t (streams_of ls) ≡ false
-    → IfSome (find (is_of t) ls) (λ l. l.relay.held.waiting ≡ [])
+    → IfSome (find (is_relay_stream t) ls) (λ l. l.relay.held.waiting ≡ [])
 held-at-rest greeted fs ls waiting t outgoing order e =
     let says = and_parts _ (not (list_any has_sending ls)) (and_parts greeted _ outgoing).1 in
     let orders = and_parts (not (list_any has_order ls)) _ order in

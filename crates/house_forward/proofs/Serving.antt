@@ -1,4 +1,4 @@
--- What is known of forwardings and asks by what happened, and what keeps it.
+-- What is known of forwardings and requests by what happened, and what keeps it.
 use Rattle.std.proofs.Common.{◌≡◌, ◌∙◌, refl, sym, ap, subst, arith, ℕ, ◌<◌, ◌≤◌, Bool, true, false, List, [], ◌∷◌, ◌++◌, map, Option, Some, None, inl, inr}
 use Rattle.std.specs.Prelude.{◌⊎◌, ◌==◌, if◌then◌else◌}
 use Rattle.std.specs.List.{All, list_any}
@@ -6,14 +6,14 @@ use Rattle.std.proofs.lemmas.Bool.{and_parts, or_from, eqb-true}
 use Rattle.std.proofs.lemmas.List.Elements.{All-weaker, All-map}
 use Rattle.mux_outside.specs.declared.house.HouseReply.TheVariants as given
 use Rattle.mux_outside.specs.declared.start_ask.StartAsk.{StartAsk}
-use Rattle.house_forward.specs.Asks.{settled, settle_one, ask_settled_at, refused, is_ask_about, same, counted}
-use Rattle.house_forward.specs.Causes.{answers, rules_in, closes, AreOne, IsFor, ListensSince, IsGranted, CameBy}
+use Rattle.house_forward.specs.Asks.{requests_settled, settle_one, ask_settled_at, all_requests_refused, is_ask_about, same, one_more_outcome}
+use Rattle.house_forward.specs.Causes.{is_answer_to, rules_in, closes_listener, AreOne, IsFor, ListensSince, IsGranted, CameBy}
 use Rattle.house_forward.specs.ForwarderEvents.{ForwarderEvent}
 use Rattle.house_forward.specs.ForwarderEvents.{Asks}
-use Rattle.house_forward.specs.Forwardings.{changed, stage_after, closing_after}
+use Rattle.house_forward.specs.Forwardings.{forwarding_changed, listener_stage_after, closing_after}
 use Rattle.house_forward.specs.Rules.{listens_here}
-use Rattle.house_forward.specs.declared.asks.Outcome.{Outcome}
-use Rattle.house_forward.specs.declared.asks.Outcome.TheVariants.{Refused}
+use Rattle.house_forward.specs.declared.asks.RequestOutcome.{RequestOutcome}
+use Rattle.house_forward.specs.declared.asks.RequestOutcome.TheVariants.{Refused}
 use Rattle.house_forward.specs.declared.asks.Waiting.{Waiting}
 use Rattle.house_forward.specs.declared.forwarding.Change.{Change}
 use Rattle.house_forward.specs.declared.forwarding.Change.TheVariants as change
@@ -46,14 +46,14 @@ pub record Asked (home : ℕ → Forwarding) (serials : ℕ) (g : Forwarding) : 
   pub there : listens_here (home g.serial).kind ≡ false
 
 -- a request had this outcome later
-pub record Came (a : Forwarding) (opening : Bool) (outcome : Outcome) (later earlier : List ForwarderEvent) : Type 0 where
+pub record Came (a : Forwarding) (opening : Bool) (outcome : RequestOutcome) (later earlier : List ForwarderEvent) : Type 0 where
   pub newer : List ForwarderEvent
   pub forwarder_event : ForwarderEvent
   pub older : List ForwarderEvent
   pub were : later ≡ newer ++ forwarder_event ∷ older
   pub by : CameBy forwarder_event (older ++ earlier) opening a outcome
 
-abbrev pub CameIf : Option (ℕ × Outcome) → Forwarding → Bool → List ForwarderEvent → List ForwarderEvent → Type 0
+abbrev pub CameIf : Option (ℕ × RequestOutcome) → Forwarding → Bool → List ForwarderEvent → List ForwarderEvent → Type 0
 CameIf None a opening later earlier = Unit {0}
 CameIf (Some o) a opening later earlier = Came a opening o.1 later earlier
 
@@ -65,19 +65,19 @@ pub record Waits (home : ℕ → Forwarding) (serials : ℕ) (forwarder_events :
   pub later : List ForwarderEvent
   pub earlier : List ForwarderEvent
   pub were : forwarder_events ≡ later ++ Asks w.client w.id w.opening ask given.Later ∷ earlier
-  pub open_yet : list_any (answers w.client w.id) later ≡ false
+  pub open_yet : list_any (is_answer_to w.client w.id) later ≡ false
   pub is_for : IsFor (rules_in earlier) w.opening ask (home w.forwarding)
   pub came : CameIf w.outcome (home w.forwarding) w.opening later (Asks w.client w.id w.opening ask given.Later ∷ earlier)
 
 -- ---- one more event
 
-pub listens-later : (forwarder_event : ForwarderEvent) (host : List ℕ) (port l : ℕ) (forwarder_events : List ForwarderEvent) → closes l forwarder_event ≡ false
+pub listens-later : (forwarder_event : ForwarderEvent) (host : List ℕ) (port l : ℕ) (forwarder_events : List ForwarderEvent) → closes_listener l forwarder_event ≡ false
     → ListensSince host port l forwarder_events → ListensSince host port l (forwarder_event ∷ forwarder_events)
 listens-later forwarder_event host port l forwarder_events e h = record {
   later = forwarder_event ∷ h.later;
   earlier = h.earlier;
   were = ap (λ ds. forwarder_event ∷ ds) h.were;
-  open_yet = or_from (closes l forwarder_event) (list_any (closes l) h.later) e h.open_yet;
+  open_yet = or_from (closes_listener l forwarder_event) (list_any (closes_listener l) h.later) e h.open_yet;
 }
 
 pub granted-later : (forwarder_event : ForwarderEvent) (a : Forwarding) (port : ℕ) (forwarder_events : List ForwarderEvent) → IsGranted a port forwarder_events
@@ -93,7 +93,7 @@ granted-later forwarder_event a port forwarder_events h = record {
 
 -- its listener isn't the one that is closed
 abbrev pub Lets : Stage → ForwarderEvent → Type 0
-Lets s forwarder_event = (l : ℕ) → s ≡ Listening l → closes l forwarder_event ≡ false
+Lets s forwarder_event = (l : ℕ) → s ≡ Listening l → closes_listener l forwarder_event ≡ false
 
 stage-later : (s : Stage) (a : Forwarding) (forwarder_event : ForwarderEvent) (forwarder_events : List ForwarderEvent) → Lets s forwarder_event → StageFits s a forwarder_events
     → StageFits s a (forwarder_event ∷ forwarder_events)
@@ -115,19 +115,19 @@ stands-later home serials forwarder_event forwarder_events f lets h = record {
 }
 
 pub all-later : (home : ℕ → Forwarding) (serials : ℕ) (forwarder_event : ForwarderEvent) (forwarder_events : List ForwarderEvent) (fs : List Forwarding)
-    → ((l : ℕ) → closes l forwarder_event ≡ false) → All (Stands home serials forwarder_events) fs → All (Stands home serials (forwarder_event ∷ forwarder_events)) fs
+    → ((l : ℕ) → closes_listener l forwarder_event ≡ false) → All (Stands home serials forwarder_events) fs → All (Stands home serials (forwarder_event ∷ forwarder_events)) fs
 all-later home serials forwarder_event forwarder_events fs lets h =
     All-weaker (Stands home serials forwarder_events) (Stands home serials (forwarder_event ∷ forwarder_events))
     (λ f s. stands-later home serials forwarder_event forwarder_events f (λ l e. lets l) s) fs h
 
-came-later : (o : Option (ℕ × Outcome)) (a : Forwarding) (opening : Bool) (forwarder_event : ForwarderEvent) (later earlier : List ForwarderEvent)
+came-later : (o : Option (ℕ × RequestOutcome)) (a : Forwarding) (opening : Bool) (forwarder_event : ForwarderEvent) (later earlier : List ForwarderEvent)
     → CameIf o a opening later earlier → CameIf o a opening (forwarder_event ∷ later) earlier
 came-later None a opening forwarder_event later earlier h = tt
 came-later (Some o) a opening forwarder_event later earlier h =
     record { newer = forwarder_event ∷ h.newer; forwarder_event = h.forwarder_event; older = h.older; were = ap (λ ds. forwarder_event ∷ ds) h.were; by = h.by }
 
 pub waits-later : (home : ℕ → Forwarding) (serials : ℕ) (forwarder_event : ForwarderEvent) (forwarder_events : List ForwarderEvent) (w : Waiting)
-    → answers w.client w.id forwarder_event ≡ false → Waits home serials forwarder_events w → Waits home serials (forwarder_event ∷ forwarder_events) w
+    → is_answer_to w.client w.id forwarder_event ≡ false → Waits home serials forwarder_events w → Waits home serials (forwarder_event ∷ forwarder_events) w
 waits-later home serials forwarder_event forwarder_events w e h = record {
   below = h.below;
   serial = h.serial;
@@ -135,14 +135,14 @@ waits-later home serials forwarder_event forwarder_events w e h = record {
   later = forwarder_event ∷ h.later;
   earlier = h.earlier;
   were = ap (λ ds. forwarder_event ∷ ds) h.were;
-  open_yet = or_from (answers w.client w.id forwarder_event) (list_any (answers w.client w.id) h.later) e h.open_yet;
+  open_yet = or_from (is_answer_to w.client w.id forwarder_event) (list_any (is_answer_to w.client w.id) h.later) e h.open_yet;
   is_for = h.is_for;
   came = came-later w.outcome (home w.forwarding) w.opening forwarder_event h.later (Asks w.client w.id w.opening h.ask given.Later ∷ h.earlier) h.came;
 }
 
 -- it answers no request
 abbrev pub IsNoAnswer : ForwarderEvent → Type 0
-IsNoAnswer forwarder_event = (client id : ℕ) → answers client id forwarder_event ≡ false
+IsNoAnswer forwarder_event = (client id : ℕ) → is_answer_to client id forwarder_event ≡ false
 
 pub all-wait-later : (home : ℕ → Forwarding) (serials : ℕ) (forwarder_event : ForwarderEvent) (forwarder_events : List ForwarderEvent) → IsNoAnswer forwarder_event → (ws : List Waiting)
     → All (Waits home serials forwarder_events) ws → All (Waits home serials (forwarder_event ∷ forwarder_events)) ws
@@ -213,24 +213,24 @@ restaged home serials forwarder_events f s c fits h = record {
 
 changed-if : (home : ℕ → Forwarding) (serials : ℕ) (forwarder_events : List ForwarderEvent) (c : Change) (serial : ℕ) (f : Forwarding) (b : Bool)
     → (f.serial == serial) ≡ b
-    → (f.serial ≡ serial → StageFits f.stage (home f.serial) forwarder_events → StageFits (stage_after c f.listen_port f.stage) (home f.serial) forwarder_events)
+    → (f.serial ≡ serial → StageFits f.stage (home f.serial) forwarder_events → StageFits (listener_stage_after c f.listen_port f.stage) (home f.serial) forwarder_events)
     → Stands home serials forwarder_events f → Stands home serials forwarder_events (if b then record f {
-      stage = stage_after c f.listen_port f.stage;
+      stage = listener_stage_after c f.listen_port f.stage;
       closing = closing_after c f.closing;
     } else f)
 changed-if home serials forwarder_events c serial f true e fits h =
     let is = eqb-true f.serial serial e in
-    restaged home serials forwarder_events f (stage_after c f.listen_port f.stage) (closing_after c f.closing) (fits is h.stage) h
+    restaged home serials forwarder_events f (listener_stage_after c f.listen_port f.stage) (closing_after c f.closing) (fits is h.stage) h
 changed-if home serials forwarder_events c serial f false e fits h = h
 
 -- the one with a serial changes
 pub all-changed : (home : ℕ → Forwarding) (serials : ℕ) (forwarder_events : List ForwarderEvent) (c : Change) (serial : ℕ) (fs : List Forwarding)
     → ((f : Forwarding) → f.serial ≡ serial → AreOne (home f.serial) f → StageFits f.stage (home f.serial) forwarder_events
-    → StageFits (stage_after c f.listen_port f.stage) (home f.serial) forwarder_events)
-    → All (Stands home serials forwarder_events) fs → All (Stands home serials forwarder_events) (map (changed c serial) fs)
+    → StageFits (listener_stage_after c f.listen_port f.stage) (home f.serial) forwarder_events)
+    → All (Stands home serials forwarder_events) fs → All (Stands home serials forwarder_events) (map (forwarding_changed c serial) fs)
 all-changed home serials forwarder_events c serial fs fits h =
-    All-map (Stands home serials forwarder_events) (changed c serial) fs
-    (All-weaker (Stands home serials forwarder_events) (λ (f : Forwarding). Stands home serials forwarder_events (changed c serial f))
+    All-map (Stands home serials forwarder_events) (forwarding_changed c serial) fs
+    (All-weaker (Stands home serials forwarder_events) (λ (f : Forwarding). Stands home serials forwarder_events (forwarding_changed c serial f))
     (λ f s. changed-if home serials forwarder_events c serial f (f.serial == serial) refl (λ is. fits f is s.same) s) fs h)
 
 -- all changes but that a forwarding gets live
@@ -242,7 +242,7 @@ IsSteady (change.Live port) = ⊥
 IsSteady change.Stay = Unit {0}
 
 pub steady-stage : (c : Change) (asked : ℕ) (s : Stage) (a : Forwarding) (forwarder_events : List ForwarderEvent) → IsSteady c → StageFits s a forwarder_events
-    → StageFits (stage_after c asked s) a forwarder_events
+    → StageFits (listener_stage_after c asked s) a forwarder_events
 steady-stage c asked (ToListen host) a forwarder_events steady h = h
 steady-stage c asked Ordered a forwarder_events steady h = h
 steady-stage c asked (Listening l) a forwarder_events steady h = h
@@ -270,15 +270,15 @@ steady-stage change.Stay asked (Cancelling p) a forwarder_events steady h = h
 -- ---- requests have an outcome
 
 -- the outcome of a request stays, or comes by this event
-abbrev Turns : ForwarderEvent → List ForwarderEvent → Bool → Forwarding → Option (ℕ × Outcome) → Option (ℕ × Outcome) → Type 0
+abbrev Turns : ForwarderEvent → List ForwarderEvent → Bool → Forwarding → Option (ℕ × RequestOutcome) → Option (ℕ × RequestOutcome) → Type 0
 Turns forwarder_event forwarder_events opening a old new =
-    (new ≡ old) ⊎ ((o : ℕ × Outcome) × (new ≡ Some o) × CameBy forwarder_event forwarder_events opening a o.1)
+    (new ≡ old) ⊎ ((o : ℕ × RequestOutcome) × (new ≡ Some o) × CameBy forwarder_event forwarder_events opening a o.1)
 
-turned : (home : ℕ → Forwarding) (serials : ℕ) (forwarder_event : ForwarderEvent) (forwarder_events : List ForwarderEvent) → IsNoAnswer forwarder_event → (w : Waiting) (new : Option (ℕ × Outcome))
+turned : (home : ℕ → Forwarding) (serials : ℕ) (forwarder_event : ForwarderEvent) (forwarder_events : List ForwarderEvent) → IsNoAnswer forwarder_event → (w : Waiting) (new : Option (ℕ × RequestOutcome))
     → Waits home serials forwarder_events w → Turns forwarder_event forwarder_events w.opening (home w.forwarding) w.outcome new
     → Waits home serials (forwarder_event ∷ forwarder_events) (record w { outcome = new })
 turned home serials forwarder_event forwarder_events none w new h (inl e) =
-    subst (λ (o : Option (ℕ × Outcome)). Waits home serials (forwarder_event ∷ forwarder_events) (record w { outcome = o })) (sym e)
+    subst (λ (o : Option (ℕ × RequestOutcome)). Waits home serials (forwarder_event ∷ forwarder_events) (record w { outcome = o })) (sym e)
     (waits-later home serials forwarder_event forwarder_events w (none w.client w.id) h)
 turned home serials forwarder_event forwarder_events none w new h (inr s) =
     let got : Waits home serials (forwarder_event ∷ forwarder_events) (record w { outcome = Some s.0 }) = record {
@@ -288,7 +288,7 @@ turned home serials forwarder_event forwarder_events none w new h (inr s) =
       later = forwarder_event ∷ h.later;
       earlier = h.earlier;
       were = ap (λ ds. forwarder_event ∷ ds) h.were;
-      open_yet = or_from (answers w.client w.id forwarder_event) (list_any (answers w.client w.id) h.later) (none w.client w.id) h.open_yet;
+      open_yet = or_from (is_answer_to w.client w.id forwarder_event) (list_any (is_answer_to w.client w.id) h.later) (none w.client w.id) h.open_yet;
       is_for = h.is_for;
       came = record {
         newer = [];
@@ -298,19 +298,19 @@ turned home serials forwarder_event forwarder_events none w new h (inr s) =
         by = subst (λ (ds : List ForwarderEvent). CameBy forwarder_event ds w.opening (home w.forwarding) s.0.1) h.were s.2;
       };
     } in
-    subst (λ (o : Option (ℕ × Outcome)). Waits home serials (forwarder_event ∷ forwarder_events) (record w { outcome = o })) (sym s.1) got
+    subst (λ (o : Option (ℕ × RequestOutcome)). Waits home serials (forwarder_event ∷ forwarder_events) (record w { outcome = o })) (sym s.1) got
 
-abbrev next_outcome : Bool → ℕ → Outcome → Option (ℕ × Outcome) → Option (ℕ × Outcome)
+abbrev next_outcome : Bool → ℕ → RequestOutcome → Option (ℕ × RequestOutcome) → Option (ℕ × RequestOutcome)
 next_outcome b at outcome o = if b then ask_settled_at at outcome o else o
 
-settles : (serial : ℕ) (opening : Bool) (at : ℕ) (outcome : Outcome) (w : Waiting) (o : Option (ℕ × Outcome)) (b : Bool)
+settles : (serial : ℕ) (opening : Bool) (at : ℕ) (outcome : RequestOutcome) (w : Waiting) (o : Option (ℕ × RequestOutcome)) (b : Bool)
     → (if b then record (record w { outcome = o }) { outcome = ask_settled_at at outcome o } else record w { outcome = o })
     ≡ record w { outcome = next_outcome b at outcome o }
 settles serial opening at outcome w o true = refl
 settles serial opening at outcome w o false = refl
 
-turns-at : (forwarder_event : ForwarderEvent) (forwarder_events : List ForwarderEvent) (opening : Bool) (a : Forwarding) (at : ℕ) (outcome : Outcome) (b : Bool)
-    (first o : Option (ℕ × Outcome)) → (b ≡ true → CameBy forwarder_event forwarder_events opening a outcome) → Turns forwarder_event forwarder_events opening a first o
+turns-at : (forwarder_event : ForwarderEvent) (forwarder_events : List ForwarderEvent) (opening : Bool) (a : Forwarding) (at : ℕ) (outcome : RequestOutcome) (b : Bool)
+    (first o : Option (ℕ × RequestOutcome)) → (b ≡ true → CameBy forwarder_event forwarder_events opening a outcome) → Turns forwarder_event forwarder_events opening a first o
     → Turns forwarder_event forwarder_events opening a first (next_outcome b at outcome o)
 turns-at forwarder_event forwarder_events opening a at outcome true first None by h = inr ((at, outcome), refl, by refl)
 turns-at forwarder_event forwarder_events opening a at outcome true first (Some o) by h = h
@@ -322,7 +322,7 @@ same-true true false e = cc
 same-true false true e = cc
 same-true false false e = refl
 
-about : (home : ℕ → Forwarding) (forwarder_event : ForwarderEvent) (forwarder_events : List ForwarderEvent) (serial : ℕ) (opening : Bool) (outcome : Outcome) (w : Waiting)
+about : (home : ℕ → Forwarding) (forwarder_event : ForwarderEvent) (forwarder_events : List ForwarderEvent) (serial : ℕ) (opening : Bool) (outcome : RequestOutcome) (w : Waiting)
     → CameBy forwarder_event forwarder_events opening (home serial) outcome → is_ask_about serial opening w ≡ true
     → CameBy forwarder_event forwarder_events w.opening (home w.forwarding) outcome
 about home forwarder_event forwarder_events serial opening outcome w by e =
@@ -332,8 +332,8 @@ about home forwarder_event forwarder_events serial opening outcome w by e =
 
 -- those that requested one thing have this outcome
 pub all-settled : (home : ℕ → Forwarding) (serials : ℕ) (forwarder_event : ForwarderEvent) (forwarder_events : List ForwarderEvent) → IsNoAnswer forwarder_event → (serial : ℕ) (opening : Bool) (at : ℕ)
-    (outcome : Outcome) (ws : List Waiting) → CameBy forwarder_event forwarder_events opening (home serial) outcome
-    → All (Waits home serials forwarder_events) ws → All (Waits home serials (forwarder_event ∷ forwarder_events)) (settled serial opening at outcome ws)
+    (outcome : RequestOutcome) (ws : List Waiting) → CameBy forwarder_event forwarder_events opening (home serial) outcome
+    → All (Waits home serials forwarder_events) ws → All (Waits home serials (forwarder_event ∷ forwarder_events)) (requests_settled serial opening at outcome ws)
 all-settled home serials forwarder_event forwarder_events none serial opening at outcome ws by h =
     All-map (Waits home serials (forwarder_event ∷ forwarder_events)) (settle_one serial opening at outcome) ws
     (All-weaker (Waits home serials forwarder_events) (λ (w : Waiting). Waits home serials (forwarder_event ∷ forwarder_events) (settle_one serial opening at outcome w))
@@ -346,29 +346,29 @@ all-settled home serials forwarder_event forwarder_events none serial opening at
 -- all that asked about it are refused
 refuse-one : (home : ℕ → Forwarding) (serials : ℕ) (forwarder_event : ForwarderEvent) (forwarder_events : List ForwarderEvent) → IsNoAnswer forwarder_event → (serial at : ℕ) (w : Waiting)
     → ((opening : Bool) → CameBy forwarder_event forwarder_events opening (home serial) Refused) → Waits home serials forwarder_events w
-    → Waits home serials (forwarder_event ∷ forwarder_events) (settle_one serial false (counted at) Refused (settle_one serial true at Refused w))
+    → Waits home serials (forwarder_event ∷ forwarder_events) (settle_one serial false (one_more_outcome at) Refused (settle_one serial true at Refused w))
 refuse-one home serials forwarder_event forwarder_events none serial at w by h =
     let a = home w.forwarding in
     let first = next_outcome (is_ask_about serial true w) at Refused w.outcome in
-    let last = next_outcome (is_ask_about serial false w) (counted at) Refused first in
+    let last = next_outcome (is_ask_about serial false w) (one_more_outcome at) Refused first in
     let one = settles serial true at Refused w w.outcome (is_ask_about serial true w) in
-    let two = settles serial false (counted at) Refused w first (is_ask_about serial false w) in
-    let e : settle_one serial false (counted at) Refused (settle_one serial true at Refused w) ≡ record w { outcome = last } =
-    ap (settle_one serial false (counted at) Refused) one ∙ two in
+    let two = settles serial false (one_more_outcome at) Refused w first (is_ask_about serial false w) in
+    let e : settle_one serial false (one_more_outcome at) Refused (settle_one serial true at Refused w) ≡ record w { outcome = last } =
+    ap (settle_one serial false (one_more_outcome at) Refused) one ∙ two in
     subst (Waits home serials (forwarder_event ∷ forwarder_events)) (sym e)
     (turned home serials forwarder_event forwarder_events none w last h
-    (turns-at forwarder_event forwarder_events w.opening a (counted at) Refused (is_ask_about serial false w) w.outcome first
+    (turns-at forwarder_event forwarder_events w.opening a (one_more_outcome at) Refused (is_ask_about serial false w) w.outcome first
     (about home forwarder_event forwarder_events serial false Refused w (by false))
     (turns-at forwarder_event forwarder_events w.opening a at Refused (is_ask_about serial true w) w.outcome w.outcome
     (about home forwarder_event forwarder_events serial true Refused w (by true)) (inl refl))))
 
 pub all-refused : (home : ℕ → Forwarding) (serials : ℕ) (forwarder_event : ForwarderEvent) (forwarder_events : List ForwarderEvent) → IsNoAnswer forwarder_event → (serial at : ℕ) (ws : List Waiting)
     → ((opening : Bool) → CameBy forwarder_event forwarder_events opening (home serial) Refused)
-    → All (Waits home serials forwarder_events) ws → All (Waits home serials (forwarder_event ∷ forwarder_events)) (refused serial at ws)
+    → All (Waits home serials forwarder_events) ws → All (Waits home serials (forwarder_event ∷ forwarder_events)) (all_requests_refused serial at ws)
 all-refused home serials forwarder_event forwarder_events none serial at ws by h =
-    All-map (Waits home serials (forwarder_event ∷ forwarder_events)) (settle_one serial false (counted at) Refused) (settled serial true at Refused ws)
-    (All-map (λ (v : Waiting). Waits home serials (forwarder_event ∷ forwarder_events) (settle_one serial false (counted at) Refused v))
+    All-map (Waits home serials (forwarder_event ∷ forwarder_events)) (settle_one serial false (one_more_outcome at) Refused) (requests_settled serial true at Refused ws)
+    (All-map (λ (v : Waiting). Waits home serials (forwarder_event ∷ forwarder_events) (settle_one serial false (one_more_outcome at) Refused v))
     (settle_one serial true at Refused) ws
     (All-weaker (Waits home serials forwarder_events) (λ (w : Waiting). Waits home serials (forwarder_event ∷ forwarder_events)
-    (settle_one serial false (counted at) Refused (settle_one serial true at Refused w)))
+    (settle_one serial false (one_more_outcome at) Refused (settle_one serial true at Refused w)))
     (λ w s. refuse-one home serials forwarder_event forwarder_events none serial at w by s) ws h))

@@ -3,7 +3,7 @@ use Rattle.std.proofs.Common.{◌≡◌, refl, sym, subst, ◌⊎◌, inl, inr, 
 use Rattle.conn_messages.specs.declared.message.Message.{Message}
 use Rattle.conn_messages.specs.declared.message.Message.TheVariants as message
 use Rattle.house_relay.specs.Acts.{Takes}
-use Rattle.house_relay.specs.ChannelState.{in_live, over_if, receives_close}
+use Rattle.house_relay.specs.ChannelState.{step_if_live, over_if, receives_close}
 use Rattle.house_relay.specs.Relay.{delivers}
 use Rattle.house_relay.specs.Steps.{sent_of, confirmed_in, refused_in, data_received}
 use Rattle.house_relay.specs.declared.line.Live.{Live as LiveState}
@@ -33,7 +33,7 @@ over-none q fails true live = fails.over
 over-none q fails false live = fails.live live
 
 in-live : (q : ChannelState → Bool) (step : LiveState → ChannelState) (line : ChannelState) → ((live : LiveState) → q (step live) ≡ false)
-    → SettlesBy q line (in_live step line)
+    → SettlesBy q line (step_if_live step line)
 in-live q step (Dialing dialog) none = inr refl
 in-live q step (Asked host port version) none = inr refl
 in-live q step (Opened version) none = inr refl

@@ -25,17 +25,17 @@ use Rattle.house_relay.specs.Relay.{RelayRepresents, RelayGoesOn, socket_stream_
 use Rattle.house_relay.specs.Steps.{fresh_relay, is_gone, made_as}
 use Rattle.house_relay.specs.declared.line.ChannelState.TheVariants.{Offered as OfServer}
 use Rattle.house_relay.specs.declared.relay.Relay.{Relay}
-use Rattle.house_relay.specs.declared.relay.Socket.TheVariants as socket
+use Rattle.house_relay.specs.declared.relay.RelaySocket.TheVariants as socket
 use Rattle.house_forward.specs.Forwardings.{has_request, has_listener, served_at}
 use Rattle.house_forward.specs.Going.{GetsOn, TakesOn, RelaySendsOn, RelayReceivesOn}
 use Rattle.house_forward.specs.Links.{IsRelayJoined, relay_after, dials}
 use Rattle.house_forward.specs.RelayTraces.{Life, Trace, RelayGoesBy, One, OneAtMost, MakesOne, StepsBy, Speaks, Listens, TraceReaches, Follows}
-use Rattle.house_forward.specs.RelayTraces.{RelayReceivesAt, ReceivesOpen, OpensFor, ReceivesMessage, ReceivesReading, ReceivesFrame, RelaysReceiveFrames, SendsBy, MarksIn, OrdersIn, TurnsTo, first_trace, is_grant, with_received, cut_off}
-use Rattle.house_forward.specs.RelayTraces.{has_stream, is_stream, has_channel, has_words, is_socket_unmade, are_full, are_dialogs_full, link_own_after, own_made, relay_act_of, stepped, made_life, kept_in, first_life_in, with_relay_traces}
-use Rattle.house_forward.specs.Numbers.{number_of}
+use Rattle.house_forward.specs.RelayTraces.{RelayReceivesAt, ReceivesOpen, OpensFor, ReceivesMessage, ReceivesReading, ReceivesFrame, RelaysReceiveFrames, SendsBy, MarksIn, OrdersInTrace, TurnsTo, first_trace, is_grant, with_received, cut_off}
+use Rattle.house_forward.specs.RelayTraces.{has_stream, is_stream, has_channel, has_words, is_socket_unmade, are_full, are_dialogs_full, link_own_after, own_made, relay_act_of, life_stepped, made_life, kept_in, first_life_in, with_relay_traces}
+use Rattle.house_forward.specs.Numbers.{own_stream_number}
 use Rattle.house_forward.specs.declared.forwarding.Forwarding.{Forwarding}
-use Rattle.house_forward.specs.declared.forwarder_state.Stage.{Stage}
-use Rattle.house_forward.specs.declared.forwarder_state.Stage.TheVariants.{Control, Proxy}
+use Rattle.house_forward.specs.declared.forwarder_state.ForwarderStage.{ForwarderStage}
+use Rattle.house_forward.specs.declared.forwarder_state.ForwarderStage.TheVariants.{Control, Proxy}
 use Rattle.house_forward.specs.declared.link.LinkStep.{LinkStep}
 use Rattle.house_forward.specs.declared.link.LinkStep.TheVariants as step
 use Rattle.house_forward.proofs.Fresh.{offered, joined}
@@ -155,7 +155,7 @@ stepped-if P s true l p k = k refl
 stepped-if P s false l p k = p
 
 pub each-stepped : (P : Life → Type 0) (s : LinkStep) (t : ℕ) → ((a : Life) → P a → has_stream t a ≡ true → P (step_of s a))
-    → (ls : List Life) → Each P ls → Each P (map (stepped s t) ls)
+    → (ls : List Life) → Each P ls → Each P (map (life_stepped s t) ls)
 each-stepped P s t keeps [] h = tt
 each-stepped P s t keeps (l ∷ ls) h =
     (stepped-if P s (has_stream t l) l h.0 (keeps l h.0), each-stepped P s t keeps ls h.1)
@@ -230,7 +230,7 @@ granted : (P : Life → Type 0) (b : Bool) (old : Trace) (a : Trace) → All P a
 granted P true old a h all = h
 granted P false old a h all = all
 
-pub all-frame : (Now : HouseCall → Trace → Type 0) (P : Life → Type 0) → Kept Now P → (stage : Stage) (content : List ℕ) (old new : Trace) → ReceivesFrame stage content old new
+pub all-frame : (Now : HouseCall → Trace → Type 0) (P : Life → Type 0) → Kept Now P → (stage : ForwarderStage) (content : List ℕ) (old new : Trace) → ReceivesFrame stage content old new
     → All P old → All P new
 all-frame Now P k Control content old new h all = subst (All P) (sym h)
     (granted P (is_grant (take_u32 content)) old _ (record { relay_traces = all.relay_traces; past = all.past }) all)
@@ -254,7 +254,7 @@ all-says Now P k true None bytes old new h all =
 all-steps : (Now : HouseCall → Trace → Type 0) (P : Life → Type 0) → Kept Now P → (call : HouseCall) (o : Order) (s : LinkStep) (t : ℕ)
     (old new : Trace) → Now call old → Causes call s t → StepsBy o s t old new → All P old → All P new
 all-steps Now P k call o s t old new now causes h all =
-    all-left P old new (map (stepped s t) old.relay_traces) h.1
+    all-left P old new (map (life_stepped s t) old.relay_traces) h.1
     (each-stepped P s t (k.steps s t call old now causes) old.relay_traces all.relay_traces) all
 
 all-makes : (Now : HouseCall → Trace → Type 0) (P : Life → Type 0) → Kept Now P → (host : List ℕ) (port : ℕ) (number : Option ℕ)
@@ -271,7 +271,7 @@ all-makes Now P k host port number old new now h all =
     })
 
 all-orders : (Now : HouseCall → Trace → Type 0) (P : Life → Type 0) → Kept Now P → (o : Order) (number : Option ℕ) (old new : Trace)
-    → Now (Marks (HouseOrder o number)) old → OrdersIn o number old new → All P old → All P new
+    → Now (Marks (HouseOrder o number)) old → OrdersInTrace o number old new → All P old → All P new
 all-orders Now P k (order.Listen host port) number old new now h all = subst (All P) (sym h.2) (record { relay_traces = all.relay_traces; past = all.past })
 all-orders Now P k (order.Connect host port) number old new now h all = all-makes Now P k host port number old new now h all
 all-orders Now P k (order.Unlisten l) number old new now h all = subst (All P) (sym h.2) (record { relay_traces = all.relay_traces; past = all.past })
@@ -339,7 +339,7 @@ all-reach Now P k (call ∷ calls) old new known h all =
 
 pub record Sound (l : Life) : Type 0 where
   pub stands : RelayRepresents l.dials l.acts l.relay
-  pub stream : socket_stream_of l.relay.socket ≡ number_of l.own
+  pub stream : socket_stream_of l.relay.socket ≡ own_stream_number l.own
 
 -- by what a step leaves of its relay and its stream
 went : (so : Relay → Relay → Type 0) (act : RelayAct) (a b : Life) → RelayGoesBy so act a b → Sound a
@@ -347,11 +347,11 @@ went : (so : Relay → Relay → Type 0) (act : RelayAct) (a b : Life) → Relay
 went so act a b h s on same = record {
   stands = subst (λ (d : Bool). RelayRepresents d b.acts b.relay) (sym h.dials)
       (subst (λ (acts : List RelayAct). RelayRepresents a.dials acts b.relay) (sym h.acts) (on a.dials a.acts s.stands));
-  stream = same ∙ s.stream ∙ ap number_of (sym h.own);
+  stream = same ∙ s.stream ∙ ap own_stream_number (sym h.own);
 }
 
-own-step : (s : LinkStep) (t : ℕ) (r : Relay) (own : Option OwnStream) → is_stream t own ≡ true → socket_stream_of r.socket ≡ number_of own
-    → socket_stream_of (relay_after s r).socket ≡ number_of (link_own_after s own)
+own-step : (s : LinkStep) (t : ℕ) (r : Relay) (own : Option OwnStream) → is_stream t own ≡ true → socket_stream_of r.socket ≡ own_stream_number own
+    → socket_stream_of (relay_after s r).socket ≡ own_stream_number (link_own_after s own)
 own-step s t r None is e = cc
 own-step (step.Pause b) t r (Some own) is e = e
 own-step step.Finish t r (Some own) is e = e
@@ -360,7 +360,7 @@ own-step step.Close t r (Some own) is e = refl
 own-step step.Writable t r (Some own) is e = connected-stream r.socket ∙ e
 own-step step.Failed t r (Some own) is e = failing-stream r.socket ∙ e
 
-own-make : (number : Option ℕ) → socket_stream_of (made_as number) ≡ number_of (own_made number)
+own-make : (number : Option ℕ) → socket_stream_of (made_as number) ≡ own_stream_number (own_made number)
 own-make None = refl
 own-make (Some t) = refl
 
@@ -453,10 +453,10 @@ sound = record {
   offers = λ f number remote window maximum small. sound-offers f number remote window maximum;
 }
 
-pub stepped-sound : (s : LinkStep) (t : ℕ) (ls : List Life) → Each Sound ls → Each Sound (map (stepped s t) ls)
+pub stepped-sound : (s : LinkStep) (t : ℕ) (ls : List Life) → Each Sound ls → Each Sound (map (life_stepped s t) ls)
 stepped-sound s t ls all = each-stepped Sound s t (sound-steps s t) ls all
 
-pub frame-sound : (stage : Stage) (content : List ℕ) (old new : Trace) → ReceivesFrame stage content old new → All Sound old → All Sound new
+pub frame-sound : (stage : ForwarderStage) (content : List ℕ) (old new : Trace) → ReceivesFrame stage content old new → All Sound old → All Sound new
 frame-sound stage content old new h all = all-frame Whenever Sound sound stage content old new h all
 
 pub follow-sound : (call : HouseCall) (old new : Trace) → Follows call old new → All Sound old → All Sound new

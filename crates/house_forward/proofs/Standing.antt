@@ -3,15 +3,15 @@ use Rattle.std.proofs.Common.{◌≡◌, ◌∙◌, refl, sym, ap, subst, arith,
 use Rattle.std.specs.Prelude.{IsTrue}
 use Rattle.socks_dialog.specs.declared.outcome.Outcome.{Outcome}
 use Rattle.socks_dialog.specs.declared.outcome.Outcome.TheVariants.{Connects}
-use Rattle.house_relay.specs.Acts.{RelayAct, Ends, Fails, Other, read, sent, delivered, took, taken, adjusted, socket_has_ended, received_eof, received_close, sent_eof, sent_close, answer, outcome_in, before_in, replies, replies_if, to_take, behind_if, taken_data}
+use Rattle.house_relay.specs.Acts.{RelayAct, Ends, Fails, Other, read, all_data_sent, delivered, socket_accepted, accepted_length, adjusted, socket_has_ended, received_eof, received_close, sent_eof, was_close_sent, answer, outcome_in, before_in, dialog_replies, replies_if, to_take, behind_if, taken_data}
 use Rattle.house_relay.specs.Relay.{RelayRepresents, RelayGoesOn, LineStands, IsLive, NothingYet, DialogWaitsFor, IsDialogSettled, HasAsked}
 use Rattle.house_relay.specs.declared.line.Live.{Live as LiveState}
 use Rattle.house_relay.specs.declared.line.ChannelState.{ChannelState}
 use Rattle.house_relay.specs.declared.line.ChannelState.TheVariants.{Dialing, Asked, Opened, Offered, Live, Over}
 use Rattle.house_relay.specs.declared.relay.Relay.{Relay}
-use Rattle.house_relay.specs.declared.relay.Socket.{Socket}
-use Rattle.house_relay.specs.declared.relay.Socket.TheVariants as socket
-use Rattle.house_relay.specs.Steps.{connected, failing}
+use Rattle.house_relay.specs.declared.relay.RelaySocket.{RelaySocket}
+use Rattle.house_relay.specs.declared.relay.RelaySocket.TheVariants as socket
+use Rattle.house_relay.specs.Steps.{socket_connected, failing}
 use Rattle.house_forward.specs.Links.{relay_after}
 use Rattle.house_forward.specs.RelayTraces.{relay_act_of}
 use Rattle.house_forward.specs.declared.link.LinkStep.{LinkStep}
@@ -20,30 +20,30 @@ use Rattle.house_forward.specs.declared.link.LinkStep.TheVariants.{Pause, Finish
 -- what is counted of a channel is the same
 record SameIn (old new : List RelayAct) : Type 0 where
   bytes : read new ≡ read old
-  data_sent : sent new ≡ sent old
+  data_sent : all_data_sent new ≡ all_data_sent old
   data_received : delivered new ≡ delivered old
-  took : took new ≡ took old
-  takes : taken new ≡ taken old
+  took : socket_accepted new ≡ socket_accepted old
+  takes : accepted_length new ≡ accepted_length old
   grants : adjusted new ≡ adjusted old
   eof_received : received_eof new ≡ received_eof old
   close_received : received_close new ≡ received_close old
   eof_sent : sent_eof new ≡ sent_eof old
-  close_sent : sent_close new ≡ sent_close old
+  close_sent : was_close_sent new ≡ was_close_sent old
   answers : answer new ≡ answer old
 
-replies-same : (dials : Bool) (old new : List RelayAct) → SameIn old new → replies dials new ≡ replies dials old
+replies-same : (dials : Bool) (old new : List RelayAct) → SameIn old new → dialog_replies dials new ≡ dialog_replies dials old
 replies-same dials old new same =
     ap (λ b. replies_if dials b (answer new)) same.bytes ∙ ap (λ a. replies_if dials (read old) a) same.answers
 
 nothing-same : (dials : Bool) (old new : List RelayAct) → SameIn old new → NothingYet dials old → NothingYet dials new
 nothing-same dials old new same s =
     let sizes = ap length (replies-same dials old new same) in
-    let most : taken old ≤ length (replies dials old) = s.no_take in
-    let took = same.takes in
+    let most : accepted_length old ≤ length (dialog_replies dials old) = s.no_take in
+    let socket_accepted = same.takes in
     record {
       no_answer = same.answers ∙ s.no_answer;
       no_data = same.data_received ∙ s.no_data;
-      no_take = omega (arith, sizes, most, took);
+      no_take = omega (arith, sizes, most, socket_accepted);
       no_room = same.grants ∙ s.no_room;
       no_eof = same.eof_sent ∙ s.no_eof;
       no_close = same.close_sent ∙ s.no_close;
@@ -59,7 +59,7 @@ waits-same (Some version) outcome dials old new same s =
 
 data-same : (dials : Bool) (old new : List RelayAct) → SameIn old new → taken_data dials new ≡ taken_data dials old
 data-same dials old new same =
-    ap (λ n. n - length (replies dials new)) same.takes ∙ ap (λ r. taken old - length r) (replies-same dials old new same)
+    ap (λ n. n - length (dialog_replies dials new)) same.takes ∙ ap (λ r. accepted_length old - length r) (replies-same dials old new same)
 
 live-same : (live : LiveState) (dials : Bool) (old new : List RelayAct) → SameIn old new → IsLive live dials old
     → IsLive live dials new
@@ -68,8 +68,8 @@ live-same live dials old new same s = record {
   eof_received = s.eof_received ∙ sym same.eof_received;
   close_sent = s.close_sent ∙ sym same.close_sent;
   close_received = s.close_received ∙ sym same.close_received;
-  replies = λ f. s.replies f ∙ ap (λ r. length r - taken old) (sym (replies-same dials old new same))
-      ∙ ap (λ n. length (replies dials new) - n) (sym same.takes);
+  replies = λ f. s.replies f ∙ ap (λ r. length r - accepted_length old) (sym (replies-same dials old new same))
+      ∙ ap (λ n. length (dialog_replies dials new) - n) (sym same.takes);
   owed = λ f. ap (λ n. n + live.owed) same.grants ∙ s.owed f ∙ sym (data-same dials old new same);
   most = subst (λ n. n ≤ taken_data dials new) (sym same.grants)
       (subst (λ n. adjusted old ≤ n) (sym (data-same dials old new same)) s.most);
@@ -109,10 +109,10 @@ line-same Over dials old new same s = record {
 
 take-same : (dials : Bool) (old new : List RelayAct) → SameIn old new → to_take dials new ≡ to_take dials old
 take-same dials old new same =
-    ap (λ r. r ++ delivered new) (replies-same dials old new same) ∙ ap (λ b. replies dials old ++ b) same.data_received
+    ap (λ r. r ++ delivered new) (replies-same dials old new same) ∙ ap (λ b. dialog_replies dials old ++ b) same.data_received
 
 -- another socket, and its end
-stands-same : (dials : Bool) (old new : List RelayAct) (r : Relay) (s : Socket) (ended : Bool) → SameIn old new
+stands-same : (dials : Bool) (old new : List RelayAct) (r : Relay) (s : RelaySocket) (ended : Bool) → SameIn old new
     → ended ≡ socket_has_ended new → (IsTrue (socket_has_ended old) → IsTrue (socket_has_ended new)) → RelayRepresents dials old r
     → RelayRepresents dials new (record r { socket = s; ended = ended })
 stands-same dials old new r s ended same is more h = record {
@@ -124,9 +124,9 @@ stands-same dials old new r s ended same is more h = record {
   line = line-same r.line dials old new same h.line;
 }
 
-same-behind : (act : RelayAct) (acts : List RelayAct) → read (act ∷ acts) ≡ read acts → sent (act ∷ acts) ≡ sent acts → delivered (act ∷ acts) ≡ delivered acts → took (act ∷ acts) ≡ took acts → taken (act ∷ acts) ≡ taken acts
+same-behind : (act : RelayAct) (acts : List RelayAct) → read (act ∷ acts) ≡ read acts → all_data_sent (act ∷ acts) ≡ all_data_sent acts → delivered (act ∷ acts) ≡ delivered acts → socket_accepted (act ∷ acts) ≡ socket_accepted acts → accepted_length (act ∷ acts) ≡ accepted_length acts
     → adjusted (act ∷ acts) ≡ adjusted acts → received_eof (act ∷ acts) ≡ received_eof acts → received_close (act ∷ acts) ≡ received_close acts
-    → sent_eof (act ∷ acts) ≡ sent_eof acts → sent_close (act ∷ acts) ≡ sent_close acts → answer (act ∷ acts) ≡ answer acts
+    → sent_eof (act ∷ acts) ≡ sent_eof acts → was_close_sent (act ∷ acts) ≡ was_close_sent acts → answer (act ∷ acts) ≡ answer acts
     → SameIn acts (act ∷ acts)
 same-behind act acts a b c t d e f g h i j = record {
   bytes = a;
@@ -152,7 +152,7 @@ same-fails : (acts : List RelayAct) → SameIn acts (Fails ∷ acts)
 same-fails acts = same-behind Fails acts refl refl refl refl refl refl refl refl refl refl refl
 
 -- its socket is another
-pub goes-other : (r : Relay) (s : Socket) → RelayGoesOn r (record r { socket = s }) Other
+pub goes-other : (r : Relay) (s : RelaySocket) → RelayGoesOn r (record r { socket = s }) Other
 goes-other r s = λ dials acts h. stands-same dials acts (Other ∷ acts) r s r.ended (same-other acts) h.ends (λ e. e) h
 
 -- a step of its stream
@@ -161,5 +161,5 @@ goes-after (Pause b) r = goes-other r r.socket
 goes-after Finish r = goes-other r r.socket
 goes-after End r = λ dials acts h. stands-same dials acts (Ends ∷ acts) r r.socket true (same-ends acts) refl (λ e. refl) h
 goes-after Close r = goes-other r socket.Closed
-goes-after Writable r = goes-other r (connected r.socket)
+goes-after Writable r = goes-other r (socket_connected r.socket)
 goes-after Fail r = λ dials acts h. stands-same dials acts (Fails ∷ acts) r (failing r.socket) r.ended (same-fails acts) h.ends (λ e. e) h

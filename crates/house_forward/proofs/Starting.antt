@@ -11,12 +11,12 @@ use Rattle.house_forward.specs.Causes.{AreOne, IsFor, ForwarderIsAtRest}
 use Rattle.house_forward.specs.ForwarderEvents.{ForwarderEvent, Does, Leave}
 use Rattle.house_forward.specs.ForwarderEvents.{Begins, Asks, Answers, Greets, Requests, Replies, Listens, Unlistens}
 use Rattle.house_forward.specs.ForwardingState.{ForwardingState, empty_forwarding_state, standing_at}
-use Rattle.house_forward.specs.Forwardings.{first_refused, ask_refused_if, replied_refused, made_refused, forwarding_start_of, Begins as BeginsAt, StartsIf, Standing, Opens, is_first, has_request, requests_at, forwarding_request_of, after_sending, changed, stage_after, closing_after, standing, counts, how_many, listens_at, connects_to, opens_of, after_close, is_new, EndsLeave, ComesIf, ComesUnless, is_asked, asks_at, is_cancelled, cancels_at, replied_all, removed_at, first_of, to_listen, is_numbered, has_listener, is_listener, listener_at}
+use Rattle.house_forward.specs.Forwardings.{first_refused, ask_refused_if, replied_refused, made_refused, forwarding_start_of, AskedAtStart as BeginsAt, StartsIf, Standing, OpensForwarding, is_first, has_request, requests_at, forwarding_request_of, after_request_sent, forwarding_changed, listener_stage_after, closing_after, standing, is_asked_or_live, how_many, listens_at, connects_same_end, opens_of, after_close, is_new, EndsLeave, ComesIf, ComesUnless, is_listen_unanswered, asks_at, is_cancelled, cancels_at, replied_all, removed_at, first_forwarding_request, to_listen, is_numbered, has_listener, is_listener, listener_at}
 use Rattle.house_forward.specs.Rules.{AreEnds, is_ruled_out, rules_of}
 use Rattle.house_forward.specs.Starting.{HasBegun, WasOrdered, WasRequested, WasRefused, WasServed, IsRecorded, EachStart}
-use Rattle.house_forward.specs.declared.asks.Asked.{Asked as Comes}
-use Rattle.house_forward.specs.declared.asks.Asked.TheVariants.{Now, Later}
-use Rattle.house_forward.specs.declared.asks.Outcome.TheVariants.{Done, Port, Refused}
+use Rattle.house_forward.specs.declared.asks.ImmediateOutcome.{ImmediateOutcome as Comes}
+use Rattle.house_forward.specs.declared.asks.ImmediateOutcome.TheVariants.{Now, Later}
+use Rattle.house_forward.specs.declared.asks.RequestOutcome.TheVariants.{Done, Port, Refused}
 use Rattle.house_forward.specs.declared.forwarding.Change.{Change}
 use Rattle.house_forward.specs.declared.forwarding.Change.TheVariants as change
 use Rattle.house_forward.specs.declared.forwarding.Forwarding.{Forwarding}
@@ -105,7 +105,7 @@ same-all starts i ask r old new firsts e fate =
 
 room-if : (starts : Starts) (i : ℕ) (ask : StartAsk) (ends : Ends) (old new : Standing) (b : Bool)
     → ((f : Forwarding) → In f old.all → is_first f.stage ≡ true) → AreEnds (rules_of starts) ask ends
-    → Opens b ends old.serials (Some i) old.all new.all → (b ≡ false → Fails starts i ask new.refused) → One starts i ask new.refused old.all new.all
+    → OpensForwarding b ends old.serials (Some i) old.all new.all → (b ≡ false → Fails starts i ask new.refused) → One starts i ask new.refused old.all new.all
 room-if starts i ask ends old new true firsts are o refused =
     subst (λ (fs : List Forwarding). One starts i ask new.refused old.all fs) (sym o.2) (record {
       keeps = λ f h. in-left f old.all (o.0 ∷ []) h;
@@ -119,7 +119,7 @@ room-if starts i ask ends old new true firsts are o refused =
     })
 room-if starts i ask ends old new false firsts are o refused = same-all starts i ask new.refused old.all new.all firsts o (inl (refused refl))
 
-connects-if : (starts : Starts) (i : ℕ) (ask : StartAsk) (ends : Ends) (f : Forwarding) (old : Standing) (r : Option ℕ) (b : Bool) → connects_to ends f ≡ b
+connects-if : (starts : Starts) (i : ℕ) (ask : StartAsk) (ends : Ends) (f : Forwarding) (old : Standing) (r : Option ℕ) (b : Bool) → connects_same_end ends f ≡ b
     → ((g : Forwarding) → In g old.all → is_first g.stage ≡ true) → AreEnds (rules_of starts) ask ends → In f old.all
     → listens_at ends f ≡ true → (b ≡ false → Fails starts i ask r) → Fails starts i ask r ⊎ Pending starts ask old.all
 connects-if starts i ask ends f old r true to firsts are here listens refused =
@@ -131,7 +131,7 @@ passes-found p x xs e = (found (λ (y : Forwarding). Unit {0}) p xs x e (λ k d 
 
 opens-by : (starts : Starts) (i : ℕ) (ask : StartAsk) (ends : Ends) (old new : Standing) (o : Option Forwarding) → standing ends old.all ≡ o
     → BeginsAt (rules_of starts) starts.asks i (standing_at empty_forwarding_state) old → ((f : Forwarding) → In f old.all → is_first f.stage ≡ true)
-    → AreEnds (rules_of starts) ask ends → Opens (is_new ends old.all o) ends old.serials (Some i) old.all new.all
+    → AreEnds (rules_of starts) ask ends → OpensForwarding (is_new ends old.all o) ends old.serials (Some i) old.all new.all
     → (opens_of old.serials ends old.all o ≡ Now Refused → IsRecorded new.refused i) → One starts i ask new.refused old.all new.all
 opens-by starts i ask ends old new None is before firsts are opens recorded =
     room-if starts i ask ends old new (nat_lt (how_many old.all) MOST_FORWARDINGS) firsts are opens (λ full. (
@@ -143,11 +143,11 @@ opens-by starts i ask ends old new None is before firsts are opens recorded =
       recorded (rw full refl),
     ))
 opens-by starts i ask ends old new (Some f) is before firsts are opens recorded =
-    let test : Forwarding → Bool = λ g. counts g && listens_at ends g in
+    let test : Forwarding → Bool = λ g. is_asked_or_live g && listens_at ends g in
     let here = found-in test f old.all is in
     let passes = passes-found test f old.all is in
     same-all starts i ask new.refused old.all new.all firsts opens
-    (connects-if starts i ask ends f old new.refused (connects_to ends f) refl firsts are here (and_parts (counts f) (listens_at ends f) passes).1
+    (connects-if starts i ask ends f old new.refused (connects_same_end ends f) refl firsts are here (and_parts (is_asked_or_live f) (listens_at ends f) passes).1
     (λ elsewhere. (
       record {
         stood = old;
@@ -239,7 +239,7 @@ IsNoRequest change.Cancel = Unit {0}
 IsNoRequest (change.Live port) = Unit {0}
 IsNoRequest change.Stay = Unit {0}
 
-first-stays : (c : Change) (asked : ℕ) (s : Stage) → IsNoRequest c → is_first s ≡ true → is_first (stage_after c asked s) ≡ true
+first-stays : (c : Change) (asked : ℕ) (s : Stage) → IsNoRequest c → is_first s ≡ true → is_first (listener_stage_after c asked s) ≡ true
 first-stays c asked (ToListen host) k e = refl
 first-stays c asked Ordered k e = cc
 first-stays c asked (Listening l) k e = cc
@@ -254,10 +254,10 @@ first-stays c asked (Cancelling port) k e = cc
 
 pending-if : (starts : Starts) (ask : StartAsk) (c : Change) (f : Forwarding) (b : Bool) (all : List Forwarding) → IsNoRequest c
     → is_first f.stage ≡ true → IsFor (rules_of starts) true ask f
-    → In (if b then record f { stage = stage_after c f.listen_port f.stage; closing = closing_after c f.closing } else f) all
+    → In (if b then record f { stage = listener_stage_after c f.listen_port f.stage; closing = closing_after c f.closing } else f) all
     → Pending starts ask all
 pending-if starts ask c f true all k first is here = record {
-  f = record f { stage = stage_after c f.listen_port f.stage; closing = closing_after c f.closing };
+  f = record f { stage = listener_stage_after c f.listen_port f.stage; closing = closing_after c f.closing };
   here = here;
   first = first-stays c f.listen_port f.stage k first;
   is_for = record { kind = is.kind; listens = is.listens; listen_port = is.listen_port; connects = is.connects };
@@ -265,9 +265,9 @@ pending-if starts ask c f true all k first is here = record {
 pending-if starts ask c f false all k first is here = record { f = f; here = here; first = first; is_for = is }
 
 pending-changed : (starts : Starts) (ask : StartAsk) (c : Change) (serial : ℕ) (all : List Forwarding) → IsNoRequest c
-    → Pending starts ask all → Pending starts ask (map (changed c serial) all)
+    → Pending starts ask all → Pending starts ask (map (forwarding_changed c serial) all)
 pending-changed starts ask c serial all k p =
-    pending-if starts ask c p.f (p.f.serial == serial) (map (changed c serial) all) k p.first p.is_for (in-map (changed c serial) p.f all p.here)
+    pending-if starts ask c p.f (p.f.serial == serial) (map (forwarding_changed c serial) all) k p.first p.is_for (in-map (forwarding_changed c serial) p.f all p.here)
 
 pending-in : (starts : Starts) (ask : StartAsk) (old new : List Forwarding) (p : Pending starts ask old) → In p.f new → Pending starts ask new
 pending-in starts ask old new p here = record { f = p.f; here = here; first = p.first; is_for = p.is_for }
@@ -277,13 +277,13 @@ pending-all starts ask old new e p = subst (Pending starts ask) (sym e) p
 
 -- what a request leaves: the same, or one more, or one that closes
 abbrev AskLeaves : List Forwarding → List Forwarding → Type 0
-AskLeaves old new = (new ≡ old) ⊎ (((g : Forwarding) × (new ≡ old ++ g ∷ [])) ⊎ ((serial : ℕ) × (new ≡ map (changed change.Close serial) old)))
+AskLeaves old new = (new ≡ old) ⊎ (((g : Forwarding) × (new ≡ old ++ g ∷ [])) ⊎ ((serial : ℕ) × (new ≡ map (forwarding_changed change.Close serial) old)))
 
 closes-leave : (comes : Comes) (old new : List Forwarding) → new ≡ after_close comes old → AskLeaves old new
 closes-leave (Now o) old new e = inl e
 closes-leave (Later serial) old new e = inr (inr (serial, e))
 
-opens-leave : (b : Bool) (ends : Ends) (serial : ℕ) (start : Option ℕ) (old new : List Forwarding) → Opens b ends serial start old new → AskLeaves old new
+opens-leave : (b : Bool) (ends : Ends) (serial : ℕ) (start : Option ℕ) (old new : List Forwarding) → OpensForwarding b ends serial start old new → AskLeaves old new
 opens-leave false ends serial start old new o = inl o
 opens-leave true ends serial start old new o = inr (inl (o.0, o.2))
 
@@ -307,11 +307,11 @@ pending-asked starts ask old new (inl e) p = pending-all starts ask old new e p
 pending-asked starts ask old new (inr (inl more)) p =
     pending-all starts ask (old ++ more.0 ∷ []) new more.1 (pending-in starts ask old (old ++ more.0 ∷ []) p (in-left p.f old (more.0 ∷ []) p.here))
 pending-asked starts ask old new (inr (inr closed)) p =
-    pending-all starts ask (map (changed change.Close closed.0) old) new closed.1 (pending-changed starts ask change.Close closed.0 old tt p)
+    pending-all starts ask (map (forwarding_changed change.Close closed.0) old) new closed.1 (pending-changed starts ask change.Close closed.0 old tt p)
 
 -- a start later on
 pushed-by : (b : Bool) (ends : Ends) (serial : ℕ) (start : Option ℕ) (old new : List Forwarding) (f : Forwarding)
-    → Opens b ends serial start old new → In f old → In f new
+    → OpensForwarding b ends serial start old new → In f old → In f new
 pushed-by false ends serial start old new f o here = subst (In f) (sym o) here
 pushed-by true ends serial start old new f o here = subst (In f) (sym o.2) (in-left f old (o.0 ∷ []) here)
 
@@ -338,7 +338,7 @@ request-its f serial e = elim (request-is f.stage f.serial) [
 
 said : (starts : Starts) (ask : StartAsk) (forwarder_events : List ForwarderEvent) (old : ForwardingState) (g : Forwarding) (r : ForwardingRequest) → forwarding_request_of g ≡ r
     → In g old.all → is_numbered 0 old.all old.serials ≡ true → Pending starts ask old.all
-    → Fate starts ask (Requests g ∷ forwarder_events) (after_sending r old.all)
+    → Fate starts ask (Requests g ∷ forwarder_events) (after_request_sent r old.all)
 said starts ask forwarder_events old g (Cancel serial) e here n p = inl (pending-changed starts ask change.Cancel serial old.all tt p)
 said starts ask forwarder_events old g (Listen serial) e here n p =
     let its = request-its g serial e in
@@ -349,9 +349,9 @@ said starts ask forwarder_events old g (Listen serial) e here n p =
             is_for = p.is_for;
             begun = WasRequested g [] forwarder_events refl (subst (λ (x : Forwarding). AreOne p.f x) one (itself p.f)) its.1;
           }))
-      | inr other ↦ inl (pending-in starts ask old.all (map (changed change.ForwardingRequest serial) old.all) p
-          (subst (λ (x : Forwarding). In x (map (changed change.ForwardingRequest serial) old.all)) (changed-other change.ForwardingRequest serial p.f other)
-          (in-map (changed change.ForwardingRequest serial) p.f old.all p.here)))
+      | inr other ↦ inl (pending-in starts ask old.all (map (forwarding_changed change.ForwardingRequest serial) old.all) p
+          (subst (λ (x : Forwarding). In x (map (forwarding_changed change.ForwardingRequest serial) old.all)) (changed-other change.ForwardingRequest serial p.f other)
+          (in-map (forwarding_changed change.ForwardingRequest serial) p.f old.all p.here)))
     ]
 
 -- a reply
@@ -370,8 +370,8 @@ replied starts ask true port None fs p = p
 replied starts ask false port None fs p = p
 replied starts ask true port (Some (Listen serial)) fs p = pending-changed starts ask (change.Live port) serial fs tt p
 replied starts ask false port (Some (Listen serial)) fs p =
-    pending-in starts ask fs (removed_at (position (is_asked serial) fs) fs) p
-    (fate-left (is_asked serial) fs (position (is_asked serial) fs) p.f refl
+    pending-in starts ask fs (removed_at (position (is_listen_unanswered serial) fs) fs) p
+    (fate-left (is_listen_unanswered serial) fs (position (is_listen_unanswered serial) fs) p.f refl
     (and-second (p.f.serial == serial) (asks_at p.f.stage) (first-asks p.f.stage p.first).0) p.here)
 replied starts ask true port (Some (Cancel serial)) fs p =
     pending-in starts ask fs (removed_at (position (is_cancelled serial) fs) fs) p
@@ -435,8 +435,8 @@ goes starts ask (Requests g) forwarder_events old new t d p =
     subst (λ (fs : List Forwarding). Fate starts ask (Requests g ∷ forwarder_events) fs) (sym (ap (λ (x : ForwardingState). x.all) d.2))
     (said starts ask forwarder_events old g (forwarding_request_of g) refl (found-in has_request g old.all d.1) t.numbered p)
 goes starts ask (Replies success port) forwarder_events old new t d p =
-    inl (pending-all starts ask (replied_all success port (first_of old.requests) old.all) new.all (ap (λ (x : ForwardingState). x.all) d)
-    (replied starts ask success port (first_of old.requests) old.all p))
+    inl (pending-all starts ask (replied_all success port (first_forwarding_request old.requests) old.all) new.all (ap (λ (x : ForwardingState). x.all) d)
+    (replied starts ask success port (first_forwarding_request old.requests) old.all p))
 goes starts ask (Listens host port number) forwarder_events old new t d p =
     let f = d.orders.ordered.0 in
     let g : Forwarding = record f { stage = Ordered } in
@@ -469,7 +469,7 @@ recorded-reply : (success : Bool) (o : Option ForwardingRequest) (fs : List Forw
 recorded-reply true None fs refused j recorded = recorded
 recorded-reply false None fs refused j recorded = recorded
 recorded-reply true (Some (Listen serial)) fs refused j recorded = recorded
-recorded-reply false (Some (Listen serial)) fs refused j recorded = recorded-still refused (forwarding_start_of (find (is_asked serial) fs)) j recorded
+recorded-reply false (Some (Listen serial)) fs refused j recorded = recorded-still refused (forwarding_start_of (find (is_listen_unanswered serial) fs)) j recorded
 recorded-reply true (Some (Cancel serial)) fs refused j recorded = recorded
 recorded-reply false (Some (Cancel serial)) fs refused j recorded = recorded
 
@@ -488,7 +488,7 @@ recorded-goes Greets old new j d recorded = subst (λ (o : Option ℕ). IsRecord
 recorded-goes (Requests g) old new j d recorded = subst (λ (o : Option ℕ). IsRecorded o j) (sym (ap (λ (x : ForwardingState). x.refused) d.2)) recorded
 recorded-goes (Replies success port) old new j d recorded =
     subst (λ (o : Option ℕ). IsRecorded o j) (sym (ap (λ (x : ForwardingState). x.refused) d))
-    (recorded-reply success (first_of old.requests) old.all old.refused j recorded)
+    (recorded-reply success (first_forwarding_request old.requests) old.all old.refused j recorded)
 recorded-goes (Listens host port number) old new j d recorded =
     subst (λ (o : Option ℕ). IsRecorded o j) (sym (ap (λ (x : ForwardingState). x.refused) d.makes.others))
     (recorded-made number (find to_listen d.between.all) d.between.refused j

@@ -4,14 +4,14 @@ use Rattle.std.specs.Prelude.{IfOk, Result, Ok, Err}
 use Rattle.std.proofs.lemmas.Bool.{false≢true}
 use Rattle.mux_outside.specs.HouseCalls.{HouseCall, HandsOn}
 use Rattle.house_forward.specs.Greeting.{sent_in}
-use Rattle.house_forward.specs.RelayTraces.{GoesFurther, Follows, RelaySendsIn, taken_in}
+use Rattle.house_forward.specs.RelayTraces.{GoesFurther, Follows, RelaySendsIn, accepted_length_in}
 use Rattle.house_forward.specs.State.{held_in, HasSent, StandsIn}
 use Rattle.house_forward.specs.declared.forwarder_state.ForwarderState.{ForwarderState}
 use Rattle.house_forward.proofs.Calling.{since-on}
 use Rattle.house_forward.proofs.Greeted.{greeted-on}
 
 -- a call in which nothing is sent and nothing is accepted
-pub hands-on : (call : HouseCall) (old new : ForwarderState) → old.ordering ≡ None → new.ordering ≡ None → taken_in (call ∷ []) ≡ 0
+pub hands-on : (call : HouseCall) (old new : ForwarderState) → old.ordering ≡ None → new.ordering ≡ None → accepted_length_in (call ∷ []) ≡ 0
     → sent_in (call ∷ []) ≡ [] → new.greeted ≡ old.greeted → GoesFurther (Follows call) (held_in old) (held_in new)
     → HandsOn (StandsIn old) (StandsIn new) (call ∷ [])
 hands-on call old new e f none silent same goes = λ calls h. record {

@@ -1,4 +1,4 @@
--- What the relays read and took is what their streams gave and took.
+-- What the relays read and wrote is what their streams gave and accepted.
 use Rattle.std.proofs.Common.{◌≡◌, ◌∙◌, refl, sym, ap, subst, ℕ, Bool, true, false, List, [], ◌∷◌, ◌++◌, append_assoc, Option, Some, None}
 use Rattle.std.specs.Prelude.{◌==◌, if◌then◌else◌, IfSome}
 use Rattle.std.specs.List.{All}
@@ -11,23 +11,23 @@ use Rattle.mux_outside.specs.HouseCalls.{Joined, Got, End, Writable, Failed}
 use Rattle.mux_outside.specs.declared.house_mark.HouseMark.TheVariants.{HouseOrder}
 use Rattle.mux_outside.specs.declared.order.Order.TheVariants as order
 use Rattle.mux_outside.specs.declared.own_streams.OwnStream.{OwnStream}
-use Rattle.house_relay.specs.Acts.{RelayAct, Reads, Takes, Confirms, Refuses, Delivers, ReceivesEof, ReceivesClose, SendsData, SendsAdjust, SendsEof, SendsClose, Other, read, took}
+use Rattle.house_relay.specs.Acts.{RelayAct, Reads, Takes, Confirms, Refuses, Delivers, ReceivesEof, ReceivesClose, SendsData, SendsAdjust, SendsEof, SendsClose, Other, read, socket_accepted}
 use Rattle.house_relay.specs.Next.{sends_of}
-use Rattle.house_relay.specs.Relay.{socket_stream_of, delivers, answered_in, received_in, sent_act}
+use Rattle.house_relay.specs.Relay.{socket_stream_of, delivers, answered_in, received_if_live, sent_act}
 use Rattle.house_relay.specs.Steps.{made_as}
 use Rattle.house_relay.specs.declared.line.ChannelState.{ChannelState}
 use Rattle.house_relay.specs.declared.line.ChannelState.TheVariants.{Dialing, Asked, Opened, Offered, Live, Over}
 use Rattle.house_relay.specs.declared.relay.Relay.{Relay}
 use Rattle.house_relay.specs.declared.relay.Outgoing.{Outgoing}
 use Rattle.house_relay.specs.declared.relay.Outgoing.TheVariants as outgoing
-use Rattle.house_relay.specs.declared.relay.Socket.{Socket}
-use Rattle.house_relay.specs.declared.relay.Socket.TheVariants as socket
+use Rattle.house_relay.specs.declared.relay.RelaySocket.{RelaySocket}
+use Rattle.house_relay.specs.declared.relay.RelaySocket.TheVariants as socket
 use Rattle.house_forward.specs.Going.{act_of_sending}
 use Rattle.house_forward.specs.Heard.{act_received}
 use Rattle.house_forward.specs.Links.{relay_after}
 use Rattle.house_forward.specs.RelayTraces.{Life, Trace, RelayGoesBy}
 use Rattle.house_forward.specs.RelayTraces.{is_stream, unmade, link_own_after, own_made, relay_act_of, made_life}
-use Rattle.house_forward.specs.Numbers.{open_streams, number_of, made_by}
+use Rattle.house_forward.specs.Numbers.{open_streams, own_stream_number, made_by}
 use Rattle.house_forward.specs.Streaming.{EachHasItsStream, IsOfStream, got_in, got_call, took_in, took_call}
 use Rattle.house_forward.specs.declared.link.LinkStep.{LinkStep}
 use Rattle.house_forward.specs.declared.link.LinkStep.TheVariants as step
@@ -36,7 +36,7 @@ use Rattle.house_forward.proofs.Keeping.{stays-heard, stays-after}
 use Rattle.house_forward.proofs.Passing.{Passes, Untouched, Orders, pass-all}
 use Rattle.house_forward.proofs.Sound.{Each}
 
--- ---- what a step reads and takes
+-- ---- what a step reads and writes
 
 -- what is received and sent in the channel adds nothing to these bytes
 record IsOfSocket (f : List RelayAct → List ℕ) : Type 0 where
@@ -65,7 +65,7 @@ of-read = record {
   close_sent = λ acts. refl;
 }
 
-of-took : IsOfSocket took
+of-took : IsOfSocket socket_accepted
 of-took = record {
   other = λ acts. refl;
   confirms = λ acts. refl;
@@ -89,7 +89,7 @@ same-answered f k (Live live) act acts e = k.other acts
 same-answered f k Over act acts e = k.other acts
 
 same-in : (f : List RelayAct → List ℕ) → IsOfSocket f → (line : ChannelState) (act : RelayAct) (acts : List RelayAct) → f (act ∷ acts) ≡ f acts
-    → f (received_in line act ∷ acts) ≡ f acts
+    → f (received_if_live line act ∷ acts) ≡ f acts
 same-in f k (Dialing dialog) act acts e = k.other acts
 same-in f k (Asked host port version) act acts e = k.other acts
 same-in f k (Opened version) act acts e = k.other acts
@@ -144,9 +144,9 @@ took-more s [] call = append-nil (took_call s call)
 took-more s (c ∷ calls) call =
     ap (λ bs. took_call s c ++ bs) (took-more s calls call) ∙ sym (append_assoc (took_call s c) (took_in s calls) (took_call s call))
 
--- a call in which so much was given and taken
+-- a call in which so much was given and accepted
 of-more : (calls : List HouseCall) (call : HouseCall) (t : ℕ) (old new : List RelayAct) → read new ≡ read old ++ got_call t call
-    → took new ≡ took old ++ took_call t call → IsOfStream calls t old → IsOfStream (calls ++ call ∷ []) t new
+    → socket_accepted new ≡ socket_accepted old ++ took_call t call → IsOfStream calls t old → IsOfStream (calls ++ call ∷ []) t new
 of-more calls call t old new e f h = record {
   before = h.before;
   birth = h.birth;
@@ -157,7 +157,7 @@ of-more calls call t old new e f h = record {
   takes = f ∙ ap (λ bs. bs ++ took_call t call) h.takes ∙ sym (took-more t h.since call);
 }
 
-of-acts : (calls : List HouseCall) (t : ℕ) (old new : List RelayAct) → read new ≡ read old → took new ≡ took old → IsOfStream calls t old → IsOfStream calls t new
+of-acts : (calls : List HouseCall) (t : ℕ) (old new : List RelayAct) → read new ≡ read old → socket_accepted new ≡ socket_accepted old → IsOfStream calls t old → IsOfStream calls t new
 of-acts calls t old new e f h = record {
   before = h.before;
   birth = h.birth;
@@ -173,15 +173,15 @@ of-none : (calls : List HouseCall) (call : HouseCall) (t : ℕ) (acts : List Rel
     → IsOfStream (calls ++ call ∷ []) t acts
 of-none calls call t acts e f h =
     of-more calls call t acts acts (sym (append-nil (read acts)) ∙ ap (λ bs. read acts ++ bs) (sym e))
-    (sym (append-nil (took acts)) ∙ ap (λ bs. took acts ++ bs) (sym f)) h
+    (sym (append-nil (socket_accepted acts)) ∙ ap (λ bs. socket_accepted acts ++ bs) (sym f)) h
 
 -- ---- of a relay
 
 record Fresh (acts : List RelayAct) : Type 0 where
   reads : read acts ≡ []
-  takes : took acts ≡ []
+  takes : socket_accepted acts ≡ []
 
-abbrev FedBy : Option OwnStream → List HouseCall → Socket → List RelayAct → Type 0
+abbrev FedBy : Option OwnStream → List HouseCall → RelaySocket → List RelayAct → Type 0
 FedBy None calls s acts = unmade s ≡ true → Fresh acts
 FedBy (Some own) calls s acts = IsOfStream calls own.number acts
 
@@ -192,24 +192,24 @@ record Silent (t : ℕ) (call : HouseCall) : Type 0 where
   gives : got_call t call ≡ []
   takes : took_call t call ≡ []
 
-fed-more : (calls : List HouseCall) (call : HouseCall) (o : Option OwnStream) (s : Socket) (acts : List RelayAct)
+fed-more : (calls : List HouseCall) (call : HouseCall) (o : Option OwnStream) (s : RelaySocket) (acts : List RelayAct)
     → ((own : OwnStream) → o ≡ Some own → Silent own.number call) → FedBy o calls s acts → FedBy o (calls ++ call ∷ []) s acts
 fed-more calls call None s acts silent h = h
 fed-more calls call (Some own) s acts silent h =
     let its = silent own refl in of-none calls call own.number acts its.gives its.takes h
 
-fed-acts : (calls : List HouseCall) (o : Option OwnStream) (s : Socket) (old new : List RelayAct) → read new ≡ read old → took new ≡ took old
+fed-acts : (calls : List HouseCall) (o : Option OwnStream) (s : RelaySocket) (old new : List RelayAct) → read new ≡ read old → socket_accepted new ≡ socket_accepted old
     → FedBy o calls s old → FedBy o calls s new
 fed-acts calls None s old new e f h = λ is. (let its = h is in record { reads = e ∙ its.reads; takes = f ∙ its.takes })
 fed-acts calls (Some own) s old new e f h = of-acts calls own.number old new e f h
 
--- where its socket stays, and nothing is read or taken
+-- where its socket stays, and nothing is read or accepted
 fed-on : (calls : List HouseCall) (so : Relay → Relay → Type 0) (act : RelayAct) (a b : Life) → RelayGoesBy so act a b
-    → b.relay.socket ≡ a.relay.socket → read (act ∷ a.acts) ≡ read a.acts → took (act ∷ a.acts) ≡ took a.acts → Fed calls a → Fed calls b
+    → b.relay.socket ≡ a.relay.socket → read (act ∷ a.acts) ≡ read a.acts → socket_accepted (act ∷ a.acts) ≡ socket_accepted a.acts → Fed calls a → Fed calls b
 fed-on calls so act a b h same e f p =
     subst (λ (o : Option OwnStream). FedBy o calls b.relay.socket b.acts) (sym h.own)
-    (subst (λ (s : Socket). FedBy a.own calls s b.acts) (sym same)
-    (fed-acts calls a.own a.relay.socket a.acts b.acts (ap read h.acts ∙ e) (ap took h.acts ∙ f) p))
+    (subst (λ (s : RelaySocket). FedBy a.own calls s b.acts) (sym same)
+    (fed-acts calls a.own a.relay.socket a.acts b.acts (ap read h.acts ∙ e) (ap socket_accepted h.acts ∙ f) p))
 
 untouched : (call : HouseCall) (old : Trace) (a : Life) → Apart (open_streams old.relay_traces) → Untouched call old a → (own : OwnStream)
     → a.own ≡ Some own → Silent own.number call
@@ -235,21 +235,21 @@ gave t n bytes e = ap (λ (b : Bool). if b then bytes else []) e
 was-taken : (t n : ℕ) (bytes : List ℕ) → (n == t) ≡ true → took_call n (TakesBytes t bytes) ≡ bytes
 was-taken t n bytes e = ap (λ (b : Bool). if b then bytes else []) e
 
-gets-fed : (calls : List HouseCall) (t : ℕ) (bytes : List ℕ) (o : Option OwnStream) (s s' : Socket) (acts : List RelayAct) → is_stream t o ≡ true
+gets-fed : (calls : List HouseCall) (t : ℕ) (bytes : List ℕ) (o : Option OwnStream) (s s' : RelaySocket) (acts : List RelayAct) → is_stream t o ≡ true
     → FedBy o calls s acts → FedBy o (calls ++ Turns (Got t bytes) ∷ []) s' (Reads bytes ∷ acts)
 gets-fed calls t bytes None s s' acts is h = cc
 gets-fed calls t bytes (Some own) s s' acts is h =
     of-more calls (Turns (Got t bytes)) own.number acts (Reads bytes ∷ acts)
-    (ap (λ bs. read acts ++ bs) (sym (gave t own.number bytes is))) (sym (append-nil (took acts))) h
+    (ap (λ bs. read acts ++ bs) (sym (gave t own.number bytes is))) (sym (append-nil (socket_accepted acts))) h
 
-takes-fed : (calls : List HouseCall) (t : ℕ) (bytes : List ℕ) (o : Option OwnStream) (s s' : Socket) (acts : List RelayAct) → is_stream t o ≡ true
+takes-fed : (calls : List HouseCall) (t : ℕ) (bytes : List ℕ) (o : Option OwnStream) (s s' : RelaySocket) (acts : List RelayAct) → is_stream t o ≡ true
     → FedBy o calls s acts → FedBy o (calls ++ TakesBytes t bytes ∷ []) s' (Takes bytes ∷ acts)
 takes-fed calls t bytes None s s' acts is h = cc
 takes-fed calls t bytes (Some own) s s' acts is h =
     of-more calls (TakesBytes t bytes) own.number acts (Takes bytes ∷ acts) (sym (append-nil (read acts)))
-    (ap (λ bs. took acts ++ bs) (sym (was-taken t own.number bytes is))) h
+    (ap (λ bs. socket_accepted acts ++ bs) (sym (was-taken t own.number bytes is))) h
 
--- a step of a stream gives and takes nothing
+-- a step of a stream gives and accepts nothing
 silent-step : (call : HouseCall) (s : LinkStep) (t n : ℕ) → Orders call s t → Silent n call
 silent-step call (step.Pause b) t n h =
     record { gives = ap (got_call n) h.2; takes = ap (took_call n) h.2 }
@@ -282,7 +282,7 @@ steps-fed calls call step.Failed t (Some own) r acts ord is h =
     of-none calls call own.number (relay_act_of step.Failed ∷ acts) its.gives its.takes
     (of-acts calls own.number acts (relay_act_of step.Failed ∷ acts) refl refl h)
 
-unmade-none : (s : Socket) → unmade s ≡ true → socket_stream_of s ≡ None
+unmade-none : (s : RelaySocket) → unmade s ≡ true → socket_stream_of s ≡ None
 unmade-none (socket.Connecting t) e = cc
 unmade-none (socket.Open t) e = cc
 unmade-none socket.Unmade e = refl
@@ -290,8 +290,8 @@ unmade-none (socket.Failed t) e = cc
 unmade-none (socket.NoChannelLeft t) e = cc
 unmade-none socket.Closed e = cc
 
-makes-fed : (calls : List HouseCall) (host : List ℕ) (port : ℕ) (number : Option ℕ) (o : Option OwnStream) (s : Socket) (acts : List RelayAct)
-    → unmade s ≡ true → None ≡ number_of o → FedBy o calls s acts
+makes-fed : (calls : List HouseCall) (host : List ℕ) (port : ℕ) (number : Option ℕ) (o : Option OwnStream) (s : RelaySocket) (acts : List RelayAct)
+    → unmade s ≡ true → None ≡ own_stream_number o → FedBy o calls s acts
     → FedBy (own_made number) (calls ++ Marks (HouseOrder (order.Connect host port) number) ∷ [])
     (made_as number) (Other ∷ acts)
 makes-fed calls host port number (Some own) s acts is none h = cc
@@ -315,12 +315,12 @@ fed : (before : List HouseCall) (call : HouseCall) (old : Trace) → Apart (open
 fed before call old apart = record {
   stays = λ a p u. fed-more before call a.own a.relay.socket a.acts (untouched call old a apart u) p;
   receives = λ m a b s p h. fed-on before _ _ a b h (ap (λ (r : Relay). r.socket) h.relay.0 ∙ (stays-heard m a.relay).socket_is)
-      (same-heard read of-read m a.relay a.acts) (same-heard took of-took m a.relay a.acts) p;
+      (same-heard read of-read m a.relay a.acts) (same-heard socket_accepted of-took m a.relay a.acts) p;
   offers = λ f number remote window maximum. λ is. record { reads = refl; takes = refl };
   says = λ bytes e a b s p is h.
       fed-more before call b.own b.relay.socket b.acts (λ own its. record { gives = ap (got_call own.number) e; takes = ap (took_call own.number) e })
       (fed-on before _ _ a b h.1 (ap (λ (r : Relay). r.socket) h.1.relay.0 ∙ (stays-after (sends_of a.relay) a.relay).socket_is)
-      (same-after read of-read (sends_of a.relay) a.relay a.acts) (same-after took of-took (sends_of a.relay) a.relay a.acts) p);
+      (same-after read of-read (sends_of a.relay) a.relay a.acts) (same-after socket_accepted of-took (sends_of a.relay) a.relay a.acts) p);
   gets = λ t bytes e a b s s' p is h.
       subst (λ (c : HouseCall). FedBy b.own (before ++ c ∷ []) b.relay.socket b.acts) (sym e)
       (subst (λ (o : Option OwnStream). FedBy o (before ++ Turns (Got t bytes) ∷ []) b.relay.socket b.acts) (sym h.own)
@@ -341,7 +341,7 @@ fed before call old apart = record {
 
 -- ---- of all
 
-of-own : (calls : List HouseCall) (o : Option OwnStream) (s : Socket) (acts : List RelayAct) → FedBy o calls s acts
+of-own : (calls : List HouseCall) (o : Option OwnStream) (s : RelaySocket) (acts : List RelayAct) → FedBy o calls s acts
     → IfSome o (λ own. IsOfStream calls own.number acts)
 of-own calls None s acts h = tt
 of-own calls (Some own) s acts h = h

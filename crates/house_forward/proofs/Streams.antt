@@ -5,7 +5,7 @@ use Rattle.std.specs.List.{list_any, cons_option}
 use Rattle.std.proofs.lemmas.Bool.{or_left, or_right, or_parts, or_from, and_parts, and_from, both_ways, eqb-true, not-true, not_from_false, ne_eqb, eqb-false}
 use Rattle.mux_outside.specs.OwnStreams.{is_one, is_finished, with_pause, with_finish, with_end, without_stream, pause_one, finish_one, end_one}
 use Rattle.mux_outside.specs.declared.own_streams.OwnStream.{OwnStream}
-use Rattle.house_forward.specs.Links.{own_stream_of, streams_of, are_distinct, numbered, has_number, link_after, stream_after, finishes}
+use Rattle.house_forward.specs.Links.{own_stream_of, streams_of, are_distinct, numbered, has_number, link_after, stream_after, is_stream_finished}
 use Rattle.house_forward.specs.declared.link.Link.{Link}
 use Rattle.house_forward.specs.declared.link.LinkStep.{LinkStep}
 use Rattle.house_forward.specs.declared.link.LinkStep.TheVariants.{Pause, Finish, End, Close, Writable, Failed}
@@ -229,12 +229,12 @@ pub one_of_links : (t : ℕ) (ls : List Link) → list_any (has_number t) ls ≡
 one_of_links t [] = refl
 one_of_links t (l ∷ ls) = ap (λ b. numbered t l.stream || b) (one_of_links t ls) ∙ sym (one-in l.stream t (streams_of ls))
 
-finished-in : (s : LinkStream) (t : ℕ) (ss : List OwnStream) → is_finished t (cons_option (own_stream_of s) ss) ≡ (finishes t s || is_finished t ss)
+finished-in : (s : LinkStream) (t : ℕ) (ss : List OwnStream) → is_finished t (cons_option (own_stream_of s) ss) ≡ (is_stream_finished t s || is_finished t ss)
 finished-in (Offered host port) t ss = refl
 finished-in Awaited t ss = refl
 finished-in (Made own) t ss = refl
 finished-in Gone t ss = refl
 
-pub finished_of_links : (t : ℕ) (ls : List Link) → list_any (λ l. finishes t l.stream) ls ≡ is_finished t (streams_of ls)
+pub finished_of_links : (t : ℕ) (ls : List Link) → list_any (λ l. is_stream_finished t l.stream) ls ≡ is_finished t (streams_of ls)
 finished_of_links t [] = refl
-finished_of_links t (l ∷ ls) = ap (λ b. finishes t l.stream || b) (finished_of_links t ls) ∙ sym (finished-in l.stream t (streams_of ls))
+finished_of_links t (l ∷ ls) = ap (λ b. is_stream_finished t l.stream || b) (finished_of_links t ls) ∙ sym (finished-in l.stream t (streams_of ls))

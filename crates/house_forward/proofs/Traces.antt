@@ -19,18 +19,18 @@ use Rattle.house_relay.specs.Relay.{RelayRepresents, OrdersRight, socket_stream_
 use Rattle.house_relay.specs.Steps.{fresh_relay, made_as}
 use Rattle.house_relay.specs.declared.line.ChannelState.TheVariants.{Offered as OfServer}
 use Rattle.house_relay.specs.declared.relay.Relay.{Relay}
-use Rattle.house_relay.specs.declared.relay.Socket.TheVariants as socket
+use Rattle.house_relay.specs.declared.relay.RelaySocket.TheVariants as socket
 use Rattle.house_forward.specs.ForwardingState.{ForwardingState, greeting_sent, request_sent}
 use Rattle.house_forward.specs.Forwardings.{has_request, has_listener}
 use Rattle.house_forward.specs.Going.{RelayGoesAt, LeavesAt, Gets, GetsOn, TakesOf, TakesOn, RelaySendsOn, RelayReceivesOn, Obeys, AwaitsAt, MakesAt, MayBeFirst, swept}
-use Rattle.house_forward.specs.Links.{has_sending, has_order, is_of, is_offered, is_awaited, link_after, streams_of, Offers, Joins, has_number, is_link_number, own_stream_of, is_full, has_full_dialogs, dials, ConnectsAt, made_stream, OrdersIn, IsRelayJoined}
+use Rattle.house_forward.specs.Links.{has_sending, has_order, is_relay_stream, is_offered, is_awaited, link_after, streams_of, Offers, Joins, has_number, is_link_number, own_stream_of, has_all_channels, has_full_dialogs, dials, ConnectsAt, made_stream, OrdersInLink, IsRelayJoined}
 use Rattle.house_forward.specs.Links as linking
-use Rattle.house_forward.specs.RelayTraces.{One, Trace, Held, LinksGo, GoesFurther, ForwardingStateGoes, OnForwardingState, TakesFurther, ForwarderRepresents, Follows, taken_in, with_forwarding_state}
-use Rattle.house_forward.specs.RelayTraces.{RelayReceivesAt, OffersOne, RelaySendsIn, SendsBy, GivesOrder, JoinsOne, OrdersSocket, MakesOne, held, are_full, are_dialogs_full, is_socket_unmade, IsEndOf}
-use Rattle.house_forward.specs.RelayTraces.{Life, Listens, Speaks, RelayGoesBy, IsLife, IsSocketOf, AreRelayTraces, IsTrace, OrderIsAllowed, StepsBy, TraceReaches, first_trace, with_relay_traces, first_life_in, has_channel, has_words, has_stream, is_stream, stepped, made_life}
+use Rattle.house_forward.specs.RelayTraces.{One, Trace, Held, LinksGo, GoesFurther, ForwardingStateGoes, OnForwardingState, TakesFurther, ForwarderRepresents, Follows, accepted_length_in, with_forwarding_state}
+use Rattle.house_forward.specs.RelayTraces.{RelayReceivesAt, OffersOne, RelaySendsIn, SendsBy, GivesOrder, JoinsOne, OrdersSocket, MakesOne, as_held, are_full, are_dialogs_full, is_socket_unmade, IsEndOf}
+use Rattle.house_forward.specs.RelayTraces.{Life, Listens, Speaks, RelayGoesBy, IsLife, IsSocketOf, AreRelayTraces, IsTrace, OrderIsAllowed, StepsBy, TraceReaches, first_trace, with_relay_traces, first_life_in, has_channel, has_words, has_stream, is_stream, life_stepped, made_life}
 use Rattle.house_forward.specs.Said.{framed, relay_sent_by, request_payload}
 use Rattle.house_forward.specs.declared.forwarding.Forwarding.{Forwarding}
-use Rattle.house_forward.specs.declared.forwarder_state.Stage.{Stage}
+use Rattle.house_forward.specs.declared.forwarder_state.ForwarderStage.{ForwarderStage}
 use Rattle.house_forward.specs.declared.link.Link.{Link}
 use Rattle.house_forward.specs.declared.link.LinkStep.{LinkStep}
 use Rattle.house_forward.specs.declared.link.LinkStep.TheVariants as step
@@ -50,16 +50,16 @@ use Rattle.house_forward.proofs.Streams.{lacks-one}
 -- ---- the course of other links
 
 -- the links alone go on
-with-links : (least most : ℕ) (trace : Trace) (old new : List Link) (framer : FramerState) (stage : Stage) (forwarding_state : ForwardingState)
-    → IsTrace least trace (held old framer stage forwarding_state) → (relay_traces : List Life) → AreRelayTraces most relay_traces new
-    → IsTrace most (record trace { relay_traces = relay_traces }) (held new framer stage forwarding_state)
+with-links : (least most : ℕ) (trace : Trace) (old new : List Link) (framer : FramerState) (stage : ForwarderStage) (forwarding_state : ForwardingState)
+    → IsTrace least trace (as_held old framer stage forwarding_state) → (relay_traces : List Life) → AreRelayTraces most relay_traces new
+    → IsTrace most (record trace { relay_traces = relay_traces }) (as_held new framer stage forwarding_state)
 with-links least most trace old new framer stage forwarding_state is relay_traces are =
     record { relay_traces = are; past = is.past; framer_is = is.framer_is; stage_is = is.stage_is; forwarding_state_is = is.forwarding_state_is }
 
 -- one of which nothing is left is forgotten
-with-swept : (most : ℕ) (trace : Trace) (old now : List Link) (framer : FramerState) (stage : Stage) (forwarding_state : ForwardingState)
-    → IsTrace most trace (held old framer stage forwarding_state) → (relay_traces : List Life) → AreRelayTraces most relay_traces now
-    → IsTrace most (with_relay_traces relay_traces trace) (held (swept now) framer stage forwarding_state)
+with-swept : (most : ℕ) (trace : Trace) (old now : List Link) (framer : FramerState) (stage : ForwarderStage) (forwarding_state : ForwardingState)
+    → IsTrace most trace (as_held old framer stage forwarding_state) → (relay_traces : List Life) → AreRelayTraces most relay_traces now
+    → IsTrace most (with_relay_traces relay_traces trace) (as_held (swept now) framer stage forwarding_state)
 with-swept most trace old now framer stage forwarding_state is relay_traces are =
     let s = sweeps most relay_traces now are in
     record {
@@ -70,10 +70,10 @@ with-swept most trace old now framer stage forwarding_state is relay_traces are 
       forwarding_state_is = is.forwarding_state_is;
     }
 
-pub of-same : (most : ℕ) (trace : Trace) (framer : FramerState) (stage : Stage) (forwarding_state : ForwardingState) (old new : List Link) → new ≡ old
-    → IsTrace most trace (held old framer stage forwarding_state) → IsTrace most trace (held new framer stage forwarding_state)
+pub of-same : (most : ℕ) (trace : Trace) (framer : FramerState) (stage : ForwarderStage) (forwarding_state : ForwardingState) (old new : List Link) → new ≡ old
+    → IsTrace most trace (as_held old framer stage forwarding_state) → IsTrace most trace (as_held new framer stage forwarding_state)
 of-same most trace framer stage forwarding_state old new e is =
-    subst (λ (ls : List Link). IsTrace most trace (held ls framer stage forwarding_state)) (sym e) is
+    subst (λ (ls : List Link). IsTrace most trace (as_held ls framer stage forwarding_state)) (sym e) is
 
 -- ---- what is received
 
@@ -219,12 +219,12 @@ says-by bytes old new (Some i) e one spelled h = λ framer stage forwarding_stat
           (with-swept most trace old (set old i (record x { relay = r })) framer stage forwarding_state is went.relay_traces went.are),
     )
 
--- the first relay that has something to send says it
-pub says : (bytes : List ℕ) (old new : List Link) (framer : FramerState) (stage : Stage) (forwarding_state : ForwardingState) → forwarding_state.greeted ≡ true
+-- the first relay that has something to send sends it
+pub says : (bytes : List ℕ) (old new : List Link) (framer : FramerState) (stage : ForwarderStage) (forwarding_state : ForwardingState) → forwarding_state.greeted ≡ true
     → find has_request forwarding_state.all ≡ None → list_any has_sending old ≡ true
     → IfSome (find has_sending old) (λ l. bytes ≡ framed (relay_sent_by l.relay))
     → LeavesAt (position has_sending old) RelaySendsOn old new
-    → GoesFurther (RelaySendsIn bytes) (held old framer stage forwarding_state) (held new framer stage forwarding_state)
+    → GoesFurther (RelaySendsIn bytes) (as_held old framer stage forwarding_state) (as_held new framer stage forwarding_state)
 says bytes old new framer stage forwarding_state e none is spelled h = λ most trace its.
     let went = says-by bytes old new (position has_sending old) refl is spelled h framer stage forwarding_state most trace its in (
       went.0,
@@ -245,7 +245,7 @@ record Ordered (o : Order) (links : List Link) : Type 0 where
   right : OrdersRight o link.relay own
   were : links ≡ before ++ link ∷ behind
 
-order-of : (o : Order) (s : LinkStream) (r : Relay) → OrdersIn o s r
+order-of : (o : Order) (s : LinkStream) (r : Relay) → OrdersInLink o s r
     → (own : OwnStream) × (own_stream_of s ≡ Some own) × OrdersRight o r own
 order-of o (Offered host port) r h = absurd h
 order-of o Awaited r h = absurd h
@@ -290,16 +290,16 @@ allowed o most relay_traces links are its =
 obeys-by : (o : Order) (s : LinkStep) (t : ℕ) (old new : List Link) → MayBeFirst o (find has_order old)
     → new ≡ swept (map (link_after s t) old) → LinksGo (StepsBy o s t) old new
 obeys-by o s t old new may e = λ framer stage forwarding_state most trace is. (
-  with_relay_traces (map (stepped s t) trace.relay_traces) trace,
+  with_relay_traces (map (life_stepped s t) trace.relay_traces) trace,
   (allowed o most trace.relay_traces old is.relay_traces (ordered-first has_order o old may), refl),
-  of-same most (with_relay_traces (map (stepped s t) trace.relay_traces) trace) framer stage forwarding_state (swept (map (link_after s t) old)) new e
-      (with-swept most trace old (map (link_after s t) old) framer stage forwarding_state is (map (stepped s t) trace.relay_traces)
+  of-same most (with_relay_traces (map (life_stepped s t) trace.relay_traces) trace) framer stage forwarding_state (swept (map (link_after s t) old)) new e
+      (with-swept most trace old (map (link_after s t) old) framer stage forwarding_state is (map (life_stepped s t) trace.relay_traces)
       (all-step s t most trace.relay_traces old is.relay_traces)),
 )
 
 -- an order of a stream is obeyed
-pub obeys : (o : Order) (at : Option Ordering) (old new : List Link) (framer : FramerState) (stage : Stage) (forwarding_state : ForwardingState)
-    → Obeys (Some o) old new → GivesOrder (Some o) at (held old framer stage forwarding_state) (held new framer stage forwarding_state)
+pub obeys : (o : Order) (at : Option Ordering) (old new : List Link) (framer : FramerState) (stage : ForwarderStage) (forwarding_state : ForwardingState)
+    → Obeys (Some o) old new → GivesOrder (Some o) at (as_held old framer stage forwarding_state) (as_held new framer stage forwarding_state)
 obeys (order.Listen host port) at old new framer stage forwarding_state h = absurd (ordered-first has_order (order.Listen host port) old h.0).right
 obeys (order.Connect host port) at old new framer stage forwarding_state h = absurd (ordered-first has_order (order.Connect host port) old h.0).right
 obeys (order.Unlisten l) at old new framer stage forwarding_state h = absurd (ordered-first has_order (order.Unlisten l) old h.0).right
@@ -312,20 +312,20 @@ obeys (order.Finish t) at old new framer stage forwarding_state h =
 obeys (order.Close t) at old new framer stage forwarding_state h =
     obeys-by (order.Close t) step.Close t old new h.0 h.1 framer stage forwarding_state
 
-orders-socket-by : (host : List ℕ) (port : ℕ) (old new : List Link) (framer : FramerState) (stage : Stage) (forwarding_state : ForwardingState) (o : Option ℕ)
+orders-socket-by : (host : List ℕ) (port : ℕ) (old new : List Link) (framer : FramerState) (stage : ForwarderStage) (forwarding_state : ForwardingState) (o : Option ℕ)
     → position is_offered old ≡ o → list_any is_offered old ≡ true
     → IfSome (find is_offered old) (λ l. ConnectsAt host port l.stream) → AwaitsAt o old new
-    → OrdersSocket host port (held old framer stage forwarding_state) (held new framer stage forwarding_state)
+    → OrdersSocket host port (as_held old framer stage forwarding_state) (as_held new framer stage forwarding_state)
 orders-socket-by host port old new framer stage forwarding_state None e some there h =
     absurd (both_ways (list_any is_offered old) (none-passes is_offered old e) some)
 orders-socket-by host port old new framer stage forwarding_state (Some i) e some there h =
     record { place = i; first = e; there = there; ordered = h; others = refl }
 
 -- a socket that is to be connected is ordered
-pub orders-socket : (host : List ℕ) (port : ℕ) (old new : List Link) (framer : FramerState) (stage : Stage) (forwarding_state : ForwardingState)
+pub orders-socket : (host : List ℕ) (port : ℕ) (old new : List Link) (framer : FramerState) (stage : ForwarderStage) (forwarding_state : ForwardingState)
     → list_any is_offered old ≡ true → IfSome (find is_offered old) (λ l. ConnectsAt host port l.stream)
     → AwaitsAt (position is_offered old) old new
-    → OrdersSocket host port (held old framer stage forwarding_state) (held new framer stage forwarding_state)
+    → OrdersSocket host port (as_held old framer stage forwarding_state) (as_held new framer stage forwarding_state)
 orders-socket host port old new framer stage forwarding_state some there h =
     orders-socket-by host port old new framer stage forwarding_state (position is_offered old) refl some there h
 
@@ -454,13 +454,13 @@ forwarding_state-becomes to old new e = λ most trace is. (
 
 -- ---- what happens to sockets
 
--- one is joined at the listener of a forwarding
-pub joins : (l t : ℕ) (old new : List Link) (framer : FramerState) (stage : Stage) (forwarding_state : ForwardingState)
+-- one is accepted at the listener of a forwarding
+pub joins : (l t : ℕ) (old new : List Link) (framer : FramerState) (stage : ForwarderStage) (forwarding_state : ForwardingState)
     → Joins (find (has_listener l) forwarding_state.all) t old new
-    → GoesFurther (Follows (Turns (Joined l t))) (held old framer stage forwarding_state) (held new framer stage forwarding_state)
+    → GoesFurther (Follows (Turns (Joined l t))) (as_held old framer stage forwarding_state) (as_held new framer stage forwarding_state)
 joins l t old new framer stage forwarding_state h = λ most trace is.
     let f = find (has_listener l) forwarding_state.all in
-    let begins = joined (is_full old) (has_full_dialogs old) f t h.relay h.joined in
+    let begins = joined (has_all_channels old) (has_full_dialogs old) f t h.relay h.joined in
     let none = begins.none in
     let link : Link = record { relay = h.relay; stream = Made (new_stream t) } in
     let life : Life = record { relay = h.relay; own = Some (new_stream t); dials = dials h.relay.line; joined = Some trace.joins; to = None; acts = [] } in
@@ -476,7 +476,7 @@ joins l t old new framer stage forwarding_state h = λ most trace is.
     let one : JoinsOne f t trace.joins trace.relay_traces (trace.relay_traces ++ life ∷ []) = record {
       relay = h.relay;
       joined = subst (λ (b : Bool). IsRelayJoined b (are_dialogs_full trace.relay_traces) f t h.relay) (sym (full-same most trace.relay_traces old is.relay_traces))
-          (subst (λ (b : Bool). IsRelayJoined (is_full old) b f t h.relay) (sym (dialogs_full-same most trace.relay_traces old is.relay_traces)) h.joined);
+          (subst (λ (b : Bool). IsRelayJoined (has_all_channels old) b f t h.relay) (sym (dialogs_full-same most trace.relay_traces old is.relay_traces)) h.joined);
       free = none-relay_traces most (has_channel h.relay.number) (λ l. l.relay.number == h.relay.number)
           (living.has-channel h.relay.number most) trace.relay_traces old is.relay_traces h.free;
       small = h.small;
@@ -519,18 +519,18 @@ not-silent t [] x behind own e h = silent-first own (own_stream_of x.stream) (st
 not-silent t (y ∷ before) x behind own e h =
     not-silent t before x behind own e (silent-later (own_stream_of y.stream) (streams_of (before ++ x ∷ behind)) t h)
 
-going : (t : ℕ) (before : List Link) (x : Link) (behind : List Link) → is_of t x ≡ true
+going : (t : ℕ) (before : List Link) (x : Link) (behind : List Link) → is_relay_stream t x ≡ true
     → is_silent t (streams_of (before ++ x ∷ behind)) ≡ false → (own : OwnStream) → own_stream_of x.stream ≡ Some own → own.ended ≡ false
 going t before x behind of h own e =
     let n = (and_parts (has_number t x) (is_link_number t (socket_stream_of x.relay.socket)) of).0 in
     living.loud own t (ap (is_stream t) (sym e) ∙ living.stream-in t x.stream ∙ n) (not-silent t before x behind own e h)
 
-gets-by : (t : ℕ) (bytes : List ℕ) (old new : List Link) (o : Option ℕ) → position (is_of t) old ≡ o
-    → IfSome (find (is_of t) old) (λ l. l.relay.held.waiting ≡ []) → length bytes ≤ LONGEST_PIECE
-    → is_silent t (streams_of old) ≡ false → RelayGoesAt o (Gets (not (is_full old)) bytes) old new
+gets-by : (t : ℕ) (bytes : List ℕ) (old new : List Link) (o : Option ℕ) → position (is_relay_stream t) old ≡ o
+    → IfSome (find (is_relay_stream t) old) (λ l. l.relay.held.waiting ≡ []) → length bytes ≤ LONGEST_PIECE
+    → is_silent t (streams_of old) ≡ false → RelayGoesAt o (Gets (not (has_all_channels old)) bytes) old new
     → LinksGo (Follows (Turns (Got t bytes))) old new
 gets-by t bytes old new None e rests short loud h = λ framer stage forwarding_state most trace is.
-    let none = none-relay_traces most (has_stream t) (is_of t) (living.is-of t most) trace.relay_traces old is.relay_traces (none-passes (is_of t) old e) in
+    let none = none-relay_traces most (has_stream t) (is_relay_stream t) (living.is-of t most) trace.relay_traces old is.relay_traces (none-passes (is_relay_stream t) old e) in
     (trace, (trace.relay_traces, inr (none, refl), refl), of-same most trace framer stage forwarding_state old new h is)
 gets-by t bytes old new (Some i) e rests short loud h = λ framer stage forwarding_state most trace is.
     let x = h.0 in
@@ -538,10 +538,10 @@ gets-by t bytes old new (Some i) e rests short loud h = λ framer stage forwardi
     let free = not (are_full trace.relay_traces) in
     let gave : Gets free bytes x.relay r =
     subst (λ (b : Bool). Gets (not b) bytes x.relay r) (sym (full-same most trace.relay_traces old is.relay_traces)) h.3 in
-    let at = at-first (is_of t) old i x e h.2 in
+    let at = at-first (is_relay_stream t) old i x e h.2 in
     let goes-on = going t (take i old) x (drop (suc i) old) at.is
     (subst (λ (ls : List Link). is_silent t (streams_of ls) ≡ false) at.were loud) in
-    let went = goes-one (has_stream t) (is_of t) (RelayGoesBy (GetsOn free bytes) (Reads bytes)) most most trace.relay_traces old i x (record x { relay = r })
+    let went = goes-one (has_stream t) (is_relay_stream t) (RelayGoesBy (GetsOn free bytes) (Reads bytes)) most most trace.relay_traces old i x (record x { relay = r })
     (omega arith) (living.is-of t most) e h.2 is.relay_traces
     (λ life its. let on = living.gets free bytes t most life x r its at.is goes-on (rests-first old i t x e h.2 rests) short gave in
     record { next = on.next; goes = on.goes; is = on.is }) in (
@@ -553,41 +553,41 @@ gets-by t bytes old new (Some i) e rests short loud h = λ framer stage forwardi
 
 -- one gives bytes, while nothing is held of it
 pub gets : (t : ℕ) (bytes : List ℕ) (old new : List Link)
-    → IfSome (find (is_of t) old) (λ l. l.relay.held.waiting ≡ []) → length bytes ≤ LONGEST_PIECE
-    → is_silent t (streams_of old) ≡ false → RelayGoesAt (position (is_of t) old) (Gets (not (is_full old)) bytes) old new
+    → IfSome (find (is_relay_stream t) old) (λ l. l.relay.held.waiting ≡ []) → length bytes ≤ LONGEST_PIECE
+    → is_silent t (streams_of old) ≡ false → RelayGoesAt (position (is_relay_stream t) old) (Gets (not (has_all_channels old)) bytes) old new
     → LinksGo (Follows (Turns (Got t bytes))) old new
 gets t bytes old new rests short loud h =
-    gets-by t bytes old new (position (is_of t) old) refl rests short loud h
+    gets-by t bytes old new (position (is_relay_stream t) old) refl rests short loud h
 
-stepped-on : (s : LinkStep) (t : ℕ) (old : List Link) (framer : FramerState) (stage : Stage) (forwarding_state : ForwardingState) (most : ℕ) (trace : Trace)
-    → IsTrace most trace (held old framer stage forwarding_state)
-    → IsTrace most (record trace { relay_traces = map (stepped s t) trace.relay_traces }) (held (map (link_after s t) old) framer stage forwarding_state)
+stepped-on : (s : LinkStep) (t : ℕ) (old : List Link) (framer : FramerState) (stage : ForwarderStage) (forwarding_state : ForwardingState) (most : ℕ) (trace : Trace)
+    → IsTrace most trace (as_held old framer stage forwarding_state)
+    → IsTrace most (record trace { relay_traces = map (life_stepped s t) trace.relay_traces }) (as_held (map (link_after s t) old) framer stage forwarding_state)
 stepped-on s t old framer stage forwarding_state most trace is =
-    with-links most most trace old (map (link_after s t) old) framer stage forwarding_state is (map (stepped s t) trace.relay_traces)
+    with-links most most trace old (map (link_after s t) old) framer stage forwarding_state is (map (life_stepped s t) trace.relay_traces)
     (all-step s t most trace.relay_traces old is.relay_traces)
 
 -- one gives its end
 pub ends : (t : ℕ) (old : List Link) → LinksGo (Follows (Turns (End t))) old (map (link_after step.End t) old)
 ends t old = λ framer stage forwarding_state most trace is. (
-  record trace { relay_traces = map (stepped step.End t) trace.relay_traces },
-  (map (stepped step.End t) trace.relay_traces, refl, refl),
+  record trace { relay_traces = map (life_stepped step.End t) trace.relay_traces },
+  (map (life_stepped step.End t) trace.relay_traces, refl, refl),
   stepped-on step.End t old framer stage forwarding_state most trace is,
 )
 
--- one takes bytes, or is connected
+-- one accepts bytes, or is connected
 pub is-writable : (t : ℕ) (old : List Link)
     → LinksGo (Follows (Turns (Writable t))) old (map (link_after step.Writable t) old)
 is-writable t old = λ framer stage forwarding_state most trace is. (
-  record trace { relay_traces = map (stepped step.Writable t) trace.relay_traces },
-  (map (stepped step.Writable t) trace.relay_traces, refl, refl),
+  record trace { relay_traces = map (life_stepped step.Writable t) trace.relay_traces },
+  (map (life_stepped step.Writable t) trace.relay_traces, refl, refl),
   stepped-on step.Writable t old framer stage forwarding_state most trace is,
 )
 
 -- one fails
 pub fails : (t : ℕ) (old : List Link) → LinksGo (Follows (Turns (Failed t))) old (map (link_after step.Failed t) old)
 fails t old = λ framer stage forwarding_state most trace is. (
-  record trace { relay_traces = map (stepped step.Failed t) trace.relay_traces },
-  (map (stepped step.Failed t) trace.relay_traces, refl, refl),
+  record trace { relay_traces = map (life_stepped step.Failed t) trace.relay_traces },
+  (map (life_stepped step.Failed t) trace.relay_traces, refl, refl),
   stepped-on step.Failed t old framer stage forwarding_state most trace is,
 )
 
@@ -607,12 +607,12 @@ has-one which to old new one none =
     both_ways (list_any which old) none
     (ap (list_any which) one.were ∙ any-at which one.before one.behind one.life one.is)
 
-takes-by : (t : ℕ) (bytes : List ℕ) (old new : List Link) (framer : FramerState) (stage : Stage) (forwarding_state : ForwardingState) (o : Option ℕ)
-    → position (is_of t) old ≡ o → (o ≡ None → bytes ≡ [])
-    → RelayGoesAt o (TakesOf bytes) old new → TakesFurther t bytes (held old framer stage forwarding_state) (held new framer stage forwarding_state)
+takes-by : (t : ℕ) (bytes : List ℕ) (old new : List Link) (framer : FramerState) (stage : ForwarderStage) (forwarding_state : ForwardingState) (o : Option ℕ)
+    → position (is_relay_stream t) old ≡ o → (o ≡ None → bytes ≡ [])
+    → RelayGoesAt o (TakesOf bytes) old new → TakesFurther t bytes (as_held old framer stage forwarding_state) (as_held new framer stage forwarding_state)
 takes-by t bytes old new framer stage forwarding_state None e nothing h = λ most trace small is.
     let n = length bytes in
-    let none = none-relay_traces most (has_stream t) (is_of t) (living.is-of t most) trace.relay_traces old is.relay_traces (none-passes (is_of t) old e) in (
+    let none = none-relay_traces most (has_stream t) (is_relay_stream t) (living.is-of t most) trace.relay_traces old is.relay_traces (none-passes (is_relay_stream t) old e) in (
       trace,
       (trace.relay_traces, inr (none, refl), refl, λ without. nothing refl),
       of-same (n + most) trace framer stage forwarding_state old new h
@@ -623,7 +623,7 @@ takes-by t bytes old new framer stage forwarding_state (Some i) e nothing h = λ
     let n = length bytes in
     let x = h.0 in
     let r = h.1 in
-    let went = goes-one (has_stream t) (is_of t) (RelayGoesBy (TakesOn bytes) (Takes bytes)) most (n + most) trace.relay_traces old i x (record x { relay = r })
+    let went = goes-one (has_stream t) (is_relay_stream t) (RelayGoesBy (TakesOn bytes) (Takes bytes)) most (n + most) trace.relay_traces old i x (record x { relay = r })
     (omega arith) (living.is-of t most) e h.2 is.relay_traces
     (λ life its. let on = living.takes bytes most life x r small its h.3 in record { next = on.next; goes = on.goes; is = on.is }) in (
       record trace { relay_traces = went.relay_traces },
@@ -632,12 +632,12 @@ takes-by t bytes old new framer stage forwarding_state (Some i) e nothing h = λ
           (with-links most (n + most) trace old (set old i (record x { relay = r })) framer stage forwarding_state is went.relay_traces went.are),
     )
 
--- one took bytes
-pub takes : (t : ℕ) (bytes : List ℕ) (old new : List Link) (framer : FramerState) (stage : Stage) (forwarding_state : ForwardingState)
-    → (position (is_of t) old ≡ None → bytes ≡ [])
-    → RelayGoesAt (position (is_of t) old) (TakesOf bytes) old new → TakesFurther t bytes (held old framer stage forwarding_state) (held new framer stage forwarding_state)
+-- one accepted bytes
+pub takes : (t : ℕ) (bytes : List ℕ) (old new : List Link) (framer : FramerState) (stage : ForwarderStage) (forwarding_state : ForwardingState)
+    → (position (is_relay_stream t) old ≡ None → bytes ≡ [])
+    → RelayGoesAt (position (is_relay_stream t) old) (TakesOf bytes) old new → TakesFurther t bytes (as_held old framer stage forwarding_state) (as_held new framer stage forwarding_state)
 takes t bytes old new framer stage forwarding_state nothing h =
-    takes-by t bytes old new framer stage forwarding_state (position (is_of t) old) refl nothing h
+    takes-by t bytes old new framer stage forwarding_state (position (is_relay_stream t) old) refl nothing h
 
 -- ---- over the calls
 
@@ -646,7 +646,7 @@ pub reaches-more : (calls : List HouseCall) (call : HouseCall) (a b c : Trace) �
 reaches-more [] call a b c e f = (c, subst (λ (z : Trace). Follows call z c) e f, refl)
 reaches-more (first ∷ calls) call a b c h f = (h.0, h.1, reaches-more calls call h.0 b c h.2 f)
 
-taken-more : (calls : List HouseCall) (call : HouseCall) → taken_in (calls ++ call ∷ []) ≡ taken_in (call ∷ []) + taken_in calls
+taken-more : (calls : List HouseCall) (call : HouseCall) → accepted_length_in (calls ++ call ∷ []) ≡ accepted_length_in (call ∷ []) + accepted_length_in calls
 taken-more [] call = omega arith
 taken-more (TakesBytes t bytes ∷ calls) call = let rest = taken-more calls call in omega (arith, rest)
 taken-more (Begins starts ∷ calls) call = taken-more calls call
@@ -655,12 +655,12 @@ taken-more (ReceivesBytes bytes ∷ calls) call = taken-more calls call
 taken-more (Turns happening ∷ calls) call = taken-more calls call
 
 -- a call in which nothing is received
-pub stands-on : (calls : List HouseCall) (call : HouseCall) (old new : Held) → taken_in (call ∷ []) ≡ 0
+pub stands-on : (calls : List HouseCall) (call : HouseCall) (old new : Held) → accepted_length_in (call ∷ []) ≡ 0
     → GoesFurther (Follows call) old new → ForwarderRepresents calls old → ForwarderRepresents (calls ++ call ∷ []) new
 stands-on calls call old new none goes h = λ few.
-    let more : taken_in (calls ++ call ∷ []) ≡ taken_in calls = let all = taken-more calls call in omega (arith, all, none) in
+    let more : accepted_length_in (calls ++ call ∷ []) ≡ accepted_length_in calls = let all = taken-more calls call in omega (arith, all, none) in
     let lived = h (subst (λ n. n < 2 ^ 64) more few) in
-    let went = goes (taken_in calls) lived.trace lived.is in
+    let went = goes (accepted_length_in calls) lived.trace lived.is in
     record {
       trace = went.0;
       reached = reaches-more calls call first_trace lived.trace went.0 lived.reached went.1;
@@ -672,11 +672,11 @@ pub stands-taken : (calls : List HouseCall) (t : ℕ) (bytes : List ℕ) (old ne
     → ForwarderRepresents (calls ++ TakesBytes t bytes ∷ []) new
 stands-taken calls t bytes old new goes h = λ few.
     let n = length bytes in
-    let more : taken_in (calls ++ TakesBytes t bytes ∷ []) ≡ n + taken_in calls =
+    let more : accepted_length_in (calls ++ TakesBytes t bytes ∷ []) ≡ n + accepted_length_in calls =
     let all = taken-more calls (TakesBytes t bytes) in omega (arith, all) in
-    let small : n + taken_in calls < 2 ^ 64 = subst (λ k. k < 2 ^ 64) more few in
+    let small : n + accepted_length_in calls < 2 ^ 64 = subst (λ k. k < 2 ^ 64) more few in
     let lived = h (omega (arith, small)) in
-    let went = goes (taken_in calls) lived.trace small lived.is in
+    let went = goes (accepted_length_in calls) lived.trace small lived.is in
     record {
       trace = went.0;
       reached = reaches-more calls (TakesBytes t bytes) first_trace lived.trace went.0 lived.reached went.1;

@@ -5,11 +5,11 @@ use Rattle.std.specs.Prelude.{◌==◌, ◌&&◌, nat_le, if◌then◌else◌}
 use Rattle.std.specs.List.{All, remove}
 use Rattle.std.proofs.lemmas.Bool.{and_parts, both_ways, eqb-true, leb-true}
 use Rattle.std.proofs.lemmas.List.Elements.{All-weaker, All-map}
-use Rattle.house_forward.specs.Asks.{settled, settle_one, ask_settled_at, is_ask_about, same, counted, refused}
+use Rattle.house_forward.specs.Asks.{requests_settled, settle_one, ask_settled_at, is_ask_about, same, one_more_outcome, all_requests_refused}
 use Rattle.house_forward.specs.ForwardingState.{ForwardingState}
-use Rattle.house_forward.specs.Forwardings.{is_numbered, changed, stage_after, closing_after, forwarding_outcome_of, outcome_at, asks_at, cancels_at}
-use Rattle.house_forward.specs.declared.asks.Outcome.{Outcome}
-use Rattle.house_forward.specs.declared.asks.Outcome.TheVariants.{Refused}
+use Rattle.house_forward.specs.Forwardings.{is_numbered, forwarding_changed, listener_stage_after, closing_after, forwarding_outcome_of, outcome_at, asks_at, cancels_at}
+use Rattle.house_forward.specs.declared.asks.RequestOutcome.{RequestOutcome}
+use Rattle.house_forward.specs.declared.asks.RequestOutcome.TheVariants.{Refused}
 use Rattle.house_forward.specs.declared.asks.Waiting.{Waiting}
 use Rattle.house_forward.specs.declared.forwarding.Change.{Change}
 use Rattle.house_forward.specs.declared.forwarding.Change.TheVariants as change
@@ -101,19 +101,19 @@ one-serial (y ∷ xs) x z low high e (inr h) (inr k) same =
 
 -- ---- requests have an outcome
 
-never-none : (at : ℕ) (o : Outcome) (x : Option (ℕ × Outcome)) → ask_settled_at at o x ≡ None → ⊥
+never-none : (at : ℕ) (o : RequestOutcome) (x : Option (ℕ × RequestOutcome)) → ask_settled_at at o x ≡ None → ⊥
 never-none at o None e = cc
 never-none at o (Some y) e = cc
 
-unsettled-if : (P R : Waiting → Type 0) (at : ℕ) (o : Outcome) (w : Waiting) (b : Bool) → (b ≡ false → w.outcome ≡ None → P w → R w)
+unsettled-if : (P R : Waiting → Type 0) (at : ℕ) (o : RequestOutcome) (w : Waiting) (b : Bool) → (b ≡ false → w.outcome ≡ None → P w → R w)
     → Unsettled P w → Unsettled R (if b then record w { outcome = ask_settled_at at o w.outcome } else w)
 unsettled-if P R at o w true step h = λ none. absurd (never-none at o w.outcome none)
 unsettled-if P R at o w false step h = λ none. step refl none (h none)
 
 -- those that are left have no outcome
-pub all-unsettled : (P R : Waiting → Type 0) (serial : ℕ) (opening : Bool) (at : ℕ) (o : Outcome) (ws : List Waiting)
+pub all-unsettled : (P R : Waiting → Type 0) (serial : ℕ) (opening : Bool) (at : ℕ) (o : RequestOutcome) (ws : List Waiting)
     → ((w : Waiting) → is_ask_about serial opening w ≡ false → w.outcome ≡ None → P w → R w)
-    → All (Unsettled P) ws → All (Unsettled R) (settled serial opening at o ws)
+    → All (Unsettled P) ws → All (Unsettled R) (requests_settled serial opening at o ws)
 all-unsettled P R serial opening at o ws step h =
     All-map (Unsettled R) (settle_one serial opening at o) ws
     (All-weaker (Unsettled P) (λ (w : Waiting). Unsettled R (settle_one serial opening at o w))
@@ -121,10 +121,10 @@ all-unsettled P R serial opening at o ws step h =
 
 pub all-unrefused : (P R : Waiting → Type 0) (serial at : ℕ) (ws : List Waiting)
     → ((w : Waiting) → is_ask_about serial true w ≡ false → is_ask_about serial false w ≡ false → w.outcome ≡ None → P w → R w)
-    → All (Unsettled P) ws → All (Unsettled R) (refused serial at ws)
+    → All (Unsettled P) ws → All (Unsettled R) (all_requests_refused serial at ws)
 all-unrefused P R serial at ws step h =
-    all-unsettled (λ (w : Waiting). (is_ask_about serial true w ≡ false) × P w) R serial false (counted at) Refused
-    (settled serial true at Refused ws) (λ w other none p. step w p.0 other none p.1)
+    all-unsettled (λ (w : Waiting). (is_ask_about serial true w ≡ false) × P w) R serial false (one_more_outcome at) Refused
+    (requests_settled serial true at Refused ws) (λ w other none p. step w p.0 other none p.1)
     (all-unsettled P (λ (w : Waiting). (is_ask_about serial true w ≡ false) × P w) serial true at Refused ws
     (λ w other none p. (other, p)) h)
 
@@ -157,13 +157,13 @@ serial-if : (b : Bool) (f : Forwarding) (s : Stage) (c : Bool) → (if b then re
 serial-if true f s c = refl
 serial-if false f s c = refl
 
-pub changed-serial : (c : Change) (serial : ℕ) (f : Forwarding) → (changed c serial f).serial ≡ f.serial
-changed-serial c serial f = serial-if (f.serial == serial) f (stage_after c f.listen_port f.stage) (closing_after c f.closing)
+pub changed-serial : (c : Change) (serial : ℕ) (f : Forwarding) → (forwarding_changed c serial f).serial ≡ f.serial
+changed-serial c serial f = serial-if (f.serial == serial) f (listener_stage_after c f.listen_port f.stage) (closing_after c f.closing)
 
-pub changed-other : (c : Change) (serial : ℕ) (f : Forwarding) → (f.serial == serial) ≡ false → changed c serial f ≡ f
+pub changed-other : (c : Change) (serial : ℕ) (f : Forwarding) → (f.serial == serial) ≡ false → forwarding_changed c serial f ≡ f
 changed-other c serial f e = rw e refl
 
-stage-outcome : (c : Change) (asked n : ℕ) (s : Stage) → IsSteady c → outcome_at s n ≡ None → outcome_at (stage_after c asked s) n ≡ None
+stage-outcome : (c : Change) (asked n : ℕ) (s : Stage) → IsSteady c → outcome_at s n ≡ None → outcome_at (listener_stage_after c asked s) n ≡ None
 stage-outcome c asked n (ToListen host) steady e = refl
 stage-outcome c asked n Ordered steady e = refl
 stage-outcome c asked n (Listening l) steady e = cc
@@ -182,7 +182,7 @@ stage-outcome c asked n (Cancelling p) steady e = cc
 
 -- none becomes live but what is asked for
 live-outcome : (chosen : Option ℕ) (asked n : ℕ) (s : Stage) → asks_at s ≡ false → outcome_at s n ≡ None
-    → outcome_at (stage_after (change.Live chosen) asked s) n ≡ None
+    → outcome_at (listener_stage_after (change.Live chosen) asked s) n ≡ None
 live-outcome chosen asked n (ToListen host) a e = refl
 live-outcome chosen asked n Ordered a e = refl
 live-outcome chosen asked n (Listening l) a e = cc
@@ -192,21 +192,21 @@ live-outcome chosen asked n (Live p) a e = cc
 live-outcome chosen asked n (Cancelling p) a e = cc
 
 holds-if : (c : Change) (opening : Bool) (f : Forwarding) (b : Bool) → Holds opening f
-    → (b ≡ true → Holds opening (record f { stage = stage_after c f.listen_port f.stage; closing = closing_after c f.closing }))
-    → Holds opening (if b then record f { stage = stage_after c f.listen_port f.stage; closing = closing_after c f.closing } else f)
+    → (b ≡ true → Holds opening (record f { stage = listener_stage_after c f.listen_port f.stage; closing = closing_after c f.closing }))
+    → Holds opening (if b then record f { stage = listener_stage_after c f.listen_port f.stage; closing = closing_after c f.closing } else f)
 holds-if c opening f true h k = k refl
 holds-if c opening f false h k = h
 
 -- its forwarding goes on
 pub fate-changed : (c : Change) (serial : ℕ) (all : List Forwarding) (w : Waiting) (fate : HasFate all w)
     → (fate.0.serial ≡ serial → Holds w.opening (record fate.0 {
-      stage = stage_after c fate.0.listen_port fate.0.stage;
+      stage = listener_stage_after c fate.0.listen_port fate.0.stage;
       closing = closing_after c fate.0.closing;
-    })) → HasFate (map (changed c serial) all) w
+    })) → HasFate (map (forwarding_changed c serial) all) w
 fate-changed c serial all w fate k =
     let f = fate.0 in (
-      changed c serial f,
-      in-map (changed c serial) f all fate.1,
+      forwarding_changed c serial f,
+      in-map (forwarding_changed c serial) f all fate.1,
       changed-serial c serial f ∙ fate.2,
       holds-if c w.opening f (f.serial == serial) fate.3 (λ is. k (eqb-true f.serial serial is)),
     )
@@ -234,17 +234,17 @@ said-steady (change.Live port) s = absurd s
 said-steady change.Stay s = absurd s
 
 pub said-holds : (c : Change) (opening : Bool) (f : Forwarding) → IsSent c → Holds opening f
-    → Holds opening (record f { stage = stage_after c f.listen_port f.stage; closing = closing_after c f.closing })
+    → Holds opening (record f { stage = listener_stage_after c f.listen_port f.stage; closing = closing_after c f.closing })
 said-holds c true f s h = stage-outcome c f.listen_port f.listen_port f.stage (said-steady c s) h
 said-holds c false f s h = said-closing c f.closing s h
 
 pub live-holds : (chosen : Option ℕ) (opening : Bool) (f : Forwarding) → (opening ≡ true → asks_at f.stage ≡ false) → Holds opening f
-    → Holds opening (record f { stage = stage_after (change.Live chosen) f.listen_port f.stage; closing = f.closing })
+    → Holds opening (record f { stage = listener_stage_after (change.Live chosen) f.listen_port f.stage; closing = f.closing })
 live-holds chosen true f a h = live-outcome chosen f.listen_port f.listen_port f.stage (a refl) h
 live-holds chosen false f a h = h
 
 pub stay-holds : (f : Forwarding) (c : Bool) → forwarding_outcome_of f ≡ None
-    → forwarding_outcome_of (record f { stage = stage_after change.Stay f.listen_port f.stage; closing = c }) ≡ None
+    → forwarding_outcome_of (record f { stage = listener_stage_after change.Stay f.listen_port f.stage; closing = c }) ≡ None
 stay-holds f c h = stage-outcome change.Stay f.listen_port f.listen_port f.stage tt h
 
 -- ---- requests
@@ -259,7 +259,7 @@ awaits-more (Live port) n rs more k h = tt
 awaits-more (Cancelling port) n rs more k h = k (Cancel n) h
 
 pub listen-awaits : (s : Stage) (asked n : ℕ) (rs : List ForwardingRequest) → In (Listen n) rs → StageAwaits s n rs
-    → StageAwaits (stage_after change.ForwardingRequest asked s) n rs
+    → StageAwaits (listener_stage_after change.ForwardingRequest asked s) n rs
 listen-awaits (ToListen host) asked n rs k h = tt
 listen-awaits Ordered asked n rs k h = h
 listen-awaits (Listening l) asked n rs k h = tt
@@ -269,7 +269,7 @@ listen-awaits (Live port) asked n rs k h = tt
 listen-awaits (Cancelling port) asked n rs k h = h
 
 pub cancel-awaits : (s : Stage) (asked n : ℕ) (rs : List ForwardingRequest) → In (Cancel n) rs → StageAwaits s n rs
-    → StageAwaits (stage_after change.Cancel asked s) n rs
+    → StageAwaits (listener_stage_after change.Cancel asked s) n rs
 cancel-awaits (ToListen host) asked n rs k h = tt
 cancel-awaits Ordered asked n rs k h = h
 cancel-awaits (Listening l) asked n rs k h = tt
@@ -279,7 +279,7 @@ cancel-awaits (Live port) asked n rs k h = k
 cancel-awaits (Cancelling port) asked n rs k h = h
 
 pub close-awaits : (s : Stage) (asked n : ℕ) (rs : List ForwardingRequest) → StageAwaits s n rs
-    → StageAwaits (stage_after change.Close asked s) n rs
+    → StageAwaits (listener_stage_after change.Close asked s) n rs
 close-awaits (ToListen host) asked n rs h = tt
 close-awaits Ordered asked n rs h = h
 close-awaits (Listening l) asked n rs h = tt
@@ -294,7 +294,7 @@ rest-of r x rs differ (inr h) = h
 
 -- the first request is answered
 pub live-awaits : (s : Stage) (chosen : Option ℕ) (asked n serial : ℕ) (rs : List ForwardingRequest) → StageAwaits s n (Listen serial ∷ rs)
-    → StageAwaits (stage_after (change.Live chosen) asked s) n rs
+    → StageAwaits (listener_stage_after (change.Live chosen) asked s) n rs
 live-awaits (ToListen host) chosen asked n serial rs h = tt
 live-awaits Ordered chosen asked n serial rs h = h
 live-awaits (Listening l) chosen asked n serial rs h = tt
@@ -304,7 +304,7 @@ live-awaits (Live port) chosen asked n serial rs h = tt
 live-awaits (Cancelling port) chosen asked n serial rs h = rest-of (Listen serial) (Cancel n) rs (λ e. cc) h
 
 pub stay-awaits : (s : Stage) (asked n serial : ℕ) (rs : List ForwardingRequest) → StageAwaits s n (Cancel serial ∷ rs)
-    → StageAwaits (stage_after change.Stay asked s) n rs
+    → StageAwaits (listener_stage_after change.Stay asked s) n rs
 stay-awaits (ToListen host) asked n serial rs h = tt
 stay-awaits Ordered asked n serial rs h = h
 stay-awaits (Listening l) asked n serial rs h = tt

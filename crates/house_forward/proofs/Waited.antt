@@ -10,7 +10,7 @@ use Rattle.mux_outside.specs.House.{has_waiting}
 use Rattle.mux_outside.specs.OwnStreams.{is_one, is_finished, numbers_of}
 use Rattle.mux_outside.specs.Streams.{among}
 use Rattle.mux_outside.specs.declared.own_streams.OwnStream.{OwnStream}
-use Rattle.house_forward.specs.Links.{streams_of, own_stream_of, are_distinct, has_number, numbered, stream_number_in, is_of, finishes, link_queue_in, queue_at, waiting_in, stream_waiting, unless_among}
+use Rattle.house_forward.specs.Links.{streams_of, own_stream_of, are_distinct, has_number, numbered, stream_number_in, is_relay_stream, is_stream_finished, link_queue_in, queue_at, waiting_in_link, stream_waiting, unless_among}
 use Rattle.house_forward.specs.declared.link.Link.{Link}
 use Rattle.house_forward.specs.declared.link.LinkStream.{LinkStream}
 use Rattle.house_forward.specs.declared.link.LinkStream.TheVariants.{Offered, Awaited, Made, Gone}
@@ -21,7 +21,7 @@ use Rattle.house_forward.proofs.Queues.{queue-first}
 -- ---- what waits for the stream of a link
 
 queue-if : (ls : List Link) (i t : ℕ) (x : Link) → are_distinct (streams_of ls) ≡ true → position (has_number t) ls ≡ Some i → x ≡ get_or ls i x
-    → (b : Bool) → is_of t x ≡ b → link_queue_in (find (is_of t) ls) ≡ (if b then x.relay.queue.waiting else [])
+    → (b : Bool) → is_relay_stream t x ≡ b → link_queue_in (find (is_relay_stream t) ls) ≡ (if b then x.relay.queue.waiting else [])
 queue-if ls i t x d p at true is = queue-first ls i t x (of-there ls i t x p at is) at
 queue-if ls i t x d p at false isnt = ap link_queue_in (found-nowhere ls t (of-none ls i t x d p at isnt))
 
@@ -32,15 +32,15 @@ shape false true queue = refl
 shape false false queue = refl
 
 queue-there : (ls : List Link) (i t : ℕ) (x : Link) → are_distinct (streams_of ls) ≡ true → i < length ls → x ≡ get_or ls i x → has_number t x ≡ true
-    → queue_at ls t ≡ (if is_of t x && not (finishes t x.stream) then x.relay.queue.waiting else [])
+    → queue_at ls t ≡ (if is_relay_stream t x && not (is_stream_finished t x.stream) then x.relay.queue.waiting else [])
 queue-there ls i t x d l at n =
     let p : position (has_number t) ls ≡ Some i = has-there ls i t x d l at n in
-    let queue : List ℕ = link_queue_in (find (is_of t) ls) in
+    let queue : List ℕ = link_queue_in (find (is_relay_stream t) ls) in
     let one : is_one t (streams_of ls) ≡ true = sym (owned ls t) ∙ ap is_some p in
     ap (λ (b : Bool). if b && not (is_finished t (streams_of ls)) then queue else []) one
     ∙ (ap (λ (b : Bool). if not b then queue else []) (sym (finished-there ls i t x d p at))
-    ∙ (ap (λ (q : List ℕ). if not (finishes t x.stream) then q else []) (queue-if ls i t x d p at (is_of t x) refl)
-    ∙ shape (is_of t x) (finishes t x.stream) x.relay.queue.waiting))
+    ∙ (ap (λ (q : List ℕ). if not (is_stream_finished t x.stream) then q else []) (queue-if ls i t x d p at (is_relay_stream t x) refl)
+    ∙ shape (is_relay_stream t x) (is_stream_finished t x.stream) x.relay.queue.waiting))
 
 -- ---- whether it is listed
 
@@ -85,11 +85,11 @@ by-tests failed t true false (b ∷ queue) =
     ∙ ap (λ (e : Bool). unless_among failed (if not e then Some t else None)) (sym some))
 
 listed-one : (ls : List Link) (failed : List ℕ) (i : ℕ) (x : Link) → are_distinct (streams_of ls) ≡ true → i < length ls → x ≡ get_or ls i x
-    → (o : Option ℕ) → stream_number_in x.stream ≡ o → filter (has_waiting (queue_at ls) failed) (listed o) ≡ unless_among failed (waiting_in x o)
+    → (o : Option ℕ) → stream_number_in x.stream ≡ o → filter (has_waiting (queue_at ls) failed) (listed o) ≡ unless_among failed (waiting_in_link x o)
 listed-one ls failed i x d l at None e = refl
 listed-one ls failed i x d l at (Some t) e =
     ap (λ (q : List ℕ). cond (not (among t failed) && not (length q == 0)) (t ∷ []) []) (queue-there ls i t x d l at (number-has x.stream t e))
-    ∙ by-tests failed t (is_of t x) (finishes t x.stream) x.relay.queue.waiting
+    ∙ by-tests failed t (is_relay_stream t x) (is_stream_finished t x.stream) x.relay.queue.waiting
 
 -- one link more
 pub listed-more : (ls : List Link) (failed : List ℕ) (i : ℕ) (x : Link) → are_distinct (streams_of ls) ≡ true → i < length ls → x ≡ get_or ls i x

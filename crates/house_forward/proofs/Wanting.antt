@@ -7,16 +7,16 @@ use Rattle.std.proofs.lemmas.Bool.{and_parts, and_from, or_parts, both_ways, cas
 use Rattle.std.proofs.lemmas.List.Quantifiers.{position-Some}
 use Rattle.mux_outside.specs.declared.house.HouseReply.{HouseReply}
 use Rattle.mux_outside.specs.declared.start_ask.StartAsk.{StartAsk}
-use Rattle.house_forward.specs.Asks.{settled, settle_one, refused, counted, is_ask_about, same, has_open, is_waiting, taken_at, answer_in, reply_of, earliest, has_outcome, is_settled, waiting_for, turns_away}
+use Rattle.house_forward.specs.Asks.{requests_settled, settle_one, all_requests_refused, one_more_outcome, is_ask_about, same, has_open, is_waiting, without_request_at, answer_in, reply_of, earliest, has_outcome, is_settled, request_waiting_for, turns_away}
 use Rattle.house_forward.specs.ForwarderEvents.{ForwarderEvent, Does, Leave}
 use Rattle.house_forward.specs.ForwarderEvents.{Begins, Asks, Answers, Greets, Requests, Replies, Listens, Unlistens}
-use Rattle.house_forward.specs.ForwardingState.{ForwardingState, empty_forwarding_state, IsClientAsk, Answers as IsAnswered, request_sent, reply_received, GetsListener, EndsListener, standing_at}
-use Rattle.house_forward.specs.Forwardings.{Begins as BeginsAt, StartsIf, Standing, Opens, has_request, requests_at, forwarding_request_of, forwarding_request_at, after_sending, changed, stage_after, closing_after, standing, closes_of, comes_of_ends, after_close, EndsLeave, ComesIf, ComesUnless, waiting_after, is_asked, asks_at, is_cancelled, cancels_at, live_outcome_in, opened_asks, replied_all, replied_asks, removed_at, first_of, to_listen, waits_at, ordered_asks, is_numbered, has_listener, is_listener, listener_at}
+use Rattle.house_forward.specs.ForwardingState.{ForwardingState, empty_forwarding_state, IsClientAsk, GivesFirstAnswer as IsAnswered, request_sent, reply_received, GetsListener, EndsListener, standing_at}
+use Rattle.house_forward.specs.Forwardings.{AskedAtStart as BeginsAt, StartsIf, Standing, OpensForwarding, has_request, requests_at, forwarding_request_of, forwarding_request_at, after_request_sent, forwarding_changed, listener_stage_after, closing_after, standing, closes_of, comes_of_ends, after_close, EndsLeave, ComesIf, ComesUnless, waiting_after, is_listen_unanswered, asks_at, is_cancelled, cancels_at, live_outcome_in, opened_asks, replied_all, replied_asks, removed_at, first_forwarding_request, to_listen, waits_at, ordered_asks, is_numbered, has_listener, is_listener, listener_at}
 use Rattle.house_forward.specs.Rules.{is_ruled_out, rules_of}
-use Rattle.house_forward.specs.declared.asks.Asked.{Asked as Comes}
-use Rattle.house_forward.specs.declared.asks.Asked.TheVariants.{Now, Later}
-use Rattle.house_forward.specs.declared.asks.Outcome.{Outcome}
-use Rattle.house_forward.specs.declared.asks.Outcome.TheVariants.{Done, Refused}
+use Rattle.house_forward.specs.declared.asks.ImmediateOutcome.{ImmediateOutcome as Comes}
+use Rattle.house_forward.specs.declared.asks.ImmediateOutcome.TheVariants.{Now, Later}
+use Rattle.house_forward.specs.declared.asks.RequestOutcome.{RequestOutcome}
+use Rattle.house_forward.specs.declared.asks.RequestOutcome.TheVariants.{Done, Refused}
 use Rattle.house_forward.specs.declared.asks.Waiting.{Waiting}
 use Rattle.house_forward.specs.declared.forwarding.Change.{Change}
 use Rattle.house_forward.specs.declared.forwarding.Change.TheVariants as change
@@ -65,7 +65,7 @@ pub record Wants (d : ForwardingState) : Type 0 where
   pub said : Said d.requests d.all
   once : Once d.requests
 
--- ---- asks go on
+-- ---- requests go on
 
 abbrev Keeps : List Waiting → List Waiting → ℕ → Type 0
 Keeps ws more n = Closer ws n → Closer more n
@@ -78,27 +78,27 @@ not-about serial false w n c other = elim (cases_Bool (w.forwarding == serial)) 
   | inr isnt ↦ ap (λ b. b && same w.opening false) isnt
 ]
 
-not-settled : (serial : ℕ) (opening : Bool) (at : ℕ) (o : Outcome) (w : Waiting) → is_ask_about serial opening w ≡ false
+not-settled : (serial : ℕ) (opening : Bool) (at : ℕ) (o : RequestOutcome) (w : Waiting) → is_ask_about serial opening w ≡ false
     → settle_one serial opening at o w ≡ w
 not-settled serial opening at o w e = rw e refl
 
 -- those of others get no outcome
-closer-settled : (serial : ℕ) (opening : Bool) (at : ℕ) (o : Outcome) (ws : List Waiting) (n : ℕ) → (opening ≡ false → n ≡ serial → ⊥)
-    → Keeps ws (settled serial opening at o ws) n
+closer-settled : (serial : ℕ) (opening : Bool) (at : ℕ) (o : RequestOutcome) (ws : List Waiting) (n : ℕ) → (opening ≡ false → n ≡ serial → ⊥)
+    → Keeps ws (requests_settled serial opening at o ws) n
 closer-settled serial opening at o ws n other c =
     let w = c.0 in (
       w,
-      subst (λ (v : Waiting). In v (settled serial opening at o ws)) (not-settled serial opening at o w (not-about serial opening w n c.2 other))
+      subst (λ (v : Waiting). In v (requests_settled serial opening at o ws)) (not-settled serial opening at o w (not-about serial opening w n c.2 other))
           (in-map (settle_one serial opening at o) w ws c.1),
       c.2,
     )
 
-closer-refused : (serial at : ℕ) (ws : List Waiting) (n : ℕ) → (n ≡ serial → ⊥) → Keeps ws (refused serial at ws) n
+closer-refused : (serial at : ℕ) (ws : List Waiting) (n : ℕ) → (n ≡ serial → ⊥) → Keeps ws (all_requests_refused serial at ws) n
 closer-refused serial at ws n other c =
-    closer-settled serial false (counted at) Refused (settled serial true at Refused ws) n (λ e. other)
+    closer-settled serial false (one_more_outcome at) Refused (requests_settled serial true at Refused ws) n (λ e. other)
     (closer-settled serial true at Refused ws n (λ e. cc) c)
 
-closer-opened : (o : Option Outcome) (serial at : ℕ) (ws : List Waiting) (n : ℕ) → Keeps ws (opened_asks o serial at ws) n
+closer-opened : (o : Option RequestOutcome) (serial at : ℕ) (ws : List Waiting) (n : ℕ) → Keeps ws (opened_asks o serial at ws) n
 closer-opened None serial at ws n c = c
 closer-opened (Some outcome) serial at ws n c = closer-settled serial true at outcome ws n (λ e. cc) c
 
@@ -134,14 +134,14 @@ closed-before (change.Live port) b l e = e
 closed-before change.Stay b l e = cc
 
 closed-if : (c : Change) (b : Bool) (f : Forwarding) → LeavesOpen c
-    → (if b then record f { stage = stage_after c f.listen_port f.stage; closing = closing_after c f.closing } else f).closing ≡ true
+    → (if b then record f { stage = listener_stage_after c f.listen_port f.stage; closing = closing_after c f.closing } else f).closing ≡ true
     → f.closing ≡ true
 closed-if c true f l e = closed-before c f.closing l e
 closed-if c false f l e = e
 
-yet-changed : (c : Change) (serial : ℕ) (fs : List Forwarding) → LeavesOpen c → ClosedYet fs (map (changed c serial) fs)
+yet-changed : (c : Change) (serial : ℕ) (fs : List Forwarding) → LeavesOpen c → ClosedYet fs (map (forwarding_changed c serial) fs)
 yet-changed c serial fs l g here closes =
-    let at = out-map (changed c serial) g fs here in (
+    let at = out-map (forwarding_changed c serial) g fs here in (
       at.0,
       at.1,
       sym (changed-serial c serial at.0) ∙ ap (λ (x : Forwarding). x.serial) at.2,
@@ -190,7 +190,7 @@ one-more fs f open_yet = record {
   ];
 }
 
-opens-more : (b : Bool) (ends : Ends) (serials : ℕ) (start : Option ℕ) (old new : List Forwarding) → Opens b ends serials start old new
+opens-more : (b : Bool) (ends : Ends) (serials : ℕ) (start : Option ℕ) (old new : List Forwarding) → OpensForwarding b ends serials start old new
     → More old new
 opens-more false ends serials start old new o = none-more old new o
 opens-more true ends serials start old new o = subst (More old) (sym o.2) (one-more old o.0 o.1.open_yet)
@@ -234,7 +234,7 @@ closer-more ws v n c = (c.0, in-left c.0 ws (v ∷ []) c.1, c.2)
 
 closer-asked : (comes : Comes) (client id : ℕ) (opening : Bool) (ws : List Waiting) (n : ℕ) → Keeps ws (waiting_after comes client id opening ws) n
 closer-asked (Now o) client id opening ws n c = c
-closer-asked (Later serial) client id opening ws n c = closer-more ws (waiting_for client id opening serial) n c
+closer-asked (Later serial) client id opening ws n c = closer-more ws (request_waiting_for client id opening serial) n c
 
 -- what it leaves
 record AskWants (ws more : List Waiting) (rs : List ForwardingRequest) (old new : List Forwarding) : Type 0 where
@@ -251,16 +251,16 @@ asked-more comes client id opening ws rs old new m closers said = record {
 
 -- the one that is asked to close has its ask, and the others had theirs
 close-if : (client id serial : ℕ) (ws : List Waiting) (b : Bool) (f : Forwarding) → (f.serial == serial) ≡ b
-    → (if b then record f { stage = stage_after change.Close f.listen_port f.stage; closing = true } else f).closing ≡ true
-    → (f.closing ≡ true → Closer ws f.serial) → Closer (ws ++ waiting_for client id false serial ∷ []) f.serial
+    → (if b then record f { stage = listener_stage_after change.Close f.listen_port f.stage; closing = true } else f).closing ≡ true
+    → (f.closing ≡ true → Closer ws f.serial) → Closer (ws ++ request_waiting_for client id false serial ∷ []) f.serial
 close-if client id serial ws true f is closes had = (
-  waiting_for client id false serial,
-  in-last (waiting_for client id false serial) ws,
+  request_waiting_for client id false serial,
+  in-last (request_waiting_for client id false serial) ws,
   record { of_it = sym (eqb-true f.serial serial is); closes = refl; open_yet = refl },
 )
-close-if client id serial ws false f is closes had = closer-more ws (waiting_for client id false serial) f.serial (had closes)
+close-if client id serial ws false f is closes had = closer-more ws (request_waiting_for client id false serial) f.serial (had closes)
 
-closed-stage : (n : ℕ) (s : Stage) → (asks_at (stage_after change.Close n s) ≡ asks_at s) × (cancels_at (stage_after change.Close n s) ≡ cancels_at s)
+closed-stage : (n : ℕ) (s : Stage) → (asks_at (listener_stage_after change.Close n s) ≡ asks_at s) × (cancels_at (listener_stage_after change.Close n s) ≡ cancels_at s)
 closed-stage n (ToListen host) = (refl, refl)
 closed-stage n Ordered = (refl, refl)
 closed-stage n (Listening l) = (refl, refl)
@@ -270,33 +270,33 @@ closed-stage n (Live port) = (refl, refl)
 closed-stage n (Cancelling port) = (refl, refl)
 
 -- its stage, after a change
-stage-if : (P : Stage → Type 0) (c : Change) (b : Bool) (f : Forwarding) → P f.stage → (b ≡ true → P (stage_after c f.listen_port f.stage))
-    → P (if b then record f { stage = stage_after c f.listen_port f.stage; closing = closing_after c f.closing } else f).stage
+stage-if : (P : Stage → Type 0) (c : Change) (b : Bool) (f : Forwarding) → P f.stage → (b ≡ true → P (listener_stage_after c f.listen_port f.stage))
+    → P (if b then record f { stage = listener_stage_after c f.listen_port f.stage; closing = closing_after c f.closing } else f).stage
 stage-if P c true f h k = k refl
 stage-if P c false f h k = h
 
 closes-if : (c : Change) (b : Bool) (f : Forwarding) → f.closing ≡ true → (b ≡ true → closing_after c f.closing ≡ true)
-    → (if b then record f { stage = stage_after c f.listen_port f.stage; closing = closing_after c f.closing } else f).closing ≡ true
+    → (if b then record f { stage = listener_stage_after c f.listen_port f.stage; closing = closing_after c f.closing } else f).closing ≡ true
 closes-if c true f h k = k refl
 closes-if c false f h k = h
 
 is-changed : (c : Change) (serial : ℕ) (fs : List Forwarding) (r : ForwardingRequest)
-    → ((f : Forwarding) → f.serial ≡ serial → r ≡ Listen f.serial → asks_at f.stage ≡ true → asks_at (stage_after c f.listen_port f.stage) ≡ true)
-    → ((f : Forwarding) → f.serial ≡ serial → r ≡ Cancel f.serial → cancels_at f.stage ≡ true → cancels_at (stage_after c f.listen_port f.stage) ≡ true)
+    → ((f : Forwarding) → f.serial ≡ serial → r ≡ Listen f.serial → asks_at f.stage ≡ true → asks_at (listener_stage_after c f.listen_port f.stage) ≡ true)
+    → ((f : Forwarding) → f.serial ≡ serial → r ≡ Cancel f.serial → cancels_at f.stage ≡ true → cancels_at (listener_stage_after c f.listen_port f.stage) ≡ true)
     → ((f : Forwarding) → f.serial ≡ serial → r ≡ Cancel f.serial → f.closing ≡ true → closing_after c f.closing ≡ true)
-    → IsOfStream fs r → IsOfStream (map (changed c serial) fs) r
+    → IsOfStream fs r → IsOfStream (map (forwarding_changed c serial) fs) r
 is-changed c serial fs (Listen n) asks cancels closes h =
     let f = h.0 in (
-      changed c serial f,
-      in-map (changed c serial) f fs h.1,
+      forwarding_changed c serial f,
+      in-map (forwarding_changed c serial) f fs h.1,
       changed-serial c serial f ∙ h.2,
       stage-if (λ (s : Stage). asks_at s ≡ true) c (f.serial == serial) f h.3
           (λ is. asks f (eqb-true f.serial serial is) (ap (λ m. Listen m) (sym h.2)) h.3),
     )
 is-changed c serial fs (Cancel n) asks cancels closes h =
     let f = h.0 in (
-      changed c serial f,
-      in-map (changed c serial) f fs h.1,
+      forwarding_changed c serial f,
+      in-map (forwarding_changed c serial) f fs h.1,
       changed-serial c serial f ∙ h.2,
       stage-if (λ (s : Stage). cancels_at s ≡ true) c (f.serial == serial) f h.3
           (λ is. cancels f (eqb-true f.serial serial is) (ap (λ m. Cancel m) (sym h.2)) h.3),
@@ -309,11 +309,11 @@ asked-close : (comes : Comes) (client id : ℕ) (ws : List Waiting) (rs : List F
 asked-close (Now o) client id ws rs old new e closers said =
     asked-more (Now o) client id false ws rs old new (none-more old new e) closers said
 asked-close (Later serial) client id ws rs old new e closers said =
-    subst (AskWants ws (ws ++ waiting_for client id false serial ∷ []) rs old) (sym e) (record {
+    subst (AskWants ws (ws ++ request_waiting_for client id false serial ∷ []) rs old) (sym e) (record {
       closers = λ g here closes.
-          let at = out-map (changed change.Close serial) g old here in
+          let at = out-map (forwarding_changed change.Close serial) g old here in
           let its : at.0.serial ≡ g.serial = sym (changed-serial change.Close serial at.0) ∙ ap (λ (x : Forwarding). x.serial) at.2 in
-          subst (Closer (ws ++ waiting_for client id false serial ∷ [])) its
+          subst (Closer (ws ++ request_waiting_for client id false serial ∷ [])) its
           (close-if client id serial ws (at.0.serial == serial) at.0 refl (ap (λ (x : Forwarding). x.closing) at.2 ∙ closes)
           (λ closed. closers at.0 at.1 closed));
       said = λ r h. is-changed change.Close serial old r (λ f is of k. (closed-stage f.listen_port f.stage).0 ∙ k)
@@ -406,13 +406,13 @@ answered-by (Some w) client id answer ws e is =
     let two : w.id ≡ id = ap (λ (a : ℕ × ℕ × HouseReply). a.1) same in
     record { w = w; here = its.0; is = and_from _ _ (eq-eqb w.client client one) (eq-eqb w.id id two); came = its.1 }
 
-unsettled-not : (o : Option (ℕ × Outcome)) (P : Type 0) → o ≡ None → is_settled o ≡ true → P
+unsettled-not : (o : Option (ℕ × RequestOutcome)) (P : Type 0) → o ≡ None → is_settled o ≡ true → P
 unsettled-not None P e f = cc
 unsettled-not (Some x) P e f = cc
 
 -- another waits on
 closer-left : (client id : ℕ) (ws : List Waiting) (o : Option ℕ) (n : ℕ) → position (is_waiting client id) ws ≡ o → Apart ws
-    → Answered client id ws → Keeps ws (taken_at o ws) n
+    → Answered client id ws → Keeps ws (without_request_at o ws) n
 closer-left client id ws None n e apart a c = c
 closer-left client id [] (Some i) n e apart a c = absurd c.1
 closer-left client id (x ∷ ws) (Some i) n e apart a c =
@@ -430,8 +430,8 @@ after-answering : (client id : ℕ) (answer : HouseReply) (old new : ForwardingS
 after-answering client id answer old new apart a w =
     let at = position (is_waiting client id) old.waiting in
     let one = answered-by (earliest old.waiting) client id answer old.waiting refl a.answer in
-    let got : Wants (record old { waiting = taken_at at old.waiting }) = record {
-      closers = closers-by old.waiting (taken_at at old.waiting) old.all old.all (yet-same old.all old.all refl)
+    let got : Wants (record old { waiting = without_request_at at old.waiting }) = record {
+      closers = closers-by old.waiting (without_request_at at old.waiting) old.all old.all (yet-same old.all old.all refl)
           (λ g here closes c. closer-left client id old.waiting at g.serial refl apart one c) w.closers;
       said = w.said;
       once = w.once;
@@ -498,8 +498,8 @@ which-request (Live port) n = inr refl
 which-request (Cancelling port) n = inl refl
 
 -- a request that was sent is that of its forwarding still
-listen-keeps : (n : ℕ) (s : Stage) → (asks_at s ≡ true → asks_at (stage_after change.ForwardingRequest n s) ≡ true)
-    × (cancels_at s ≡ true → cancels_at (stage_after change.ForwardingRequest n s) ≡ true)
+listen-keeps : (n : ℕ) (s : Stage) → (asks_at s ≡ true → asks_at (listener_stage_after change.ForwardingRequest n s) ≡ true)
+    × (cancels_at s ≡ true → cancels_at (listener_stage_after change.ForwardingRequest n s) ≡ true)
 listen-keeps n (ToListen host) = (λ e. e, λ e. e)
 listen-keeps n Ordered = (λ e. e, λ e. e)
 listen-keeps n (Listening l) = (λ e. e, λ e. e)
@@ -508,8 +508,8 @@ listen-keeps n Requested = (λ e. e, λ e. e)
 listen-keeps n (Live port) = (λ e. e, λ e. e)
 listen-keeps n (Cancelling port) = (λ e. e, λ e. e)
 
-cancel-keeps : (n : ℕ) (s : Stage) → (asks_at s ≡ true → asks_at (stage_after change.Cancel n s) ≡ true)
-    × (cancels_at s ≡ true → cancels_at (stage_after change.Cancel n s) ≡ true)
+cancel-keeps : (n : ℕ) (s : Stage) → (asks_at s ≡ true → asks_at (listener_stage_after change.Cancel n s) ≡ true)
+    × (cancels_at s ≡ true → cancels_at (listener_stage_after change.Cancel n s) ≡ true)
 cancel-keeps n (ToListen host) = (λ e. e, λ e. e)
 cancel-keeps n Ordered = (λ e. e, λ e. e)
 cancel-keeps n (Listening l) = (λ e. e, λ e. e)
@@ -518,7 +518,7 @@ cancel-keeps n Requested = (λ e. e, λ e. e)
 cancel-keeps n (Live port) = (λ e. cc, λ e. refl)
 cancel-keeps n (Cancelling port) = (λ e. e, λ e. e)
 
-said-keeps : (r q : ForwardingRequest) (fs : List Forwarding) → IsOfStream fs r → IsOfStream (after_sending q fs) r
+said-keeps : (r q : ForwardingRequest) (fs : List Forwarding) → IsOfStream fs r → IsOfStream (after_request_sent q fs) r
 said-keeps r (Listen serial) fs h = is-changed change.ForwardingRequest serial fs r (λ f is of k. (listen-keeps f.listen_port f.stage).0 k)
     (λ f is of k. (listen-keeps f.listen_port f.stage).1 k) (λ f is of k. k) h
 said-keeps r (Cancel serial) fs h = is-changed change.Cancel serial fs r (λ f is of k. (cancel-keeps f.listen_port f.stage).0 k)
@@ -526,33 +526,33 @@ said-keeps r (Cancel serial) fs h = is-changed change.Cancel serial fs r (λ f i
 
 -- the one that sends it has it
 changed-its : (c : Change) (f : Forwarding)
-    → changed c f.serial f ≡ record f { stage = stage_after c f.listen_port f.stage; closing = closing_after c f.closing }
+    → forwarding_changed c f.serial f ≡ record f { stage = listener_stage_after c f.listen_port f.stage; closing = closing_after c f.closing }
 changed-its c f = rw (eq-eqb f.serial f.serial refl) refl
 
 said-its : (s : Stage) (f : Forwarding) (fs : List Forwarding) → f.stage ≡ s → requests_at s f.closing ≡ true → In f fs
-    → IsOfStream (after_sending (forwarding_request_at s f.serial) fs) (forwarding_request_at s f.serial)
+    → IsOfStream (after_request_sent (forwarding_request_at s f.serial) fs) (forwarding_request_at s f.serial)
 said-its (ToListen host) f fs is e h = cc
 said-its Ordered f fs is e h = cc
 said-its (Listening l) f fs is e h = cc
 said-its ToRequest f fs is e h = (
-  changed change.ForwardingRequest f.serial f,
-  in-map (changed change.ForwardingRequest f.serial) f fs h,
+  forwarding_changed change.ForwardingRequest f.serial f,
+  in-map (forwarding_changed change.ForwardingRequest f.serial) f fs h,
   changed-serial change.ForwardingRequest f.serial f,
   ap (λ (x : Forwarding). asks_at x.stage) (changed-its change.ForwardingRequest f)
-      ∙ ap (λ (s : Stage). asks_at (stage_after change.ForwardingRequest f.listen_port s)) is,
+      ∙ ap (λ (s : Stage). asks_at (listener_stage_after change.ForwardingRequest f.listen_port s)) is,
 )
 said-its Requested f fs is e h = cc
 said-its (Live port) f fs is e h = (
-  changed change.Cancel f.serial f,
-  in-map (changed change.Cancel f.serial) f fs h,
+  forwarding_changed change.Cancel f.serial f,
+  in-map (forwarding_changed change.Cancel f.serial) f fs h,
   changed-serial change.Cancel f.serial f,
   ap (λ (x : Forwarding). cancels_at x.stage) (changed-its change.Cancel f)
-      ∙ ap (λ (s : Stage). cancels_at (stage_after change.Cancel f.listen_port s)) is,
+      ∙ ap (λ (s : Stage). cancels_at (listener_stage_after change.Cancel f.listen_port s)) is,
   ap (λ (x : Forwarding). x.closing) (changed-its change.Cancel f) ∙ e,
 )
 said-its (Cancelling port) f fs is e h = cc
 
-yet-said : (q : ForwardingRequest) (fs : List Forwarding) → ClosedYet fs (after_sending q fs)
+yet-said : (q : ForwardingRequest) (fs : List Forwarding) → ClosedYet fs (after_request_sent q fs)
 yet-said (Listen serial) fs = yet-changed change.ForwardingRequest serial fs tt
 yet-said (Cancel serial) fs = yet-changed change.Cancel serial fs tt
 
@@ -562,10 +562,10 @@ after-request f old new t is e w =
     let here = found-in has_request f old.all is in
     let has = (found (λ (x : Forwarding). Unit {0}) has_request old.all f is (all-in (λ (x : Forwarding). Unit {0}) old.all (λ x h. tt))).1 in
     let got : Wants (request_sent f old) = record {
-      closers = closers-by old.waiting old.waiting old.all (after_sending q old.all) (yet-said q old.all) (λ g here closes c. c) w.closers;
+      closers = closers-by old.waiting old.waiting old.all (after_request_sent q old.all) (yet-said q old.all) (λ g here closes c. c) w.closers;
       said = λ r h. elim (out-last r q old.requests h) [
         | inl there ↦ said-keeps r q old.all (w.said r there)
-        | inr same ↦ subst (IsOfStream (after_sending q old.all)) same (said-its f.stage f old.all refl has here)
+        | inr same ↦ subst (IsOfStream (after_request_sent q old.all)) same (said-its f.stage f old.all refl has here)
       ];
       once = once-more old.requests q w.once
           (λ h. not-said q old.all old.serials f t.numbered here has (which-request f.stage f.serial) (w.said q h));
@@ -578,7 +578,7 @@ record ReplyWants (rs : List ForwardingRequest) (new : List Forwarding) (ws : Li
   closers : Closers ws new
   said : Said rs new
 
-live-cancels : (port : Option ℕ) (n : ℕ) (s : Stage) → cancels_at s ≡ true → cancels_at (stage_after (change.Live port) n s) ≡ true
+live-cancels : (port : Option ℕ) (n : ℕ) (s : Stage) → cancels_at s ≡ true → cancels_at (listener_stage_after (change.Live port) n s) ≡ true
 live-cancels port n (ToListen host) e = cc
 live-cancels port n Ordered e = cc
 live-cancels port n (Listening l) e = cc
@@ -587,7 +587,7 @@ live-cancels port n Requested e = cc
 live-cancels port n (Live p) e = cc
 live-cancels port n (Cancelling p) e = e
 
-stay-asks : (n : ℕ) (s : Stage) → asks_at s ≡ true → asks_at (stage_after change.Stay n s) ≡ true
+stay-asks : (n : ℕ) (s : Stage) → asks_at s ≡ true → asks_at (listener_stage_after change.Stay n s) ≡ true
 stay-asks n (ToListen host) e = cc
 stay-asks n Ordered e = cc
 stay-asks n (Listening l) e = cc
@@ -634,17 +634,17 @@ left-differs q serial fs serials h f n here is passes left same =
 
 -- a request that isn't the one that is answered has its forwarding still
 listens-left : (serial : ℕ) (fs : List Forwarding) (r : ForwardingRequest) → (r ≡ Listen serial → ⊥) → IsOfStream fs r
-    → IsOfStream (removed_at (position (is_asked serial) fs) fs) r
+    → IsOfStream (removed_at (position (is_listen_unanswered serial) fs) fs) r
 listens-left serial fs (Listen n) other h = (
   h.0,
-  fate-left (is_asked serial) fs (position (is_asked serial) fs) h.0 refl
+  fate-left (is_listen_unanswered serial) fs (position (is_listen_unanswered serial) fs) h.0 refl
       (other-serial h.0.serial serial (asks_at h.0.stage) (λ same. other (ap (λ m. Listen m) (sym h.2 ∙ same)))) h.1,
   h.2,
   h.3,
 )
 listens-left serial fs (Cancel n) other h = (
   h.0,
-  fate-left (is_asked serial) fs (position (is_asked serial) fs) h.0 refl
+  fate-left (is_listen_unanswered serial) fs (position (is_listen_unanswered serial) fs) h.0 refl
       (and-second (h.0.serial == serial) (asks_at h.0.stage) (cancels-asks h.0.stage h.3)) h.1,
   h.2,
   h.3,
@@ -677,15 +677,15 @@ stays-not : (b : Bool) (P : Type 0) → closing_after change.Stay b ≡ true →
 stays-not b P e = cc
 
 stayed-if : (serial : ℕ) (b : Bool) (f : Forwarding) → (f.serial == serial) ≡ b
-    → (if b then record f { stage = stage_after change.Stay f.listen_port f.stage; closing = false } else f).closing ≡ true
+    → (if b then record f { stage = listener_stage_after change.Stay f.listen_port f.stage; closing = false } else f).closing ≡ true
     → f.serial ≡ serial → ⊥
 stayed-if serial true f is closes same = cc
 stayed-if serial false f is closes same = both_ways (f.serial == serial) is (eq-eqb f.serial serial same)
 
-stay-differs : (serial : ℕ) (fs : List Forwarding) (g : Forwarding) → In g (map (changed change.Stay serial) fs) → g.closing ≡ true
+stay-differs : (serial : ℕ) (fs : List Forwarding) (g : Forwarding) → In g (map (forwarding_changed change.Stay serial) fs) → g.closing ≡ true
     → g.serial ≡ serial → ⊥
 stay-differs serial fs g here closes same =
-    let at = out-map (changed change.Stay serial) g fs here in
+    let at = out-map (forwarding_changed change.Stay serial) g fs here in
     stayed-if serial (at.0.serial == serial) at.0 refl (ap (λ (x : Forwarding). x.closing) at.2 ∙ closes)
     (sym (changed-serial change.Stay serial at.0) ∙ ap (λ (x : Forwarding). x.serial) at.2 ∙ same)
 
@@ -693,18 +693,18 @@ replied : (success : Bool) (r : ForwardingRequest) (port : Option ℕ) (at seria
     → is_numbered 0 fs serials ≡ true → Closers ws fs → Said (r ∷ rs) fs → Once (r ∷ rs)
     → ReplyWants rs (replied_all success port (Some r) fs) (replied_asks success port (Some r) fs at ws)
 replied true (Listen serial) port at serials rs fs ws n closers said once = record {
-  closers = closers-by ws (replied_asks true port (Some (Listen serial)) fs at ws) fs (map (changed (change.Live port) serial) fs)
+  closers = closers-by ws (replied_asks true port (Some (Listen serial)) fs at ws) fs (map (forwarding_changed (change.Live port) serial) fs)
       (yet-changed (change.Live port) serial fs tt)
-      (λ g here closes c. closer-opened (live_outcome_in port (find (is_asked serial) fs)) serial at ws g.serial c) closers;
+      (λ g here closes c. closer-opened (live_outcome_in port (find (is_listen_unanswered serial) fs)) serial at ws g.serial c) closers;
   said = λ q h. is-changed (change.Live port) serial fs q
       (λ f is of k. absurd (not-first (Listen serial) rs q once h (of ∙ ap (λ m. Listen m) is)))
       (λ f is of k. live-cancels port f.listen_port f.stage k) (λ f is of k. k) (said q (inr h));
 }
 replied false (Listen serial) port at serials rs fs ws n closers said once =
-    let o = position (is_asked serial) fs in
+    let o = position (is_listen_unanswered serial) fs in
     let its = said (Listen serial) (inl refl) in
     record {
-      closers = closers-by ws (refused serial at ws) fs (removed_at o fs) (yet-removed o fs)
+      closers = closers-by ws (all_requests_refused serial at ws) fs (removed_at o fs) (yet-removed o fs)
           (λ g here closes c. closer-refused serial at ws g.serial
           (left-differs (λ (x : Forwarding). asks_at x.stage) serial fs serials its.0 g n its.1 its.2 its.3 here) c) closers;
       said = λ q h. listens-left serial fs q (not-first (Listen serial) rs q once h) (said q (inr h));
@@ -713,13 +713,13 @@ replied true (Cancel serial) port at serials rs fs ws n closers said once =
     let o = position (is_cancelled serial) fs in
     let its = said (Cancel serial) (inl refl) in
     record {
-      closers = closers-by ws (settled serial false at Done ws) fs (removed_at o fs) (yet-removed o fs)
+      closers = closers-by ws (requests_settled serial false at Done ws) fs (removed_at o fs) (yet-removed o fs)
           (λ g here closes c. closer-settled serial false at Done ws g.serial
           (λ e. left-differs (λ (x : Forwarding). cancels_at x.stage) serial fs serials its.0 g n its.1 its.2 its.3 here) c) closers;
       said = λ q h. cancels-left serial fs q (not-first (Cancel serial) rs q once h) (said q (inr h));
     }
 replied false (Cancel serial) port at serials rs fs ws n closers said once = record {
-  closers = closers-by ws (settled serial false at Refused ws) fs (map (changed change.Stay serial) fs) (yet-changed change.Stay serial fs tt)
+  closers = closers-by ws (requests_settled serial false at Refused ws) fs (map (forwarding_changed change.Stay serial) fs) (yet-changed change.Stay serial fs tt)
       (λ g here closes c. closer-settled serial false at Refused ws g.serial (λ e. stay-differs serial fs g here closes) c) closers;
   said = λ q h. is-changed change.Stay serial fs q (λ f is of k. stay-asks f.listen_port f.stage k)
       (λ f is of k. absurd (not-first (Cancel serial) rs q once h (of ∙ ap (λ m. Cancel m) is)))
@@ -727,7 +727,7 @@ replied false (Cancel serial) port at serials rs fs ws n closers said once = rec
 }
 
 replied-by : (success : Bool) (port : Option ℕ) (old : ForwardingState) (rs : List ForwardingRequest) → old.requests ≡ rs → Tracks old → Wants old
-    → ReplyWants (drop 1 rs) (replied_all success port (first_of rs) old.all) (replied_asks success port (first_of rs) old.all old.done old.waiting)
+    → ReplyWants (drop 1 rs) (replied_all success port (first_forwarding_request rs) old.all) (replied_asks success port (first_forwarding_request rs) old.all old.done old.waiting)
 replied-by true port old [] e t w = record { closers = w.closers; said = subst (λ (rs : List ForwardingRequest). Said rs old.all) e w.said }
 replied-by false port old [] e t w = record { closers = w.closers; said = subst (λ (rs : List ForwardingRequest). Said rs old.all) e w.said }
 replied-by success port old (r ∷ rs) e t w =
@@ -782,8 +782,8 @@ made : (number : Option ℕ) (rs : List ForwardingRequest) (serials at i : ℕ) 
     → Closers ws old → Said rs old → ReplyWants rs new (ordered_asks number f.serial at ws)
 made None rs serials at i f old new ws first is m n closers said =
     let its = position-Some to_listen old i f first in
-    subst (λ (xs : List Forwarding). ReplyWants rs xs (refused f.serial at ws)) (sym m) (record {
-      closers = closers-by ws (refused f.serial at ws) old (remove old i) (yet-remove old i)
+    subst (λ (xs : List Forwarding). ReplyWants rs xs (all_requests_refused f.serial at ws)) (sym m) (record {
+      closers = closers-by ws (all_requests_refused f.serial at ws) old (remove old i) (yet-remove old i)
           (λ g here closes c. closer-refused f.serial at ws g.serial
           (λ same. removed-differs old i g f 0 serials n its.0 here (same ∙ ap (λ (x : Forwarding). x.serial) is)) c) closers;
       said = λ r h. is-other old (remove old i) r (λ x here isnt. in-remove to_listen x old i f its.0 its.1 isnt here) (said r h);
@@ -791,8 +791,8 @@ made None rs serials at i f old new ws first is m n closers said =
 made (Some l) rs serials at i f old new ws first is m n closers said =
     let its = position-Some to_listen old i f first in
     let g : Forwarding = record f { stage = Listening l } in
-    subst (λ (xs : List Forwarding). ReplyWants rs xs (settled f.serial true at Done ws)) (sym m) (record {
-      closers = closers-by ws (settled f.serial true at Done ws) old (set old i g)
+    subst (λ (xs : List Forwarding). ReplyWants rs xs (requests_settled f.serial true at Done ws)) (sym m) (record {
+      closers = closers-by ws (requests_settled f.serial true at Done ws) old (set old i g)
           (yet-set old i f (Listening l) (subst (λ (x : Forwarding). In x old) (sym is) (in-get old i f its.0)))
           (λ y here closes c. closer-settled f.serial true at Done ws y.serial (λ e. cc) c) closers;
       said = λ r h. is-other old (set old i g) r (λ x here isnt. set-other x f g f old i its.0 here isnt its.1) (said r h);
@@ -851,8 +851,8 @@ after-unlisten l old new t h w =
     let kept = filter (λ (f : Forwarding). not (has_listener l f)) old.all in
     let c = next-closing (λ (x : Forwarding). In x old.all) old.waiting old.all h.serial l
     (all-in (λ (x : Forwarding). In x old.all) old.all (λ x k. k)) h.next in
-    let got : Wants (record old { all = kept; waiting = settled h.serial false old.done Done old.waiting; done = counted old.done }) = record {
-      closers = closers-by old.waiting (settled h.serial false old.done Done old.waiting) old.all kept
+    let got : Wants (record old { all = kept; waiting = requests_settled h.serial false old.done Done old.waiting; done = one_more_outcome old.done }) = record {
+      closers = closers-by old.waiting (requests_settled h.serial false old.done Done old.waiting) old.all kept
           (yet-filter (λ f. not (has_listener l f)) old.all)
           (λ g here closes k. closer-settled h.serial false old.done Done old.waiting g.serial
           (λ e. not-closed-one h.serial l old.all old.serials g t.numbered c here) k) w.closers;

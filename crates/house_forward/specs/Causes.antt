@@ -1,20 +1,20 @@
--- Why asks get their replies and answers, by what happened before.
+-- Why requests get their replies and answers, by what happened before.
 use Rattle.std.specs.Prelude.{◌≡◌, ◌≢◌, ◌⊎◌, ◌≤◌, ℕ, Bool, true, false, ◌==◌, ◌&&◌, List, [], ◌∷◌, ◌++◌, drop, find, IfSome, Option, Some, None}
 use Rattle.std.specs.List.{All, AllPairs, list_any, Contains}
 use Rattle.mux_outside.specs.Streams.{among, without}
 use Rattle.mux_outside.specs.declared.house.HouseReply.{HouseReply}
 use Rattle.mux_outside.specs.declared.house.HouseReply.TheVariants as given
 use Rattle.mux_outside.specs.declared.start_ask.StartAsk.{StartAsk}
-use Rattle.house_forward.specs.Asks.{turns_away, waiting_for}
+use Rattle.house_forward.specs.Asks.{turns_away, request_waiting_for}
 use Rattle.house_forward.specs.ForwarderEvents.{ForwarderEvent, Does, Leave}
 use Rattle.house_forward.specs.ForwarderEvents.{Begins, Asks, Answers, Greets, Requests, Replies, Listens, Unlistens}
 use Rattle.house_forward.specs.ForwardingState.{ForwardingState}
-use Rattle.house_forward.specs.Forwardings.{first_of, granted, bound_to, forwarding_request_of, forwarding_outcome_of, reply_to, standing, connects_to, how_many, has_request, next_of, listener_of, listeners_of, listeners_made, counts}
+use Rattle.house_forward.specs.Forwardings.{first_forwarding_request, outcome_of_grant, bound_port, forwarding_request_of, forwarding_outcome_of, reply_to, standing, connects_same_end, how_many, has_request, next_listener_order, listener_of, listeners_of, listeners_made, is_asked_or_live}
 use Rattle.house_forward.specs.Quiet.{answers_none}
 use Rattle.house_forward.specs.Rules.{AreEnds, kind_of, listen_host, listens_here, connects_there, is_refused_alone, rules_of, first_rules, is_unpermitted}
-use Rattle.house_forward.specs.declared.asks.Asked.TheVariants.{Now}
-use Rattle.house_forward.specs.declared.asks.Outcome.{Outcome}
-use Rattle.house_forward.specs.declared.asks.Outcome.TheVariants.{Done, Refused}
+use Rattle.house_forward.specs.declared.asks.ImmediateOutcome.TheVariants.{Now}
+use Rattle.house_forward.specs.declared.asks.RequestOutcome.{RequestOutcome}
+use Rattle.house_forward.specs.declared.asks.RequestOutcome.TheVariants.{Done, Refused}
 use Rattle.house_forward.specs.declared.asks.Waiting.{Waiting}
 use Rattle.house_forward.specs.declared.forwarding.Forwarding.{Forwarding}
 use Rattle.house_forward.specs.declared.forwarding.ForwardingRequest.{ForwardingRequest}
@@ -41,38 +41,38 @@ rules_in (Unlistens l ∷ forwarder_events) = rules_in forwarder_events
 
 -- the forwardings whose requests were sent and have no reply yet, as they were then: a reply of the
 -- server is to the first
-abbrev pub unanswered : List ForwarderEvent → List Forwarding
-unanswered [] = []
-unanswered (Begins starts ∷ forwarder_events) = unanswered forwarder_events
-unanswered (Asks client id opening ask reply ∷ forwarder_events) = unanswered forwarder_events
-unanswered (Answers client id reply ∷ forwarder_events) = unanswered forwarder_events
-unanswered (Greets ∷ forwarder_events) = unanswered forwarder_events
-unanswered (Requests f ∷ forwarder_events) = unanswered forwarder_events ++ f ∷ []
-unanswered (Replies success port ∷ forwarder_events) = drop 1 (unanswered forwarder_events)
-unanswered (Listens host port number ∷ forwarder_events) = unanswered forwarder_events
-unanswered (Unlistens l ∷ forwarder_events) = unanswered forwarder_events
+abbrev pub unanswered_requests : List ForwarderEvent → List Forwarding
+unanswered_requests [] = []
+unanswered_requests (Begins starts ∷ forwarder_events) = unanswered_requests forwarder_events
+unanswered_requests (Asks client id opening ask reply ∷ forwarder_events) = unanswered_requests forwarder_events
+unanswered_requests (Answers client id reply ∷ forwarder_events) = unanswered_requests forwarder_events
+unanswered_requests (Greets ∷ forwarder_events) = unanswered_requests forwarder_events
+unanswered_requests (Requests f ∷ forwarder_events) = unanswered_requests forwarder_events ++ f ∷ []
+unanswered_requests (Replies success port ∷ forwarder_events) = drop 1 (unanswered_requests forwarder_events)
+unanswered_requests (Listens host port number ∷ forwarder_events) = unanswered_requests forwarder_events
+unanswered_requests (Unlistens l ∷ forwarder_events) = unanswered_requests forwarder_events
 
 -- whether this listener is closed
-abbrev pub closes : ℕ → ForwarderEvent → Bool
-closes l (Begins starts) = false
-closes l (Asks client id opening ask reply) = false
-closes l (Answers client id reply) = false
-closes l Greets = false
-closes l (Requests f) = false
-closes l (Replies success port) = false
-closes l (Listens host port number) = false
-closes l (Unlistens k) = l == k
+abbrev pub closes_listener : ℕ → ForwarderEvent → Bool
+closes_listener l (Begins starts) = false
+closes_listener l (Asks client id opening ask reply) = false
+closes_listener l (Answers client id reply) = false
+closes_listener l Greets = false
+closes_listener l (Requests f) = false
+closes_listener l (Replies success port) = false
+closes_listener l (Listens host port number) = false
+closes_listener l (Unlistens k) = l == k
 
 -- whether this is the answer to a client's ask with this id
-abbrev pub answers : ℕ → ℕ → ForwarderEvent → Bool
-answers client id (Begins starts) = false
-answers client id (Asks c i opening ask reply) = false
-answers client id (Answers c i reply) = (client == c) && (id == i)
-answers client id Greets = false
-answers client id (Requests f) = false
-answers client id (Replies success port) = false
-answers client id (Listens host port number) = false
-answers client id (Unlistens l) = false
+abbrev pub is_answer_to : ℕ → ℕ → ForwarderEvent → Bool
+is_answer_to client id (Begins starts) = false
+is_answer_to client id (Asks c i opening ask reply) = false
+is_answer_to client id (Answers c i reply) = (client == c) && (id == i)
+is_answer_to client id Greets = false
+is_answer_to client id (Requests f) = false
+is_answer_to client id (Replies success port) = false
+is_answer_to client id (Listens host port number) = false
+is_answer_to client id (Unlistens l) = false
 
 -- ---- a forwarding
 
@@ -99,14 +99,14 @@ pub record ListensSince (host : List ℕ) (port l : ℕ) (forwarder_events : Lis
   pub later : List ForwarderEvent
   pub earlier : List ForwarderEvent
   pub were : forwarder_events ≡ later ++ Listens host port (Some l) ∷ earlier
-  pub open_yet : list_any (closes l) later ≡ false
+  pub open_yet : list_any (closes_listener l) later ≡ false
 
 -- the first request that has no reply is this one, for this forwarding, which the server is to
 -- listen for
 pub record IsNextRequest (what : ℕ → ForwardingRequest) (f : Forwarding) (forwarder_events : List ForwarderEvent) : Type 0 where
   pub first : Forwarding
   pub others : List Forwarding
-  pub were : unanswered forwarder_events ≡ first ∷ others
+  pub were : unanswered_requests forwarder_events ≡ first ∷ others
   pub is : AreOne f first
   pub asks : forwarding_request_of first ≡ what first.serial
   pub there : listens_here f.kind ≡ false
@@ -118,7 +118,7 @@ pub record IsGranted (f : Forwarding) (port : ℕ) (forwarder_events : List Forw
   pub earlier : List ForwarderEvent
   pub were : forwarder_events ≡ later ++ Replies true chosen ∷ earlier
   pub next : IsNextRequest Listen f earlier
-  pub bound : port ≡ bound_to f.listen_port chosen
+  pub bound : port ≡ bound_port f.listen_port chosen
 
 -- it is served: it has a listener, or the server listens for it
 abbrev pub ServesAt : Stage → Forwarding → List ForwarderEvent → Type 0
@@ -143,14 +143,14 @@ IsGrant given.Later = ⊥
 -- A request to open that gets Done or a port at once. The very forwarding that it is for is there.
 -- It has a listener that isn't to be closed or is live, and gives the port where the server was to
 -- choose one.
-pub record IsServed (opening : Bool) (ask : StartAsk) (reply : HouseReply) (all : List Forwarding)
+pub record IsRequestServed (opening : Bool) (ask : StartAsk) (reply : HouseReply) (all : List Forwarding)
     (forwarder_events : List ForwarderEvent) : Type 0 where
   pub opens : opening ≡ true
   pub forwarding : Forwarding
-  pub outcome : Outcome
+  pub outcome : RequestOutcome
   pub stands : Contains all forwarding
   pub is_for : IsFor (rules_in forwarder_events) true ask forwarding
-  pub counts_yet : counts forwarding ≡ true
+  pub counts_yet : is_asked_or_live forwarding ≡ true
   pub serves : ServesAt forwarding.stage forwarding forwarder_events
   pub comes : forwarding_outcome_of forwarding ≡ Some outcome
   pub replies : reply ≡ reply_to (Now outcome)
@@ -159,35 +159,35 @@ pub record IsServed (opening : Bool) (ask : StartAsk) (reply : HouseReply) (all 
 abbrev pub EachServed : Type 0
 EachServed = (client id : ℕ) (opening : Bool) (ask : StartAsk) (reply : HouseReply) (forwarder_events : List ForwarderEvent)
     (old new : ForwardingState) → Leave forwarder_events old → Does (Asks client id opening ask reply) old new → IsGrant reply
-    → IsServed opening ask reply old.all forwarder_events
+    → IsRequestServed opening ask reply old.all forwarder_events
 
 -- ---- the later outcome of a request
 
 -- where its listener was made, those that asked for it get Done; where none could be, all that asked
 -- are refused
-abbrev pub ListenerMadeBy : Option ℕ → Bool → Outcome → Type 0
+abbrev pub ListenerMadeBy : Option ℕ → Bool → RequestOutcome → Type 0
 ListenerMadeBy None opening outcome = outcome ≡ Refused
 ListenerMadeBy (Some l) true outcome = outcome ≡ Done
 ListenerMadeBy (Some l) false outcome = ⊥
 
 -- a success makes it live, with the port where the server was to choose one, or ends it; a failure
 -- refuses it to all that asked, or lets it live
-abbrev pub RepliedBy : Bool → Option ℕ → List ForwarderEvent → Bool → Forwarding → Outcome → Type 0
+abbrev pub RepliedBy : Bool → Option ℕ → List ForwarderEvent → Bool → Forwarding → RequestOutcome → Type 0
 RepliedBy true port earlier true f outcome = IsNextRequest Listen f earlier
-    × (outcome ≡ granted f.listen_port (bound_to f.listen_port port))
+    × (outcome ≡ outcome_of_grant f.listen_port (bound_port f.listen_port port))
 RepliedBy true port earlier false f outcome = IsNextRequest Cancel f earlier × (outcome ≡ Done)
 RepliedBy false port earlier true f outcome = IsNextRequest Listen f earlier × (outcome ≡ Refused)
 RepliedBy false port earlier false f outcome =
     (IsNextRequest Listen f earlier ⊎ IsNextRequest Cancel f earlier) × (outcome ≡ Refused)
 
 -- as its listener was closed, those that asked for that get Done
-abbrev pub ClosedBy : Bool → Outcome → Type 0
+abbrev pub ClosedBy : Bool → RequestOutcome → Type 0
 ClosedBy true outcome = ⊥
 ClosedBy false outcome = outcome ≡ Done
 
 -- those that requested to open or to close it had this outcome by this event, after the earlier
 -- ones
-abbrev pub CameBy : ForwarderEvent → List ForwarderEvent → Bool → Forwarding → Outcome → Type 0
+abbrev pub CameBy : ForwarderEvent → List ForwarderEvent → Bool → Forwarding → RequestOutcome → Type 0
 CameBy (Begins starts) earlier opening f outcome = ⊥
 CameBy (Asks client id opens ask reply) earlier opening f outcome = ⊥
 CameBy (Answers client id reply) earlier opening f outcome = ⊥
@@ -206,13 +206,13 @@ pub record AnswerHasCause (client id : ℕ) (reply : HouseReply) (forwarder_even
   pub opening : Bool
   pub ask : StartAsk
   pub forwarding : Forwarding
-  pub outcome : Outcome
+  pub outcome : RequestOutcome
   pub later : List ForwarderEvent
   pub forwarder_event : ForwarderEvent
   pub between : List ForwarderEvent
   pub earlier : List ForwarderEvent
   pub were : forwarder_events ≡ later ++ forwarder_event ∷ (between ++ Asks client id opening ask given.Later ∷ earlier)
-  pub open_yet : list_any (answers client id) (later ++ forwarder_event ∷ between) ≡ false
+  pub open_yet : list_any (is_answer_to client id) (later ++ forwarder_event ∷ between) ≡ false
   pub is_for : IsFor (rules_in earlier) opening ask forwarding
   pub came : CameBy forwarder_event (between ++ Asks client id opening ask given.Later ∷ earlier) opening
       forwarding outcome
@@ -234,12 +234,12 @@ pub record WaitsToClose (f : Forwarding) (waiting : List Waiting) (forwarder_eve
   pub later : List ForwarderEvent
   pub earlier : List ForwarderEvent
   pub were : forwarder_events ≡ later ++ Asks client id false ask given.Later ∷ earlier
-  pub open_yet : list_any (answers client id) later ≡ false
+  pub open_yet : list_any (is_answer_to client id) later ≡ false
   pub is_for : IsFor (rules_in earlier) false ask f
-  pub waits : Contains waiting (waiting_for client id false f.serial)
+  pub waits : Contains waiting (request_waiting_for client id false f.serial)
 
 -- a request that has this outcome, as that many had one
-abbrev pub come_to : ℕ → Outcome → Waiting → Waiting
+abbrev pub come_to : ℕ → RequestOutcome → Waiting → Waiting
 come_to at outcome w = record w { outcome = Some (at, outcome) }
 
 -- a listener that is closed is that of a forwarding that a client requested to close, and that
@@ -251,7 +251,7 @@ pub record EndsAsked (l : ℕ) (forwarder_events : List ForwarderEvent) (old new
   pub serves : ListensSince forwarding.listen_host forwarding.listen_port l forwarder_events
   pub asked : WaitsToClose forwarding old.waiting forwarder_events
   pub comes : Contains new.waiting
-      (come_to old.done Done (waiting_for asked.client asked.id false forwarding.serial))
+      (come_to old.done Done (request_waiting_for asked.client asked.id false forwarding.serial))
 
 abbrev pub EachUnlisten : Type 0
 EachUnlisten = (l : ℕ) (forwarder_events : List ForwarderEvent) (old new : ForwardingState) → Leave forwarder_events old
@@ -268,9 +268,9 @@ EachCancel = (f : Forwarding) (forwarder_events : List ForwarderEvent) (old new 
     → Does (Requests f) old new → forwarding_request_of f ≡ Cancel f.serial → CancelsAsked f old.waiting forwarder_events
 
 -- the outcome of a request to close as the server replies to its cancel
-abbrev pub cancelled : Bool → Outcome
-cancelled true = Done
-cancelled false = Refused
+abbrev pub outcome_of_cancel : Bool → RequestOutcome
+outcome_of_cancel true = Done
+outcome_of_cancel false = Refused
 
 -- The reply to a cancel is for a forwarding that is live and that a client requested to close, and
 -- that request has no answer yet. Its outcome is Done now where the cancel was granted, and else it
@@ -280,13 +280,13 @@ pub record EndsCancel (serial : ℕ) (success : Bool) (forwarder_events : List F
   pub stands : Contains old.all forwarding
   pub is : forwarding.serial ≡ serial
   pub cancels : CancelsAsked forwarding old.waiting forwarder_events
-  pub comes : Contains new.waiting (come_to old.done (cancelled success)
-      (waiting_for cancels.asked.client cancels.asked.id false serial))
+  pub comes : Contains new.waiting (come_to old.done (outcome_of_cancel success)
+      (request_waiting_for cancels.asked.client cancels.asked.id false serial))
 
 abbrev pub EachCancelReply : Type 0
 EachCancelReply = (serial : ℕ) (success : Bool) (port : Option ℕ) (forwarder_events : List ForwarderEvent)
     (old new : ForwardingState) → Leave forwarder_events old → Does (Replies success port) old new
-    → first_of old.requests ≡ Some (Cancel serial) → EndsCancel serial success forwarder_events old new
+    → first_forwarding_request old.requests ≡ Some (Cancel serial) → EndsCancel serial success forwarder_events old new
 
 -- ---- what is refused at once
 
@@ -297,30 +297,30 @@ EachCancelReply = (serial : ℕ) (success : Bool) (port : Option ℕ) (forwarder
 -- - One to open: the forwarding that listens there connects elsewhere, or none does and as many are
 --   requested or live as may be.
 -- - One to close: none listens there, or one that closes already.
-pub data IsRefused (client id : ℕ) (opening : Bool) (ask : StartAsk) (d : ForwardingState) : Type 0 where
-  TurnedAway : turns_away client id d.waiting ≡ true → IsRefused client id opening ask d
-  RefusedAlone : is_refused_alone ask ≡ true → IsRefused client id opening ask d
-  NotPermittedHere : is_unpermitted d.rules ask ≡ true → IsRefused client id opening ask d
+pub data IsRequestRefused (client id : ℕ) (opening : Bool) (ask : StartAsk) (d : ForwardingState) : Type 0 where
+  TurnedAway : turns_away client id d.waiting ≡ true → IsRequestRefused client id opening ask d
+  RefusedAlone : is_refused_alone ask ≡ true → IsRequestRefused client id opening ask d
+  NotPermittedHere : is_unpermitted d.rules ask ≡ true → IsRequestRefused client id opening ask d
   ConnectsElsewhere : (ends : Ends) (f : Forwarding) → opening ≡ true → AreEnds d.rules ask ends
-      → standing ends d.all ≡ Some f → connects_to ends f ≡ false → IsRefused client id opening ask d
+      → standing ends d.all ≡ Some f → connects_same_end ends f ≡ false → IsRequestRefused client id opening ask d
   NoRoom : (ends : Ends) → opening ≡ true → AreEnds d.rules ask ends → standing ends d.all ≡ None
-      → MOST_FORWARDINGS ≤ how_many d.all → IsRefused client id opening ask d
+      → MOST_FORWARDINGS ≤ how_many d.all → IsRequestRefused client id opening ask d
   NoneThere : (ends : Ends) → opening ≡ false → AreEnds d.rules ask ends → standing ends d.all ≡ None
-      → IsRefused client id opening ask d
+      → IsRequestRefused client id opening ask d
   ClosesAlready : (ends : Ends) (f : Forwarding) → opening ≡ false → AreEnds d.rules ask ends
-      → standing ends d.all ≡ Some f → f.closing ≡ true → IsRefused client id opening ask d
+      → standing ends d.all ≡ Some f → f.closing ≡ true → IsRequestRefused client id opening ask d
 
 -- each has one of these causes
 abbrev pub EachRefused : Type 0
 EachRefused = (client id : ℕ) (opening : Bool) (ask : StartAsk) (old new : ForwardingState)
-    → Does (Asks client id opening ask given.Refused) old new → IsRefused client id opening ask old
+    → Does (Asks client id opening ask given.Refused) old new → IsRequestRefused client id opening ask old
 
 -- ---- at rest
 
--- there is no request to say, no listener to order or to close, and no answer to give
+-- there is no request to send, no listener to order or to close, and no answer to give
 pub record ForwarderIsAtRest (d : ForwardingState) : Type 0 where
   pub says : find has_request d.all ≡ None
-  pub orders : next_of d.waiting d.all ≡ None
+  pub orders : next_listener_order d.waiting d.all ≡ None
   pub answers : answers_none d.waiting ≡ true
 
 -- the request to listen for the forwarding that a request waits for, or its cancel, was sent and

@@ -5,7 +5,7 @@ use Rattle.mux_outside.specs.HouseCalls.{HouseCall, Marks, Turns, Joined, Got}
 use Rattle.mux_outside.specs.declared.house_mark.HouseMark.TheVariants.{HouseOrder}
 use Rattle.mux_outside.specs.declared.order.Order.TheVariants as order
 use Rattle.mux_outside.specs.declared.own_streams.OwnStream.{OwnStream}
-use Rattle.house_relay.specs.Acts.{RelayAct, Fails, Refused, answer, read, outcome_in, waiting, socket_has_ended, received_close, sent_close}
+use Rattle.house_relay.specs.Acts.{RelayAct, Fails, Refused, answer, read, outcome_in, waiting, socket_has_ended, received_close, was_close_sent}
 use Rattle.house_forward.specs.Forwardings.{has_listener}
 use Rattle.house_forward.specs.RelayTraces.{Life, Trace, Follows, TraceReaches, first_trace, are_full, are_dialogs_full}
 use Rattle.house_forward.specs.Opening.{IsCallBefore}
@@ -21,11 +21,11 @@ socket_has_failed (_ ∷ acts) = socket_has_failed acts
 -- CLOSE went both ways
 pub record IsClosed (acts : List RelayAct) : Type 0 where
   pub heard : received_close acts ≡ true
-  pub said : sent_close acts ≡ true
+  pub said : was_close_sent acts ≡ true
 
 -- its OPEN was refused
-abbrev pub IsRefused : List RelayAct → Type 0
-IsRefused acts = (reason : ℕ) × answer acts ≡ Refused reason
+abbrev pub IsOpenRefused : List RelayAct → Type 0
+IsOpenRefused acts = (reason : ℕ) × answer acts ≡ Refused reason
 
 -- its dialog broke
 pub record HasBroken (dials : Bool) (acts : List RelayAct) : Type 0 where
@@ -41,10 +41,10 @@ pub record HasLeft (dials : Bool) (acts : List RelayAct) : Type 0 where
 
 abbrev pub IsThrough : Bool → List RelayAct → Type 0
 IsThrough dials acts =
-    IsClosed acts ⊎ (IsRefused acts ⊎ (HasBroken dials acts ⊎ HasLeft dials acts))
+    IsClosed acts ⊎ (IsOpenRefused acts ⊎ (HasBroken dials acts ⊎ HasLeft dials acts))
 
 -- nothing waits for its socket, and nothing more comes from it
-pub record IsServed (dials : Bool) (acts : List RelayAct) : Type 0 where
+pub record IsSocketServed (dials : Bool) (acts : List RelayAct) : Type 0 where
   pub none : waiting dials acts ≡ []
   pub through : IsThrough dials acts
 
@@ -90,7 +90,7 @@ pub record IsCloseOf (calls : List HouseCall) (relay_traces : List Life) (t : �
   pub is : life.own ≡ Some own
   pub number : own.number ≡ t
   pub cause : (socket_has_failed life.acts ≡ true)
-      ⊎ (IsServed life.dials life.acts ⊎ HasNoChannel calls life.own)
+      ⊎ (IsSocketServed life.dials life.acts ⊎ HasNoChannel calls life.own)
 
 -- each Close that is ordered after these calls
 abbrev pub ClosesHaveCause : Type 0

@@ -8,7 +8,7 @@ use Rattle.house_relay.specs.declared.line.ChannelState.TheVariants.{Offered}
 use Rattle.house_forward.specs.Closing.{IsStream}
 use Rattle.house_forward.specs.Connects.{ConnectPlace}
 use Rattle.house_forward.specs.RelayTraces.{Life, Trace, Follows, TraceReaches, first_trace}
-use Rattle.house_forward.specs.Said.{framed, confirmed, not_connected}
+use Rattle.house_forward.specs.Said.{framed, confirmation_of_open, not_connected}
 
 -- whether what is sent is an OPEN_CONFIRMATION, or an OPEN_FAILURE: its payload begins after the
 -- length and the padding of its frame
@@ -58,7 +58,7 @@ pub record IsConfirmationOf (calls : List HouseCall) (relay_traces : List Life) 
     pub to : ConnectPlace
     pub stream : ℕ
     pub unanswered : IsUnanswered relay_traces life remote to
-    pub says : bytes ≡ framed (confirmed remote life.relay.number)
+    pub says : bytes ≡ framed (confirmation_of_open remote life.relay.number)
     pub its : IsStream life.own stream
     pub writable : HasHappened calls to stream (Writable stream)
 

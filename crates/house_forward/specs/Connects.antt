@@ -14,8 +14,8 @@ use Rattle.mux_outside.specs.declared.order.Order.TheVariants as order
 use Rattle.house_forward.specs.Forwardings.{served_at}
 use Rattle.house_forward.specs.RelayTraces.{Life, Trace, Follows, TraceReaches, RelaysReceiveFrames, first_trace, with_received, is_socket_unmade}
 use Rattle.house_forward.specs.declared.forwarding.Forwarding.{Forwarding}
-use Rattle.house_forward.specs.declared.forwarder_state.Stage.{Stage}
-use Rattle.house_forward.specs.declared.forwarder_state.Stage.TheVariants.{Control, Proxy}
+use Rattle.house_forward.specs.declared.forwarder_state.ForwarderStage.{ForwarderStage}
+use Rattle.house_forward.specs.declared.forwarder_state.ForwarderStage.TheVariants.{Control, Proxy}
 
 -- a host and a port to which a socket is connected
 abbrev pub ConnectPlace : Type 0
@@ -59,20 +59,20 @@ still_to_connect relay_traces = filter_map (λ l. if is_socket_unmade l then l.t
 -- ---- the OPENs
 
 -- where a forwarding connects, if there is one
-abbrev pub place_of : Option Forwarding → List ConnectPlace
-place_of None = []
-place_of (Some f) = (f.connect_host, f.connect_port) ∷ []
+abbrev pub connect_places_of : Option Forwarding → List ConnectPlace
+connect_places_of None = []
+connect_places_of (Some f) = (f.connect_host, f.connect_port) ∷ []
 
 -- an OPEN of forwarded-tcpip is accepted where the server listens at its address and port for a
 -- forwarding
-abbrev pub taken_at : Key → List Forwarding → List ConnectPlace
-taken_at (Tcp address port) all = place_of (find (served_at address port) all)
-taken_at (Path path) all = []
+abbrev pub places_of_accepted_open : Key → List Forwarding → List ConnectPlace
+places_of_accepted_open (Tcp address port) all = connect_places_of (find (served_at address port) all)
+places_of_accepted_open (Path path) all = []
 
 abbrev pub taken_for : Opens → List Forwarding → List ConnectPlace
 taken_for Session all = []
 taken_for (Direct key) all = []
-taken_for (Forwarded key) all = taken_at key all
+taken_for (Forwarded key) all = places_of_accepted_open key all
 taken_for OtherType all = []
 
 abbrev pub taken_plain : PlainMessage → List Forwarding → List ConnectPlace
@@ -91,7 +91,7 @@ taken_reading (Ok message) all = taken_message message all
 taken_reading (Err bad) all = []
 
 -- a frame is a message once the proxy is granted
-abbrev pub taken_frame : Stage → List ℕ → List Forwarding → List ConnectPlace
+abbrev pub taken_frame : ForwarderStage → List ℕ → List Forwarding → List ConnectPlace
 taken_frame Control content all = []
 taken_frame Proxy content all = taken_reading (read_message content) all
 
@@ -111,13 +111,13 @@ taken_call (Turns happening) old new follows = []
 taken_call (Takes t bytes) old new follows = []
 
 -- where the OPENs are to be connected that are accepted in these calls, in their order
-abbrev pub taken_in : (calls : List HouseCall) (old new : Trace) → TraceReaches old calls new → List ConnectPlace
-taken_in [] old new reaches = []
-taken_in (call ∷ calls) old new reaches =
-    taken_call call old reaches.0 reaches.1 ++ taken_in calls reaches.0 new reaches.2
+abbrev pub accepted_places_in : (calls : List HouseCall) (old new : Trace) → TraceReaches old calls new → List ConnectPlace
+accepted_places_in [] old new reaches = []
+accepted_places_in (call ∷ calls) old new reaches =
+    taken_call call old reaches.0 reaches.1 ++ accepted_places_in calls reaches.0 new reaches.2
 
 -- of each OPEN that is accepted one Connect is ordered, in their order, to where its forwarding
 -- connects, or it is still to be; and none is ordered besides
 abbrev pub OneConnectEach : Type 0
 OneConnectEach = (calls : List HouseCall) (trace : Trace) (reaches : TraceReaches first_trace calls trace)
-    → taken_in calls first_trace trace reaches ≡ connects_in calls ++ still_to_connect trace.relay_traces
+    → accepted_places_in calls first_trace trace reaches ≡ connects_in calls ++ still_to_connect trace.relay_traces

@@ -49,6 +49,6 @@ abbrev pub due : List Forwarding → List Link → List Waiting → ℕ
 due forwardings links waiting =
     sum_by forwarding_due forwardings + (sum_by link_due links + length waiting)
 
--- the most that so many forwardings, relays and asks need
+-- the most that so many forwardings, relays and requests need
 abbrev pub most_due : ℕ → ℕ → ℕ → ℕ
 most_due forwardings links asks = forwardings * 2 + (links * 4 + asks)

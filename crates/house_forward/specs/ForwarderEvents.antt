@@ -17,13 +17,13 @@ use Rattle.mux_outside.specs.declared.start_ask.StartAsk.{StartAsk}
 use Rattle.mux_outside.specs.declared.starts.Starts.{Starts}
 use Rattle.house_relay.specs.Next.{sends_of}
 use Rattle.house_relay.specs.declared.relay.Relay.{Relay}
-use Rattle.house_forward.specs.ForwardingState.{ForwardingState, empty_forwarding_state, BeginsWith, IsClientAsk, Answers as IsAnswered, greeting_sent, request_sent, reply_received, GetsListener, EndsListener}
+use Rattle.house_forward.specs.ForwardingState.{ForwardingState, empty_forwarding_state, BeginsWith, IsClientAsk, GivesFirstAnswer as IsAnswered, greeting_sent, request_sent, reply_received, GetsListener, EndsListener}
 use Rattle.house_forward.specs.Forwardings.{has_request}
 use Rattle.house_forward.specs.RelayTraces.{Trace, first_trace, Follows, TraceReaches, RelaysReceiveFrames, with_received, is_grant, port_in}
 use Rattle.house_forward.specs.Said.{framed, relay_sent_by, request_payload}
 use Rattle.house_forward.specs.declared.forwarding.Forwarding.{Forwarding}
-use Rattle.house_forward.specs.declared.forwarder_state.Stage.{Stage}
-use Rattle.house_forward.specs.declared.forwarder_state.Stage.TheVariants.{Control, Proxy}
+use Rattle.house_forward.specs.declared.forwarder_state.ForwarderStage.{ForwarderStage}
+use Rattle.house_forward.specs.declared.forwarder_state.ForwarderStage.TheVariants.{Control, Proxy}
 use Rattle.mux_outside.specs.declared.greeting.TheConstants.{GREETING}
 
 -- the forwardings of the start are asked for; a client asks to open or close one, and gets this
@@ -67,26 +67,26 @@ recorded_plain (grammar.RequestSuccess rest) = Replies true (port_in (take_u32 r
 recorded_plain grammar.RequestFailure = Replies false None ∷ []
 recorded_plain (grammar.Open kind sender window maximum rest what) = []
 
-abbrev pub recorded : Message → List ForwarderEvent
-recorded (Plain m) = recorded_plain m
-recorded (To recipient m) = []
+abbrev pub events_of_message : Message → List ForwarderEvent
+events_of_message (Plain m) = recorded_plain m
+events_of_message (To recipient m) = []
 
 abbrev pub recorded_if : Result Message Bad → List ForwarderEvent
-recorded_if (Ok m) = recorded m
+recorded_if (Ok m) = events_of_message m
 recorded_if (Err bad) = []
 
 -- a control message means nothing for them
-abbrev pub events_recorded_by : Stage → List ℕ → List ForwarderEvent
+abbrev pub events_recorded_by : ForwarderStage → List ℕ → List ForwarderEvent
 events_recorded_by Control content = []
 events_recorded_by Proxy content = recorded_if (reading content)
 
 -- after the control message that grants the proxy it is on
-abbrev pub stage_next : Stage → List ℕ → Stage
+abbrev pub stage_next : ForwarderStage → List ℕ → ForwarderStage
 stage_next Control content = if is_grant (take_u32 content) then Proxy else Control
 stage_next Proxy content = Proxy
 
 -- what the frames mean, one after the other
-abbrev pub recorded_in : Stage → List (List ℕ) → List ForwarderEvent
+abbrev pub recorded_in : ForwarderStage → List (List ℕ) → List ForwarderEvent
 recorded_in stage [] = []
 recorded_in stage (content ∷ more) = recorded_in (stage_next stage content) more ++ events_recorded_by stage content
 

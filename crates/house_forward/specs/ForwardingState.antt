@@ -6,14 +6,14 @@ use Rattle.mux_outside.specs.Streams.{among}
 use Rattle.mux_outside.specs.declared.house.HouseReply.{HouseReply}
 use Rattle.mux_outside.specs.declared.start_ask.StartAsk.{StartAsk}
 use Rattle.mux_outside.specs.declared.starts.Starts.{Starts}
-use Rattle.house_forward.specs.Asks.{turns_away, answer_of, after_answer, settled, counted}
-use Rattle.house_forward.specs.Forwardings.{Begins, Standing, what_stands, ComesUnless, reply_to, waiting_after, forwarding_request_of, after_sending}
-use Rattle.house_forward.specs.Forwardings.{first_of, replied_all, replied_asks, replied_done, replied_refused}
-use Rattle.house_forward.specs.Forwardings.{next_of, to_listen, listeners_of, OrderedAt, MadeAt, has_listener, made_refused, ordered_asks, ordered_done, serial_of}
+use Rattle.house_forward.specs.Asks.{turns_away, next_answer, after_answer, requests_settled, one_more_outcome}
+use Rattle.house_forward.specs.Forwardings.{AskedAtStart, Standing, what_stands, ComesUnless, reply_to, waiting_after, forwarding_request_of, after_request_sent}
+use Rattle.house_forward.specs.Forwardings.{first_forwarding_request, replied_all, replied_asks, replied_done, replied_refused}
+use Rattle.house_forward.specs.Forwardings.{next_listener_order, to_listen, listeners_of, OrderedAt, MadeAt, has_listener, made_refused, ordered_asks, ordered_done, serial_of}
 use Rattle.house_forward.specs.Rules.{rules_of, first_rules}
-use Rattle.house_forward.specs.declared.asks.Asked.{Asked}
-use Rattle.house_forward.specs.declared.asks.Asks.{Asks}
-use Rattle.house_forward.specs.declared.asks.Outcome.TheVariants.{Done}
+use Rattle.house_forward.specs.declared.asks.ImmediateOutcome.{ImmediateOutcome}
+use Rattle.house_forward.specs.declared.asks.PendingRequests.{PendingRequests}
+use Rattle.house_forward.specs.declared.asks.RequestOutcome.TheVariants.{Done}
 use Rattle.house_forward.specs.declared.asks.Waiting.{Waiting}
 use Rattle.house_forward.specs.declared.forwarding.Forwarding.{Forwarding}
 use Rattle.house_forward.specs.declared.forwarding.ForwardingRequest.{ForwardingRequest}
@@ -52,7 +52,7 @@ empty_forwarding_state = record {
 }
 
 -- that of the forwarder, by what it has
-abbrev pub forwarding_state_of : ListenRules → Bool → Forwardings → Asks → ForwardingState
+abbrev pub forwarding_state_of : ListenRules → Bool → Forwardings → PendingRequests → ForwardingState
 forwarding_state_of rules greeted forwardings asks = record {
   rules = rules;
   greeted = greeted;
@@ -64,7 +64,7 @@ forwarding_state_of rules greeted forwardings asks = record {
   done = asks.done;
 }
 
--- ---- asks
+-- ---- requests
 
 -- its forwardings as the start sees them
 abbrev pub standing_at : ForwardingState → Standing
@@ -72,7 +72,7 @@ standing_at d = what_stands d.all d.serials d.refused
 
 -- all that is asked for at the start was asked for, one after another
 pub record BeginsWith (starts : Starts) (old new : ForwardingState) : Type 0 where
-  pub begins : Begins (rules_of starts) starts.asks (length starts.asks)
+  pub begins : AskedAtStart (rules_of starts) starts.asks (length starts.asks)
       (standing_at old) (standing_at new)
   pub others : new ≡ record old {
     rules = rules_of starts;
@@ -86,7 +86,7 @@ pub record BeginsWith (starts : Starts) (old new : ForwardingState) : Type 0 whe
 -- the next serial.
 pub record IsClientAsk (client id : ℕ) (opening : Bool) (ask : StartAsk) (reply : HouseReply)
     (old new : ForwardingState) : Type 0 where
-  pub came_to : Asked
+  pub came_to : ImmediateOutcome
   pub comes : ComesUnless (turns_away client id old.waiting) old.rules opening ask old.serials
       old.all new.all came_to
   pub replies : reply ≡ reply_to came_to
@@ -97,8 +97,8 @@ pub record IsClientAsk (client id : ℕ) (opening : Bool) (ask : StartAsk) (repl
   }
 
 -- the request that had an outcome first gets its answer, and waits no longer
-pub record Answers (client id : ℕ) (reply : HouseReply) (old new : ForwardingState) : Type 0 where
-  pub answer : answer_of old.waiting ≡ Some (client, id, reply)
+pub record GivesFirstAnswer (client id : ℕ) (reply : HouseReply) (old new : ForwardingState) : Type 0 where
+  pub answer : next_answer old.waiting ≡ Some (client, id, reply)
   pub others : new ≡ record old { waiting = after_answer (Some (client, id, reply)) old.waiting }
 
 -- ---- what is sent, and the server's replies
@@ -110,7 +110,7 @@ greeting_sent d = record d { greeted = true }
 -- the request of this forwarding is sent, and is unanswered
 abbrev pub request_sent : Forwarding → ForwardingState → ForwardingState
 request_sent f d = record d {
-  all = after_sending (forwarding_request_of f) d.all;
+  all = after_request_sent (forwarding_request_of f) d.all;
   requests = d.requests ++ forwarding_request_of f ∷ [];
 }
 
@@ -118,11 +118,11 @@ request_sent f d = record d {
 -- failure
 abbrev pub reply_received : Bool → Option ℕ → ForwardingState → ForwardingState
 reply_received success port d = record d {
-  all = replied_all success port (first_of d.requests) d.all;
-  refused = replied_refused success (first_of d.requests) d.all d.refused;
+  all = replied_all success port (first_forwarding_request d.requests) d.all;
+  refused = replied_refused success (first_forwarding_request d.requests) d.all d.refused;
   requests = drop 1 d.requests;
-  waiting = replied_asks success port (first_of d.requests) d.all d.done d.waiting;
-  done = replied_done success port (first_of d.requests) d.all d.done;
+  waiting = replied_asks success port (first_forwarding_request d.requests) d.all d.done d.waiting;
+  done = replied_done success port (first_forwarding_request d.requests) d.all d.done;
 }
 
 -- ---- listeners
@@ -132,7 +132,7 @@ reply_received success port d = record d {
 pub record OrdersListener (host : List ℕ) (port : ℕ) (old new : ForwardingState) : Type 0 where
   pub place : ℕ
   pub first : position to_listen old.all ≡ Some place
-  pub next : next_of old.waiting old.all ≡ Some want.Listen
+  pub next : next_listener_order old.waiting old.all ≡ Some want.Listen
   pub there : IfSome (find to_listen old.all) (λ f. (host ≡ f.listen_host) × (port ≡ f.listen_port))
   pub ordered : OrderedAt place old.all new.all
   pub others : new ≡ record old { all = new.all }
@@ -161,11 +161,11 @@ pub record GetsListener (host : List ℕ) (port : ℕ) (number : Option ℕ)
 -- to close it have that outcome
 pub record EndsListener (l : ℕ) (old new : ForwardingState) : Type 0 where
   pub serial : ℕ
-  pub next : next_of old.waiting old.all ≡ Some (want.Unlisten serial l)
+  pub next : next_listener_order old.waiting old.all ≡ Some (want.Unlisten serial l)
   pub others : new ≡ record old {
     all = filter (λ f. not (has_listener l f)) old.all;
-    waiting = settled serial false old.done Done old.waiting;
-    done = counted old.done;
+    waiting = requests_settled serial false old.done Done old.waiting;
+    done = one_more_outcome old.done;
   }
 
 -- an order about a listener is given
@@ -181,7 +181,7 @@ pub record ChangesList (old new : Forwardings) : Type 0 where
   pub requests : new.requests ≡ old.requests
   pub refused : new.refused ≡ old.refused
 
--- its forwardings and asks go on so, whatever else it has
-abbrev pub ForwardingsGo : (ForwardingState → ForwardingState → Type 0) → Forwardings → Asks → Forwardings → Asks → Type 0
+-- its forwardings and requests go on so, whatever else it has
+abbrev pub ForwardingsGo : (ForwardingState → ForwardingState → Type 0) → Forwardings → PendingRequests → Forwardings → PendingRequests → Type 0
 ForwardingsGo so forwardings asks forwardings' asks' = (rules : ListenRules) (greeted : Bool)
     → so (forwarding_state_of rules greeted forwardings asks) (forwarding_state_of rules greeted forwardings' asks')

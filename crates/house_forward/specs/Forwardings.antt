@@ -2,15 +2,15 @@
 use Rattle.std.specs.Prelude.{◌≡◌, ◌+◌, ℕ, zero, suc, Bool, true, false, not, ◌&&◌, ◌||◌, if◌then◌else◌, ◌==◌, nat_lt, nat_le, List, [], ◌∷◌, ◌++◌, length, map, filter, find, get_or, set, slice_get, is_some, IfSome, Option, Some, None}
 use Rattle.std.specs.List.{list_any, filter_map, position, remove}
 use Rattle.std.specs.Str.{bytes_eq}
-use Rattle.house_forward.specs.Asks.{owes_opening, settled, refused, waiting_for, counted}
+use Rattle.house_forward.specs.Asks.{owes_opening, requests_settled, all_requests_refused, request_waiting_for, one_more_outcome}
 use Rattle.mux_outside.specs.declared.order.Order.{Order}
 use Rattle.mux_outside.specs.declared.order.Order.TheVariants as order
 use Rattle.mux_outside.specs.declared.house.HouseReply.{HouseReply}
 use Rattle.mux_outside.specs.declared.house.HouseReply.TheVariants as reply
 use Rattle.mux_outside.specs.declared.start_ask.StartAsk.{StartAsk}
 use Rattle.house_forward.specs.Rules.{listens_here, connects_there, same_kind, AreEnds, is_ruled_out}
-use Rattle.house_forward.specs.declared.asks.Outcome.{Outcome}
-use Rattle.house_forward.specs.declared.asks.Outcome.TheVariants.{Done, Port, Refused}
+use Rattle.house_forward.specs.declared.asks.RequestOutcome.{RequestOutcome}
+use Rattle.house_forward.specs.declared.asks.RequestOutcome.TheVariants.{Done, Port, Refused}
 use Rattle.house_forward.specs.declared.asks.Waiting.{Waiting}
 use Rattle.house_forward.specs.declared.forwarding.Change.{Change}
 use Rattle.house_forward.specs.declared.forwarding.Change.TheVariants as change
@@ -19,8 +19,8 @@ use Rattle.house_forward.specs.declared.forwarding.ForwardingRequest.{Forwarding
 use Rattle.house_forward.specs.declared.forwarding.ForwardingRequest.TheVariants.{Listen, Cancel}
 use Rattle.house_forward.specs.declared.forwarding.Stage.{Stage}
 use Rattle.house_forward.specs.declared.forwarding.Stage.TheVariants.{ToListen, Ordered, Listening, ToRequest, Requested, Live, Cancelling}
-use Rattle.house_forward.specs.declared.asks.Asked.{Asked}
-use Rattle.house_forward.specs.declared.asks.Asked.TheVariants.{Now, Later}
+use Rattle.house_forward.specs.declared.asks.ImmediateOutcome.{ImmediateOutcome}
+use Rattle.house_forward.specs.declared.asks.ImmediateOutcome.TheVariants.{Now, Later}
 use Rattle.house_forward.specs.declared.forwardings.ListenerOrder.{ListenerOrder}
 use Rattle.house_forward.specs.declared.forwardings.ListenerOrder.TheVariants.{Listen as ListensAt, Unlisten as Unlistens}
 use Rattle.house_forward.specs.declared.forwardings.ForwardingWant.{ForwardingWant}
@@ -32,8 +32,8 @@ use Rattle.house_forward.specs.declared.rules.ListenRules.{ListenRules}
 use Rattle.house_forward.specs.declared.rules.TheConstants.{MOST_FORWARDINGS}
 
 -- whether it is asked or live: one that listens here ends as it is asked to close
-abbrev pub counts : Forwarding → Bool
-counts f = not (f.closing && listens_here f.kind)
+abbrev pub is_asked_or_live : Forwarding → Bool
+is_asked_or_live f = not (f.closing && listens_here f.kind)
 
 -- whether it listens where this is to listen
 abbrev pub listens_at : Ends → Forwarding → Bool
@@ -41,8 +41,8 @@ listens_at ends f = same_kind f.kind ends.kind
     && ((f.listen_port == ends.listen_port) && bytes_eq f.listen_host ends.listen_host.now)
 
 -- whether it connects where this is to connect: where a dialog specifies that, whatever was asked
-abbrev pub connects_to : Ends → Forwarding → Bool
-connects_to ends f = not (connects_there f.kind)
+abbrev pub connects_same_end : Ends → Forwarding → Bool
+connects_same_end ends f = not (connects_there f.kind)
     || ((f.connect_port == ends.connect_port) && bytes_eq f.connect_host ends.connect_host.now)
 
 abbrev pub listener_at : Stage → Option ℕ
@@ -81,20 +81,20 @@ is_numbered low [] high = nat_le low high
 is_numbered low (f ∷ fs) high = nat_le low f.serial && is_numbered (f.serial + 1) fs high
 
 -- with the port where it was asked as 0
-abbrev pub granted : ℕ → ℕ → Outcome
-granted asked port = if asked == 0 then Port port else Done
+abbrev pub outcome_of_grant : ℕ → ℕ → RequestOutcome
+outcome_of_grant asked port = if asked == 0 then Port port else Done
 
-abbrev pub outcome_at : Stage → ℕ → Option Outcome
+abbrev pub outcome_at : Stage → ℕ → Option RequestOutcome
 outcome_at (ToListen host) asked = None
 outcome_at Ordered asked = None
 outcome_at (Listening l) asked = Some Done
 outcome_at ToRequest asked = None
 outcome_at Requested asked = None
-outcome_at (Live port) asked = Some (granted asked port)
-outcome_at (Cancelling port) asked = Some (granted asked port)
+outcome_at (Live port) asked = Some (outcome_of_grant asked port)
+outcome_at (Cancelling port) asked = Some (outcome_of_grant asked port)
 
 -- the outcome of those that request it, once that is known
-abbrev pub forwarding_outcome_of : Forwarding → Option Outcome
+abbrev pub forwarding_outcome_of : Forwarding → Option RequestOutcome
 forwarding_outcome_of f = outcome_at f.stage f.listen_port
 
 -- nothing was done for it yet
@@ -148,36 +148,36 @@ pub record IsAskedFor (ends : Ends) (serial : ℕ) (start : Option ℕ) (f : For
   pub open_yet : f.closing ≡ false
   pub start_is : f.start ≡ start
 
--- ---- asks
+-- ---- requests
 
 -- the forwarding that listens there, asked or live
 abbrev pub standing : Ends → List Forwarding → Option Forwarding
-standing ends fs = find (λ f. counts f && listens_at ends f) fs
+standing ends fs = find (λ f. is_asked_or_live f && listens_at ends f) fs
 
 -- how many are asked or live
 abbrev pub how_many : List Forwarding → ℕ
-how_many fs = length (filter counts fs)
+how_many fs = length (filter is_asked_or_live fs)
 
 -- the same ask again gets what the first one gets
-abbrev pub as_first : Forwarding → Option Outcome → Asked
+abbrev pub as_first : Forwarding → Option RequestOutcome → ImmediateOutcome
 as_first f None = Later f.serial
 as_first f (Some outcome) = Now outcome
 
 -- The outcome of a request to open. Another connect end is refused, and so is one that isn't the
 -- same request again while as many are requested or live as may be. Else there is a new one with
 -- this serial.
-abbrev pub opens_of : ℕ → Ends → List Forwarding → Option Forwarding → Asked
+abbrev pub opens_of : ℕ → Ends → List Forwarding → Option Forwarding → ImmediateOutcome
 opens_of serial ends fs None =
     if nat_lt (how_many fs) MOST_FORWARDINGS then Later serial else Now Refused
 opens_of serial ends fs (Some f) =
-    if connects_to ends f then as_first f (forwarding_outcome_of f) else Now Refused
+    if connects_same_end ends f then as_first f (forwarding_outcome_of f) else Now Refused
 
 -- the outcome of a request to close
-abbrev pub closes_of : Option Forwarding → Asked
+abbrev pub closes_of : Option Forwarding → ImmediateOutcome
 closes_of None = Now Refused
 closes_of (Some f) = if f.closing then Now Refused else Later f.serial
 
-abbrev pub comes_of_ends : Bool → ℕ → Ends → List Forwarding → Asked
+abbrev pub comes_of_ends : Bool → ℕ → Ends → List Forwarding → ImmediateOutcome
 comes_of_ends true serial ends fs = opens_of serial ends fs (standing ends fs)
 comes_of_ends false serial ends fs = closes_of (standing ends fs)
 
@@ -227,13 +227,13 @@ is_ordered_first None = false
 is_ordered_first (Some f) = ordered_at f.stage
 
 -- whether one has a listener
-abbrev pub listens : List Forwarding → Bool
-listens fs = list_any (λ f. is_some (listener_of f)) fs
+abbrev pub has_a_listener : List Forwarding → Bool
+has_a_listener fs = list_any (λ f. is_some (listener_of f)) fs
 
 -- listeners were made in the order of asking: none that has one stands after one that has none yet
 abbrev pub is_in_order : List Forwarding → Bool
 is_in_order [] = true
-is_in_order (f ∷ fs) = not (to_listen f && listens fs) && is_in_order fs
+is_in_order (f ∷ fs) = not (to_listen f && has_a_listener fs) && is_in_order fs
 
 abbrev pub has_listener : ℕ → Forwarding → Bool
 has_listener l f = is_listener l (listener_of f)
@@ -256,9 +256,9 @@ next_at (Cancelling port) closing serial waiting next = next
 
 -- the next order about a listener, in the order of asking: the first that is to listen, or that is to be
 -- closed; that one waits for the answers of those that asked for it
-abbrev pub next_of : List Waiting → List Forwarding → Option ForwardingWant
-next_of waiting [] = None
-next_of waiting (f ∷ fs) = next_at f.stage f.closing f.serial waiting (next_of waiting fs)
+abbrev pub next_listener_order : List Waiting → List Forwarding → Option ForwardingWant
+next_listener_order waiting [] = None
+next_listener_order waiting (f ∷ fs) = next_at f.stage f.closing f.serial waiting (next_listener_order waiting fs)
 
 abbrev pub pends : Stage → Bool → Bool
 pends (ToListen host) closing = true
@@ -270,8 +270,8 @@ pends (Live port) closing = false
 pends (Cancelling port) closing = false
 
 -- whether it is to be ordered, or to be closed
-abbrev pub is_pending : Forwarding → Bool
-is_pending f = pends f.stage f.closing
+abbrev pub is_order_pending : Forwarding → Bool
+is_order_pending f = pends f.stage f.closing
 
 -- the order that it is to have, if nothing is in the way
 abbrev pub want_in : List Waiting → Option Forwarding → Option ForwardingWant
@@ -318,38 +318,38 @@ serial_of (Some f) = f.serial
 
 -- ---- changes
 
-abbrev pub chosen : Option ℕ → ℕ
-chosen None = 0
-chosen (Some port) = port
+abbrev pub chosen_port : Option ℕ → ℕ
+chosen_port None = 0
+chosen_port (Some port) = port
 
 -- the port on which the server listens: it chose one where it was asked for 0
-abbrev pub bound_to : ℕ → Option ℕ → ℕ
-bound_to asked port = if asked == 0 then chosen port else asked
+abbrev pub bound_port : ℕ → Option ℕ → ℕ
+bound_port asked port = if asked == 0 then chosen_port port else asked
 
-abbrev pub stage_after : Change → ℕ → Stage → Stage
-stage_after c asked (ToListen host) = ToListen host
-stage_after c asked Ordered = Ordered
-stage_after c asked (Listening l) = Listening l
-stage_after change.Close asked ToRequest = ToRequest
-stage_after change.ForwardingRequest asked ToRequest = Requested
-stage_after change.Cancel asked ToRequest = ToRequest
-stage_after (change.Live port) asked ToRequest = ToRequest
-stage_after change.Stay asked ToRequest = ToRequest
-stage_after change.Close asked Requested = Requested
-stage_after change.ForwardingRequest asked Requested = Requested
-stage_after change.Cancel asked Requested = Requested
-stage_after (change.Live port) asked Requested = Live (bound_to asked port)
-stage_after change.Stay asked Requested = Requested
-stage_after change.Close asked (Live port) = Live port
-stage_after change.ForwardingRequest asked (Live port) = Live port
-stage_after change.Cancel asked (Live port) = Cancelling port
-stage_after (change.Live chosen) asked (Live port) = Live port
-stage_after change.Stay asked (Live port) = Live port
-stage_after change.Close asked (Cancelling port) = Cancelling port
-stage_after change.ForwardingRequest asked (Cancelling port) = Cancelling port
-stage_after change.Cancel asked (Cancelling port) = Cancelling port
-stage_after (change.Live chosen) asked (Cancelling port) = Cancelling port
-stage_after change.Stay asked (Cancelling port) = Live port
+abbrev pub listener_stage_after : Change → ℕ → Stage → Stage
+listener_stage_after c asked (ToListen host) = ToListen host
+listener_stage_after c asked Ordered = Ordered
+listener_stage_after c asked (Listening l) = Listening l
+listener_stage_after change.Close asked ToRequest = ToRequest
+listener_stage_after change.ForwardingRequest asked ToRequest = Requested
+listener_stage_after change.Cancel asked ToRequest = ToRequest
+listener_stage_after (change.Live port) asked ToRequest = ToRequest
+listener_stage_after change.Stay asked ToRequest = ToRequest
+listener_stage_after change.Close asked Requested = Requested
+listener_stage_after change.ForwardingRequest asked Requested = Requested
+listener_stage_after change.Cancel asked Requested = Requested
+listener_stage_after (change.Live port) asked Requested = Live (bound_port asked port)
+listener_stage_after change.Stay asked Requested = Requested
+listener_stage_after change.Close asked (Live port) = Live port
+listener_stage_after change.ForwardingRequest asked (Live port) = Live port
+listener_stage_after change.Cancel asked (Live port) = Cancelling port
+listener_stage_after (change.Live chosen_port) asked (Live port) = Live port
+listener_stage_after change.Stay asked (Live port) = Live port
+listener_stage_after change.Close asked (Cancelling port) = Cancelling port
+listener_stage_after change.ForwardingRequest asked (Cancelling port) = Cancelling port
+listener_stage_after change.Cancel asked (Cancelling port) = Cancelling port
+listener_stage_after (change.Live chosen_port) asked (Cancelling port) = Cancelling port
+listener_stage_after change.Stay asked (Cancelling port) = Live port
 
 abbrev pub closing_after : Change → Bool → Bool
 closing_after change.Close closing = true
@@ -359,16 +359,16 @@ closing_after (change.Live port) closing = closing
 closing_after change.Stay closing = false
 
 -- the forwarding with this serial changes
-abbrev pub changed : Change → ℕ → Forwarding → Forwarding
-changed c serial f = if f.serial == serial then record f {
-  stage = stage_after c f.listen_port f.stage;
+abbrev pub forwarding_changed : Change → ℕ → Forwarding → Forwarding
+forwarding_changed c serial f = if f.serial == serial then record f {
+  stage = listener_stage_after c f.listen_port f.stage;
   closing = closing_after c f.closing;
 } else f
 
 -- a request to close leaves one that closes
-abbrev pub after_close : Asked → List Forwarding → List Forwarding
+abbrev pub after_close : ImmediateOutcome → List Forwarding → List Forwarding
 after_close (Now outcome) fs = fs
-after_close (Later serial) fs = map (changed change.Close serial) fs
+after_close (Later serial) fs = map (forwarding_changed change.Close serial) fs
 
 -- whether there is a new one for a request to open
 abbrev pub is_new : Ends → List Forwarding → Option Forwarding → Bool
@@ -376,9 +376,9 @@ is_new ends fs None = nat_lt (how_many fs) MOST_FORWARDINGS
 is_new ends fs (Some f) = false
 
 -- a request to open leaves the same, or one more after them
-abbrev pub Opens : Bool → Ends → ℕ → Option ℕ → List Forwarding → List Forwarding → Type 0
-Opens false ends serial start old new = new ≡ old
-Opens true ends serial start old new =
+abbrev pub OpensForwarding : Bool → Ends → ℕ → Option ℕ → List Forwarding → List Forwarding → Type 0
+OpensForwarding false ends serial start old new = new ≡ old
+OpensForwarding true ends serial start old new =
     (f : Forwarding) × IsAskedFor ends serial start f × (new ≡ old ++ f ∷ [])
 
 -- a new one takes the next serial
@@ -391,37 +391,37 @@ serials_after true serials = serials + 1
 -- what a request leaves of the forwardings
 abbrev pub EndsLeave : Bool → ℕ → Ends → List Forwarding → List Forwarding → Type 0
 EndsLeave true serial ends old new =
-    Opens (is_new ends old (standing ends old)) ends serial None old new
+    OpensForwarding (is_new ends old (standing ends old)) ends serial None old new
 EndsLeave false serial ends old new = new ≡ after_close (closes_of (standing ends old)) old
 
 -- a request that is refused whatever stands changes nothing; of another the two ends are looked at
-abbrev pub ComesIf : Bool → ListenRules → Bool → StartAsk → ℕ → List Forwarding → List Forwarding → Asked → Type 0
+abbrev pub ComesIf : Bool → ListenRules → Bool → StartAsk → ℕ → List Forwarding → List Forwarding → ImmediateOutcome → Type 0
 ComesIf true rules opening ask serial old new asked = (asked ≡ Now Refused) × (new ≡ old)
 ComesIf false rules opening ask serial old new asked = (ends : Ends) × AreEnds rules ask ends
     × (asked ≡ comes_of_ends opening serial ends old) × EndsLeave opening serial ends old new
 
--- one is refused whose client has an open ask with its id, or while as many asks wait as may
-abbrev pub ComesUnless : Bool → ListenRules → Bool → StartAsk → ℕ → List Forwarding → List Forwarding → Asked → Type 0
+-- one is refused whose client has an open request with its id, or while as many wait as may
+abbrev pub ComesUnless : Bool → ListenRules → Bool → StartAsk → ℕ → List Forwarding → List Forwarding → ImmediateOutcome → Type 0
 ComesUnless true rules opening ask serial old new asked = (asked ≡ Now Refused) × (new ≡ old)
 ComesUnless false rules opening ask serial old new asked =
     ComesIf (is_ruled_out rules ask) rules opening ask serial old new asked
 
-abbrev pub reply_to : Asked → HouseReply
+abbrev pub reply_to : ImmediateOutcome → HouseReply
 reply_to (Now Done) = reply.Done
 reply_to (Now (Port port)) = reply.Port port
 reply_to (Now Refused) = reply.Refused
 reply_to (Later serial) = reply.Later
 
 -- a request waits where it has no reply yet
-abbrev pub waiting_after : Asked → ℕ → ℕ → Bool → List Waiting → List Waiting
+abbrev pub waiting_after : ImmediateOutcome → ℕ → ℕ → Bool → List Waiting → List Waiting
 waiting_after (Now outcome) client id opening waiting = waiting
 waiting_after (Later serial) client id opening waiting =
-    waiting ++ waiting_for client id opening serial ∷ []
+    waiting ++ request_waiting_for client id opening serial ∷ []
 
 -- a request that was sent is unanswered
-abbrev pub after_sending : ForwardingRequest → List Forwarding → List Forwarding
-after_sending (Listen serial) fs = map (changed change.ForwardingRequest serial) fs
-after_sending (Cancel serial) fs = map (changed change.Cancel serial) fs
+abbrev pub after_request_sent : ForwardingRequest → List Forwarding → List Forwarding
+after_request_sent (Listen serial) fs = map (forwarding_changed change.ForwardingRequest serial) fs
+after_request_sent (Cancel serial) fs = map (forwarding_changed change.Cancel serial) fs
 
 -- the first of those asked for at the start that was refused, with one more
 abbrev pub first_refused : Option ℕ → Option ℕ → Option ℕ
@@ -446,17 +446,17 @@ pub record Standing : Type 0 where
   pub refused : Option ℕ
 
 abbrev pub what_stands : List Forwarding → ℕ → Option ℕ → Standing
-what_stands fs serials refused = record { all = fs; serials = serials; refused = refused }
+what_stands fs serials all_requests_refused = record { all = fs; serials = serials; refused = all_requests_refused }
 
-abbrev pub ask_refused_if : Asked → ℕ → Option ℕ → Option ℕ
-ask_refused_if (Now Done) i refused = refused
-ask_refused_if (Now (Port port)) i refused = refused
-ask_refused_if (Now Refused) i refused = first_refused refused (Some i)
-ask_refused_if (Later serial) i refused = refused
+abbrev pub ask_refused_if : ImmediateOutcome → ℕ → Option ℕ → Option ℕ
+ask_refused_if (Now Done) i all_requests_refused = all_requests_refused
+ask_refused_if (Now (Port port)) i all_requests_refused = all_requests_refused
+ask_refused_if (Now Refused) i all_requests_refused = first_refused all_requests_refused (Some i)
+ask_refused_if (Later serial) i all_requests_refused = all_requests_refused
 
 -- one with these two ends is asked for at the start, at this place
 pub record StartsAt (ends : Ends) (i : ℕ) (old new : Standing) : Type 0 where
-  pub all : Opens (is_new ends old.all (standing ends old.all)) ends old.serials (Some i) old.all new.all
+  pub all : OpensForwarding (is_new ends old.all (standing ends old.all)) ends old.serials (Some i) old.all new.all
   pub serials : new.serials ≡ serials_after (is_new ends old.all (standing ends old.all)) old.serials
   pub refused : new.refused ≡ ask_refused_if (opens_of old.serials ends old.all (standing ends old.all)) i old.refused
 
@@ -468,9 +468,9 @@ StartsIf false rules ask i old new =
     (ends : Ends) × AreEnds rules ask ends × StartsAt ends i old new
 
 -- so many of them were asked for, one after another
-abbrev pub Begins : ListenRules → List StartAsk → ℕ → Standing → Standing → Type 0
-Begins rules asks zero old new = new ≡ old
-Begins rules asks (suc i) old new = (one : Standing) × Begins rules asks i old one
+abbrev pub AskedAtStart : ListenRules → List StartAsk → ℕ → Standing → Standing → Type 0
+AskedAtStart rules asks zero old new = new ≡ old
+AskedAtStart rules asks (suc i) old new = (one : Standing) × AskedAtStart rules asks i old one
     × IfSome (slice_get asks i) (λ ask. StartsIf (is_ruled_out rules ask) rules ask i one new)
 
 -- ---- what orders leave
@@ -487,8 +487,8 @@ MadeAt (Some l) i old new = (f : Forwarding) × (f ≡ get_or old i f)
     × (new ≡ set old i (record f { stage = Listening l }))
 
 abbrev pub made_refused : Option ℕ → Option Forwarding → Option ℕ → Option ℕ
-made_refused None first refused = first_refused refused (forwarding_start_of first)
-made_refused (Some l) first refused = refused
+made_refused None first all_requests_refused = first_refused all_requests_refused (forwarding_start_of first)
+made_refused (Some l) first all_requests_refused = all_requests_refused
 
 -- ---- replies of the server
 
@@ -502,8 +502,8 @@ asks_at (Live port) = false
 asks_at (Cancelling port) = false
 
 -- whether the request to listen for this forwarding is unanswered
-abbrev pub is_asked : ℕ → Forwarding → Bool
-is_asked serial f = (f.serial == serial) && asks_at f.stage
+abbrev pub is_listen_unanswered : ℕ → Forwarding → Bool
+is_listen_unanswered serial f = (f.serial == serial) && asks_at f.stage
 
 abbrev pub cancels_at : Stage → Bool
 cancels_at (ToListen host) = false
@@ -518,33 +518,33 @@ cancels_at (Cancelling port) = true
 abbrev pub is_cancelled : ℕ → Forwarding → Bool
 is_cancelled serial f = (f.serial == serial) && cancels_at f.stage
 
-abbrev pub live_outcome_in : Option ℕ → Option Forwarding → Option Outcome
+abbrev pub live_outcome_in : Option ℕ → Option Forwarding → Option RequestOutcome
 live_outcome_in port None = None
-live_outcome_in port (Some f) = Some (granted f.listen_port (bound_to f.listen_port port))
+live_outcome_in port (Some f) = Some (outcome_of_grant f.listen_port (bound_port f.listen_port port))
 
-abbrev pub opened_asks : Option Outcome → ℕ → ℕ → List Waiting → List Waiting
+abbrev pub opened_asks : Option RequestOutcome → ℕ → ℕ → List Waiting → List Waiting
 opened_asks None serial at waiting = waiting
-opened_asks (Some outcome) serial at waiting = settled serial true at outcome waiting
+opened_asks (Some outcome) serial at waiting = requests_settled serial true at outcome waiting
 
 abbrev pub replied_asks : Bool → Option ℕ → Option ForwardingRequest → List Forwarding → ℕ → List Waiting → List Waiting
 replied_asks success port None fs at waiting = waiting
 replied_asks true port (Some (Listen serial)) fs at waiting =
-    opened_asks (live_outcome_in port (find (is_asked serial) fs)) serial at waiting
-replied_asks false port (Some (Listen serial)) fs at waiting = refused serial at waiting
-replied_asks true port (Some (Cancel serial)) fs at waiting = settled serial false at Done waiting
-replied_asks false port (Some (Cancel serial)) fs at waiting = settled serial false at Refused waiting
+    opened_asks (live_outcome_in port (find (is_listen_unanswered serial) fs)) serial at waiting
+replied_asks false port (Some (Listen serial)) fs at waiting = all_requests_refused serial at waiting
+replied_asks true port (Some (Cancel serial)) fs at waiting = requests_settled serial false at Done waiting
+replied_asks false port (Some (Cancel serial)) fs at waiting = requests_settled serial false at Refused waiting
 
-abbrev pub opened_done : Option Outcome → ℕ → ℕ
+abbrev pub opened_done : Option RequestOutcome → ℕ → ℕ
 opened_done None at = at
-opened_done (Some outcome) at = counted at
+opened_done (Some outcome) at = one_more_outcome at
 
 -- how many requests had an outcome after a reply
 abbrev pub replied_done : Bool → Option ℕ → Option ForwardingRequest → List Forwarding → ℕ → ℕ
 replied_done success port None fs at = at
 replied_done true port (Some (Listen serial)) fs at =
-    opened_done (live_outcome_in port (find (is_asked serial) fs)) at
-replied_done false port (Some (Listen serial)) fs at = counted (counted at)
-replied_done success port (Some (Cancel serial)) fs at = counted at
+    opened_done (live_outcome_in port (find (is_listen_unanswered serial) fs)) at
+replied_done false port (Some (Listen serial)) fs at = one_more_outcome (one_more_outcome at)
+replied_done success port (Some (Cancel serial)) fs at = one_more_outcome at
 
 abbrev pub removed_at : Option ℕ → List Forwarding → List Forwarding
 removed_at None fs = fs
@@ -553,31 +553,31 @@ removed_at (Some i) fs = remove fs i
 -- what a reply leaves: a forwarding whose request is refused, or whose cancel is granted, is gone
 abbrev pub replied_all : Bool → Option ℕ → Option ForwardingRequest → List Forwarding → List Forwarding
 replied_all success port None fs = fs
-replied_all true port (Some (Listen serial)) fs = map (changed (change.Live port) serial) fs
-replied_all false port (Some (Listen serial)) fs = removed_at (position (is_asked serial) fs) fs
+replied_all true port (Some (Listen serial)) fs = map (forwarding_changed (change.Live port) serial) fs
+replied_all false port (Some (Listen serial)) fs = removed_at (position (is_listen_unanswered serial) fs) fs
 replied_all true port (Some (Cancel serial)) fs = removed_at (position (is_cancelled serial) fs) fs
-replied_all false port (Some (Cancel serial)) fs = map (changed change.Stay serial) fs
+replied_all false port (Some (Cancel serial)) fs = map (forwarding_changed change.Stay serial) fs
 
 abbrev pub replied_refused : Bool → Option ForwardingRequest → List Forwarding → Option ℕ → Option ℕ
-replied_refused success None fs refused = refused
-replied_refused true (Some (Listen serial)) fs refused = refused
-replied_refused false (Some (Listen serial)) fs refused =
-    first_refused refused (forwarding_start_of (find (is_asked serial) fs))
-replied_refused success (Some (Cancel serial)) fs refused = refused
+replied_refused success None fs all_requests_refused = all_requests_refused
+replied_refused true (Some (Listen serial)) fs all_requests_refused = all_requests_refused
+replied_refused false (Some (Listen serial)) fs all_requests_refused =
+    first_refused all_requests_refused (forwarding_start_of (find (is_listen_unanswered serial) fs))
+replied_refused success (Some (Cancel serial)) fs all_requests_refused = all_requests_refused
 
-abbrev pub first_of : List ForwardingRequest → Option ForwardingRequest
-first_of [] = None
-first_of (r ∷ rs) = Some r
+abbrev pub first_forwarding_request : List ForwardingRequest → Option ForwardingRequest
+first_forwarding_request [] = None
+first_forwarding_request (r ∷ rs) = Some r
 
 -- the outcome of the requests as a listener was made, or couldn't be
 abbrev pub ordered_asks : Option ℕ → ℕ → ℕ → List Waiting → List Waiting
-ordered_asks None serial at waiting = refused serial at waiting
-ordered_asks (Some listener) serial at waiting = settled serial true at Done waiting
+ordered_asks None serial at waiting = all_requests_refused serial at waiting
+ordered_asks (Some listener) serial at waiting = requests_settled serial true at Done waiting
 
 -- how many requests had an outcome then
 abbrev pub ordered_done : Option ℕ → ℕ → ℕ
-ordered_done None at = counted (counted at)
-ordered_done (Some listener) at = counted at
+ordered_done None at = one_more_outcome (one_more_outcome at)
+ordered_done (Some listener) at = one_more_outcome at
 
 abbrev is_remote : ForwardingKind → Bool
 is_remote Local = false

@@ -12,7 +12,7 @@ use Rattle.house_relay.specs.declared.relay.Outgoing.{Outgoing}
 use Rattle.mux_outside.specs.OwnStreams.{is_one}
 use Rattle.mux_outside.specs.declared.order.Order.{Order}
 use Rattle.house_forward.specs.Heard.{received_of, act_received}
-use Rattle.house_forward.specs.Links.{streams_of, is_left, after_sending, has_order, IsOrderOf, obeyed, made_stream}
+use Rattle.house_forward.specs.Links.{streams_of, is_left, relay_after_sending, has_order, IsOrderOf, obeyed, made_stream}
 use Rattle.house_forward.specs.declared.link.Link.{Link}
 use Rattle.house_forward.specs.declared.link.LinkStream.TheVariants.{Awaited}
 
@@ -58,7 +58,7 @@ TakesOf bytes old new = owed_in old.line + length bytes < 2 ^ 64 → TakesOn byt
 
 -- it sent what it had to send
 abbrev pub RelaySays : Relay → Relay → Type 0
-RelaySays old new = new ≡ after_sending (sends_of old) old
+RelaySays old new = new ≡ relay_after_sending (sends_of old) old
 
 -- what happens as that is sent
 abbrev pub act_of_sending : Option Outgoing → Relay → RelayAct

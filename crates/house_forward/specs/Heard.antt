@@ -3,7 +3,7 @@ use Rattle.conn_messages.specs.declared.message.Message.{Message}
 use Rattle.conn_messages.specs.declared.message.Message.TheVariants as message
 use Rattle.std.specs.Prelude.{if◌then◌else◌}
 use Rattle.house_relay.specs.Acts.{RelayAct, Confirms, Refuses, Delivers, ReceivesEof, ReceivesClose, Other}
-use Rattle.house_relay.specs.Relay.{delivers, answered_in, received_in}
+use Rattle.house_relay.specs.Relay.{delivers, answered_in, received_if_live}
 use Rattle.house_relay.specs.Steps.{on_line, room_received, eof_received, close_received, request_received, confirmed_in, refused_in, data_received}
 use Rattle.house_relay.specs.declared.relay.Relay.{Relay}
 
@@ -39,8 +39,8 @@ act_received (message.OpenFailure recipient reason text language) r =
 act_received (message.Adjust recipient add) r = Other
 act_received (message.Data recipient bytes) r = if delivers r then Delivers bytes.now else Other
 act_received (message.Extended recipient code bytes) r = Other
-act_received (message.Eof recipient) r = received_in r.line ReceivesEof
-act_received (message.Close recipient) r = received_in r.line ReceivesClose
+act_received (message.Eof recipient) r = received_if_live r.line ReceivesEof
+act_received (message.Close recipient) r = received_if_live r.line ReceivesClose
 act_received (message.Request recipient kind want rest) r = Other
 act_received (message.Success recipient) r = Other
 act_received (message.Failure recipient) r = Other

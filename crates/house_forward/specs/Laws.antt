@@ -2,7 +2,7 @@
 use Rattle.std.specs.Prelude.{◌≡◌, ◌≤◌, ◌+◌, ◌-◌, true, List, ◌++◌, length, IfSome}
 use Rattle.std.specs.List.{All}
 use Rattle.mux_outside.specs.HouseCalls.{HouseCall}
-use Rattle.house_relay.specs.Acts.{RelayAct, Relays, adjusted, delivered, replies, taken}
+use Rattle.house_relay.specs.Acts.{RelayAct, Relays, adjusted, delivered, dialog_replies, accepted_length}
 use Rattle.house_relay.specs.Relay.{RelayKeeps, SilentIn, IsResting}
 use Rattle.house_relay.specs.declared.TheConstants.{WINDOW}
 use Rattle.house_forward.specs.RelayTraces.{Life, Held, HasLived}
@@ -27,7 +27,7 @@ KeepsWindow acts = length (delivered acts) ≤ WINDOW + adjusted acts
 -- dialog
 abbrev pub IsBounded : Life → Type 0
 IsBounded l = KeepsWindow l.acts
-    → length l.relay.queue.waiting ≤ WINDOW + (length (replies l.dials l.acts) - taken l.acts)
+    → length l.relay.queue.waiting ≤ WINDOW + (length (dialog_replies l.dials l.acts) - accepted_length l.acts)
 
 -- this is so of each that the calls leave, and of each of which nothing is left
 abbrev pub EachIsBounded : Type 0

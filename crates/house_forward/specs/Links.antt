@@ -7,15 +7,15 @@ use Rattle.mux_outside.specs.declared.order.Order.TheVariants.{Listen, Connect, 
 use Rattle.mux_outside.specs.declared.order.Order.TheVariants as order
 use Rattle.mux_outside.specs.declared.own_streams.OwnStream.{OwnStream}
 use Rattle.std.specs.List.{list_any, filter_map}
-use Rattle.house_relay.specs.ChannelState.{counts}
+use Rattle.house_relay.specs.ChannelState.{is_counted_channel}
 use Rattle.house_relay.specs.Next.{sends_of, orders_of}
 use Rattle.house_relay.specs.Relay.{socket_stream_of, OrdersRight}
-use Rattle.house_relay.specs.Steps.{is_gone, connected, failing, sent_of, fresh_relay, fresh_dialing}
+use Rattle.house_relay.specs.Steps.{is_gone, socket_connected, failing, sent_of, fresh_relay, fresh_dialing}
 use Rattle.house_relay.specs.declared.line.ChannelState.{ChannelState}
 use Rattle.house_relay.specs.declared.line.ChannelState.TheVariants.{Dialing, Asked, Opened, Live, Over, Offered as OfServer}
 use Rattle.house_relay.specs.declared.relay.Relay.{Relay}
 use Rattle.house_relay.specs.declared.relay.Outgoing.{Outgoing}
-use Rattle.house_relay.specs.declared.relay.Socket.TheVariants as socket
+use Rattle.house_relay.specs.declared.relay.RelaySocket.TheVariants as socket
 use Rattle.house_forward.specs.declared.forwarding.Forwarding.{Forwarding}
 use Rattle.house_forward.specs.declared.rules.ForwardingKind.{ForwardingKind}
 use Rattle.house_forward.specs.declared.rules.ForwardingKind.TheVariants.{Local, Remote, Dynamic}
@@ -57,11 +57,11 @@ numbered t (Made own) = own.number == t
 numbered t Gone = false
 
 -- whether this stream is finished
-abbrev pub finishes : ℕ → LinkStream → Bool
-finishes t (Offered host port) = false
-finishes t Awaited = false
-finishes t (Made own) = (own.number == t) && own.finished
-finishes t Gone = false
+abbrev pub is_stream_finished : ℕ → LinkStream → Bool
+is_stream_finished t (Offered host port) = false
+is_stream_finished t Awaited = false
+is_stream_finished t (Made own) = (own.number == t) && own.finished
+is_stream_finished t Gone = false
 
 -- whether it has this stream
 abbrev pub has_number : ℕ → Link → Bool
@@ -79,8 +79,8 @@ is_link_number t None = false
 is_link_number t (Some s) = s == t
 
 -- whether this stream is that of its relay
-abbrev pub is_of : ℕ → Link → Bool
-is_of t l = has_number t l && is_link_number t (socket_stream_of l.relay.socket)
+abbrev pub is_relay_stream : ℕ → Link → Bool
+is_relay_stream t l = has_number t l && is_link_number t (socket_stream_of l.relay.socket)
 
 abbrev pub link_queue_in : Option Link → List ℕ
 link_queue_in None = []
@@ -89,17 +89,17 @@ link_queue_in (Some l) = l.relay.queue.waiting
 -- what waits for a stream that is one of the forwarder's and isn't finished
 abbrev pub queue_at : List Link → ℕ → List ℕ
 queue_at links t = if is_one t (streams_of links) && not (is_finished t (streams_of links))
-    then link_queue_in (find (is_of t) links) else []
+    then link_queue_in (find (is_relay_stream t) links) else []
 
 -- this stream, if something waits for it in this link, which has it
-abbrev pub waiting_in : Link → Option ℕ → Option ℕ
-waiting_in l None = None
-waiting_in l (Some t) = if is_of t l && not (finishes t l.stream) && not (length l.relay.queue.waiting == 0)
+abbrev pub waiting_in_link : Link → Option ℕ → Option ℕ
+waiting_in_link l None = None
+waiting_in_link l (Some t) = if is_relay_stream t l && not (is_stream_finished t l.stream) && not (length l.relay.queue.waiting == 0)
     then Some t else None
 
 -- its stream, if something waits for it
 abbrev pub stream_waiting : Link → Option ℕ
-stream_waiting l = waiting_in l (stream_number_in l.stream)
+stream_waiting l = waiting_in_link l (stream_number_in l.stream)
 
 -- a stream, if it is none of these
 abbrev pub unless_among : List ℕ → Option ℕ → List ℕ
@@ -113,17 +113,17 @@ offers Awaited = false
 offers (Made own) = false
 offers Gone = false
 
-abbrev pub awaits : LinkStream → Bool
-awaits (Offered host port) = false
-awaits Awaited = true
-awaits (Made own) = false
-awaits Gone = false
+abbrev pub awaits_stream : LinkStream → Bool
+awaits_stream (Offered host port) = false
+awaits_stream Awaited = true
+awaits_stream (Made own) = false
+awaits_stream Gone = false
 
 abbrev pub is_offered : Link → Bool
 is_offered l = offers l.stream
 
 abbrev pub is_awaited : Link → Bool
-is_awaited l = awaits l.stream
+is_awaited l = awaits_stream l.stream
 
 abbrev pub is_without : LinkStream → Bool
 is_without (Offered host port) = false
@@ -137,16 +137,16 @@ is_left l = is_without l.stream && is_gone l.relay
 
 -- whether it has a channel, or is to have one
 abbrev pub is_channel : Link → Bool
-is_channel l = counts l.relay.line
+is_channel l = is_counted_channel l.relay.line
 
 abbrev pub channels : List Link → ℕ
 channels links = length (filter is_channel links)
 
 -- whether the forwarder has all channels that it may have
-abbrev pub is_full : List Link → Bool
-is_full links = nat_le MOST_CHANNELS (channels links)
+abbrev pub has_all_channels : List Link → Bool
+has_all_channels links = nat_le MOST_CHANNELS (channels links)
 
--- whether a dialog is to say its end
+-- whether a dialog is still to name its end
 abbrev pub dials : ChannelState → Bool
 dials (Dialing dialog) = true
 dials (Asked host port version) = false
@@ -187,7 +187,7 @@ relay_after (Pause b) r = r
 relay_after Finish r = r
 relay_after End r = record r { ended = true }
 relay_after Close r = record r { socket = socket.Closed }
-relay_after Writable r = record r { socket = connected r.socket }
+relay_after Writable r = record r { socket = socket_connected r.socket }
 relay_after Failed r = record r { socket = failing r.socket }
 
 -- the one that has this stream makes a step
@@ -219,15 +219,15 @@ link_order l = order_in l.stream l.relay
 abbrev pub has_order : Link → Bool
 has_order l = is_some (link_order l)
 
-abbrev pub OrdersIn : Order → LinkStream → Relay → Type 0
-OrdersIn o (Offered host port) r = ⊥
-OrdersIn o Awaited r = ⊥
-OrdersIn o (Made own) r = OrdersRight o r own
-OrdersIn o Gone r = ⊥
+abbrev pub OrdersInLink : Order → LinkStream → Relay → Type 0
+OrdersInLink o (Offered host port) r = ⊥
+OrdersInLink o Awaited r = ⊥
+OrdersInLink o (Made own) r = OrdersRight o r own
+OrdersInLink o Gone r = ⊥
 
 -- an order that it may give of its stream
 abbrev pub IsOrderOf : Order → Link → Type 0
-IsOrderOf o l = OrdersIn o l.stream l.relay
+IsOrderOf o l = OrdersInLink o l.stream l.relay
 
 -- they make the step that is ordered
 abbrev pub obeyed : Order → List Link → List Link
@@ -241,13 +241,13 @@ obeyed (order.Close t) links = map (link_after Close t) links
 
 -- ---- sayings
 
--- whether its relay has something to say
+-- whether its relay has something to send
 abbrev pub has_sending : Link → Bool
 has_sending l = is_some (sends_of l.relay)
 
-abbrev pub after_sending : Option Outgoing → Relay → Relay
-after_sending None r = r
-after_sending (Some outgoing) r = sent_of outgoing r
+abbrev pub relay_after_sending : Option Outgoing → Relay → Relay
+relay_after_sending None r = r
+relay_after_sending (Some outgoing) r = sent_of outgoing r
 
 -- ---- what the server opens
 
@@ -289,9 +289,9 @@ HasNoChannelLeft t r = r ≡ fresh_relay r.number Over (socket.NoChannelLeft t)
 
 -- a dialog is to give the channel's end; where the forwarder has all dialogs that it may have, the
 -- socket is closed
-abbrev pub IsDialed : Bool → ℕ → Relay → Type 0
-IsDialed true t r = HasNoChannelLeft t r
-IsDialed false t r = r ≡ fresh_relay r.number fresh_dialing (socket.Open t)
+abbrev pub DialsOrCloses : Bool → ℕ → Relay → Type 0
+DialsOrCloses true t r = HasNoChannelLeft t r
+DialsOrCloses false t r = r ≡ fresh_relay r.number fresh_dialing (socket.Open t)
 
 -- the channel is to be to where the forwarding connects, or to where a dialog requests
 abbrev pub IsJoinedAt : ForwardingKind → Bool → Forwarding → ℕ → Relay → Type 0
@@ -299,7 +299,7 @@ IsJoinedAt Local dialogs_full f t r =
     r ≡ fresh_relay r.number (Asked f.connect_host f.connect_port None) (socket.Open t)
 IsJoinedAt Remote dialogs_full f t r =
     r ≡ fresh_relay r.number (Asked f.connect_host f.connect_port None) (socket.Open t)
-IsJoinedAt Dynamic dialogs_full f t r = IsDialed dialogs_full t r
+IsJoinedAt Dynamic dialogs_full f t r = DialsOrCloses dialogs_full t r
 
 -- the relay of an accepted socket: where the forwarder has all channels that it may have, it is
 -- closed
@@ -311,7 +311,7 @@ IsRelayJoined false dialogs_full (Some f) t r = IsJoinedAt f.kind dialogs_full f
 -- one relay more, for a socket that is accepted
 pub record Joins (f : Option Forwarding) (t : ℕ) (old new : List Link) : Type 0 where
   pub relay : Relay
-  pub joined : IsRelayJoined (is_full old) (has_full_dialogs old) f t relay
+  pub joined : IsRelayJoined (has_all_channels old) (has_full_dialogs old) f t relay
   pub free : is_number_of relay.number old ≡ false
   pub small : relay.number < 2 ^ 32
   pub fresh : is_one t (streams_of old) ≡ false

@@ -30,13 +30,13 @@ ChannelsAreSmall = (calls : List HouseCall) (trace : Trace) → TraceReaches fir
 
 -- ---- streams
 
-abbrev pub number_of : Option OwnStream → Option ℕ
-number_of None = None
-number_of (Some own) = Some own.number
+abbrev pub own_stream_number : Option OwnStream → Option ℕ
+own_stream_number None = None
+own_stream_number (Some own) = Some own.number
 
 -- the numbers of the streams that the relays have open
 abbrev pub open_streams : List Life → List ℕ
-open_streams relay_traces = filter_map (λ l. number_of l.own) relay_traces
+open_streams relay_traces = filter_map (λ l. own_stream_number l.own) relay_traces
 
 -- the number of the stream that a happening, an order or a call brings, if it does
 abbrev pub stream_joined_by : Happening → Option ℕ
@@ -99,7 +99,7 @@ abbrev pub without_closed : Option ℕ → List ℕ → List ℕ
 without_closed None there = there
 without_closed (Some t) there = without t there
 
--- the streams that are open after the calls, where these were open before: those that were joined
+-- the streams that are open after the calls, where these were open before: those that were accepted
 -- or connected since, and not closed
 abbrev pub streams_open_after : List ℕ → List HouseCall → List ℕ
 streams_open_after there [] = there

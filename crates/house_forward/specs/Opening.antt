@@ -21,28 +21,28 @@ use Rattle.house_forward.specs.declared.rules.ForwardingKind.TheVariants.{Local,
 -- ---- how many there are
 
 -- whether what is sent is an OPEN: its payload begins after the length and the padding of its frame
-abbrev pub is_open : List ℕ → Bool
-is_open bytes = get_or bytes 5 0 == CHANNEL_OPEN
+abbrev pub is_open_message : List ℕ → Bool
+is_open_message bytes = get_or bytes 5 0 == CHANNEL_OPEN
 
 abbrev pub opens_by_mark : HouseMark → ℕ
 opens_by_mark HouseIn = 0
-opens_by_mark (HouseSaid bytes) = if is_open bytes then 1 else 0
+opens_by_mark (HouseSaid bytes) = if is_open_message bytes then 1 else 0
 opens_by_mark (HouseTook size) = 0
 opens_by_mark (HouseAsked client id opening ask reply) = 0
 opens_by_mark (HouseAnswer client id reply) = 0
 opens_by_mark (HouseOrder order number) = 0
 
-abbrev pub opens_by : HouseCall → ℕ
-opens_by (Begins starts) = 0
-opens_by (Marks mark) = opens_by_mark mark
-opens_by (Receives bytes) = 0
-opens_by (Turns happening) = 0
-opens_by (Takes t bytes) = 0
+abbrev pub opens_sent_by : HouseCall → ℕ
+opens_sent_by (Begins starts) = 0
+opens_sent_by (Marks mark) = opens_by_mark mark
+opens_sent_by (Receives bytes) = 0
+opens_sent_by (Turns happening) = 0
+opens_sent_by (Takes t bytes) = 0
 
 -- how many OPENs were sent
 abbrev pub opens_in : List HouseCall → ℕ
 opens_in [] = 0
-opens_in (call ∷ calls) = opens_by call + opens_in calls
+opens_in (call ∷ calls) = opens_sent_by call + opens_in calls
 
 abbrev pub joins_by_turn : Happening → ℕ
 joins_by_turn (Joined l t) = 1
@@ -58,25 +58,25 @@ joins_by (Receives bytes) = 0
 joins_by (Turns happening) = joins_by_turn happening
 joins_by (Takes t bytes) = 0
 
--- how many sockets were joined
+-- how many sockets were accepted
 abbrev pub joins_in : List HouseCall → ℕ
 joins_in [] = 0
 joins_in (call ∷ calls) = joins_by call + joins_in calls
 
 -- whether an OPEN is to be sent, or is once the dialog asks for an end
-abbrev pub may_open : ChannelState → Bool
-may_open (Dialing dialog) = true
-may_open (Asked host port version) = true
-may_open (Opened version) = false
-may_open (Offered remote window maximum) = false
-may_open (Live live) = false
-may_open Over = false
+abbrev pub may_send_open : ChannelState → Bool
+may_send_open (Dialing dialog) = true
+may_send_open (Asked host port version) = true
+may_send_open (Opened version) = false
+may_send_open (Offered remote window maximum) = false
+may_send_open (Live live) = false
+may_send_open Over = false
 
 -- of how many relays
 abbrev pub still_to_open : List Life → ℕ
-still_to_open relay_traces = length (filter (λ l. may_open l.relay.line) relay_traces)
+still_to_open relay_traces = length (filter (λ l. may_send_open l.relay.line) relay_traces)
 
--- no more OPENs are sent, or still to be, than sockets were joined
+-- no more OPENs are sent, or still to be, than sockets were accepted
 abbrev pub OneOpenAtMost : Type 0
 OneOpenAtMost = (calls : List HouseCall) (trace : Trace) → TraceReaches first_trace calls trace
     → opens_in calls + still_to_open trace.relay_traces ≤ joins_in calls
@@ -88,7 +88,7 @@ abbrev pub opener_by : (greeted : Bool) (first : Option Forwarding) (bytes : Lis
     (old new : Trace) → SendsBy greeted first bytes old new → List (Option ℕ)
 opener_by false first bytes old new says = []
 opener_by true (Some f) bytes old new says = []
-opener_by true None bytes old new says = if is_open bytes then says.1.life.joined ∷ [] else []
+opener_by true None bytes old new says = if is_open_message bytes then says.1.life.joined ∷ [] else []
 
 abbrev pub opener_marked : (mark : HouseMark) (old new : Trace) → MarksIn mark old new → List (Option ℕ)
 opener_marked HouseIn old new marks = []
@@ -115,20 +115,20 @@ openers_in (call ∷ calls) old new reaches =
 
 -- and of which those are that are still to be sent
 abbrev pub openers_left : List Life → List (Option ℕ)
-openers_left relay_traces = map (λ l. l.joined) (filter (λ l. may_open l.relay.line) relay_traces)
+openers_left relay_traces = map (λ l. l.joined) (filter (λ l. may_send_open l.relay.line) relay_traces)
 
 -- each OPEN that is sent is recorded as sent
 abbrev pub EachIsRecorded : Type 0
 EachIsRecorded = (calls : List HouseCall) (trace : Trace) (reaches : TraceReaches first_trace calls trace)
     → length (openers_in calls first_trace trace reaches) ≡ opens_in calls
 
--- it is one of those that were joined
+-- it is one of those that were accepted
 pub record IsOneJoined (calls : List HouseCall) (socket : Option ℕ) : Type 0 where
   pub number : ℕ
   pub is : socket ≡ Some number
   pub joined : number < joins_in calls
 
--- each OPEN that is sent, or still to be, is of a socket that was joined
+-- each OPEN that is sent, or still to be, is of a socket that was accepted
 abbrev pub EachWasJoined : Type 0
 EachWasJoined = (calls : List HouseCall) (trace : Trace) (reaches : TraceReaches first_trace calls trace)
     → All (IsOneJoined calls)
@@ -149,7 +149,7 @@ pub record IsCallBefore (calls : List HouseCall) (call : HouseCall) (trace : Tra
   pub are : calls ≡ before ++ call ∷ behind
   pub reached : TraceReaches first_trace before trace
 
--- this socket was joined at the listener of a forwarding of which this is so, and it is this
+-- this socket was accepted at the listener of a forwarding of which this is so, and it is this
 -- stream, while that is open
 pub record IsJoinedFor (calls : List HouseCall) (own : Option OwnStream) (socket : Option ℕ)
     (so : Forwarding → Type 0) : Type 0 where
@@ -178,13 +178,13 @@ pub record ConnectsTo (host : List ℕ) (port : ℕ) (f : Forwarding) : Type 0 w
 abbrev pub IsDynamic : Forwarding → Type 0
 IsDynamic f = f.kind ≡ Dynamic
 
--- the dialog of a socket that was joined at a dynamic forwarding asked for this end
-pub record IsDialed (calls : List HouseCall) (l : Life) (host : List ℕ) (port : ℕ) : Type 0 where
+-- the dialog of a socket that was accepted at a dynamic forwarding asked for this end
+pub record IsDialedEnd (calls : List HouseCall) (l : Life) (host : List ℕ) (port : ℕ) : Type 0 where
   pub joined : IsJoinedFor calls l.own l.joined IsDynamic
   pub asks : outcome_in (read l.acts) ≡ Connects host port
 
 -- what is sent is the OPEN of direct-tcpip of one of the relays, to where the forwarding connects
--- at whose listener its socket was joined, or to the end that its dialog asked for
+-- at whose listener its socket was accepted, or to the end that its dialog asked for
 pub record IsOpenOf (calls : List HouseCall) (relay_traces : List Life) (bytes : List ℕ) : Type 0 where
   pub before : List Life
   pub life : Life
@@ -194,10 +194,10 @@ pub record IsOpenOf (calls : List HouseCall) (relay_traces : List Life) (bytes :
   pub were : relay_traces ≡ before ++ life ∷ behind
   pub says : bytes ≡ framed (direct life.relay.number host port)
   pub goes : IsJoinedFor calls life.own life.joined (ConnectsTo host port)
-      ⊎ IsDialed calls life host port
+      ⊎ IsDialedEnd calls life host port
 
 -- each OPEN that is sent after these calls
 abbrev pub OpensGoRight : Type 0
 OpensGoRight = (calls : List HouseCall) (trace next : Trace) (bytes : List ℕ)
     → TraceReaches first_trace calls trace → Follows (Marks (HouseSaid bytes)) trace next
-    → is_open bytes ≡ true → IsOpenOf calls trace.relay_traces bytes
+    → is_open_message bytes ≡ true → IsOpenOf calls trace.relay_traces bytes

@@ -3,13 +3,13 @@ use Rattle.std.specs.Prelude.{Bool, not, ◌&&◌, List, is_some, find}
 use Rattle.std.specs.List.{list_any}
 use Rattle.mux_outside.specs.House.{Quiet}
 use Rattle.house_forward.specs.Asks.{has_outcome}
-use Rattle.house_forward.specs.Forwardings.{has_request, next_of}
+use Rattle.house_forward.specs.Forwardings.{has_request, next_listener_order}
 use Rattle.house_forward.specs.Links.{has_sending, has_order, is_offered}
 use Rattle.house_forward.specs.declared.asks.Waiting.{Waiting}
 use Rattle.house_forward.specs.declared.forwarding.Forwarding.{Forwarding}
 use Rattle.house_forward.specs.declared.link.Link.{Link}
 
--- it has greeted, and neither a forwarding nor a relay has something to say
+-- it has greeted, and neither a forwarding nor a relay has something to send
 abbrev pub sends_none : Bool → List Forwarding → List Link → Bool
 sends_none greeted forwardings links =
     greeted && (not (is_some (find has_request forwardings)) && not (list_any has_sending links))
@@ -18,7 +18,7 @@ sends_none greeted forwardings links =
 -- listener
 abbrev pub orders_none : List Forwarding → List Link → List Waiting → Bool
 orders_none forwardings links waiting = not (list_any has_order links)
-    && (not (list_any is_offered links) && not (is_some (next_of waiting forwardings)))
+    && (not (list_any is_offered links) && not (is_some (next_listener_order waiting forwardings)))
 
 -- no request has an outcome
 abbrev pub answers_none : List Waiting → Bool

@@ -27,27 +27,27 @@ use Rattle.mux_outside.specs.declared.house_mark.HouseMark.TheVariants.{HouseIn,
 use Rattle.mux_outside.specs.declared.order.Order.{Order}
 use Rattle.mux_outside.specs.declared.order.Order.TheVariants as order
 use Rattle.mux_outside.specs.declared.own_streams.OwnStream.{OwnStream}
-use Rattle.house_relay.specs.Acts.{RelayAct, Reads, Ends, Takes, Fails, Other, taken}
-use Rattle.house_relay.specs.ChannelState.{owed_in, counts}
+use Rattle.house_relay.specs.Acts.{RelayAct, Reads, Ends, Takes, Fails, Other, accepted_length}
+use Rattle.house_relay.specs.ChannelState.{owed_in, is_counted_channel}
 use Rattle.house_relay.specs.Next.{sends_of}
 use Rattle.house_relay.specs.Relay.{RelayRepresents, OrdersRight, socket_stream_of}
 use Rattle.house_relay.specs.Steps.{fresh_relay, is_gone, made_as}
 use Rattle.house_relay.specs.declared.line.ChannelState.TheVariants.{Offered as OfServer}
 use Rattle.house_relay.specs.declared.relay.Relay.{Relay}
-use Rattle.house_relay.specs.declared.relay.Socket.{Socket}
-use Rattle.house_relay.specs.declared.relay.Socket.TheVariants as socket
-use Rattle.house_forward.specs.ForwardingState.{ForwardingState, empty_forwarding_state, forwarding_state_of, BeginsWith, IsClientAsk, Answers, greeting_sent, request_sent, reply_received, OrdersListener, GetsListener, EndsListener}
+use Rattle.house_relay.specs.declared.relay.RelaySocket.{RelaySocket}
+use Rattle.house_relay.specs.declared.relay.RelaySocket.TheVariants as socket
+use Rattle.house_forward.specs.ForwardingState.{ForwardingState, empty_forwarding_state, forwarding_state_of, BeginsWith, IsClientAsk, GivesFirstAnswer, greeting_sent, request_sent, reply_received, OrdersListener, GetsListener, EndsListener}
 use Rattle.house_forward.specs.Forwardings.{has_request, has_listener, served_at}
 use Rattle.house_forward.specs.Going.{GetsOn, TakesOn, RelaySendsOn, RelayReceivesOn, act_of_sending, AwaitsAt}
 use Rattle.house_forward.specs.Heard.{act_received}
 use Rattle.house_forward.specs.Known.{ordering_of}
 use Rattle.house_forward.specs.Links.{IsRelayJoined, dials, relay_after, own_stream_of, is_offered, ConnectsAt}
 use Rattle.house_forward.specs.Said.{framed, relay_sent_by, request_payload}
-use Rattle.house_forward.specs.declared.asks.Asks.{Asks}
+use Rattle.house_forward.specs.declared.asks.PendingRequests.{PendingRequests}
 use Rattle.house_forward.specs.declared.forwarding.Forwarding.{Forwarding}
 use Rattle.house_forward.specs.declared.forwardings.Forwardings.{Forwardings}
-use Rattle.house_forward.specs.declared.forwarder_state.Stage.{Stage}
-use Rattle.house_forward.specs.declared.forwarder_state.Stage.TheVariants.{Control, Proxy}
+use Rattle.house_forward.specs.declared.forwarder_state.ForwarderStage.{ForwarderStage}
+use Rattle.house_forward.specs.declared.forwarder_state.ForwarderStage.TheVariants.{Control, Proxy}
 use Rattle.house_forward.specs.declared.link.Link.{Link}
 use Rattle.house_forward.specs.declared.link.LinkStep.{LinkStep}
 use Rattle.house_forward.specs.declared.link.LinkStep.TheVariants as step
@@ -61,7 +61,7 @@ use Rattle.house_forward.specs.declared.rules.TheConstants.{MOST_CHANNELS, MOST_
 use Rattle.mux_outside.specs.declared.greeting.TheConstants.{GREETING}
 
 -- a relay; its stream, while it is open; whether it began with a dialog; which of the sockets that
--- were joined is its own, if one is, by how many were joined before; where its socket is to be
+-- were accepted is its own, if one is, by how many were accepted before; where its socket is to be
 -- connected, if the server opened it; and what happened in it, the newest first
 pub record Life : Type 0 where
   pub relay : Relay
@@ -71,14 +71,14 @@ pub record Life : Type 0 where
   pub to : Option (List ℕ × ℕ)
   pub acts : List RelayAct
 
--- the relays that there are, and those of which nothing is left; how many sockets were joined; what
--- was received and isn't read yet; how it is read; and what the forwarder has besides
+-- the relays that there are, and those of which nothing is left; how many sockets were accepted;
+-- what was received and isn't read yet; how it is read; and what the forwarder has besides
 pub record Trace : Type 0 where
   pub relay_traces : List Life
   pub past : List Life
   pub joins : ℕ
   pub framer : FramerState
-  pub stage : Stage
+  pub stage : ForwarderStage
   pub forwarding_state : ForwardingState
 
 -- nothing happened yet
@@ -118,7 +118,7 @@ has_channel n l = l.relay.number == n
 abbrev pub has_words : Life → Bool
 has_words l = is_some (sends_of l.relay)
 
-abbrev pub unmade : Socket → Bool
+abbrev pub unmade : RelaySocket → Bool
 unmade (socket.Connecting stream) = false
 unmade (socket.Open stream) = false
 unmade socket.Unmade = true
@@ -132,13 +132,13 @@ is_socket_unmade l = unmade l.relay.socket
 
 -- how many have a channel, or are to have one
 abbrev pub channels_in : List Life → ℕ
-channels_in relay_traces = length (filter (λ l. counts l.relay.line) relay_traces)
+channels_in relay_traces = length (filter (λ l. is_counted_channel l.relay.line) relay_traces)
 
 -- whether they are as many as may be
 abbrev pub are_full : List Life → Bool
 are_full relay_traces = nat_le MOST_CHANNELS (channels_in relay_traces)
 
--- of how many a dialog is to say the end
+-- of how many a dialog is still to name the end
 abbrev pub dialogs_in : List Life → ℕ
 dialogs_in relay_traces = length (filter (λ l. dials l.relay.line) relay_traces)
 
@@ -207,14 +207,14 @@ relay_act_of step.Writable = Other
 relay_act_of step.Failed = Fails
 
 -- the one with this stream makes a step
-abbrev pub stepped : LinkStep → ℕ → Life → Life
-stepped step t l = if has_stream t l then record l {
+abbrev pub life_stepped : LinkStep → ℕ → Life → Life
+life_stepped step t l = if has_stream t l then record l {
   relay = relay_after step l.relay;
   own = link_own_after step l.own;
   acts = relay_act_of step ∷ l.acts;
 } else l
 
--- one relay more, for a socket that is joined at the listener of a forwarding, after so many
+-- one relay more, for a socket that is accepted at the listener of a forwarding, after so many
 -- others, with a stream that no other has: for an end that this names or a dialog will, or for none
 pub record JoinsOne (f : Option Forwarding) (t joins : ℕ) (old new : List Life) : Type 0 where
   pub relay : Relay
@@ -231,16 +231,16 @@ pub record JoinsOne (f : Option Forwarding) (t joins : ℕ) (old new : List Life
     acts = [];
   } ∷ []
 
--- what happened to a listener or a stream, after so many sockets that were joined
+-- what happened to a listener or a stream, after so many sockets that were accepted
 abbrev pub TurnsTo : Happening → ℕ → List Forwarding → List Life → List Life → Type 0
 TurnsTo (Joined l t) joins all old new = JoinsOne (find (has_listener l) all) t joins old new
 TurnsTo (Got t bytes) joins all old new =
     OneAtMost (has_stream t) (RelayGoesBy (GetsOn (not (are_full old)) bytes) (Reads bytes)) old new
-TurnsTo (End t) joins all old new = new ≡ map (stepped step.End t) old
-TurnsTo (Writable t) joins all old new = new ≡ map (stepped step.Writable t) old
-TurnsTo (Failed t) joins all old new = new ≡ map (stepped step.Failed t) old
+TurnsTo (End t) joins all old new = new ≡ map (life_stepped step.End t) old
+TurnsTo (Writable t) joins all old new = new ≡ map (life_stepped step.Writable t) old
+TurnsTo (Failed t) joins all old new = new ≡ map (life_stepped step.Failed t) old
 
--- how many sockets were joined then
+-- how many sockets were accepted then
 abbrev pub joins_after : Happening → ℕ → ℕ
 joins_after (Joined l t) joins = joins + 1
 joins_after (Got t bytes) joins = joins
@@ -256,7 +256,7 @@ Speaks bytes old new = (bytes ≡ framed (relay_sent_by old.relay))
     × RelayGoesBy RelaySendsOn (act_of_sending (sends_of old.relay) old.relay) old new
 
 -- where the forwarder has not greeted it does; else the first forwarding that has a request sends
--- it; else the first relay that has something to send says that
+-- it; else the first relay that has something to send sends that
 abbrev pub SendsBy : Bool → Option Forwarding → List ℕ → Trace → Trace → Type 0
 SendsBy false first bytes old new =
     (bytes ≡ GREETING.now) × (new ≡ with_forwarding_state (greeting_sent old.forwarding_state) old)
@@ -360,7 +360,7 @@ is_grant (Some p) = p.0 == S_PROXY
 
 -- control messages come first; after the one that grants the proxy each frame is a message of the
 -- connection protocol
-abbrev pub ReceivesFrame : Stage → List ℕ → Trace → Trace → Type 0
+abbrev pub ReceivesFrame : ForwarderStage → List ℕ → Trace → Trace → Type 0
 ReceivesFrame Control content old new = new ≡ (if is_grant (take_u32 content)
     then record old { stage = Proxy; framer = switched framing.Proxy old.framer } else old)
 ReceivesFrame Proxy content old new = ReceivesReading (reading content) old new
@@ -395,7 +395,7 @@ pub record OrderIsAllowed (o : Order) (relay_traces : List Life) : Type 0 where
 
 -- it makes its step
 abbrev pub StepsBy : Order → LinkStep → ℕ → Trace → Trace → Type 0
-StepsBy o s t old new = OrderIsAllowed o old.relay_traces × (new ≡ with_relay_traces (map (stepped s t) old.relay_traces) old)
+StepsBy o s t old new = OrderIsAllowed o old.relay_traces × (new ≡ with_relay_traces (map (life_stepped s t) old.relay_traces) old)
 
 abbrev pub own_made : Option ℕ → Option OwnStream
 own_made None = None
@@ -422,14 +422,14 @@ pub record MakesOne (host : List ℕ) (port : ℕ) (number : Option ℕ) (old ne
   pub were : old.relay_traces ≡ before ++ life ∷ behind
   pub are : new ≡ record old { relay_traces = (before ++ behind) ++ made_life number life ∷ [] }
 
-abbrev pub OrdersIn : Order → Option ℕ → Trace → Trace → Type 0
-OrdersIn (order.Listen host port) number old new = OnForwardingState (GetsListener host port number) old new
-OrdersIn (order.Connect host port) number old new = MakesOne host port number old new
-OrdersIn (order.Unlisten l) number old new = OnForwardingState (EndsListener l) old new
-OrdersIn (order.Pause t) number old new = StepsBy (order.Pause t) (step.Pause true) t old new
-OrdersIn (order.Resume t) number old new = StepsBy (order.Resume t) (step.Pause false) t old new
-OrdersIn (order.Finish t) number old new = StepsBy (order.Finish t) step.Finish t old new
-OrdersIn (order.Close t) number old new = StepsBy (order.Close t) step.Close t old new
+abbrev pub OrdersInTrace : Order → Option ℕ → Trace → Trace → Type 0
+OrdersInTrace (order.Listen host port) number old new = OnForwardingState (GetsListener host port number) old new
+OrdersInTrace (order.Connect host port) number old new = MakesOne host port number old new
+OrdersInTrace (order.Unlisten l) number old new = OnForwardingState (EndsListener l) old new
+OrdersInTrace (order.Pause t) number old new = StepsBy (order.Pause t) (step.Pause true) t old new
+OrdersInTrace (order.Resume t) number old new = StepsBy (order.Resume t) (step.Pause false) t old new
+OrdersInTrace (order.Finish t) number old new = StepsBy (order.Finish t) step.Finish t old new
+OrdersInTrace (order.Close t) number old new = StepsBy (order.Close t) step.Close t old new
 
 -- ---- by its calls
 
@@ -439,8 +439,8 @@ MarksIn (HouseSaid bytes) old new = RelaySendsIn bytes old new
 MarksIn (HouseTook size) old new = new ≡ old
 MarksIn (HouseAsked client id opening ask reply) old new =
     OnForwardingState (IsClientAsk client id opening ask reply) old new
-MarksIn (HouseAnswer client id reply) old new = OnForwardingState (Answers client id reply) old new
-MarksIn (HouseOrder o number) old new = OrdersIn o number old new
+MarksIn (HouseAnswer client id reply) old new = OnForwardingState (GivesFirstAnswer client id reply) old new
+MarksIn (HouseOrder o number) old new = OrdersInTrace o number old new
 
 -- what a call leaves of the trace
 abbrev pub Follows : HouseCall → Trace → Trace → Type 0
@@ -463,13 +463,13 @@ TraceReaches old (call ∷ calls) new =
     (middle : Trace) × Follows call old middle × TraceReaches middle calls new
 
 -- how many bytes the streams accepted in all
-abbrev pub taken_in : List HouseCall → ℕ
-taken_in [] = 0
-taken_in (TakesBytes t bytes ∷ calls) = length bytes + taken_in calls
-taken_in (Begins starts ∷ calls) = taken_in calls
-taken_in (Marks mark ∷ calls) = taken_in calls
-taken_in (ReceivesBytes bytes ∷ calls) = taken_in calls
-taken_in (Turns happening ∷ calls) = taken_in calls
+abbrev pub accepted_length_in : List HouseCall → ℕ
+accepted_length_in [] = 0
+accepted_length_in (TakesBytes t bytes ∷ calls) = length bytes + accepted_length_in calls
+accepted_length_in (Begins starts ∷ calls) = accepted_length_in calls
+accepted_length_in (Marks mark ∷ calls) = accepted_length_in calls
+accepted_length_in (ReceivesBytes bytes ∷ calls) = accepted_length_in calls
+accepted_length_in (Turns happening ∷ calls) = accepted_length_in calls
 
 -- ---- what the forwarder has then
 
@@ -496,8 +496,8 @@ pub record IsLife (most : ℕ) (life : Life) (link : Link) : Type 0 where
   pub socket : IsSocketOf link.stream link.relay
   pub end : IsEndOf link.stream life.to
   pub stands : RelayRepresents life.dials life.acts link.relay
-  pub owed : owed_in link.relay.line ≤ taken life.acts
-  pub few : taken life.acts ≤ most
+  pub owed : owed_in link.relay.line ≤ accepted_length life.acts
+  pub few : accepted_length life.acts ≤ most
 
 abbrev pub AreRelayTraces : ℕ → List Life → List Link → Type 0
 AreRelayTraces most [] [] = Unit {0}
@@ -510,17 +510,17 @@ AreRelayTraces most (life ∷ relay_traces) (link ∷ links) = IsLife most life 
 pub record Held : Type 0 where
   pub links : List Link
   pub framer : FramerState
-  pub stage : Stage
+  pub stage : ForwarderStage
   pub forwarding_state : ForwardingState
 
-abbrev pub held : List Link → FramerState → Stage → ForwardingState → Held
-held links framer stage forwarding_state =
+abbrev pub as_held : List Link → FramerState → ForwarderStage → ForwardingState → Held
+as_held links framer stage forwarding_state =
     record { links = links; framer = framer; stage = stage; forwarding_state = forwarding_state }
 
--- by what the house has
-abbrev pub forwarder_held_of : Relays → FramerState → Stage → ListenRules → Bool → Forwardings → Asks → Held
+-- by what the forwarder has
+abbrev pub forwarder_held_of : Relays → FramerState → ForwarderStage → ListenRules → Bool → Forwardings → PendingRequests → Held
 forwarder_held_of relays framer stage rules greeted forwardings asks =
-    held relays.all.items framer stage (forwarding_state_of rules greeted forwardings asks)
+    as_held relays.all.items framer stage (forwarding_state_of rules greeted forwardings asks)
 
 -- the forwarder has what a trace leaves, in which no stream accepted more bytes than so many
 pub record IsTrace (most : ℕ) (trace : Trace) (h : Held) : Type 0 where
@@ -537,14 +537,14 @@ GoesFurther so old new = (most : ℕ) (trace : Trace) → IsTrace most trace old
 
 -- of the links alone
 abbrev pub LinksGo : (Trace → Trace → Type 0) → List Link → List Link → Type 0
-LinksGo so old new = (framer : FramerState) (stage : Stage) (forwarding_state : ForwardingState)
-    → GoesFurther so (held old framer stage forwarding_state) (held new framer stage forwarding_state)
+LinksGo so old new = (framer : FramerState) (stage : ForwarderStage) (forwarding_state : ForwardingState)
+    → GoesFurther so (as_held old framer stage forwarding_state) (as_held new framer stage forwarding_state)
 
 -- of all but what was received
-abbrev pub HouseGoes : (Trace → Trace → Type 0) → Relays → Forwardings → Asks → Relays
-    → Forwardings → Asks → Type 0
+abbrev pub HouseGoes : (Trace → Trace → Type 0) → Relays → Forwardings → PendingRequests → Relays
+    → Forwardings → PendingRequests → Type 0
 HouseGoes so relays forwardings asks relays' forwardings' asks' =
-    (framer : FramerState) (stage : Stage) (rules : ListenRules) (greeted : Bool) → GoesFurther so
+    (framer : FramerState) (stage : ForwarderStage) (rules : ListenRules) (greeted : Bool) → GoesFurther so
     (forwarder_held_of relays framer stage rules greeted forwardings asks)
     (forwarder_held_of relays' framer stage rules greeted forwardings' asks')
 
@@ -579,20 +579,20 @@ GivesOrder None ordering old new = new ≡ old
 GivesOrder (Some (order.Listen host port)) ordering old new = AwaitsNumber ordering old new
 GivesOrder (Some (order.Connect host port)) ordering old new = AwaitsNumber ordering old new
 GivesOrder (Some (order.Unlisten l)) ordering old new =
-    GoesFurther (OrdersIn (order.Unlisten l) None) old new
+    GoesFurther (OrdersInTrace (order.Unlisten l) None) old new
 GivesOrder (Some (order.Pause t)) ordering old new =
-    GoesFurther (OrdersIn (order.Pause t) None) old new
+    GoesFurther (OrdersInTrace (order.Pause t) None) old new
 GivesOrder (Some (order.Resume t)) ordering old new =
-    GoesFurther (OrdersIn (order.Resume t) None) old new
+    GoesFurther (OrdersInTrace (order.Resume t) None) old new
 GivesOrder (Some (order.Finish t)) ordering old new =
-    GoesFurther (OrdersIn (order.Finish t) None) old new
+    GoesFurther (OrdersInTrace (order.Finish t) None) old new
 GivesOrder (Some (order.Close t)) ordering old new =
-    GoesFurther (OrdersIn (order.Close t) None) old new
+    GoesFurther (OrdersInTrace (order.Close t) None) old new
 
 -- what was ordered gets its number, or none
 abbrev pub GetsNumber : Option Ordering → Option ℕ → Held → Held → Type 0
 GetsNumber ordering number old new = IfSome (ordering_of ordering) (λ order. (before : Held)
-    → AwaitsNumber ordering before old → GoesFurther (OrdersIn order number) before new)
+    → AwaitsNumber ordering before old → GoesFurther (OrdersInTrace order number) before new)
 
 -- what is accepted is counted
 abbrev pub TakesFurther : ℕ → List ℕ → Held → Held → Type 0
@@ -604,11 +604,11 @@ TakesFurther t bytes old new = (most : ℕ) (trace : Trace) → length bytes + m
 pub record HasLived (calls : List HouseCall) (h : Held) : Type 0 where
   pub trace : Trace
   pub reached : TraceReaches first_trace calls trace
-  pub is : IsTrace (taken_in calls) trace h
+  pub is : IsTrace (accepted_length_in calls) trace h
 
 -- the forwarder represents its calls, unless 2^64 bytes or more were accepted in all
 abbrev pub ForwarderRepresents : List HouseCall → Held → Type 0
-ForwarderRepresents calls h = taken_in calls < 2 ^ 64 → HasLived calls h
+ForwarderRepresents calls h = accepted_length_in calls < 2 ^ 64 → HasLived calls h
 
 -- the forwarder represents its calls, or did before it gave the order whose number it awaits
 abbrev pub StandsSince : Option Ordering → List HouseCall → Held → Type 0

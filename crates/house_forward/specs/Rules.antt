@@ -9,7 +9,7 @@ use Rattle.mux_outside.specs.declared.starts.ListenEntry.{ListenEntry}
 use Rattle.mux_outside.specs.declared.starts.ListenPermit.{ListenPermit}
 use Rattle.mux_outside.specs.declared.starts.ListenPermit.TheVariants.{Any, Only}
 use Rattle.mux_outside.specs.declared.starts.Starts.{Starts}
-use Rattle.house_forward.specs.declared.rules.Asked.{Asked}
+use Rattle.house_forward.specs.declared.rules.AskedForwarding.{AskedForwarding}
 use Rattle.house_forward.specs.declared.rules.Ends.{Ends}
 use Rattle.house_forward.specs.declared.rules.ForwardingKind.{ForwardingKind}
 use Rattle.house_forward.specs.declared.rules.ForwardingKind.TheVariants.{Local, Remote, Dynamic}
@@ -82,22 +82,22 @@ is_refused_alone ask = is_refused_of (kind_of ask.kind) ask
 -- ---- where it may listen on this machine
 
 -- an entry is for this host, or for each
-abbrev pub has_host : Option (List ℕ) → List ℕ → Bool
-has_host None host = true
-has_host (Some h) host = bytes_eq h host
+abbrev pub entry_has_host : Option (List ℕ) → List ℕ → Bool
+entry_has_host None host = true
+entry_has_host (Some h) host = bytes_eq h host
 
 -- an entry is for this port, or for each
-abbrev pub has_port : Option ℕ → ℕ → Bool
-has_port None port = true
-has_port (Some p) port = p == port
+abbrev pub entry_has_port : Option ℕ → ℕ → Bool
+entry_has_port None port = true
+entry_has_port (Some p) port = p == port
 
-abbrev pub is_for : List ℕ → ℕ → ListenEntry → Bool
-is_for host port entry = has_host entry.host host && has_port entry.port port
+abbrev pub is_listen_entry_for : List ℕ → ℕ → ListenEntry → Bool
+is_listen_entry_for host port entry = entry_has_host entry.host host && entry_has_port entry.port port
 
 -- a listener at this host and port is permitted; hosts are compared by bytes
 abbrev pub is_permitted_here : ListenPermit → List ℕ → ℕ → Bool
 is_permitted_here Any host port = true
-is_permitted_here (Only entries) host port = list_any (is_for host port) entries
+is_permitted_here (Only entries) host port = list_any (is_listen_entry_for host port) entries
 
 -- before the start: a host of none means this machine alone, and anywhere is permitted
 abbrev pub first_rules : ListenRules
@@ -124,7 +124,7 @@ is_ruled_out rules ask = is_refused_alone ask || is_unpermitted rules ask
 -- ---- what is asked
 
 -- a request as it is handed on
-pub record IsHandedAsk (asked : Asked) (ask : StartAsk) : Type 0 where
+pub record IsHandedAsk (asked : AskedForwarding) (ask : StartAsk) : Type 0 where
   pub kind : asked.kind ≡ ask.kind
   pub listens : asked.listen_host.now ≡ ask.listen_host
   pub listen_port : asked.listen_port ≡ ask.listen_port

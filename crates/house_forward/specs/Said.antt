@@ -29,16 +29,16 @@ direct number host port = (((CHANNEL_OPEN ∷ (str (codes "direct-tcpip") ++ (u3
     ++ str host) ++ u32 port) ++ (str (codes "127.0.0.1") ++ u32 0)
 
 -- a CONFIRMATION of the server's OPEN
-abbrev pub confirmed : ℕ → ℕ → List ℕ
-confirmed remote number = spell (To remote (Confirmed number WINDOW MAXIMUM []))
+abbrev pub confirmation_of_open : ℕ → ℕ → List ℕ
+confirmation_of_open remote number = spell (To remote (Confirmed number WINDOW MAXIMUM []))
 
 -- the refusal of the server's OPEN, where no socket could be connected
 abbrev pub not_connected : ℕ → List ℕ
 not_connected remote = open_failure remote CONNECT_FAILED (codes "connect failed")
 
 -- a request about a forwarding that wants a reply (RFC 4254, section 7.1)
-abbrev pub requested : List ℕ → List ℕ → ℕ → List ℕ
-requested name address port = GLOBAL_REQUEST ∷ (str name ++ (1 ∷ (str address ++ u32 port)))
+abbrev pub forwarding_request : List ℕ → List ℕ → ℕ → List ℕ
+forwarding_request name address port = GLOBAL_REQUEST ∷ (str name ++ (1 ∷ (str address ++ u32 port)))
 
 abbrev pub request_name : Stage → List ℕ
 request_name (ToListen host) = codes "tcpip-forward"
@@ -62,7 +62,7 @@ request_port (Cancelling port) asked = asked
 -- the request that is to be sent for a forwarding
 abbrev pub request_payload : Forwarding → List ℕ
 request_payload f =
-    requested (request_name f.stage) f.listen_host (request_port f.stage f.listen_port)
+    forwarding_request (request_name f.stage) f.listen_host (request_port f.stage f.listen_port)
 
 -- whether data is sent
 abbrev pub is_data : Outgoing → Bool
@@ -76,20 +76,20 @@ is_data Eof = false
 is_data (Adjust n) = false
 
 -- in a channel that is confirmed: of the bytes that are held so many as are sent
-abbrev pub in_live : Outgoing → ℕ → List ℕ → List ℕ
-in_live Open remote held = []
-in_live Confirmation remote held = []
-in_live OpenFailure remote held = not_connected remote
-in_live Close remote held = close remote
-in_live Failure remote held = spell (To remote Fails)
-in_live (Data n) remote held = spell (To remote (GivesData (take n held)))
-in_live Eof remote held = spell (To remote GivesEof)
-in_live (Adjust n) remote held = spell (To remote (Adjusts n))
+abbrev pub sent_in_live : Outgoing → ℕ → List ℕ → List ℕ
+sent_in_live Open remote held = []
+sent_in_live Confirmation remote held = []
+sent_in_live OpenFailure remote held = not_connected remote
+sent_in_live Close remote held = close remote
+sent_in_live Failure remote held = spell (To remote Fails)
+sent_in_live (Data n) remote held = spell (To remote (GivesData (take n held)))
+sent_in_live Eof remote held = spell (To remote GivesEof)
+sent_in_live (Adjust n) remote held = spell (To remote (Adjusts n))
 
 -- an answer to the server's OPEN
 abbrev pub in_offer : Outgoing → ℕ → ℕ → List ℕ
 in_offer Open remote number = not_connected remote
-in_offer Confirmation remote number = confirmed remote number
+in_offer Confirmation remote number = confirmation_of_open remote number
 in_offer OpenFailure remote number = not_connected remote
 in_offer Close remote number = not_connected remote
 in_offer Failure remote number = not_connected remote
@@ -102,7 +102,7 @@ said_payload_in (Dialing dialog) r outgoing = []
 said_payload_in (Asked host port version) r outgoing = direct r.number host port
 said_payload_in (Opened version) r outgoing = []
 said_payload_in (Offered remote window maximum) r outgoing = in_offer outgoing remote r.number
-said_payload_in (Live live) r outgoing = in_live outgoing live.remote r.held.waiting
+said_payload_in (Live live) r outgoing = sent_in_live outgoing live.remote r.held.waiting
 said_payload_in Over r outgoing = []
 
 -- the payload of what a relay sends

@@ -7,12 +7,12 @@ use Rattle.house_forward.specs.Causes.{AreOne, IsFor, ForwarderIsAtRest}
 use Rattle.house_forward.specs.ForwarderEvents.{ForwarderEvent, Leave}
 use Rattle.house_forward.specs.ForwarderEvents.{Begins, Requests, Listens}
 use Rattle.house_forward.specs.ForwardingState.{ForwardingState, empty_forwarding_state, standing_at}
-use Rattle.house_forward.specs.Forwardings.{Begins as BeginsAt, Standing, opens_of, standing, forwarding_request_of}
+use Rattle.house_forward.specs.Forwardings.{AskedAtStart as BeginsAt, Standing, opens_of, standing, forwarding_request_of}
 use Rattle.house_forward.specs.RelayTraces.{Held, HasLived}
 use Rattle.house_forward.specs.Quiet.{quiet_of}
 use Rattle.house_forward.specs.Rules.{AreEnds, is_ruled_out, rules_of}
-use Rattle.house_forward.specs.declared.asks.Asked.TheVariants.{Now}
-use Rattle.house_forward.specs.declared.asks.Outcome.TheVariants.{Refused}
+use Rattle.house_forward.specs.declared.asks.ImmediateOutcome.TheVariants.{Now}
+use Rattle.house_forward.specs.declared.asks.RequestOutcome.TheVariants.{Refused}
 use Rattle.house_forward.specs.declared.forwarding.Forwarding.{Forwarding}
 use Rattle.house_forward.specs.declared.forwarding.ForwardingRequest.TheVariants.{Listen}
 use Rattle.house_forward.specs.declared.rules.Ends.{Ends}

@@ -31,7 +31,7 @@ quiet_in has = quiet_of has.greeted has.forwardings.all.items has.relays.all.ite
 abbrev pub due_in : ForwarderState → ℕ
 due_in has = due has.forwardings.all.items has.relays.all.items has.asks.waiting.items
 
--- at most, where so many forwardings, relays and asks may come
+-- at most, where so many forwardings, relays and requests may come
 abbrev pub most_due_in : ForwarderState → ℕ → ℕ → ℕ → ℕ
 most_due_in has forwardings relays asks = most_due (length has.forwardings.all.items + forwardings)
     (length has.relays.all.items + relays) (length has.asks.waiting.items + asks)

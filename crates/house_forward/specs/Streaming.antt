@@ -1,9 +1,9 @@
--- What the streams gave and took, by the calls.
+-- What the streams gave and accepted, by the calls.
 use Rattle.std.specs.Prelude.{◌≡◌, ◌==◌, ℕ, if◌then◌else◌, List, [], ◌∷◌, ◌++◌, IfSome, Some}
 use Rattle.std.specs.List.{All}
 use Rattle.mux_outside.specs.HouseCalls.{HouseCall, Happening, Begins, Marks, Receives, Turns, Takes}
 use Rattle.mux_outside.specs.HouseCalls.{Joined, Got, End, Writable, Failed}
-use Rattle.house_relay.specs.Acts.{RelayAct, read, took}
+use Rattle.house_relay.specs.Acts.{RelayAct, read, socket_accepted}
 use Rattle.house_forward.specs.RelayTraces.{Trace, TraceReaches, first_trace}
 use Rattle.house_forward.specs.Numbers.{made_by}
 
@@ -38,7 +38,7 @@ abbrev pub took_in : ℕ → List HouseCall → List ℕ
 took_in s [] = []
 took_in s (call ∷ calls) = took_call s call ++ took_in s calls
 
--- what was read and taken is what this stream gave and took since a call brought it
+-- what was read and written is what this stream gave and accepted since a call brought it
 pub record IsOfStream (calls : List HouseCall) (t : ℕ) (acts : List RelayAct) : Type 0 where
   pub before : List HouseCall
   pub birth : HouseCall
@@ -46,7 +46,7 @@ pub record IsOfStream (calls : List HouseCall) (t : ℕ) (acts : List RelayAct) 
   pub are : calls ≡ before ++ birth ∷ since
   pub brings : made_by birth ≡ Some t
   pub reads : read acts ≡ got_in t since
-  pub takes : took acts ≡ took_in t since
+  pub takes : socket_accepted acts ≡ took_in t since
 
 -- this is so of each relay and its stream
 abbrev pub EachHasItsStream : Type 0

@@ -1,7 +1,7 @@
 //! The requests of clients that are to be answered later.
 ghost use Rattle.std.specs.Prelude.{◌≡◌, ◌≤◌, ◌<◌, ◌++◌, ◌∷◌, [], ℕ, length, OnOk, OnErr, None};
 ghost use Rattle.std.specs.List.{position};
-ghost use Rattle.house_forward.specs.Asks.{has_open, how_many_of, is_full_for, turns_away, waiting_for, settle_one, settled, refused, counted, owes_opening, earlier, earliest, stamp_of, reply_of, answer_of, after_answer, is_waiting};
+ghost use Rattle.house_forward.specs.Asks.{has_open, how_many_of, is_full_for, turns_away, request_waiting_for, settle_one, requests_settled, all_requests_refused, one_more_outcome, owes_opening, earlier_outcome, earliest, stamp_of, reply_of, next_answer, after_answer, is_waiting};
 ghost use Rattle.house_forward.specs.declared.rules.TheConstants.{MOST_ASKS};
 
 use crate::rules::{MOST_ASKS, MOST_WAITING};
@@ -11,7 +11,7 @@ use std::alloc::Global;
 
 /// The outcome of a request.
 #[derive(Clone, Copy, PartialEq, Eq)]
-pub enum Outcome {
+pub enum RequestOutcome {
     Done,
     Port(u32),
     Refused,
@@ -19,9 +19,9 @@ pub enum Outcome {
 
 /// The immediate outcome of a request.
 #[derive(Clone, Copy)]
-pub enum Asked {
+pub enum ImmediateOutcome {
     /// It has this outcome.
-    Now(Outcome),
+    Now(RequestOutcome),
     /// It waits for the fate of this forwarding.
     Later(u64),
 }
@@ -35,12 +35,12 @@ pub struct Waiting {
     /// The forwarding whose fate it waits for.
     pub forwarding: u64,
     /// Its outcome, and the how many-th that was.
-    pub outcome: Option<(u64, Outcome)>,
+    pub outcome: Option<(u64, RequestOutcome)>,
 }
 
 /// The requests that have no answer yet, in order of asking.
 #[derive(Drop)]
-pub struct Asks {
+pub struct PendingRequests {
     waiting: Vec<Waiting>,
     /// How many had an outcome.
     done: u64,
@@ -48,12 +48,12 @@ pub struct Asks {
     ghost few: { (client : ℕ) → how_many_of client waiting.items ≤ MOST_ASKS },
 }
 
-impl Asks {
-    pub fn new(alloc: Global) -> Asks
+impl PendingRequests {
+    pub fn new(alloc: Global) -> PendingRequests
         ensures none { result.waiting.items ≡ [] }
         ensures done { result.done ≡ 0 }
     {
-        Asks {
+        PendingRequests {
             waiting: Vec::new(alloc),
             done: 0,
         }
@@ -107,7 +107,7 @@ impl Asks {
     ) -> Result<(), OutOfMemory>
         requires { how_many_of client self.old.waiting.items < MOST_ASKS }
         ensures waits { OnOk result (self.new.waiting.items ≡ self.old.waiting.items
-            ++ waiting_for client id opening forwarding ∷ []) }
+            ++ request_waiting_for client id opening forwarding ∷ []) }
         ensures done { self.new.done ≡ self.old.done }
         ensures err { OnErr result (self.new.waiting.items ≡ self.old.waiting.items) }
     {
@@ -122,24 +122,24 @@ impl Asks {
     }
 
     /// The requests to open a forwarding, or those to close it, have this outcome.
-    pub fn settle(&mut self, forwarding: u64, opening: bool, outcome: Outcome)
+    pub fn settle(&mut self, forwarding: u64, opening: bool, outcome: RequestOutcome)
         ensures waiting { self.new.waiting.items
-            ≡ settled forwarding opening self.old.done outcome self.old.waiting.items }
-        ensures done { self.new.done ≡ counted self.old.done }
+            ≡ requests_settled forwarding opening self.old.done outcome self.old.waiting.items }
+        ensures done { self.new.done ≡ one_more_outcome self.old.done }
     {
         let at = self.done;
         settle_all(&mut self.waiting, forwarding, opening, at, outcome);
         self.done = at.saturating_add(1);
     }
 
-    /// All asks about a forwarding are refused.
+    /// All requests about a forwarding are refused.
     pub fn refuse(&mut self, forwarding: u64)
         ensures waiting { self.new.waiting.items
-            ≡ refused forwarding self.old.done self.old.waiting.items }
-        ensures done { self.new.done ≡ counted (counted self.old.done) }
+            ≡ all_requests_refused forwarding self.old.done self.old.waiting.items }
+        ensures done { self.new.done ≡ one_more_outcome (one_more_outcome self.old.done) }
     {
-        self.settle(forwarding, true, Outcome::Refused);
-        self.settle(forwarding, false, Outcome::Refused);
+        self.settle(forwarding, true, RequestOutcome::Refused);
+        self.settle(forwarding, false, RequestOutcome::Refused);
     }
 
     /// Whether the answer to a request to open this forwarding is still to be given.
@@ -153,7 +153,7 @@ impl Asks {
 
     /// The next answer, in the order in which the requests had their outcome.
     pub fn answer(&mut self) -> Option<(u64, u32, HouseReply)>
-        ensures exact { result ≡ answer_of self.old.waiting.items }
+        ensures exact { result ≡ next_answer self.old.waiting.items }
         ensures taken { self.new.waiting.items ≡ after_answer result self.old.waiting.items }
         ensures done { self.new.done ≡ self.old.done }
         ensures silent { result ≡ None → self.new ≡ self.old }
@@ -199,22 +199,22 @@ impl Waiting {
         ensures { result ≡ reply_of self.now }
     {
         match self.outcome {
-            Some((_, Outcome::Done)) => HouseReply::Done,
-            Some((_, Outcome::Port(port))) => {
+            Some((_, RequestOutcome::Done)) => HouseReply::Done,
+            Some((_, RequestOutcome::Port(port))) => {
                 if self.opening {
                     HouseReply::Port(port)
                 } else {
                     HouseReply::Refused
                 }
             }
-            Some((_, Outcome::Refused)) | None => HouseReply::Refused,
+            Some((_, RequestOutcome::Refused)) | None => HouseReply::Refused,
         }
     }
 }
 
 // The one of both that had an outcome earlier.
 fn earlier(first: Option<Waiting>, w: Waiting) -> Option<Waiting>
-    ensures { result ≡ earlier first w }
+    ensures { result ≡ earlier_outcome first w }
 {
     let Some((at, _)) = w.outcome else {
         return first;
@@ -226,8 +226,14 @@ fn earlier(first: Option<Waiting>, w: Waiting) -> Option<Waiting>
 }
 
 // Those of these requests that have no outcome yet have this one.
-fn settle_all(waiting: &mut Vec<Waiting>, forwarding: u64, opening: bool, at: u64, outcome: Outcome)
-    ensures { waiting.new.items ≡ settled forwarding opening at outcome waiting.old.items }
+fn settle_all(
+    waiting: &mut Vec<Waiting>,
+    forwarding: u64,
+    opening: bool,
+    at: u64,
+    outcome: RequestOutcome,
+)
+    ensures { waiting.new.items ≡ requests_settled forwarding opening at outcome waiting.old.items }
 {
     for w in waiting.iter_mut() {
         *w = settled(*w, forwarding, opening, at, outcome);
@@ -235,7 +241,7 @@ fn settle_all(waiting: &mut Vec<Waiting>, forwarding: u64, opening: bool, at: u6
 }
 
 // A request, which has this outcome if it is one of these and has none yet.
-fn settled(w: Waiting, forwarding: u64, opening: bool, at: u64, outcome: Outcome) -> Waiting
+fn settled(w: Waiting, forwarding: u64, opening: bool, at: u64, outcome: RequestOutcome) -> Waiting
     ensures { result ≡ settle_one forwarding opening at outcome w }
 {
     if w.forwarding == forwarding && w.opening == opening && w.outcome.is_none() {

@@ -43,8 +43,8 @@ impl<N: Notes + Drop> Forwarder<N> {
         &self.notes.notes
     }
 
-    // Room for so many marks, and for those of all that so many forwardings, relays and asks more
-    // can bring.
+    // Room for so many marks, and for those of all that so many forwardings, relays and requests
+    // more can bring.
     fn reserve(
         &mut self,
         forwardings: usize,

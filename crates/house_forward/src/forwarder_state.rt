@@ -7,7 +7,7 @@ mod orders;
 mod sockets;
 mod talking;
 
-use crate::asks::Asks;
+use crate::asks::PendingRequests;
 use crate::forwardings::Forwardings;
 use crate::ordering::Ordering;
 use crate::relays::Relays;
@@ -17,7 +17,7 @@ use std::alloc::Global;
 
 /// How what is written to the forwarder is read.
 #[derive(Clone, Copy, PartialEq, Eq)]
-enum Stage {
+enum ForwarderStage {
     /// Control messages, until PROXY is granted.
     Control,
     /// Messages of the connection protocol.
@@ -30,10 +30,10 @@ pub struct ForwarderState {
     alloc: Global,
     rules: ListenRules,
     pub must: bool,
-    pub asks: Asks,
+    pub asks: PendingRequests,
     ordering: Option<Ordering>,
     greeted: bool,
-    stage: Stage,
+    stage: ForwarderStage,
     framer: Framer,
     pub forwardings: Forwardings,
     pub relays: Relays,

@@ -1,11 +1,11 @@
 //! One forwarding of the forwarder.
 ghost use Rattle.std.specs.Prelude.{◌≡◌, true, not, is_some, IfOk, OnOk, IfSome, None, Some};
-ghost use Rattle.house_forward.specs.Forwardings.{counts, listens_at, connects_to, forwarding_outcome_of, bound_of, listener_of, is_first, as_first, has_request, forwarding_request_of, IsAt, IsAskedFor};
+ghost use Rattle.house_forward.specs.Forwardings.{is_asked_or_live, listens_at, connects_same_end, forwarding_outcome_of, bound_of, listener_of, is_first, as_first, has_request, forwarding_request_of, IsAt, IsAskedFor};
 ghost use Rattle.house_forward.specs.Said.{request_name, request_port};
 ghost use Rattle.house_forward.specs.Rules.{listens_here};
-ghost use Rattle.house_forward.specs.Forwardings.{to_listen, waits_at, has_listener, changed, stage_after, bound_to, granted, is_asked, is_cancelled, is_to_listen, is_pending, want_in, served_at};
+ghost use Rattle.house_forward.specs.Forwardings.{to_listen, waits_at, has_listener, forwarding_changed, listener_stage_after, bound_port, outcome_of_grant, is_listen_unanswered, is_cancelled, is_to_listen, is_order_pending, want_in, served_at};
 
-use crate::asks::{Asked, Asks, Outcome};
+use crate::asks::{ImmediateOutcome, PendingRequests, RequestOutcome};
 use crate::forwardings::ForwardingWant;
 use crate::rules::{Ends, ForwardingKind, same_kind};
 use crate::two_texts::TwoTexts;
@@ -167,7 +167,7 @@ impl Forwarding {
 
     /// Whether this is its serial and its request to listen is unanswered.
     pub fn is_asked(&self, serial: u64) -> bool
-        ensures { result ≡ is_asked serial self.now }
+        ensures { result ≡ is_listen_unanswered serial self.now }
     {
         match self.stage {
             Stage::Requested => self.serial == serial,
@@ -197,7 +197,7 @@ impl Forwarding {
 
     /// Whether it is to be ordered, or to be closed.
     pub fn is_pending(&self) -> bool
-        ensures { result ≡ is_pending self.now }
+        ensures { result ≡ is_order_pending self.now }
     {
         match self.stage {
             Stage::ToListen(_) | Stage::Ordered => true,
@@ -208,7 +208,7 @@ impl Forwarding {
 
     /// Which order it is to have. One that is closed waits for the answers of those that asked for
     /// it.
-    pub fn wants(&self, asks: &Asks) -> Option<ForwardingWant>
+    pub fn wants(&self, asks: &PendingRequests) -> Option<ForwardingWant>
         ensures { result ≡ want_in asks.now.waiting.items (Some self.now) }
     {
         match self.stage {
@@ -264,7 +264,7 @@ impl Forwarding {
 
     /// It changes, if this is its serial.
     pub fn change(&mut self, serial: u64, change: Change)
-        ensures { self.new ≡ changed change serial self.old }
+        ensures { self.new ≡ forwarding_changed change serial self.old }
     {
         if self.serial != serial {
             return;
@@ -280,7 +280,7 @@ impl Forwarding {
     // Its stage changes.
     fn go(&mut self, change: Change)
         ensures { self.new ≡ record self.old {
-          stage = stage_after change self.old.listen_port self.old.stage;
+          stage = listener_stage_after change self.old.listen_port self.old.stage;
         } }
     {
         let next = match (change, &self.stage) {
@@ -302,7 +302,7 @@ impl Forwarding {
 
     // The port on which the server listens, if it chose this one where it was to choose.
     fn bound_to(&self, port: Option<u32>) -> u32
-        ensures { result ≡ bound_to self.now.listen_port port }
+        ensures { result ≡ bound_port self.now.listen_port port }
     {
         if self.listen_port == 0 {
             port.unwrap_or(0)
@@ -312,20 +312,20 @@ impl Forwarding {
     }
 
     /// Its outcome as the server listens.
-    pub fn granted(&self, port: Option<u32>) -> Outcome
+    pub fn granted(&self, port: Option<u32>) -> RequestOutcome
         ensures { result
-            ≡ granted self.now.listen_port (bound_to self.now.listen_port port) }
+            ≡ outcome_of_grant self.now.listen_port (bound_port self.now.listen_port port) }
     {
         if self.listen_port == 0 {
-            Outcome::Port(self.bound_to(port))
+            RequestOutcome::Port(self.bound_to(port))
         } else {
-            Outcome::Done
+            RequestOutcome::Done
         }
     }
 
     /// Whether it counts as asked or live: one that listens here ends as it is asked to close.
     pub fn counts(&self) -> bool
-        ensures { result ≡ counts self.now }
+        ensures { result ≡ is_asked_or_live self.now }
     {
         !(self.closing && self.kind.listens_here())
     }
@@ -342,7 +342,7 @@ impl Forwarding {
     /// Whether it connects where this is to connect: where a dialog specifies that, whatever was
     /// asked.
     pub fn connects_to(&self, ends: Ends<'_>) -> bool
-        ensures { result ≡ connects_to ends.entry self.now }
+        ensures { result ≡ connects_same_end ends.entry self.now }
     {
         !self.kind.connects_there()
             || (self.connect_port == ends.connect_port
@@ -350,16 +350,16 @@ impl Forwarding {
     }
 
     /// The outcome of those that request it, once that is known.
-    pub fn outcome(&self) -> Option<Outcome>
+    pub fn outcome(&self) -> Option<RequestOutcome>
         ensures { result ≡ forwarding_outcome_of self.now }
     {
         match self.stage {
-            Stage::Listening(_) => Some(Outcome::Done),
+            Stage::Listening(_) => Some(RequestOutcome::Done),
             Stage::Live(port) | Stage::Cancelling(port) => {
                 if self.listen_port == 0 {
-                    Some(Outcome::Port(port))
+                    Some(RequestOutcome::Port(port))
                 } else {
-                    Some(Outcome::Done)
+                    Some(RequestOutcome::Done)
                 }
             }
             Stage::ToListen(_) | Stage::Ordered | Stage::ToRequest | Stage::Requested => None,
@@ -367,12 +367,12 @@ impl Forwarding {
     }
 
     /// The outcome of the same request again.
-    pub fn as_first(&self) -> Asked
+    pub fn as_first(&self) -> ImmediateOutcome
         ensures { result ≡ as_first self.now (forwarding_outcome_of self.now) }
     {
         match self.outcome() {
-            None => Asked::Later(self.serial),
-            Some(outcome) => Asked::Now(outcome),
+            None => ImmediateOutcome::Later(self.serial),
+            Some(outcome) => ImmediateOutcome::Now(outcome),
         }
     }
 

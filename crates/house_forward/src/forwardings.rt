@@ -3,15 +3,15 @@ ghost use Rattle.std.specs.Prelude.{◌≡◌, ◌≤◌, ◌<◌, ◌+◌, ◌+
 ghost use Rattle.std.specs.List.{All, position, remove};
 ghost use Rattle.std.specs.Option.{option_copied};
 ghost use Rattle.mux_outside.specs.House.{gives_none};
-ghost use Rattle.house_forward.specs.Asks.{refused};
+ghost use Rattle.house_forward.specs.Asks.{all_requests_refused};
 ghost use Rattle.house_forward.specs.Forwardings.{standing, how_many, opens_of, closes_of, has_request};
 ghost use Rattle.house_forward.specs.Forwardings.{first_refused, ForwardingFailsAt, IsAt, is_numbered, ListensFor};
-ghost use Rattle.house_forward.specs.Forwardings.{Begins, StartsIf, OrderedAt, removed_at, serials_after, forwarding_start_of, what_stands};
+ghost use Rattle.house_forward.specs.Forwardings.{AskedAtStart, StartsIf, OrderedAt, removed_at, serials_after, forwarding_start_of, what_stands};
 ghost use Rattle.house_forward.specs.Rules.{is_ruled_out};
-ghost use Rattle.house_forward.specs.Forwardings.{listeners_of, is_pending, to_listen, is_first_to_listen, is_ordered_first, is_in_order, next_of, changed, after_close, is_new, Opens};
-ghost use Rattle.house_forward.specs.Forwardings.{is_asked, is_cancelled, live_outcome_in, after_sending, served_at, has_listener};
+ghost use Rattle.house_forward.specs.Forwardings.{listeners_of, is_order_pending, to_listen, is_first_to_listen, is_ordered_first, is_in_order, next_listener_order, forwarding_changed, after_close, is_new, OpensForwarding};
+ghost use Rattle.house_forward.specs.Forwardings.{is_listen_unanswered, is_cancelled, live_outcome_in, after_request_sent, served_at, has_listener};
 
-use crate::asks::{Asked, Asks, Outcome};
+use crate::asks::{ImmediateOutcome, PendingRequests, RequestOutcome};
 use crate::forwarding::{Change, Forwarding, ForwardingRequest, Stage};
 use crate::rules::{Ends, ForwardingKind, ListenRules, MOST_FORWARDINGS, ends_of, of_start};
 use crate::two_texts::TwoTexts;
@@ -82,7 +82,7 @@ impl Forwardings {
     // One of those asked for at the start is refused, if one is meant.
     fn refuse_start(&mut self, start: Option<usize>)
         ensures { self.new ≡ record self.old {
-          refused = first_refused self.old.refused start;
+          all_requests_refused = first_refused self.old.refused start;
         } }
     {
         if self.refused.is_none() {
@@ -105,23 +105,23 @@ impl Forwardings {
     }
 
     // The outcome of a request to open a forwarding.
-    fn may_open(&self, ends: Ends<'_>) -> Asked
+    fn may_open(&self, ends: Ends<'_>) -> ImmediateOutcome
         ensures { result ≡ opens_of self.now.serials ends.entry self.now.all.items
             (standing ends.entry self.now.all.items) }
     {
         match self.standing(ends) {
             None => {
                 if self.how_many() < MOST_FORWARDINGS {
-                    Asked::Later(self.serials)
+                    ImmediateOutcome::Later(self.serials)
                 } else {
-                    Asked::Now(Outcome::Refused)
+                    ImmediateOutcome::Now(RequestOutcome::Refused)
                 }
             }
             Some(f) => {
                 if f.connects_to(ends) {
                     f.as_first()
                 } else {
-                    Asked::Now(Outcome::Refused)
+                    ImmediateOutcome::Now(RequestOutcome::Refused)
                 }
             }
         }
@@ -129,10 +129,14 @@ impl Forwardings {
 
     /// A request to open a forwarding.
     #[tactic(auto, using(crate::proofs::InOrder::order_more, crate::proofs::InOrder::listeners_more, crate::proofs::InOrder::first_listens, crate::proofs::Placed::placed_more, crate::proofs::Numbered::numbered_more))]
-    pub fn open(&mut self, ends: Ends<'_>, start: Option<usize>) -> Result<Asked, OutOfMemory>
+    pub fn open(
+        &mut self,
+        ends: Ends<'_>,
+        start: Option<usize>,
+    ) -> Result<ImmediateOutcome, OutOfMemory>
         ensures exact { IfOk result (λ asked. asked ≡ opens_of self.old.serials ends.entry
             self.old.all.items (standing ends.entry self.old.all.items)) }
-        ensures all { OnOk result (Opens (is_new ends.entry self.old.all.items
+        ensures all { OnOk result (OpensForwarding (is_new ends.entry self.old.all.items
             (standing ends.entry self.old.all.items)) ends.entry self.old.serials start
             self.old.all.items self.new.all.items) }
         ensures serials { OnOk result (self.new.serials ≡ serials_after (is_new ends.entry
@@ -155,7 +159,7 @@ impl Forwardings {
 
     /// All that is asked for at the start, one after another.
     pub fn start_all(&mut self, asks: &StartAsks, rules: &ListenRules) -> Result<(), OutOfMemory>
-        ensures begins { OnOk result (Begins rules.now asks.now (length asks.now)
+        ensures begins { OnOk result (AskedAtStart rules.now asks.now (length asks.now)
             (what_stands self.old.all.items self.old.serials self.old.refused)
             (what_stands self.new.all.items self.new.serials self.new.refused)) }
         ensures listeners { listeners_of self.new.all.items
@@ -187,20 +191,21 @@ impl Forwardings {
             return Ok(());
         };
         match self.open(ends, Some(i))? {
-            Asked::Now(Outcome::Refused) => self.refuse_start(Some(i)),
-            Asked::Now(Outcome::Done | Outcome::Port(_)) | Asked::Later(_) => {}
+            ImmediateOutcome::Now(RequestOutcome::Refused) => self.refuse_start(Some(i)),
+            ImmediateOutcome::Now(RequestOutcome::Done | RequestOutcome::Port(_))
+            | ImmediateOutcome::Later(_) => {}
         }
         Ok(())
     }
 
     /// A request to close a forwarding.
-    pub fn close(&mut self, ends: Ends<'_>) -> Asked
+    pub fn close(&mut self, ends: Ends<'_>) -> ImmediateOutcome
         ensures exact { result ≡ closes_of (standing ends.entry self.old.all.items) }
         ensures all { self.new.all.items ≡ after_close result self.old.all.items }
         ensures others { ChangesList self.old self.new }
     {
         let asked = self.may_close(ends);
-        if let Asked::Later(serial) = asked {
+        if let ImmediateOutcome::Later(serial) = asked {
             self.change(serial, Change::Close);
         }
         asked
@@ -208,23 +213,23 @@ impl Forwardings {
 
     // The forwarding with this serial changes.
     fn change(&mut self, serial: u64, change: Change)
-        ensures all { self.new.all.items ≡ map (changed change serial) self.old.all.items }
+        ensures all { self.new.all.items ≡ map (forwarding_changed change serial) self.old.all.items }
         ensures others { ChangesList self.old self.new }
     {
         change_all(&mut self.all, serial, change);
     }
 
     // The outcome of a request to close a forwarding.
-    fn may_close(&self, ends: Ends<'_>) -> Asked
+    fn may_close(&self, ends: Ends<'_>) -> ImmediateOutcome
         ensures { result ≡ closes_of (standing ends.entry self.now.all.items) }
     {
         match self.standing(ends) {
-            None => Asked::Now(Outcome::Refused),
+            None => ImmediateOutcome::Now(RequestOutcome::Refused),
             Some(f) => {
                 if f.closing {
-                    Asked::Now(Outcome::Refused)
+                    ImmediateOutcome::Now(RequestOutcome::Refused)
                 } else {
-                    Asked::Later(f.serial)
+                    ImmediateOutcome::Later(f.serial)
                 }
             }
         }
@@ -234,23 +239,23 @@ impl Forwardings {
     // so a place is free before it is listened on again. One that is closed waits for the answers
     // of those that asked for it.
     #[tactic(auto, using(crate::proofs::InOrder::found_next))]
-    fn next(&self, asks: &Asks) -> Option<ForwardingWant>
-        ensures { result ≡ next_of asks.now.waiting.items self.now.all.items }
+    fn next(&self, asks: &PendingRequests) -> Option<ForwardingWant>
+        ensures { result ≡ next_listener_order asks.now.waiting.items self.now.all.items }
     {
         self.pending()?.wants(asks)
     }
 
     // The first that is to be ordered or closed.
     fn pending(&self) -> Option<&Forwarding>
-        ensures { option_copied result ≡ find is_pending self.now.all.items }
+        ensures { option_copied result ≡ find is_order_pending self.now.all.items }
     {
         self.all.iter().find(|f| f.is_pending())
     }
 
     /// The next order about a listener.
-    pub fn order(&mut self, asks: &mut Asks) -> Option<ListenerOrder>
+    pub fn order(&mut self, asks: &mut PendingRequests) -> Option<ListenerOrder>
         ensures exact { gives_none result
-            ≡ not (is_some (next_of asks.old.waiting.items self.old.all.items)) }
+            ≡ not (is_some (next_listener_order asks.old.waiting.items self.old.all.items)) }
         ensures orders { IfSome result
             (λ o. ForwardingsGo (OrdersBy o) self.old asks.old self.new asks.new) }
         ensures requests { self.new.requests ≡ self.old.requests }
@@ -260,7 +265,7 @@ impl Forwardings {
             ForwardingWant::Listen => self.order_listen(),
             ForwardingWant::Unlisten(serial, listener) => {
                 self.unlisten(listener);
-                asks.settle(serial, false, Outcome::Done);
+                asks.settle(serial, false, RequestOutcome::Done);
                 Some(ListenerOrder::Unlisten(listener))
             }
         }
@@ -304,7 +309,7 @@ impl Forwardings {
 
     /// The number of the listener that was ordered for the first forwarding that has none yet, and
     /// none where that failed.
-    pub fn ordered(&mut self, listener: Option<u64>, asks: &mut Asks)
+    pub fn ordered(&mut self, listener: Option<u64>, asks: &mut PendingRequests)
         requires { is_ordered_first (find to_listen self.old.all.items) ≡ true }
         ensures makes { ForwardingsGo (MakesListener listener)
             self.old asks.old self.new asks.new }
@@ -317,7 +322,7 @@ impl Forwardings {
             Some(listener) => {
                 let f = &mut self.all[i];
                 f.stage = Stage::Listening(listener);
-                asks.settle(f.serial, true, Outcome::Done);
+                asks.settle(f.serial, true, RequestOutcome::Done);
             }
             None => {
                 let serial = self.all[i].serial;
@@ -349,7 +354,7 @@ impl Forwardings {
     /// A request is sent now.
     pub fn said(&mut self, request: ForwardingRequest) -> Result<(), OutOfMemory>
         ensures all { OnOk result
-            (self.new.all.items ≡ after_sending request self.old.all.items) }
+            (self.new.all.items ≡ after_request_sent request self.old.all.items) }
         ensures requests { OnOk result
             (self.new.requests.items ≡ self.old.requests.items ++ request ∷ []) }
         ensures serials { self.new.serials ≡ self.old.serials }
@@ -366,7 +371,7 @@ impl Forwardings {
 
     /// The server's reply to the earliest request that has none. A success to a request of port 0
     /// carries the port that it chose.
-    pub fn replied(&mut self, success: bool, port: Option<u32>, asks: &mut Asks)
+    pub fn replied(&mut self, success: bool, port: Option<u32>, asks: &mut PendingRequests)
         ensures { ForwardingsGo (λ old new. new ≡ reply_received success port old)
             self.old asks.old self.new asks.new }
     {
@@ -387,10 +392,10 @@ impl Forwardings {
             Some(ForwardingRequest::Cancel(serial)) => {
                 if success {
                     self.forget(serial);
-                    asks.settle(serial, false, Outcome::Done);
+                    asks.settle(serial, false, RequestOutcome::Done);
                 } else {
                     self.change(serial, Change::Stay);
-                    asks.settle(serial, false, Outcome::Refused);
+                    asks.settle(serial, false, RequestOutcome::Refused);
                 }
             }
         }
@@ -405,7 +410,7 @@ impl Forwardings {
     }
 
     fn asked(&self, serial: u64) -> Option<usize>
-        ensures { result ≡ position (is_asked serial) self.now.all.items }
+        ensures { result ≡ position (is_listen_unanswered serial) self.now.all.items }
     {
         self.all.iter().position(|f| f.is_asked(serial))
     }
@@ -417,8 +422,8 @@ impl Forwardings {
     }
 
     // The outcome of a forwarding as the server listens for it.
-    fn granted(&self, serial: u64, port: Option<u32>) -> Option<Outcome>
-        ensures { result ≡ live_outcome_in port (find (is_asked serial) self.now.all.items) }
+    fn granted(&self, serial: u64, port: Option<u32>) -> Option<RequestOutcome>
+        ensures { result ≡ live_outcome_in port (find (is_listen_unanswered serial) self.now.all.items) }
     {
         let f = self.all.iter().find(|f| f.is_asked(serial))?;
         Some(f.granted(port))
@@ -427,11 +432,11 @@ impl Forwardings {
     // The server refused the request to listen for a forwarding.
     fn refuse(&mut self, serial: u64)
         ensures all { self.new.all.items
-            ≡ removed_at (position (is_asked serial) self.old.all.items) self.old.all.items }
+            ≡ removed_at (position (is_listen_unanswered serial) self.old.all.items) self.old.all.items }
         ensures serials { self.new.serials ≡ self.old.serials }
         ensures requests { self.new.requests ≡ self.old.requests }
         ensures refused { self.new.refused ≡ first_refused self.old.refused
-            (forwarding_start_of (find (is_asked serial) self.old.all.items)) }
+            (forwarding_start_of (find (is_listen_unanswered serial) self.old.all.items)) }
     {
         if let Some(i) = self.asked(serial) {
             self.fail(i);
@@ -467,7 +472,7 @@ impl Forwardings {
 
 // The forwarding with this serial changes.
 fn change_all(forwardings: &mut Vec<Forwarding>, serial: u64, change: Change)
-    ensures { forwardings.new.items ≡ map (changed change serial) forwardings.old.items }
+    ensures { forwardings.new.items ≡ map (forwarding_changed change serial) forwardings.old.items }
 {
     for f in forwardings.iter_mut() {
         f.change(serial, change);

@@ -1,5 +1,5 @@
 //! What holds of the forwarder, whatever calls were made: of its relays, its forwardings, its
-//! requests to the server and its asks. Each function's contract is the law.
+//! requests to the server and those of clients. Each function's contract is the law.
 
 ghost use Rattle.house_forward.specs.Causes.{EachServed, EachRefused, EachAnswer, EachUnlisten, EachCancel, EachCancelReply, EachAwaits, EachListenerIsNew, ListenersAreTheirs, ListenersDiffer};
 ghost use Rattle.house_forward.specs.Closing.{ClosesHaveCause};
@@ -37,7 +37,7 @@ pub fn relays_of_a_quiet_house_rest()
 {}
 
 /// Channel numbers and streams are each one's own: no two relays of the forwarder have the same
-/// channel number, and each is a uint32; and its relays have exactly the streams that were joined
+/// channel number, and each is a uint32; and its relays have exactly the streams that were accepted
 /// or connected and not closed since, of which no two are the same, since each came with a number
 /// that no open one had.
 pub fn each_relay_has_its_own_channel_and_stream()
@@ -55,11 +55,11 @@ pub fn each_open_that_is_taken_is_connected_once()
     ensures { OneConnectEach }
 {}
 
-/// Each OPEN that is sent is that of a socket that was joined before, and no two are of one socket,
-/// those that are still to be sent counted too: so they are no more than the sockets. Each is an
-/// OPEN of direct-tcpip with a window of 2,097,152 bytes and messages of 32,768 at most, to where
-/// the forwarding connects at whose listener its socket was joined, or, where that is a dynamic
-/// one, to the end that its dialog asked for.
+/// Each OPEN that is sent is that of a socket that was accepted before, and no two are of one
+/// socket, those that are still to be sent counted too: so they are no more than the sockets. Each
+/// is an OPEN of direct-tcpip with a window of 2,097,152 bytes and messages of 32,768 at most, to
+/// where the forwarding connects at whose listener its socket was accepted, or, where that is a
+/// dynamic one, to the end that its dialog asked for.
 pub fn opens_are_for_joined_sockets()
     ensures count { OneOpenAtMost }
     ensures recorded { EachIsRecorded }
@@ -71,8 +71,8 @@ pub fn opens_are_for_joined_sockets()
 /// A stream is closed in three cases alone: its socket failed; or nothing waits for it, and CLOSE
 /// went both ways in its channel, or its OPEN was refused, or its dialog broke, or its client left
 /// before that asked for an end; or there was no channel for it, since the forwarder had 256, or as
-/// many dialogs, when it was joined, or 256 channels when its dialog asked for one, or there was no
-/// forwarding with its listener.
+/// many dialogs, when it was accepted, or 256 channels when its dialog asked for one, or there was
+/// no forwarding with its listener.
 pub fn each_close_has_its_cause()
     ensures { ClosesHaveCause }
 {}
@@ -84,9 +84,9 @@ pub fn each_open_is_answered_by_its_socket()
     ensures refuses { RefusesUnconnected }
 {}
 
-/// What a relay read are the bytes that its stream gave since that was joined or connected, all of
-/// them and in order; and what it has as written are the bytes that its stream accepted since, all
-/// of them and in order.
+/// What a relay read are the bytes that its stream gave since that was accepted or connected, all
+/// of them and in order; and what it has as written are the bytes that its stream accepted since,
+/// all of them and in order.
 pub fn each_relay_has_what_its_stream_gave()
     ensures { EachHasItsStream }
 {}
@@ -149,9 +149,9 @@ pub fn a_listener_is_permitted()
     ensures orders { EachOrderIsPermitted }
 {}
 
-/// Where there is no request to say, no listener to order or to close and no answer to give, each ask
-/// that has no answer yet waits for the server: the request to listen for its forwarding, or the
-/// cancel, was said and has no reply yet.
+/// Where there is no request to send, no listener to order or to close and no answer to give, each
+/// request that has no answer yet waits for the server: the one to listen for its forwarding, or
+/// the cancel, was sent and has no reply yet.
 pub fn at_rest_asks_wait_for_the_server()
     ensures { EachAwaits }
 {}

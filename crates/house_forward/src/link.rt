@@ -3,7 +3,7 @@ ghost use Rattle.std.specs.Prelude.{◌≡◌, ◌++◌, is_some, true, IfSome, 
 ghost use Rattle.house_relay.specs.Relay.{socket_stream_of, RelayGoesOn};
 ghost use Rattle.house_relay.specs.Steps.{made_as};
 ghost use Rattle.house_forward.specs.Heard.{received_of, act_received};
-ghost use Rattle.house_forward.specs.Links.{has_number, is_of, is_offered, is_awaited, is_left, link_after, relay_after, made_stream, link_order, has_order, has_sending, finishes, stream_number_in, stream_waiting, unless_among, is_channel, is_dialog, ConnectsAt, IsOrderOf};
+ghost use Rattle.house_forward.specs.Links.{has_number, is_relay_stream, is_offered, is_awaited, is_left, link_after, relay_after, made_stream, link_order, has_order, has_sending, is_stream_finished, stream_number_in, stream_waiting, unless_among, is_channel, is_dialog, ConnectsAt, IsOrderOf};
 
 use crate::two_texts::TwoTexts;
 use conn_messages::Message;
@@ -67,14 +67,14 @@ impl Link {
 
     /// Whether that is the stream of its relay too.
     pub fn is_of(&self, stream: u64) -> bool
-        ensures { result ≡ is_of stream self.now }
+        ensures { result ≡ is_relay_stream stream self.now }
     {
         self.has_number(stream) && self.relay.stream() == Some(stream)
     }
 
-    /// Whether its stream has this number and takes no more bytes.
+    /// Whether its stream has this number and accepts no more bytes.
     pub fn is_finished(&self, stream: u64) -> bool
-        ensures { result ≡ finishes stream self.now.stream }
+        ensures { result ≡ is_stream_finished stream self.now.stream }
     {
         match &self.stream {
             LinkStream::Made(own) => own.number == stream && own.finished,
@@ -137,7 +137,7 @@ impl Link {
         self.relay.line.counts()
     }
 
-    /// Whether a dialog is to say the end of its channel.
+    /// Whether a dialog is still to name the end of its channel.
     pub fn is_dialog(&self) -> bool
         ensures { result ≡ is_dialog self.now }
     {
@@ -161,7 +161,7 @@ impl Link {
         }
     }
 
-    /// Whether its relay has something to say.
+    /// Whether its relay has something to send.
     pub fn has_sending(&self) -> bool
         ensures { result ≡ has_sending self.now }
     {

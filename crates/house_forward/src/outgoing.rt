@@ -7,8 +7,8 @@ ghost use Rattle.mux_outside.specs.House.{SendsFits};
 ghost use Rattle.house_relay.specs.Next.{sends_of};
 ghost use Rattle.house_relay.specs.Relay.{IsSending, RelayGoesOn};
 ghost use Rattle.house_forward.specs.Going.{act_of_sending};
-ghost use Rattle.house_forward.specs.Links.{after_sending};
-ghost use Rattle.house_forward.specs.Said.{framed, payload_of, direct, confirmed, in_live, in_offer, is_data, limits, requested};
+ghost use Rattle.house_forward.specs.Links.{relay_after_sending};
+ghost use Rattle.house_forward.specs.Said.{framed, payload_of, direct, confirmation_of_open, sent_in_live, in_offer, is_data, limits, forwarding_request};
 ghost use Rattle.mux_outside.specs.declared.piece.TheConstants.{LONGEST_PIECE};
 
 use conn_messages::{close, open_failure};
@@ -73,7 +73,7 @@ fn put_data(into: &mut Piece, remote: u32, bytes: &[u8]) -> Result<(), OutOfMemo
 pub fn send(alloc: Global, relay: &mut Relay, into: &mut Piece) -> Result<bool, OutOfMemory>
     ensures exact { IfOk result (λ said. said ≡ is_some (sends_of relay.old)) }
     ensures fits { SendsFits result into.new }
-    ensures said { IfOk result (λ said. relay.new ≡ after_sending (sends_of relay.old) relay.old) }
+    ensures said { IfOk result (λ said. relay.new ≡ relay_after_sending (sends_of relay.old) relay.old) }
     ensures spelled { IfOk result (λ said. IfSome (sends_of relay.old)
         (λ outgoing. into.new ≡ framed (payload_of relay.old outgoing))) }
     ensures goes { OnOk result (RelayGoesOn relay.old relay.new
@@ -149,7 +149,7 @@ fn put_text(out: &mut Vec<u8>, text: &[u8]) -> Result<(), OutOfMemory>
 
 // A CONFIRMATION (RFC 4254, section 5.1).
 fn confirmation(alloc: Global, remote: u32, number: u32) -> Result<Vec<u8>, OutOfMemory>
-    ensures { IfOk result (λ payload. payload.items ≡ confirmed remote number) }
+    ensures { IfOk result (λ payload. payload.items ≡ confirmation_of_open remote number) }
 {
     let mut payload = Vec::new(alloc);
     payload.push(CHANNEL_OPEN_CONFIRMATION)?;
@@ -194,7 +194,7 @@ fn put_in_channel(
     held: &[u8],
     into: &mut Piece,
 ) -> Result<(), OutOfMemory>
-    ensures frame { OnOk result (into.new ≡ framed (in_live outgoing remote held.now)) }
+    ensures frame { OnOk result (into.new ≡ framed (sent_in_live outgoing remote held.now)) }
     ensures short { OnOk result (length into.new ≤ LONGEST_PIECE) }
 {
     if let Outgoing::Data(count) = outgoing {
@@ -207,7 +207,7 @@ fn put_in_channel(
 // What a relay sends in its confirmed channel, but data.
 fn besides_data(alloc: Global, outgoing: Outgoing, remote: u32) -> Result<Vec<u8>, OutOfMemory>
     requires { is_data outgoing ≡ false }
-    ensures { IfOk result (λ payload. payload.items ≡ in_live outgoing remote []) }
+    ensures { IfOk result (λ payload. payload.items ≡ sent_in_live outgoing remote []) }
 {
     let mut payload = Vec::new(alloc);
     match outgoing {
@@ -246,7 +246,7 @@ pub fn request(
     address: &[u8],
     port: u32,
 ) -> Result<Vec<u8>, OutOfMemory>
-    ensures { IfOk result (λ payload. payload.items ≡ requested name.now address.now port) }
+    ensures { IfOk result (λ payload. payload.items ≡ forwarding_request name.now address.now port) }
 {
     let mut payload = Vec::new(alloc);
     payload.push(GLOBAL_REQUEST)?;

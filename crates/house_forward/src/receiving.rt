@@ -7,7 +7,7 @@ ghost use Rattle.house_forward.specs.Links.{streams_of, Offers};
 ghost use Rattle.house_forward.specs.RelayTraces.{HouseGoes, ReceivesReading};
 ghost use Rattle.ssh_grammar.specs.ReadMessage.{read_message as reading};
 
-use crate::asks::Asks;
+use crate::asks::PendingRequests;
 use crate::forwarding::Forwarding;
 use crate::forwardings::Forwardings;
 use crate::link::{Link, LinkStream};
@@ -23,7 +23,7 @@ pub fn receive(
     alloc: Global,
     payload: &[u8],
     forwardings: &mut Forwardings,
-    asks: &mut Asks,
+    asks: &mut PendingRequests,
     relays: &mut Relays,
 ) -> Result<(), OutOfMemory>
     ensures open { open_asks asks.new.waiting.items ≡ open_asks asks.old.waiting.items }

@@ -8,7 +8,7 @@ ghost use Rattle.mux_outside.specs.declared.piece.TheConstants.{LONGEST_PIECE};
 ghost use Rattle.house_forward.specs.Due.{link_due};
 ghost use Rattle.house_forward.specs.Going.{RelayGoesAt, LeavesAt, Gets, TakesOf, RelaySendsOn, RelayReceivesOn, Obeys, AwaitsAt, MakesAt, swept};
 ghost use Rattle.house_forward.specs.Said.{framed, relay_sent_by};
-ghost use Rattle.house_forward.specs.Links.{streams_of, has_number, are_distinct, is_taken, is_of, link_queue_in, queue_at, link_after, is_offered, is_awaited, is_left, is_full, channels, dialogs, has_full_dialogs, is_number_of, has_order, has_sending, made_streams, obeyed, ConnectsAt};
+ghost use Rattle.house_forward.specs.Links.{streams_of, has_number, are_distinct, is_taken, is_relay_stream, link_queue_in, queue_at, link_after, is_offered, is_awaited, is_left, has_all_channels, channels, dialogs, has_full_dialogs, is_number_of, has_order, has_sending, made_streams, obeyed, ConnectsAt};
 
 use crate::link::{Link, LinkStep};
 use crate::outgoing;
@@ -70,7 +70,7 @@ impl Relays {
 
     /// Whether the forwarder has all channels that it may have.
     pub fn is_full(&self) -> bool
-        ensures { result ≡ is_full self.now.all.items }
+        ensures { result ≡ has_all_channels self.now.all.items }
     {
         channels_in(&self.all) >= MOST_CHANNELS
     }
@@ -106,7 +106,7 @@ impl Relays {
 
     /// The one of a stream.
     pub fn of_stream(&self, stream: u64) -> Option<&Link>
-        ensures { option_copied result ≡ find (is_of stream) self.now.all.items }
+        ensures { option_copied result ≡ find (is_relay_stream stream) self.now.all.items }
     {
         let i = self.place_of(stream)?;
         Some(&self.all[i])
@@ -167,7 +167,7 @@ impl Relays {
 
     // The place of the one whose stream that is, and its relay's too.
     fn place_of(&self, stream: u64) -> Option<usize>
-        ensures { result ≡ position (is_of stream) self.now.all.items }
+        ensures { result ≡ position (is_relay_stream stream) self.now.all.items }
     {
         let i = self.place_with(stream)?;
         if self.all[i].is_of(stream) {
@@ -226,10 +226,10 @@ impl Relays {
     /// The socket of a stream gave bytes, while nothing was held of it.
     pub fn got(&mut self, stream: u64, bytes: &[u8]) -> Result<(), OutOfMemory>
         requires short { length bytes.now ≤ LONGEST_PIECE }
-        requires rests { IfSome (find (is_of stream) self.old.all.items)
+        requires rests { IfSome (find (is_relay_stream stream) self.old.all.items)
             (λ l. l.relay.held.waiting ≡ []) }
-        ensures reads { OnOk result (RelayGoesAt (position (is_of stream) self.old.all.items)
-            (Gets (not (is_full self.old.all.items)) bytes.now)
+        ensures reads { OnOk result (RelayGoesAt (position (is_relay_stream stream) self.old.all.items)
+            (Gets (not (has_all_channels self.old.all.items)) bytes.now)
             self.old.all.items self.new.all.items) }
         ensures streams { streams_of self.new.all.items ≡ streams_of self.old.all.items }
         ensures count { length self.new.all.items ≡ length self.old.all.items }
@@ -245,13 +245,13 @@ impl Relays {
 
     /// A stream accepted the first bytes of those that wait for it.
     pub fn took(&mut self, stream: u64, n: usize)
-        requires { n ≤ length (link_queue_in (find (is_of stream) self.old.all.items)) }
-        ensures takes { RelayGoesAt (position (is_of stream) self.old.all.items)
-            (TakesOf (take n (link_queue_in (find (is_of stream) self.old.all.items))))
+        requires { n ≤ length (link_queue_in (find (is_relay_stream stream) self.old.all.items)) }
+        ensures takes { RelayGoesAt (position (is_relay_stream stream) self.old.all.items)
+            (TakesOf (take n (link_queue_in (find (is_relay_stream stream) self.old.all.items))))
             self.old.all.items self.new.all.items }
         ensures streams { streams_of self.new.all.items ≡ streams_of self.old.all.items }
-        ensures queues { (t : ℕ) → link_queue_in (find (is_of t) self.new.all.items)
-            ≡ queue_after_took stream n t (link_queue_in (find (is_of t) self.old.all.items)) }
+        ensures queues { (t : ℕ) → link_queue_in (find (is_relay_stream t) self.new.all.items)
+            ≡ queue_after_took stream n t (link_queue_in (find (is_relay_stream t) self.old.all.items)) }
         ensures due { sum_by link_due self.new.all.items ≡ sum_by link_due self.old.all.items }
         ensures next { self.new.next ≡ self.old.next }
     {
@@ -351,7 +351,7 @@ impl Relays {
 
     // ---- what is sent and received
 
-    /// Puts what the first relay that has something to send says into the piece.
+    /// Puts what the first relay with something to send sends into the piece.
     pub fn send(&mut self, into: &mut Piece) -> Result<bool, OutOfMemory>
         ensures fits { SendsFits result into.new }
         ensures exact { OnOk result
@@ -372,7 +372,7 @@ impl Relays {
         Ok(said)
     }
 
-    // What the first that has something to send says.
+    // What the first that has something to send sends.
     fn send_at(&mut self, i: usize, into: &mut Piece) -> Result<bool, OutOfMemory>
         requires { position has_sending self.old.all.items ≡ Some i }
         ensures fits { SendsFits result into.new }

@@ -4,7 +4,7 @@ ghost use Rattle.std.specs.Prelude.{◌≡◌, not, is_some, IfSome, IfOk};
 ghost use Rattle.mux_outside.specs.House.{start_ask_of};
 ghost use Rattle.mux_outside.specs.declared.start_ask.StartAsk.{StartAsk};
 ghost use Rattle.house_forward.specs.Rules.{listens_here, connects_there, same_kind, kind_of, local_host, remote_host, listen_host, has_bad_port, is_ruled_out, AreEnds, IsHandedAsk};
-ghost use Rattle.house_forward.specs.Rules.{has_host, has_port, is_for, is_permitted_here, first_rules, rules_of};
+ghost use Rattle.house_forward.specs.Rules.{entry_has_host, entry_has_port, is_listen_entry_for, is_permitted_here, first_rules, rules_of};
 
 use mux_outside::{FwdAsk, LONGEST_HOST, ListenEntry, ListenPermit, StartAsk as OneAsk, Starts};
 use ssh_fields::{OutOfMemory, Text};
@@ -90,7 +90,7 @@ pub struct Ends<'a> {
 
 /// What a client asks, or what is asked at the start.
 #[derive(Clone, Copy)]
-pub struct Asked<'a> {
+pub struct AskedForwarding<'a> {
     pub kind: u32,
     pub listen_host: &'a [u8],
     pub listen_port: u32,
@@ -100,10 +100,10 @@ pub struct Asked<'a> {
 }
 
 /// A client's ask: no path can stand in it.
-pub fn of_client<'a>(what: &FwdAsk<'a>) -> Asked<'a>
+pub fn of_client<'a>(what: &FwdAsk<'a>) -> AskedForwarding<'a>
     ensures { IsHandedAsk result (start_ask_of what.now) }
 {
-    Asked {
+    AskedForwarding {
         kind: what.kind,
         listen_host: what.listen_host,
         listen_port: what.listen_port,
@@ -114,10 +114,10 @@ pub fn of_client<'a>(what: &FwdAsk<'a>) -> Asked<'a>
 }
 
 /// A request of the configuration.
-pub fn of_start(ask: &OneAsk) -> Asked<'_>
+pub fn of_start(ask: &OneAsk) -> AskedForwarding<'_>
     ensures { IsHandedAsk result ask.now }
 {
-    Asked {
+    AskedForwarding {
         kind: ask.kind,
         listen_host: ask.listen_host.as_bytes(),
         listen_port: ask.listen_port,
@@ -222,7 +222,7 @@ impl ListenRules {
 
 // Whether an entry is for this host, or for each.
 fn has_host(entry: &Option<Text>, host: &[u8]) -> bool
-    ensures { result ≡ has_host entry.now host.now }
+    ensures { result ≡ entry_has_host entry.now host.now }
 {
     match entry {
         None => true,
@@ -232,7 +232,7 @@ fn has_host(entry: &Option<Text>, host: &[u8]) -> bool
 
 // Whether an entry is for this port, or for each.
 fn has_port(entry: Option<u32>, port: u32) -> bool
-    ensures { result ≡ has_port entry port }
+    ensures { result ≡ entry_has_port entry port }
 {
     match entry {
         None => true,
@@ -242,14 +242,14 @@ fn has_port(entry: Option<u32>, port: u32) -> bool
 
 // Whether an entry is for this host and port.
 fn is_for(entry: &ListenEntry, host: &[u8], port: u32) -> bool
-    ensures { result ≡ is_for host.now port entry.now }
+    ensures { result ≡ is_listen_entry_for host.now port entry.now }
 {
     has_host(&entry.host, host) && has_port(entry.port, port)
 }
 
 // Whether some entry is for this host and port.
 fn is_for_some(entries: &[ListenEntry], host: &[u8], port: u32) -> bool
-    ensures { result ≡ list_any (is_for host.now port) entries.now }
+    ensures { result ≡ list_any (is_listen_entry_for host.now port) entries.now }
 {
     for entry in entries {
         if is_for(entry, host, port) {
@@ -271,7 +271,7 @@ fn is_permitted_here(here: &ListenPermit, host: &[u8], port: u32) -> bool
 
 /// The two ends that are asked for; None where what is asked is refused whatever stands already:
 /// for its kind, a path, a port or a host, or for where it would listen on this machine.
-pub fn ends_of<'a>(asked: Asked<'a>, rules: &ListenRules) -> Option<Ends<'a>>
+pub fn ends_of<'a>(asked: AskedForwarding<'a>, rules: &ListenRules) -> Option<Ends<'a>>
     ensures exact { (ask : StartAsk) → IsHandedAsk asked.entry ask
         → is_some result ≡ not (is_ruled_out rules.now ask) }
     ensures ends { (ask : StartAsk) → IsHandedAsk asked.entry ask

@@ -9,7 +9,7 @@ use Rattle.ssh_grammar.specs.declared.fault.Breach.TheVariants.{AfterClose, NotO
 use Rattle.mux_history.specs.Channels.{Channel, any_by, is_closes, is_confirmed, is_confirms}
 use Rattle.mux_history.specs.Summary.{Act, Answers, Asks, Carries, Closes, Confirms, Ends, Fails, Grants}
 use Rattle.mux_history.specs.Laws.{IsWithin, with_act}
-use Rattle.mux_history.specs.Ledger.{act_breach, breach, carried, granted, initial, maximum_of, packet_breach, room, sum_of, unanswered, first_window, packet}
+use Rattle.mux_history.specs.Ledger.{act_breach, breach, carried, granted_size, initial, maximum_of, packet_breach, room, sum_of, unanswered, first_window, packet}
 use Rattle.mux_history.proofs.Accounts.{rooms-go-on}
 use Rattle.mux_history.proofs.RoomActs.{accounted-act, may-of}
 use Rattle.house_history.proofs.Views.{Acct, IsAccount, MaySend, says, receives, more_asks}
@@ -20,7 +20,7 @@ packet-fits : (maximum have n : ℕ) → n ≤ maximum → n ≤ have → packet
 packet-fits maximum have n small fits = grind (arith, nat_tests)
 
 -- the room that the server has is within the first window
-room-down : (x : Channel) (n : ℕ) → initial Down x ≡ 2097152 → IsWithin Down x → sum_of granted Up x.acts + n ≤ sum_of carried Down x.acts → room Down x + n ≤ 2097152
+room-down : (x : Channel) (n : ℕ) → initial Down x ≡ 2097152 → IsWithin Down x → sum_of granted_size Up x.acts + n ≤ sum_of carried Down x.acts → room Down x + n ≤ 2097152
 room-down x n window within le = by_side x.by window within
   where
     by_side : (side : Side) → initial Down (record x { by = side }) ≡ 2097152 → IsWithin Down (record x { by = side }) → room Down (record x { by = side }) + n ≤ 2097152
@@ -59,7 +59,7 @@ no-breach act x a is may = rw (is.confirmed, is.closed ∙ may-closed act a may,
 
 -- a side grants, carries and confirms nothing by this
 pub record IsPlain (act : Act) : Type 0 where
-  pub grants : granted act ≡ 0
+  pub grants : granted_size act ≡ 0
   pub carries : carried act ≡ 0
   pub opens : first_window act ≡ 0
   pub packs : packet act ≡ 0

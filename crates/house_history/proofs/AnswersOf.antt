@@ -16,11 +16,11 @@ use Rattle.ssh_grammar.specs.declared.framing.Framing.TheVariants as framing
 use Rattle.mux_history.specs.Summary.{reading}
 use Rattle.mux_history.specs.Journal.{IsLawful, received_item, items_in, log_of_journal, new_received}
 use Rattle.mux_history.specs.Kept.{AtEach}
-use Rattle.mux_history.specs.Log.{Setting, bare, makes_next, more_all, more_of, new_answers, next_row}
+use Rattle.mux_history.specs.Log.{Setting, bare_row, makes_next, more_all, more_of, new_answers, next_row}
 use Rattle.mux_history.specs.Policy.{Policy}
 use Rattle.mux_history.specs.Requests.{answers, answers_to, is_reply, is_sent, replies, reply_in, sent_flags, wanted, wanted_by}
 use Rattle.mux_history.specs.Right.{AreFresh}
-use Rattle.mux_history.specs.Rows.{Heard, Item, Row, is_ended, rows_of}
+use Rattle.mux_history.specs.Rows.{Heard, Item, Row, is_run_over, rows_of}
 use Rattle.mux_history.specs.Said.{Outcome}
 use Rattle.mux_history.specs.Settings.{by_lists}
 use Rattle.mux_history.proofs.Journals.{logs-right}
@@ -75,16 +75,16 @@ replied (false ∷ flags) heard p = let r = replied flags heard p in record { re
 replied (true ∷ flags) [] p = record { rest = p ∷ answers_to flags []; are = refl; each = (inl refl, refusals-behind flags p) }
 replied (true ∷ flags) (q ∷ heard) p = let r = replied flags heard p in record { rest = r.rest; are = ap (λ (xs : List (List ℕ)). q ∷ xs) r.are; each = r.each }
 
-pub heard-answers : (k : ℕ) (p : List ℕ) (o : Outcome) (own : List Row) → AllUsed own → Each (λ frame. (frame ≡ frame_payload p) ⊎ (frame ≡ frame_payload request_failure)) (new_answers (bare (Heard p) k o) own)
+pub heard-answers : (k : ℕ) (p : List ℕ) (o : Outcome) (own : List Row) → AllUsed own → Each (λ frame. (frame ≡ frame_payload p) ⊎ (frame ≡ frame_payload request_failure)) (new_answers (bare_row (Heard p) k o) own)
 heard-answers k p o own used = by_case (reading p is_reply false) refl
   where
-    by_case : (b : Bool) → reading p is_reply false ≡ b → Each (IsAnswerFrame p) (new_answers (bare (Heard p) k o) own)
+    by_case : (b : Bool) → reading p is_reply false ≡ b → Each (IsAnswerFrame p) (new_answers (bare_row (Heard p) k o) own)
     by_case false e =
-        let row = bare (Heard p) k o in
+        let row = bare_row (Heard p) k o in
         let silent : reply_in row.item ≡ [] = rw (e, reply_in) refl in
         subst (Each (IsAnswerFrame p)) (sym (no-answers row own refl silent)) tt
     by_case true e =
-        let row = bare (Heard p) k o in
+        let row = bare_row (Heard p) k o in
         let came : reply_in row.item ≡ p ∷ [] = rw (e, reply_in) refl in
         let r = replied (wanted own) (replies own) p in
         let are : answers (row ∷ own) ≡ answers own ++ r.rest =
@@ -208,13 +208,13 @@ heard-sized before bytes = heard-each (length (parse InProxy before).says) (pars
 
 -- of every client, while the run goes on
 abbrev pub AllAreUsed : List Row → Type 0
-AllAreUsed rows = (k : ℕ) → is_ended rows ≡ false → AllUsed (rows_of k rows)
+AllAreUsed rows = (k : ℕ) → is_run_over rows ≡ false → AllUsed (rows_of k rows)
 
 pub atEach-of : (P Q : List Row → Type 0) → ((rows : List Row) → P rows → Q rows) → (rows : List Row) → AtEach P rows → AtEach Q rows
 atEach-of P Q step [] each = step [] each
 atEach-of P Q step (row ∷ before) each = (step (row ∷ before) each.0, atEach-of P Q step before each.1)
 
-pub used-next : (policy : Policy) (pid : ℕ) (picks : List ℕ) (given : List HouseReply) (marks : List Mark) → IsLawful marks → AreFresh (log_of_journal (by_lists policy pid picks given) marks) → AtEach (λ rows. (k : ℕ) → is_ended rows ≡ false → AllUsed (rows_of k rows)) (log_of_journal (by_lists policy pid picks given) marks)
+pub used-next : (policy : Policy) (pid : ℕ) (picks : List ℕ) (given : List HouseReply) (marks : List Mark) → IsLawful marks → AreFresh (log_of_journal (by_lists policy pid picks given) marks) → AtEach (λ rows. (k : ℕ) → is_run_over rows ≡ false → AllUsed (rows_of k rows)) (log_of_journal (by_lists policy pid picks given) marks)
 used-next policy pid picks given marks lawful fresh =
     let rows = log_of_journal (by_lists policy pid picks given) marks in
     let right = (logs-right policy pid picks given marks).whole fresh in

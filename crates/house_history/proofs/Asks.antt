@@ -17,18 +17,18 @@ use Rattle.ssh_grammar.specs.declared.numbers.TheConstants.{VERSION}
 use Rattle.mux_history.specs.declared.limits.TheConstants.{HOUSE, MAX_FORWARDINGS, MAX_QUEUE}
 use Rattle.mux_history.specs.Channels.{Channel, held_of}
 use Rattle.mux_history.specs.Choices.{pick_of, replies_given, reply_at, with_reply}
-use Rattle.mux_history.specs.Controls.{body_asks, greeted, sent_body, sent_first, sent_later}
+use Rattle.mux_history.specs.Controls.{body_asks, client_has_greeted, sent_body, sent_first, sent_later}
 use Rattle.mux_history.specs.Forwardings.{current, is_forwarding_free_at}
 use Rattle.mux_history.specs.Summary.{Requests, read_summary}
 use Rattle.mux_history.specs.Journal.{new_sayings}
 use Rattle.mux_history.specs.Keys.{is_askable}
 use Rattle.mux_history.specs.Kept.{AtEach}
-use Rattle.mux_history.specs.Log.{Setting, bare, makes_next, more_all, more_of, new_answers, next_row, row_of, treat}
+use Rattle.mux_history.specs.Log.{Setting, bare_row, makes_next, more_all, more_of, new_answers, next_row, row_of, treat}
 use Rattle.mux_history.specs.Pending.{joined, pending, pending_down, waiting_down}
 use Rattle.mux_history.specs.Policy.{Policy, permits}
 use Rattle.mux_history.specs.Requests.{unanswered_asks, wanted_by, wanted_in}
-use Rattle.mux_history.specs.Rows.{Goes, Item, Row, Says, any_of, is_ended, is_out, rows_of}
-use Rattle.mux_history.specs.Said.{Outcome, is_full_of_asks, sent_summary, sent_payload, sent_request, sends, sends_if, silent, records}
+use Rattle.mux_history.specs.Rows.{Goes, Item, Row, Says, any_of, is_run_over, is_out, rows_of}
+use Rattle.mux_history.specs.Said.{Outcome, is_full_of_asks, sent_summary, sent_payload, sent_request, sends_payload, sends_if, silent, records}
 use Rattle.mux_history.specs.Settings.{by_lists}
 use Rattle.mux_history.proofs.Readings.{reading-ok}
 use Rattle.house_forward.specs.ForwardingState.{greeting_sent, request_sent}
@@ -36,8 +36,8 @@ use Rattle.house_forward.specs.Forwardings.{has_request, forwarding_request_of}
 use Rattle.house_forward.specs.RelayTraces.{Trace, Life, SendsBy, with_forwarding_state}
 use Rattle.house_forward.specs.Said.{framed, request_payload}
 use Rattle.house_forward.specs.declared.forwarding.Forwarding.{Forwarding}
-use Rattle.house_forward.specs.declared.forwarder_state.Stage.{Stage}
-use Rattle.house_forward.specs.declared.forwarder_state.Stage.TheVariants as stage
+use Rattle.house_forward.specs.declared.forwarder_state.ForwarderStage.{ForwarderStage}
+use Rattle.house_forward.specs.declared.forwarder_state.ForwarderStage.TheVariants as stage
 use Rattle.house_history.proofs.Lists.{Each, found}
 use Rattle.house_history.proofs.Fitting.{Entry, Fit}
 use Rattle.house_history.proofs.Notes.{Later, Note, noted}
@@ -61,12 +61,12 @@ pub record HasSent (setting : Setting) (rows : List Row) (before bytes : List �
 
 -- what such a row leaves
 record Leaves (rows : List Row) (row : Row) : Type 0 where
-  on : is_ended (row ∷ rows) ≡ false
+  on : is_run_over (row ∷ rows) ≡ false
   inside : is_out (rows_of HOUSE (row ∷ rows)) ≡ false
   own : rows_of HOUSE (row ∷ rows) ≡ row ∷ rows_of HOUSE rows
   pending : pending HOUSE (row ∷ rows) ≡ pending HOUSE rows ++ joined row.down
 
-leaves : (rows : List Row) (outgoing : Outgoing) (up down : List (List ℕ)) → is_ended rows ≡ false → is_out (rows_of HOUSE rows) ≡ false → Leaves rows (plain_row (Says HOUSE outgoing None) HOUSE up down)
+leaves : (rows : List Row) (outgoing : Outgoing) (up down : List (List ℕ)) → is_run_over rows ≡ false → is_out (rows_of HOUSE rows) ≡ false → Leaves rows (plain_row (Says HOUSE outgoing None) HOUSE up down)
 leaves rows outgoing up down on inside =
     let row = plain_row (Says HOUSE outgoing None) HOUSE up down in
     let own : rows_of HOUSE (row ∷ rows) ≡ row ∷ rows_of HOUSE rows = own-more row rows refl in
@@ -78,7 +78,7 @@ leaves rows outgoing up down on inside =
     }
 
 -- it is made
-makes : (setting : Setting) (rows : List Row) (outgoing : Outgoing) → is_ended rows ≡ false → is_out (rows_of HOUSE rows) ≡ false
+makes : (setting : Setting) (rows : List Row) (outgoing : Outgoing) → is_run_over rows ≡ false → is_out (rows_of HOUSE rows) ≡ false
     → more_of setting rows (Says HOUSE outgoing None) ≡ next_row setting rows (Says HOUSE outgoing None) ∷ rows
 makes setting rows outgoing on inside =
     let item = Says HOUSE outgoing None in
@@ -87,8 +87,8 @@ makes setting rows outgoing on inside =
 
 -- a control message that asks nothing
 body-row : (policy : Policy) (pid : ℕ) (picks : List ℕ) (given : List HouseReply) (rows : List Row) (body : List ℕ) (o : Outcome)
-    → is_ended rows ≡ false → is_out (rows_of HOUSE rows) ≡ false → (greeted (rows_of HOUSE rows) && body_asks body) ≡ false
-    → sent_body pid HOUSE None (greeted (rows_of HOUSE rows)) body ≡ o → o.ends ≡ Goes → length (pending HOUSE rows) + length (joined o.recorded) ≤ MAX_QUEUE
+    → is_run_over rows ≡ false → is_out (rows_of HOUSE rows) ≡ false → (client_has_greeted (rows_of HOUSE rows) && body_asks body) ≡ false
+    → sent_body pid HOUSE None (client_has_greeted (rows_of HOUSE rows)) body ≡ o → o.ends ≡ Goes → length (pending HOUSE rows) + length (joined o.recorded) ≤ MAX_QUEUE
     → more_of (by_lists policy pid picks given) rows (Says HOUSE (Body body) None) ≡ plain_row (Says HOUSE (Body body) None) HOUSE o.sent o.recorded ∷ rows
 body-row policy pid picks given rows body o on inside plain is ends le =
     let setting = by_lists policy pid picks given in
@@ -96,9 +96,9 @@ body-row policy pid picks given rows body o on inside plain is ends le =
     let item = Says HOUSE (Body body) None in
     let same : with_reply setting.choices rows item ≡ item =
     ap (λ (b : Bool). elim b as (λ _. Item) [ true ↦ Says HOUSE (Body body) (Some (reply_at given (replies_given rows))) | false ↦ Says HOUSE (Body body) None ]) plain in
-    let none : new_answers (bare item HOUSE o) own ≡ [] = no-answers (bare item HOUSE o) own refl refl in
-    let frames : o.recorded ++ new_answers (bare item HOUSE o) own ≡ o.recorded = ap (λ (fs : List (List ℕ)). o.recorded ++ fs) none ∙ append-nil o.recorded in
-    let fits : waiting_down own + length (joined (o.recorded ++ new_answers (bare item HOUSE o) own)) ≤ MAX_QUEUE = subst (λ (fs : List (List ℕ)). waiting_down own + length (joined fs) ≤ MAX_QUEUE) (sym frames) le in
+    let none : new_answers (bare_row item HOUSE o) own ≡ [] = no-answers (bare_row item HOUSE o) own refl refl in
+    let frames : o.recorded ++ new_answers (bare_row item HOUSE o) own ≡ o.recorded = ap (λ (fs : List (List ℕ)). o.recorded ++ fs) none ∙ append-nil o.recorded in
+    let fits : waiting_down own + length (joined (o.recorded ++ new_answers (bare_row item HOUSE o) own)) ≤ MAX_QUEUE = subst (λ (fs : List (List ℕ)). waiting_down own + length (joined fs) ≤ MAX_QUEUE) (sym frames) le in
     let plainly = plain-row item HOUSE o own ends refl (in-kept own inside) fits in
     makes setting rows (Body body) on inside
     ∙ (ap (λ (i : Item). treat policy pid (pick_of setting.choices rows item) rows i ∷ rows) same
@@ -131,7 +131,7 @@ quiet-asks body up down own =
 grants-proxy : (id : ℕ) → grants (spell_answer (Proxies id)) ≡ true
 grants-proxy id = refl
 
-ungranted-control : (s : Stage) (t : Recorded) → Ungranted s t → s ≡ stage.Control
+ungranted-control : (s : ForwarderStage) (t : Recorded) → Ungranted s t → s ≡ stage.Control
 ungranted-control stage.Control t u = refl
 ungranted-control stage.Proxy t u = absurd u
 
@@ -150,22 +150,22 @@ greets-here policy pid picks given rows trace recorded g silent-yet none =
     let rows1 : List Row = row1 ∷ rows in
     let one : more_of setting rows (Says HOUSE (Body greeting.hello) None) ≡ rows1 =
     body-row policy pid picks given rows greeting.hello silent g.on g.inside (ap (λ (b : Bool). b && body_asks greeting.hello) young.1.silent)
-    (hello-said pid greeting.hello (greeted own) young.1.silent greeting.hello_reads) refl (omega (arith, nothing)) in
+    (hello-said pid greeting.hello (client_has_greeted own) young.1.silent greeting.hello_reads) refl (omega (arith, nothing)) in
     let leave1 = leaves rows (Body greeting.hello) [] [] g.on g.inside in
-    let greets : greeted (rows_of HOUSE rows1) ≡ true = ap greeted leave1.own in
+    let greets : client_has_greeted (rows_of HOUSE rows1) ≡ true = ap client_has_greeted leave1.own in
     let pending1 : pending HOUSE rows1 ≡ pending HOUSE rows = leave1.pending ∙ append-nil (pending HOUSE rows) in
     let nothing1 : length (pending HOUSE rows1) ≡ 0 = ap length pending1 ∙ nothing in
     let row2 = plain_row (Says HOUSE (Body greeting.proxy) None) HOUSE [] (frame_answer (Proxies id) ∷ []) in
     let rows2 : List Row = row2 ∷ rows1 in
     let brief : length (joined (frame_answer (Proxies id) ∷ [])) ≡ 12 = refl in
     let two : more_of setting rows1 (Says HOUSE (Body greeting.proxy) None) ≡ rows2 =
-    body-row policy pid picks given rows1 greeting.proxy (records (frame_answer (Proxies id))) leave1.on leave1.inside (proxy-asks greeting.proxy (greeted (rows_of HOUSE rows1)) id greets greeting.proxy_reads.1)
-    (proxy-said pid greeting.proxy (greeted (rows_of HOUSE rows1)) id greets greeting.proxy_reads.1) refl (omega (arith, nothing1, brief)) in
+    body-row policy pid picks given rows1 greeting.proxy (records (frame_answer (Proxies id))) leave1.on leave1.inside (proxy-asks greeting.proxy (client_has_greeted (rows_of HOUSE rows1)) id greets greeting.proxy_reads.1)
+    (proxy-said pid greeting.proxy (client_has_greeted (rows_of HOUSE rows1)) id greets greeting.proxy_reads.1) refl (omega (arith, nothing1, brief)) in
     let leave2 = leaves rows1 (Body greeting.proxy) [] (frame_answer (Proxies id) ∷ []) leave1.on leave1.inside in
     let all : more_all setting rows (Says HOUSE (Body greeting.hello) None ∷ Says HOUSE (Body greeting.proxy) None ∷ []) ≡ rows2 =
     ap (λ (rs : List Row). more_of setting rs (Says HOUSE (Body greeting.proxy) None)) one ∙ two in
     let control = ungranted-control trace.stage recorded young.0 in
-    let plain : NoGrant recorded = subst (λ (s : Stage). Ungranted s recorded) control young.0 in
+    let plain : NoGrant recorded = subst (λ (s : ForwarderStage). Ungranted s recorded) control young.0 in
     let waits = recorded-answer trace (pending HOUSE rows) recorded a g.waits control plain (omega arith) (omega arith) in
     let waiting : pending HOUSE rows2 ≡ pending HOUSE rows ++ frame_answer (Proxies id) =
     leave2.pending ∙ (ap (λ (l : List ℕ). l ++ joined (frame_answer (Proxies id) ∷ [])) pending1 ∙ ap (λ (l : List ℕ). pending HOUSE rows ++ l) (one-joined (frame_answer (Proxies id)))) in
@@ -182,7 +182,7 @@ greets-here policy pid picks given rows trace recorded g silent-yet none =
       waits = waits-same trace new (pending HOUSE rows2) recorded' refl refl (subst (λ (l : List ℕ). Waits trace l recorded') (sym waiting) waits);
       seen = subst (λ (hs : List Channel). Seen hs trace.relay_traces (map note-in recorded.payloads)) (sym held) g.seen;
       requests = g.requests ∙ ap (λ (n : ℕ). n + replies-in recorded.payloads) (sym asked);
-      phase = subst (λ (s : Stage). GrantedOrProxy s recorded') (sym control) (answer-granted recorded a plain (grants-proxy id));
+      phase = subst (λ (s : ForwarderStage). GrantedOrProxy s recorded') (sym control) (answer-granted recorded a plain (grants-proxy id));
     } in
     subst (λ (rs : List Row). After rs new) (sym all) (IsOn recorded' going)
 
@@ -266,12 +266,12 @@ request-goes : (policy : Policy) (pid : ℕ) (picks : List ℕ) (given : List Ho
     → o.ends ≡ Goes → o.recorded ≡ [] → sent_payload policy HOUSE (rows_of HOUSE rows) (pick_of (by_lists policy pid picks given).choices rows (Says HOUSE (Payload p) None)) p ≡ o
     → ((down : List (List ℕ)) → held_of (plain_row (Says HOUSE (Payload p) None) HOUSE o.sent down ∷ rows_of HOUSE rows) ≡ held_of (rows_of HOUSE rows))
     → After (more_of (by_lists policy pid picks given) rows (Says HOUSE (Payload p) None)) (with_forwarding_state (request_sent f trace.forwarding_state) trace)
-request-goes policy pid picks given rows trace recorded f p what o g greeted none used reads ends quiet is stays =
+request-goes policy pid picks given rows trace recorded f p what o g client_has_greeted none used reads ends quiet is stays =
     let setting = by_lists policy pid picks given in
     let new = with_forwarding_state (request_sent f trace.forwarding_state) trace in
     let own = rows_of HOUSE rows in
     let item = Says HOUSE (Payload p) None in
-    let fs = new_answers (bare item HOUSE o) own in
+    let fs = new_answers (bare_row item HOUSE o) own in
     let few : length (joined fs) ≤ 16 = said-little HOUSE p None o own used in
     let frames : o.recorded ++ fs ≡ fs = ap (λ (ts : List (List ℕ)). ts ++ fs) quiet in
     let nothing : length (pending HOUSE rows) ≡ 0 = ap length none in
@@ -285,10 +285,10 @@ request-goes policy pid picks given rows trace recorded f p what o g greeted non
     ∙ (ap (λ (r : Row). r ∷ rows) plainly
     ∙ ap (λ (xs : List (List ℕ)). plain_row item HOUSE o.sent xs ∷ rows) frames)) in
     let leave = leaves rows (Payload p) o.sent fs g.on g.inside in
-    let refused = said-answers (bare item HOUSE o) own refl used in
+    let refused = said-answers (bare_row item HOUSE o) own refl used in
     let framed-are : map frame_payload (refusals fs) ≡ fs = refusals-framed fs refused in
     let recorded' = more-recorded recorded (refusals fs) in
-    let phase : GrantedOrProxy trace.stage recorded = subst (λ (b : Bool). Phase b trace.stage recorded own) greeted g.phase in
+    let phase : GrantedOrProxy trace.stage recorded = subst (λ (b : Bool). Phase b trace.stage recorded own) client_has_greeted g.phase in
     let records = recorded-all trace (refusals fs) (pending HOUSE rows) recorded g.waits phase (refusals-sized fs) in
     let waiting : pending HOUSE rows' ≡ pending HOUSE rows ++ joined (map frame_payload (refusals fs)) =
     leave.pending ∙ ap (λ (xs : List (List ℕ)). pending HOUSE rows ++ joined xs) (sym framed-are) in
@@ -306,14 +306,14 @@ request-goes policy pid picks given rows trace recorded f p what o g greeted non
       waits = waits-same trace new (pending HOUSE rows') recorded' refl refl (subst (λ (l : List ℕ). Waits trace l recorded') (sym waiting) records.0);
       seen = subst (λ (hs : List Channel). Seen hs trace.relay_traces (map note-in recorded'.payloads)) (sym held) (seen-refusals (held_of own) trace.relay_traces fs recorded.payloads g.seen);
       requests = omega (arith, more, asks-one, unanswered, replies, refusals-many, longer, were);
-      phase = subst (λ (b : Bool). Phase b trace.stage recorded' (rows_of HOUSE rows')) (sym greeted) records.1;
+      phase = subst (λ (b : Bool). Phase b trace.stage recorded' (rows_of HOUSE rows')) (sym client_has_greeted) records.1;
     } in
     subst (λ (rs : List Row). After rs new) (sym made) (IsOn recorded' going)
 
 request-here : (policy : Policy) (pid : ℕ) (picks : List ℕ) (given : List HouseReply) (rows : List Row) (trace : Trace) (recorded : Recorded) (f : Forwarding) (p : List ℕ)
     → Going rows trace recorded → trace.forwarding_state.greeted ≡ true → length trace.forwarding_state.requests ≤ 64 → pending HOUSE rows ≡ [] → AllUsed (rows_of HOUSE rows) → IsRequestRead p
     → After (more_of (by_lists policy pid picks given) rows (Says HOUSE (Payload p) None)) (with_forwarding_state (request_sent f trace.forwarding_state) trace)
-request-here policy pid picks given rows trace recorded f p g greeted few none used reads =
+request-here policy pid picks given rows trace recorded f p g client_has_greeted few none used reads =
     let s = request-sends policy (rows_of HOUSE rows) p reads.0 reads.1 in
     let were = g.requests in
     let le : unanswered_asks (rows_of HOUSE rows) ≤ 64 = omega (arith, were, few) in
@@ -321,8 +321,8 @@ request-here policy pid picks given rows trace recorded f p g greeted few none u
   where
     by_sent : (b : Bool) → sent_payload policy HOUSE (rows_of HOUSE rows) (pick_of (by_lists policy pid picks given).choices rows (Says HOUSE (Payload p) None)) p ≡ sends_if b p
         → After (more_of (by_lists policy pid picks given) rows (Says HOUSE (Payload p) None)) (with_forwarding_state (request_sent f trace.forwarding_state) trace)
-    by_sent true is = request-goes policy pid picks given rows trace recorded f p reads.0 (sends p) g greeted none used reads.2 refl refl is (λ down. said-request HOUSE (rows_of HOUSE rows) p None down reads.0 true reads.2)
-    by_sent false is = request-goes policy pid picks given rows trace recorded f p reads.0 silent g greeted none used reads.2 refl refl is (λ down. said-nothing HOUSE (rows_of HOUSE rows) (Payload p) None down)
+    by_sent true is = request-goes policy pid picks given rows trace recorded f p reads.0 (sends_payload p) g client_has_greeted none used reads.2 refl refl is (λ down. said-request HOUSE (rows_of HOUSE rows) p None down reads.0 true reads.2)
+    by_sent false is = request-goes policy pid picks given rows trace recorded f p reads.0 silent g client_has_greeted none used reads.2 refl refl is (λ down. said-nothing HOUSE (rows_of HOUSE rows) (Payload p) None down)
 
 request-some : (f : Forwarding) → 1 ≤ length (request_payload f)
 request-some f = omega arith
@@ -331,7 +331,7 @@ pub request-step : (policy : Policy) (pid : ℕ) (picks : List ℕ) (given : Lis
     → AtEach RightAt (more_all (by_lists policy pid picks given) rows (new_sayings HOUSE before (before ++ bytes))) → Going rows trace recorded → trace.forwarding_state.greeted ≡ true
     → length trace.forwarding_state.requests ≤ 64 → pending HOUSE rows ≡ [] → AreBytes bytes → length bytes ≤ 65536 → SentSo true before → find has_request trace.forwarding_state.all ≡ Some f
     → SendsBy true (Some f) bytes trace new → HasSent (by_lists policy pid picks given) rows before bytes new
-request-step policy pid picks given rows trace new before bytes recorded f right g greeted few none are fits so first says =
+request-step policy pid picks given rows trace new before bytes recorded f right g client_has_greeted few none are fits so first says =
     let setting = by_lists policy pid picks given in
     let p = request_payload f in
     let to = with_forwarding_state (request_sent f trace.forwarding_state) trace in
@@ -341,8 +341,8 @@ request-step policy pid picks given rows trace new before bytes recorded f right
     let reads = request-reads f has are' fits' in
     let one = one-more before p so.0 so.1 (request-some f) fits' in
     let used : AllUsed (rows_of HOUSE rows) = (atEach-here RightAt rows (atEach-down RightAt setting rows (new_sayings HOUSE before (before ++ bytes)) right)).used g.on in
-    let here = request-here policy pid picks given rows trace recorded f p g greeted few none used reads in
+    let here = request-here policy pid picks given rows trace recorded f p g client_has_greeted few none used reads in
     let after = subst (λ (items : List Item). After (more_all setting rows items) to) (sym one.items) here in
-    let its : HasSent setting rows before (framed p) to = record { after = after; greeted = greeted; said = (one.mode, one.rest) } in
+    let its : HasSent setting rows before (framed p) to = record { after = after; greeted = client_has_greeted; said = (one.mode, one.rest) } in
     subst (λ (c : Trace). HasSent setting rows before bytes c) (sym says.1)
     (subst (λ (l : List ℕ). HasSent setting rows before l to) (sym says.0) its)

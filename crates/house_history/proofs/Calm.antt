@@ -14,7 +14,7 @@ use Rattle.conn_messages.specs.declared.message.Message.TheVariants as message
 use Rattle.conn_messages.specs.declared.message.Opening.{Opening}
 use Rattle.conn_messages.specs.declared.message.Opening.TheVariants as opens
 use Rattle.conn_messages.specs.declared.key.Key.TheVariants as keys
-use Rattle.socks_dialog.specs.State.{State}
+use Rattle.socks_dialog.specs.State.{DialogState}
 use Rattle.socks_dialog.specs.declared.outcome.Outcome.{Outcome}
 use Rattle.socks_dialog.specs.declared.outcome.Outcome.TheVariants.{Wants, Connects, Breaks}
 use Rattle.mux_outside.specs.HouseCalls.{HouseCall, Happening, Begins, Marks, Receives, Turns, Takes as TakesBytes}
@@ -27,19 +27,19 @@ use Rattle.mux_history.specs.Channels.{Channel, is_number}
 use Rattle.mux_history.specs.Summary as summary
 use Rattle.house_relay.specs.Acts.{RelayAct, Confirms, Delivers, ReceivesClose, ReceivesEof, Other, Reads, Refuses, Takes, adjusted, delivered, outcome_in}
 use Rattle.house_relay.specs.Dialing.{IsDialogReading}
-use Rattle.house_relay.specs.ChannelState.{counts, receives_close, receives_eof, receives_request, receives_room, in_live, over_if, takes_in}
-use Rattle.house_relay.specs.Relay.{answered_in, delivers, delivers_in, received_in}
+use Rattle.house_relay.specs.ChannelState.{is_counted_channel, receives_close, receives_eof, receives_request, receives_room, step_if_live, over_if, takes_in}
+use Rattle.house_relay.specs.Relay.{answered_in, delivers, delivers_in, received_if_live}
 use Rattle.house_relay.specs.Steps.{ComesOf, DialsIn, IsOpenAskedFor, IsToDial, confirmed_in, data_received, is_socket_closed, is_gone, refused_in}
 use Rattle.house_relay.specs.declared.line.Live.{Live as LiveState}
 use Rattle.house_relay.specs.declared.line.ChannelState.{ChannelState}
 use Rattle.house_relay.specs.declared.line.ChannelState.TheVariants.{Asked, Dialing, Live, Offered, Opened, Over}
 use Rattle.house_relay.specs.declared.relay.Relay.{Relay}
-use Rattle.house_relay.specs.declared.relay.Socket.{Socket}
+use Rattle.house_relay.specs.declared.relay.RelaySocket.{RelaySocket}
 use Rattle.house_forward.specs.Forwardings.{has_listener, served_at}
 use Rattle.house_forward.specs.Going.{GetsOn, TakesOn}
 use Rattle.house_forward.specs.Heard.{act_received, received_of}
-use Rattle.house_forward.specs.Links.{IsRelayJoined, IsJoinedAt, IsDialed}
-use Rattle.house_forward.specs.RelayTraces.{Trace, Follows, RelayGoesBy, RelayReceivesAt, ReceivesMessage, ReceivesOpen, ReceivesReading, JoinsOne, Life, MakesOne, MarksIn, OffersOne, One, OneAtMost, OpensFor, OrdersIn, StepsBy, TurnsTo, are_dialogs_full, are_full, has_channel, has_stream, kept_in, made_life, stepped, with_relay_traces}
+use Rattle.house_forward.specs.Links.{IsRelayJoined, IsJoinedAt, DialsOrCloses}
+use Rattle.house_forward.specs.RelayTraces.{Trace, Follows, RelayGoesBy, RelayReceivesAt, ReceivesMessage, ReceivesOpen, ReceivesReading, JoinsOne, Life, MakesOne, MarksIn, OffersOne, One, OneAtMost, OpensFor, OrdersInTrace, StepsBy, TurnsTo, are_dialogs_full, are_full, has_channel, has_stream, kept_in, made_life, life_stepped, with_relay_traces}
 use Rattle.house_forward.specs.Numbers.{relay_channels_of}
 use Rattle.house_forward.specs.declared.forwarding.Forwarding.{Forwarding}
 use Rattle.house_forward.specs.declared.link.LinkStep.{LinkStep}
@@ -164,7 +164,7 @@ comes-view (Connects host port) false old new acts v h e u = over-view new.line 
 comes-view (Breaks reply) free old new acts v h e u = over-view new.line acts v h.0 e
 
 dials-view : (line : ChannelState) (free : Bool) (bytes : List ℕ) (old new : Relay) (acts : List RelayAct) (v : View)
-    → ((dialog : State) → line ≡ Dialing dialog → IsDialogReading dialog) → old.line ≡ line → DialsIn line free bytes old new → ViewOf line acts v → ViewOf new.line acts v
+    → ((dialog : DialogState) → line ≡ Dialing dialog → IsDialogReading dialog) → old.line ≡ line → DialsIn line free bytes old new → ViewOf line acts v → ViewOf new.line acts v
 dials-view (Dialing dialog) free bytes old new acts v reads e h i =
     comes-view (outcome_in (dialog.bytes ++ bytes)) free old new acts v (h (reads dialog refl)) i.0 i.1
 dials-view (Asked host port version) free bytes old new acts v reads e h i = subst (λ (l : ChannelState). ViewOf l acts v) (sym (h.0 ∙ e)) i
@@ -201,7 +201,7 @@ stepped-view : (s : LinkStep) (b : Bool) (l : Life) (e : Entry) → IsView l e �
 stepped-view s true l e i = step-view s l e i
 stepped-view s false l e i = i
 
-stepped-views : (s : LinkStep) (t : ℕ) (ls : List Life) (es : List Entry) → AreViews ls es → AreViews (map (stepped s t) ls) es
+stepped-views : (s : LinkStep) (t : ℕ) (ls : List Life) (es : List Entry) → AreViews ls es → AreViews (map (life_stepped s t) ls) es
 stepped-views s t [] [] a = tt
 stepped-views s t [] (e ∷ es) a = absurd a
 stepped-views s t (l ∷ ls) [] a = absurd a
@@ -232,7 +232,7 @@ seen-relay_traces hs notes old new views s = record { entries = s.entries; orpha
 
 -- ---- one of which nothing is left is forgotten
 
-no-count : (line : ChannelState) (acts : List RelayAct) (v : View) → not (counts line) ≡ true → ViewOf line acts v → v ≡ NoChannel
+no-count : (line : ChannelState) (acts : List RelayAct) (v : View) → not (is_counted_channel line) ≡ true → ViewOf line acts v → v ≡ NoChannel
 no-count (Dialing dialog) acts v h i = i.0
 no-count (Asked host port version) acts v h i = absurd (let bad : false ≡ true = h in cc)
 no-count (Opened version) acts v h i = absurd (let bad : false ≡ true = h in cc)
@@ -241,7 +241,7 @@ no-count (Live live) acts v h i = absurd (let bad : false ≡ true = h in cc)
 no-count Over acts v h i = i
 
 gone-view : (l : Life) (e : Entry) → is_gone l.relay ≡ true → IsView l e → e.1 ≡ NoChannel
-gone-view l e h i = no-count l.relay.line l.acts e.1 (and_parts (is_socket_closed l.relay.socket) (not (counts l.relay.line)) h).1 i.view
+gone-view l e h i = no-count l.relay.line l.acts e.1 (and_parts (is_socket_closed l.relay.socket) (not (is_counted_channel l.relay.line)) h).1 i.view
 
 record Swept (relay_traces : List Life) (es : List Entry) : Type 0 where
   front : List Entry
@@ -283,7 +283,7 @@ seen-kept hs notes relay_traces s = by_swept (kept-views relay_traces s.entries 
 seen-left : (hs : List Channel) (notes : List Note) (old new : Trace) (relay_traces : List Life) → new ≡ with_relay_traces relay_traces old → Seen hs relay_traces notes → Seen hs new.relay_traces notes
 seen-left hs notes old new relay_traces e s = subst (λ (c : Trace). Seen hs c.relay_traces notes) (sym e) (seen-kept hs notes relay_traces s)
 
--- ---- one more is joined
+-- ---- one more is accepted
 
 free-views : (n : ℕ) (relay_traces : List Life) (es : List Entry) → AreViews relay_traces es → list_any (has_channel n) relay_traces ≡ false → AreFree n es
 free-views n [] [] a h = tt
@@ -296,11 +296,11 @@ free-views n (l ∷ ls) (e ∷ es) a h =
 free-orphans : (n : ℕ) (es : List Entry) → Each Unnumbered es → AreFree n es
 free-orphans n es u = each-of Unnumbered (λ (e : Entry). has n e.0 ≡ false) (λ e h. ap (λ (o : Option ℕ). has n o) h) es u
 
--- a channel of one that is joined is not opened yet
+-- a channel of one that is accepted is not opened yet
 none-view : (line : ChannelState) → (r : Relay) → r.line ≡ line → ViewOf line [] NoChannel → ViewOf r.line [] NoChannel
 none-view line r e i = subst (λ (l : ChannelState). ViewOf l [] NoChannel) (sym e) i
 
-dialed-view : (dialogs_full : Bool) (t : ℕ) (r : Relay) → IsDialed dialogs_full t r → ViewOf r.line [] NoChannel
+dialed-view : (dialogs_full : Bool) (t : ℕ) (r : Relay) → DialsOrCloses dialogs_full t r → ViewOf r.line [] NoChannel
 dialed-view true t r h = none-view _ r (ap (λ (x : Relay). x.line) h) refl
 dialed-view false t r h = none-view _ r (ap (λ (x : Relay). x.line) h) (refl, (refl, refl))
 
@@ -358,9 +358,9 @@ same-of old new c e l = ap (λ (x : Trace). x.relay_traces) e ∙ l
 
 seen-steps : (hs : List Channel) (notes : List Note) (o : Order) (s : LinkStep) (t : ℕ) (old new : Trace) → StepsBy o s t old new → Seen hs old.relay_traces notes → Seen hs new.relay_traces notes
 seen-steps hs notes o s t old new h seen =
-    seen-left hs notes old new (map (stepped s t) old.relay_traces) h.1 (seen-relay_traces hs notes old.relay_traces (map (stepped s t) old.relay_traces) (stepped-views s t old.relay_traces) seen)
+    seen-left hs notes old new (map (life_stepped s t) old.relay_traces) h.1 (seen-relay_traces hs notes old.relay_traces (map (life_stepped s t) old.relay_traces) (stepped-views s t old.relay_traces) seen)
 
-seen-orders : (hs : List Channel) (notes : List Note) (o : Order) (number : Option ℕ) (old new : Trace) → OrdersIn o number old new → Seen hs old.relay_traces notes → Seen hs new.relay_traces notes
+seen-orders : (hs : List Channel) (notes : List Note) (o : Order) (number : Option ℕ) (old new : Trace) → OrdersInTrace o number old new → Seen hs old.relay_traces notes → Seen hs new.relay_traces notes
 seen-orders hs notes (order.Listen host port) number old new h s = seen-same hs notes old new (same-of old new _ h.2 refl) s
 seen-orders hs notes (order.Connect host port) number old new h s = seen-makes hs notes host port number old new h s
 seen-orders hs notes (order.Unlisten l) number old new h s = seen-same hs notes old new (same-of old new _ h.2 refl) s
@@ -400,11 +400,11 @@ calm-turn hs notes (Got t bytes) old new all h s =
     seen-relay_traces hs notes old.relay_traces new
     (views-most (has_stream t) (RelayGoesBy (GetsOn (not (are_full old.relay_traces)) bytes) (Reads bytes)) old.relay_traces new (gets-view (not (are_full old.relay_traces)) bytes) h all) s
 calm-turn hs notes (End t) old new all h s =
-    subst (λ (ls : List Life). Seen hs ls notes) (sym h) (seen-relay_traces hs notes old.relay_traces (map (stepped step.End t) old.relay_traces) (stepped-views step.End t old.relay_traces) s)
+    subst (λ (ls : List Life). Seen hs ls notes) (sym h) (seen-relay_traces hs notes old.relay_traces (map (life_stepped step.End t) old.relay_traces) (stepped-views step.End t old.relay_traces) s)
 calm-turn hs notes (Writable t) old new all h s =
-    subst (λ (ls : List Life). Seen hs ls notes) (sym h) (seen-relay_traces hs notes old.relay_traces (map (stepped step.Writable t) old.relay_traces) (stepped-views step.Writable t old.relay_traces) s)
+    subst (λ (ls : List Life). Seen hs ls notes) (sym h) (seen-relay_traces hs notes old.relay_traces (map (life_stepped step.Writable t) old.relay_traces) (stepped-views step.Writable t old.relay_traces) s)
 calm-turn hs notes (Failed t) old new all h s =
-    subst (λ (ls : List Life). Seen hs ls notes) (sym h) (seen-relay_traces hs notes old.relay_traces (map (stepped step.Failed t) old.relay_traces) (stepped-views step.Failed t old.relay_traces) s)
+    subst (λ (ls : List Life). Seen hs ls notes) (sym h) (seen-relay_traces hs notes old.relay_traces (map (life_stepped step.Failed t) old.relay_traces) (stepped-views step.Failed t old.relay_traces) s)
 
 -- where the relays are sound a call by which nothing is sent or received leaves what is seen of
 -- them
@@ -620,7 +620,7 @@ refused-view Over reason r acts v e i = subst (λ (l : ChannelState). ViewOf l (
 -- a step of a channel that is confirmed
 live-view : (step : LiveState → ChannelState) (act : summary.Act) (line : ChannelState) (acts acts' : List RelayAct) (v : View) → adjusted acts' ≡ adjusted acts → delivered acts' ≡ delivered acts
     → opened-receives act ≡ IsOpened → ((live : LiveState) (a : Acct) → BoundView act (IsLive a) → LiveIs live acts' a → ViewOf (step live) acts' (view-receives act (IsLive a)))
-    → BoundView act v → ViewOf line acts v → ViewOf (in_live step line) acts' (if-has true (view-receives act) v)
+    → BoundView act v → ViewOf line acts v → ViewOf (step_if_live step line) acts' (if-has true (view-receives act) v)
 live-view step act (Dialing dialog) acts acts' v given came opened goes bound i = idle (Dialing dialog) (view-receives act) acts acts' v tt given came i
 live-view step act (Asked host port version) acts acts' v given came opened goes bound i = idle (Asked host port version) (view-receives act) acts acts' v tt given came i
 live-view step act (Opened version) acts acts' v given came opened goes bound i = (ap (λ (x : View). if-has true (view-receives act) x) i.0 ∙ opened, (given ∙ i.1.0, came ∙ i.1.1))
@@ -630,7 +630,7 @@ live-view step act (Live live) acts acts' v given came opened goes bound i =
     (goes live i.0 (subst (λ (x : View). BoundView act x) i.1 bound) (acts-live live acts acts' i.0 given came i.2))
 live-view step act Over acts acts' v given came opened goes bound i = idle Over (view-receives act) acts acts' v tt given came i
 
-in-live-same : (line : ChannelState) → in_live Live line ≡ line
+in-live-same : (line : ChannelState) → step_if_live Live line ≡ line
 in-live-same (Dialing dialog) = refl
 in-live-same (Asked host port version) = refl
 in-live-same (Opened version) = refl
@@ -644,7 +644,7 @@ stays-view : (act : summary.Act) (line : ChannelState) (acts acts' : List RelayA
 stays-view act line acts acts' v given came opened goes bound i =
     subst (λ (l : ChannelState). ViewOf l acts' (if-has true (view-receives act) v)) (in-live-same line) (live-view Live act line acts acts' v given came opened goes bound i)
 
-heard-given : (line : ChannelState) (act : RelayAct) (acts : List RelayAct) → adjusted (act ∷ acts) ≡ adjusted acts → adjusted (received_in line act ∷ acts) ≡ adjusted acts
+heard-given : (line : ChannelState) (act : RelayAct) (acts : List RelayAct) → adjusted (act ∷ acts) ≡ adjusted acts → adjusted (received_if_live line act ∷ acts) ≡ adjusted acts
 heard-given (Dialing dialog) act acts e = refl
 heard-given (Asked host port version) act acts e = refl
 heard-given (Opened version) act acts e = refl
@@ -652,7 +652,7 @@ heard-given (Offered remote window maximum) act acts e = refl
 heard-given (Live live) act acts e = e
 heard-given Over act acts e = refl
 
-heard-came : (line : ChannelState) (act : RelayAct) (acts : List RelayAct) → delivered (act ∷ acts) ≡ delivered acts → delivered (received_in line act ∷ acts) ≡ delivered acts
+heard-came : (line : ChannelState) (act : RelayAct) (acts : List RelayAct) → delivered (act ∷ acts) ≡ delivered acts → delivered (received_if_live line act ∷ acts) ≡ delivered acts
 heard-came (Dialing dialog) act acts e = refl
 heard-came (Asked host port version) act acts e = refl
 heard-came (Opened version) act acts e = refl
@@ -756,7 +756,7 @@ came-view n acts acts' live a given more i =
     (record a { came = a.came + n }, refl, came-live live acts acts' a (a.came + n) given (omega (arith, more, came)) i)
 
 -- data is delivered or not
-data-view : (line : ChannelState) (s : Socket) (bytes : List ℕ) (acts : List RelayAct) (v : View) → ViewOf line acts v
+data-view : (line : ChannelState) (s : RelaySocket) (bytes : List ℕ) (acts : List RelayAct) (v : View) → ViewOf line acts v
     → ViewOf line ((if delivers_in line s then Delivers bytes else Other) ∷ acts) (if-has true (view-receives (summary.Carries (length bytes))) v)
 data-view (Dialing dialog) s bytes acts v i = idle (Dialing dialog) (view-receives (summary.Carries (length bytes))) acts (Other ∷ acts) v tt refl refl i
 data-view (Asked host port version) s bytes acts v i = idle (Asked host port version) (view-receives (summary.Carries (length bytes))) acts (Other ∷ acts) v tt refl refl i
@@ -869,12 +869,12 @@ heard-message hs notes (message.Extended recipient code bytes) old new d h s =
     (λ r acts v q i. stays-view (summary.Carries (length bytes.now)) r.line acts (Other ∷ acts) v refl refl refl (λ live a bound is. came-view (length bytes.now) (Other ∷ acts) (Other ∷ acts) live a refl (omega arith) is) q i) old new d h s
 heard-message hs notes (message.Eof recipient) old new d h s =
     seen-does hs notes recipient summary.Ends (message.Eof recipient)
-    (λ r acts v q i. live-view (λ (live : LiveState). Live (receives_eof live)) summary.Ends r.line acts (received_in r.line ReceivesEof ∷ acts) v
-    (heard-given r.line ReceivesEof acts refl) (heard-came r.line ReceivesEof acts refl) refl (λ live a bound is. eof-view (received_in r.line ReceivesEof ∷ acts) live a is) q i) old new d h s
+    (λ r acts v q i. live-view (λ (live : LiveState). Live (receives_eof live)) summary.Ends r.line acts (received_if_live r.line ReceivesEof ∷ acts) v
+    (heard-given r.line ReceivesEof acts refl) (heard-came r.line ReceivesEof acts refl) refl (λ live a bound is. eof-view (received_if_live r.line ReceivesEof ∷ acts) live a is) q i) old new d h s
 heard-message hs notes (message.Close recipient) old new d h s =
     seen-does hs notes recipient summary.Closes (message.Close recipient)
-    (λ r acts v q i. live-view receives_close summary.Closes r.line acts (received_in r.line ReceivesClose ∷ acts) v
-    (heard-given r.line ReceivesClose acts refl) (heard-came r.line ReceivesClose acts refl) refl (λ live a bound is. close-view (received_in r.line ReceivesClose ∷ acts) live a is) q i) old new d h s
+    (λ r acts v q i. live-view receives_close summary.Closes r.line acts (received_if_live r.line ReceivesClose ∷ acts) v
+    (heard-given r.line ReceivesClose acts refl) (heard-came r.line ReceivesClose acts refl) refl (λ live a bound is. close-view (received_if_live r.line ReceivesClose ∷ acts) live a is) q i) old new d h s
 heard-message hs notes (message.Request recipient kind want rest) old new d h s =
     seen-does hs notes recipient (summary.Asks want) (message.Request recipient kind want rest)
     (λ r acts v q i. live-view (λ (live : LiveState). Live (receives_request want live)) (summary.Asks want) r.line acts (Other ∷ acts) v refl refl refl (λ live a bound is. request-view want (Other ∷ acts) live a bound is) q i) old new d h s

@@ -13,7 +13,7 @@ use Rattle.ssh_grammar.specs.declared.side.Side.TheVariants.{Up, Down}
 use Rattle.ssh_grammar.specs.Messages.{Global, Opens}
 use Rattle.ssh_grammar.specs.Said.{BadFraming, Body, Payload, Outgoing}
 use Rattle.ssh_grammar.specs.SpellMessage.{with_sender}
-use Rattle.mux_history.specs.Channels.{Channel, after_farewell, after_item, any_act, any_by, begun_by, channels_of, received_by, held_of, is_closes, is_fails, is_channel_held, is_number, opened_down, opened_up, own_number_of, with_down, with_up, with_ups}
+use Rattle.mux_history.specs.Channels.{Channel, after_farewell, after_item, any_act, any_by, begun_by, channels_of, channel_after_item, held_of, is_closes, is_fails, is_channel_held, is_number, opened_down, opened_up, own_number_of, with_down, with_up, with_ups}
 use Rattle.mux_history.specs.Summary.{Act, Confirmation, Confirms, Fails, Summary, Open, Refuses, Requests, Succeeds, Transport, Within, read_summary, reading, summary_sender_of}
 use Rattle.mux_history.specs.Journal.{IsLawful, log_of_journal}
 use Rattle.mux_history.specs.Kept.{AtEach, ForEach}
@@ -119,7 +119,7 @@ plain-step item k up down own =
 
 -- what the row does to a channel of its client
 abbrev does : Item → List (List ℕ) → Channel → Channel
-does item up x = with_ups (own_number_of item) up (received_by item x)
+does item up x = with_ups (own_number_of item) up (channel_after_item item x)
 
 at-mine : (item : Item) (k : ℕ) (up down : List (List ℕ)) (x : Channel) → x.client ≡ k → after_item (plain_row item k up down) x ≡ does item up x
 at-mine item k up down x mine =

@@ -8,15 +8,15 @@ use Rattle.mux_outside.specs.HouseCalls.{HouseCall, Marks}
 use Rattle.mux_outside.specs.declared.house_mark.HouseMark.TheVariants.{HouseSaid}
 use Rattle.house_relay.specs.Acts.{RelayAct, received_close}
 use Rattle.house_relay.specs.Next.{chunk, sends_live}
-use Rattle.house_relay.specs.Relay.{IsLive, LineStands, is_broken, is_finished}
+use Rattle.house_relay.specs.Relay.{IsLive, LineStands, is_broken, is_to_be_closed}
 use Rattle.house_relay.specs.declared.line.ChannelState.{ChannelState}
 use Rattle.house_relay.specs.declared.line.ChannelState.TheVariants.{Asked, Dialing, Live, Offered, Opened, Over}
 use Rattle.house_relay.specs.declared.line.Live.{Live as LiveState}
 use Rattle.house_relay.specs.declared.relay.Outgoing.{Outgoing}
 use Rattle.house_relay.specs.declared.relay.Outgoing.TheVariants as outgoing
 use Rattle.house_relay.specs.declared.relay.Relay.{Relay}
-use Rattle.house_relay.specs.declared.relay.Socket.{Socket}
-use Rattle.house_relay.specs.declared.relay.Socket.TheVariants as socket
+use Rattle.house_relay.specs.declared.relay.RelaySocket.{RelaySocket}
+use Rattle.house_relay.specs.declared.relay.RelaySocket.TheVariants as socket
 use Rattle.house_forward.specs.Forwardings.{has_request}
 use Rattle.house_forward.specs.RelayTraces.{Follows, Life, SendsBy, Trace, TraceReaches, first_trace}
 use Rattle.house_forward.specs.Said.{framed, payload_if, relay_sent_by}
@@ -29,7 +29,7 @@ use Rattle.house_history.specs.RunsRelay.{HasFinished, IsChannelCloseOf, is_clos
 abbrev with-line : ChannelState → Relay → Relay
 with-line line r = record r { line = line }
 
-abbrev with-socket : Socket → Relay → Relay
+abbrev with-socket : RelaySocket → Relay → Relay
 with-socket s r = record r { socket = s }
 
 -- it is that of a channel that is confirmed and is to end
@@ -37,12 +37,12 @@ record EndsNow (r : Relay) : Type 0 where
   live : LiveState
   line : r.line ≡ Live live
   words : relay_sent_by r ≡ close live.remote
-  done : is_finished r.socket r.queue.waiting live ≡ true
+  done : is_to_be_closed r.socket r.queue.waiting live ≡ true
 
 -- what is sent in a channel that is confirmed
 abbrev EndsBy : LiveState → Relay → Option Outgoing → Type 0
 EndsBy live r o = is_close (framed (payload_if r o)) ≡ true
-    → (payload_if r o ≡ close live.remote) × (is_finished r.socket r.queue.waiting live ≡ true)
+    → (payload_if r o ≡ close live.remote) × (is_to_be_closed r.socket r.queue.waiting live ≡ true)
 
 if-either : {X : Type 0} (P : X → Type 0) (b : Bool) (x y : X) → (b ≡ true → P x) → P y → P (if b then x else y)
 if-either P true x y p q = p refl
@@ -50,11 +50,11 @@ if-either P false x y p q = q
 
 -- what is sent in a channel that is confirmed: CLOSE only where it is to end
 live-says : (P : Option Outgoing → Type 0) (r : Relay) (live : LiveState) → P None
-    → (is_finished r.socket r.queue.waiting live ≡ true → P (Some outgoing.Close)) → P (Some outgoing.Failure)
+    → (is_to_be_closed r.socket r.queue.waiting live ≡ true → P (Some outgoing.Close)) → P (Some outgoing.Failure)
     → ((n : ℕ) → P (Some (outgoing.Adjust n))) → ((n : ℕ) → P (Some (outgoing.Data n))) → P (Some outgoing.Eof) → P (sends_live r live)
 live-says P r live none close-it failure adjust data-of eof =
     if-either P live.close_sent _ _ (λ e. none)
-    (if-either P (is_finished r.socket r.queue.waiting live) _ _ close-it
+    (if-either P (is_to_be_closed r.socket r.queue.waiting live) _ _ close-it
     (if-either P (nat_lt 0 live.failures) _ _ (λ e. failure)
     (if-either P (nat_lt 0 live.owed) _ _ (λ e. adjust _)
     (if-either P (nat_lt 0 (length r.held.waiting)) _ _
@@ -72,7 +72,7 @@ ends-live r live =
     (no-close live now (Some outgoing.Eof) refl)
 
 -- an answer to the server's OPEN is none
-offer-none : (s : Socket) (remote window maximum : ℕ) (r : Relay)
+offer-none : (s : RelaySocket) (remote window maximum : ℕ) (r : Relay)
     → is_close (framed (relay_sent_by (with-socket s (with-line (Offered remote window maximum) r)))) ≡ false
 offer-none (socket.Open t) remote window maximum r = refl
 offer-none socket.Unmade remote window maximum r = refl
@@ -101,7 +101,7 @@ either false b e = inr e
 live-of : (line : ChannelState) (live : LiveState) (dials : Bool) (acts : List RelayAct) → line ≡ Live live → LineStands line dials acts → IsLive live dials acts
 live-of line live dials acts e stands = subst (λ (l : ChannelState). LineStands l dials acts) e stands
 
-cause-of : (l : Life) (live : LiveState) → IsLive live l.dials l.acts → is_finished l.relay.socket l.relay.queue.waiting live ≡ true
+cause-of : (l : Life) (live : LiveState) → IsLive live l.dials l.acts → is_to_be_closed l.relay.socket l.relay.queue.waiting live ≡ true
     → (is_broken l.relay.socket ≡ true) ⊎ ((received_close l.acts ≡ true) ⊎ HasFinished l)
 cause-of l live is done = by_socket (either (is_broken l.relay.socket) _ done)
   where

@@ -3,17 +3,17 @@ use Rattle.std.proofs.Common.{◌≡◌, ◌≤◌, ◌<◌, ◌+◌, ℕ, Bool,
 use Rattle.std.specs.Prelude.{◌==◌}
 use Rattle.mux_history.specs.declared.limits.TheConstants.{HOUSE}
 use Rattle.mux_history.specs.Channels.{Channel, channels_of, held_of}
-use Rattle.mux_history.specs.Controls.{greeted}
+use Rattle.mux_history.specs.Controls.{client_has_greeted}
 use Rattle.mux_history.specs.Forwardings.{forwardings_of}
 use Rattle.mux_history.specs.Pending.{joined, pending, pending_down}
-use Rattle.mux_history.specs.Requests.{asks, unanswered_asks}
-use Rattle.mux_history.specs.Rows.{Row, is_end, is_ended, is_lost, is_out, rows_of}
+use Rattle.mux_history.specs.Requests.{wanted_requests, unanswered_asks}
+use Rattle.mux_history.specs.Rows.{Row, is_end, is_run_over, is_lost, is_out, rows_of}
 use Rattle.mux_bounds.proofs.Closed.{lost-out}
 use Rattle.mux_history.proofs.Finds.{filter-no, filter-yes}
 use Rattle.ssh_grammar.specs.Frames.{frame_payload}
 use Rattle.ssh_grammar.specs.Said.{InControl, InProxy, parse}
 use Rattle.house_forward.specs.RelayTraces.{Trace}
-use Rattle.house_forward.specs.declared.forwarder_state.Stage.{Stage}
+use Rattle.house_forward.specs.declared.forwarder_state.ForwarderStage.{ForwarderStage}
 use Rattle.house_history.proofs.Lists.{Each}
 use Rattle.house_history.proofs.Receiving.{GrantedOrProxy, IsSizedPayload, Recorded, Ungranted, Waits, more-granted, recorded-more}
 use Rattle.house_history.proofs.RowsOf.{AllUsed}
@@ -24,12 +24,12 @@ use Rattle.house_history.proofs.AnswersOf.{replies-in}
 -- nothing was sent yet: no channel, no request and no forwarding
 pub record IsYoung (own : List Row) : Type 0 where
   pub channels : channels_of own ≡ []
-  pub asked : asks own ≡ []
+  pub asked : wanted_requests own ≡ []
   pub forwardings : forwardings_of own ≡ []
-  pub silent : greeted own ≡ false
+  pub silent : client_has_greeted own ≡ false
 
 -- whether the forwarder greeted
-abbrev pub Phase : Bool → Stage → Recorded → List Row → Type 0
+abbrev pub Phase : Bool → ForwarderStage → Recorded → List Row → Type 0
 Phase false stage recorded own = Ungranted stage recorded × IsYoung own
 Phase true stage recorded own = GrantedOrProxy stage recorded
 
@@ -37,7 +37,7 @@ Phase true stage recorded own = GrantedOrProxy stage recorded
 -- was sent and didn't receive. Once it receives it, its relays fit its channels. Its unanswered
 -- requests are those of the history and those whose reply it didn't receive.
 pub record Going (rows : List Row) (trace : Trace) (recorded : Recorded) : Type 0 where
-  pub on : is_ended rows ≡ false
+  pub on : is_run_over rows ≡ false
   pub inside : is_out (rows_of HOUSE rows) ≡ false
   pub waits : Waits trace (pending HOUSE rows) recorded
   pub seen : Seen (held_of (rows_of HOUSE rows)) trace.relay_traces (map note-in recorded.payloads)
@@ -60,11 +60,11 @@ others-stay row rows e = filter-no (λ (r : Row). r.client == HOUSE) row rows e
 pub own-more : (row : Row) (rows : List Row) → (row.client == HOUSE) ≡ true → rows_of HOUSE (row ∷ rows) ≡ row ∷ rows_of HOUSE rows
 own-more row rows e = filter-yes (λ (r : Row). r.client == HOUSE) row rows e
 
-ended-more : (row : Row) (rows : List Row) → is_end row.fate ≡ false → is_ended rows ≡ false → is_ended (row ∷ rows) ≡ false
-ended-more row rows e f = ap (λ (b : Bool). b || is_ended rows) e ∙ f
+ended-more : (row : Row) (rows : List Row) → is_end row.fate ≡ false → is_run_over rows ≡ false → is_run_over (row ∷ rows) ≡ false
+ended-more row rows e f = ap (λ (b : Bool). b || is_run_over rows) e ∙ f
 
 -- what a run has by the forwarder's rows and what waits for it alone
-pub going-by : (rows more : List Row) (trace : Trace) (recorded : Recorded) → is_ended more ≡ false → rows_of HOUSE more ≡ rows_of HOUSE rows → Going rows trace recorded → Going more trace recorded
+pub going-by : (rows more : List Row) (trace : Trace) (recorded : Recorded) → is_run_over more ≡ false → rows_of HOUSE more ≡ rows_of HOUSE rows → Going rows trace recorded → Going more trace recorded
 going-by rows more trace recorded on same g = record {
   on = on;
   inside = ap is_out same ∙ g.inside;
@@ -110,7 +110,7 @@ pub record RightAt (rows : List Row) : Type 0 where
   pub good : Good (held_of (rows_of HOUSE rows))
   pub mine : Each (λ (x : Channel). x.client ≡ HOUSE) (held_of (rows_of HOUSE rows))
   pub owned : Each (λ (x : Channel). (n : ℕ) → x.number ≡ Some n → (c : ℕ) × (x.own ≡ Some c) × (c < 4294967296)) (held_of (rows_of HOUSE rows))
-  pub used : is_ended rows ≡ false → AllUsed (rows_of HOUSE rows)
+  pub used : is_run_over rows ≡ false → AllUsed (rows_of HOUSE rows)
 
 -- What waits for the forwarder and what it has not read yet is what it was sent and didn't receive.
 -- Once it receives it, its relays fit channels that the history had of it.
@@ -140,13 +140,13 @@ still-of rows trace recorded g = record {
 -- the run ends by a row, and the forwarder isn't dropped; or it goes on, and not much more waits
 -- for the forwarder
 pub data Next (rows more : List Row) (trace : Trace) (most : ℕ) : Type 0 where
-  Ends : is_ended more ≡ true → is_lost (rows_of HOUSE more) ≡ false → Still more trace → Next rows more trace most
+  Ends : is_run_over more ≡ true → is_lost (rows_of HOUSE more) ≡ false → Still more trace → Next rows more trace most
   GoesOn : (recorded : Recorded) → Going more trace recorded → length (pending HOUSE more) ≤ length (pending HOUSE rows) + most → Next rows more trace most
 
 -- what is so after some rows and calls: the run is over, and the forwarder wasn't dropped; or it
 -- goes on
 pub data After (more : List Row) (trace : Trace) : Type 0 where
-  IsOver : is_ended more ≡ true → is_lost (rows_of HOUSE more) ≡ false → Still more trace → After more trace
+  IsOver : is_run_over more ≡ true → is_lost (rows_of HOUSE more) ≡ false → Still more trace → After more trace
   IsOn : (recorded : Recorded) → Going more trace recorded → After more trace
 
 -- all bytes that the forwarder sent: none before it greets, and whole frames after

@@ -9,14 +9,14 @@ use Rattle.ssh_grammar.specs.Said.{BadFraming, Body, InProxy, Payload, Outgoing,
 use Rattle.ssh_grammar.specs.declared.framing.Framing.TheVariants as framing
 use Rattle.mux_history.specs.declared.limits.TheConstants.{HOUSE}
 use Rattle.mux_history.specs.Choices.{FromLists, pick_of, replies_given, reply_at, with_reply}
-use Rattle.mux_history.specs.Controls.{body_asks, greeted, house_sends}
-use Rattle.mux_history.specs.Heard.{is_received}
+use Rattle.mux_history.specs.Controls.{body_asks, client_has_greeted, house_sends}
+use Rattle.mux_history.specs.Heard.{is_server_payload}
 use Rattle.mux_history.specs.Journal.{received_item, new_received, new_sayings, sent_item}
 use Rattle.mux_history.specs.Kept.{AtEach}
 use Rattle.mux_history.specs.Log.{Setting, admits, is_took, makes_next, makes_row, more_all, more_of, next_row, sent_by_client, treat}
 use Rattle.mux_history.specs.Pending.{pending}
 use Rattle.mux_history.specs.Policy.{Policy}
-use Rattle.mux_history.specs.Rows.{Admit, BadServer, Gone, Heard, HouseSays, Item, Row, RunEnd, Says, ServerCut, ServerEnd, ServerFailed, Took, is_end, is_ended, is_lost, rows_of}
+use Rattle.mux_history.specs.Rows.{Admit, BadServer, Gone, Heard, HouseSays, Item, Row, RunEnd, Says, ServerCut, ServerEnd, ServerFailed, Took, is_end, is_run_over, is_lost, rows_of}
 use Rattle.mux_history.specs.Said.{silent}
 use Rattle.mux_history.specs.Settings.{by_lists}
 use Rattle.mux_history.proofs.Bools.{or-yes}
@@ -40,7 +40,7 @@ client_of (Gone k) = k
 client_of (Took stream size) = stream
 client_of item = 0
 
-pub client-is : (policy : Policy) (pid pick : ℕ) (rows : List Row) (item : Item) → is_received item ≡ false → (treat policy pid pick rows item).client ≡ client_of item
+pub client-is : (policy : Policy) (pid pick : ℕ) (rows : List Row) (item : Item) → is_server_payload item ≡ false → (treat policy pid pick rows item).client ≡ client_of item
 client-is policy pid pick rows (Admit k) e = client-of (Admit k) k (admits rows) (rows_of k rows)
 client-is policy pid pick rows (Says k outgoing reply) e = client-of (Says k outgoing reply) k (sent_by_client policy pid k (rows_of k rows) pick outgoing reply) (rows_of k rows)
 client-is policy pid pick rows (HouseSays k id reply) e = client-of (HouseSays k id reply) k (house_sends (rows_of k rows) id reply) (rows_of k rows)
@@ -60,7 +60,7 @@ IsOther (Heard p) = ⊥
 IsOther (RunEnd cause) = ⊥
 IsOther item = Unit {0}
 
-other-client : (item : Item) → IsOther item → (is_received item ≡ false) × ((client_of item == HOUSE) ≡ false)
+other-client : (item : Item) → IsOther item → (is_server_payload item ≡ false) × ((client_of item == HOUSE) ≡ false)
 other-client (Admit k) o = (refl, o)
 other-client (Says k outgoing reply) o = (refl, o)
 other-client (HouseSays k id reply) o = (refl, o)
@@ -77,7 +77,7 @@ other-row policy pid pick rows item o =
 
 -- the reply of the forwarder doesn't change whose item it is
 reply-other : (picks : List ℕ) (given : List HouseReply) (rows : List Row) (item : Item) → IsOther item → IsOther (with_reply (FromLists picks given) rows item)
-reply-other picks given rows (Says k (Body body) reply) o = elim (greeted (rows_of k rows) && body_asks body) as (λ b. IsOther (elim b as (λ _. Item) [ true ↦ Says k (Body body) (Some (reply_at given (replies_given rows))) | false ↦ Says k (Body body) None ])) [ true ↦ o | false ↦ o ]
+reply-other picks given rows (Says k (Body body) reply) o = elim (client_has_greeted (rows_of k rows) && body_asks body) as (λ b. IsOther (elim b as (λ _. Item) [ true ↦ Says k (Body body) (Some (reply_at given (replies_given rows))) | false ↦ Says k (Body body) None ])) [ true ↦ o | false ↦ o ]
 reply-other picks given rows (Says k (Payload p) reply) o = o
 reply-other picks given rows (Says k (BadFraming fault) reply) o = o
 reply-other picks given rows item o = o
@@ -85,13 +85,13 @@ reply-other picks given rows item o = o
 -- a row of another client
 pub after-row : (row : Row) (rows : List Row) (trace : Trace) → (row.client == HOUSE) ≡ false → After rows trace → After (row ∷ rows) trace
 after-row row rows trace other (IsOver ended kept still) =
-    IsOver (or-yes (is_end row.fate) (is_ended rows) ended) (ap is_lost (others-stay row rows other) ∙ kept)
+    IsOver (or-yes (is_end row.fate) (is_run_over rows) ended) (ap is_lost (others-stay row rows other) ∙ kept)
     (still-same rows (row ∷ rows) trace (others-stay row rows other) still)
 after-row row rows trace other (IsOn recorded g) = by_case (is_end row.fate) refl
   where
     by_case : (b : Bool) → is_end row.fate ≡ b → After (row ∷ rows) trace
     by_case true e =
-        IsOver (ap (λ (b : Bool). b || is_ended rows) e) (ap is_lost (others-stay row rows other) ∙ in-kept (rows_of HOUSE rows) g.inside)
+        IsOver (ap (λ (b : Bool). b || is_run_over rows) e) (ap is_lost (others-stay row rows other) ∙ in-kept (rows_of HOUSE rows) g.inside)
         (still-same rows (row ∷ rows) trace (others-stay row rows other) (still-of rows trace recorded g))
     by_case false e = IsOn recorded (going-others row rows trace recorded other e g)
 
@@ -128,7 +128,7 @@ IsBytesItem item = Unit {0}
 
 -- as After, and so much more may wait for the forwarder
 pub data AfterWith (rows : List Row) (trace : Trace) (most : ℕ) : Type 0 where
-  OverWith : is_ended rows ≡ true → is_lost (rows_of HOUSE rows) ≡ false → Still rows trace → AfterWith rows trace most
+  OverWith : is_run_over rows ≡ true → is_lost (rows_of HOUSE rows) ≡ false → Still rows trace → AfterWith rows trace most
   OnWith : (recorded : Recorded) → Going rows trace recorded → length (pending HOUSE rows) + most ≤ 33554432 → AfterWith rows trace most
 
 -- what ReceivedRows proves
@@ -142,12 +142,12 @@ module _ (policy : Policy) (pid : ℕ) (picks : List ℕ) (given : List HouseRep
   setting = by_lists policy pid picks given
 
   -- after the end nothing is received
-  over-stays : (item : Item) (rows : List Row) → is_took item ≡ false → is_ended rows ≡ true → more_of setting rows item ≡ rows
+  over-stays : (item : Item) (rows : List Row) → is_took item ≡ false → is_run_over rows ≡ true → more_of setting rows item ≡ rows
   over-stays item rows none ended =
       ap (λ (b : Bool). elim (elim b as (λ _. Bool) [ true ↦ is_took item | false ↦ makes_row rows item ]) as (λ _. List Row) [ false ↦ rows | true ↦ next_row setting rows item ∷ rows ]) ended
       ∙ ap (λ (b : Bool). elim b as (λ _. List Row) [ false ↦ rows | true ↦ next_row setting rows item ∷ rows ]) none
 
-  on-more : (item : Item) (rows : List Row) → makes_row rows item ≡ true → is_ended rows ≡ false → more_of setting rows item ≡ next_row setting rows item ∷ rows
+  on-more : (item : Item) (rows : List Row) → makes_row rows item ≡ true → is_run_over rows ≡ false → more_of setting rows item ≡ next_row setting rows item ∷ rows
   on-more item rows makes on =
       ap (λ (b : Bool). elim (elim b as (λ _. Bool) [ true ↦ is_took item | false ↦ makes_row rows item ]) as (λ _. List Row) [ false ↦ rows | true ↦ next_row setting rows item ∷ rows ]) on
       ∙ ap (λ (b : Bool). elim b as (λ _. List Row) [ false ↦ rows | true ↦ next_row setting rows item ∷ rows ]) makes

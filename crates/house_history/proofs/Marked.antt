@@ -1,5 +1,5 @@
 -- The calls that the marks of a journal have: of its first marks they are the first, and of the own
--- streams they tell what the marks tell.
+-- streams they record what the marks record.
 use Rattle.std.proofs.Common.{◌≡◌, ℕ, Bool, true, false, List, [], ◌∷◌, ◌++◌, map, Option, Some, None, cond, refl, sym, ap, ◌∙◌, arith, append_assoc, append-nil}
 use Rattle.std.specs.Prelude.{◌==◌, not, ◌≤◌, ◌+◌, if◌then◌else◌, length}
 use Rattle.std.specs.Option.{option_to_list}
@@ -25,7 +25,7 @@ use Rattle.mux_engine.specs.Called.{calls_at, calls_in, house_calls, if_own}
 use Rattle.mux_engine.specs.Places.{own_in, own_marked, own_ordered}
 use Rattle.house_relay.specs.Acts.{RelayAct}
 use Rattle.house_forward.specs.Numbers.{made_by, stream_closed_by, streams_open_after, without_closed}
-use Rattle.house_forward.specs.RelayTraces.{taken_in}
+use Rattle.house_forward.specs.RelayTraces.{accepted_length_in}
 use Rattle.house_forward.specs.Streaming.{IsOfStream, got_call, got_in, took_call, took_in}
 use Rattle.house_history.specs.RunsRelay.{IsOfSocket, stream_opened_at}
 
@@ -45,10 +45,10 @@ calls-more setting (mark ∷ later) earlier =
       are = ap (λ (l : List HouseCall). l ++ here) rest.are ∙ append_assoc (calls_in setting earlier) rest.more here;
     }
 
-taken-append : (xs ys : List HouseCall) → taken_in (xs ++ ys) ≡ taken_in xs + taken_in ys
+taken-append : (xs ys : List HouseCall) → accepted_length_in (xs ++ ys) ≡ accepted_length_in xs + accepted_length_in ys
 taken-append [] ys = omega arith
 taken-append (call.Takes t bytes ∷ xs) ys =
-    ap (λ n. length bytes + n) (taken-append xs ys) ∙ sum (length bytes) (taken_in xs) (taken_in ys)
+    ap (λ n. length bytes + n) (taken-append xs ys) ∙ sum (length bytes) (accepted_length_in xs) (accepted_length_in ys)
   where
     sum : (a b c : ℕ) → a + (b + c) ≡ (a + b) + c
     sum a b c = omega arith
@@ -58,10 +58,10 @@ taken-append (Receives bytes ∷ xs) ys = taken-append xs ys
 taken-append (Turns happening ∷ xs) ys = taken-append xs ys
 
 -- no more was accepted at first
-pub taken-first : (setting : Setting) (later earlier : List Mark) → taken_in (calls_in setting earlier) ≤ taken_in (calls_in setting (later ++ earlier))
+pub taken-first : (setting : Setting) (later earlier : List Mark) → accepted_length_in (calls_in setting earlier) ≤ accepted_length_in (calls_in setting (later ++ earlier))
 taken-first setting later earlier =
     let all = calls-more setting later earlier in
-    let sum = ap taken_in all.are ∙ taken-append (calls_in setting earlier) all.more in
+    let sum = ap accepted_length_in all.are ∙ taken-append (calls_in setting earlier) all.more in
     omega (arith, sum)
 
 -- ---- the mark of a call

@@ -29,7 +29,7 @@ use Rattle.mux_history.specs.Log.{Setting, is_took, makes_row, more_all, more_of
 use Rattle.mux_history.specs.Pending.{pending}
 use Rattle.mux_history.specs.Policy.{Policy}
 use Rattle.mux_history.specs.Promises.{SpeaksInTime, Throughout, WaitsAt}
-use Rattle.mux_history.specs.Rows.{Admit, BadServer, Gone, Heard, HouseSays, Item, Row, RunEnd, Says, ServerCut, ServerEnd, ServerFailed, Took, is_end, is_ended, is_lost, rows_of}
+use Rattle.mux_history.specs.Rows.{Admit, BadServer, Gone, Heard, HouseSays, Item, Row, RunEnd, Says, ServerCut, ServerEnd, ServerFailed, Took, is_end, is_run_over, is_lost, rows_of}
 use Rattle.mux_history.proofs.Bools.{or-yes}
 use Rattle.mux_history.specs.Settings.{by_lists}
 use Rattle.mux_history.specs.Wires.{FollowsRead, ReadsWhenAsked}
@@ -149,7 +149,7 @@ reach-split (one ∷ calls) more a c h =
     let s = reach-split calls more h.0 c h.2 in
     record { middle = s.middle; first = (h.0, h.1, s.first); rest = s.rest }
 
--- calls that are calm leave the run and its house going on
+-- calls that are calm leave the run and its forwarder going on
 pub record Calmed (rows : List Row) (trace new : Trace) : Type 0 where
   pub goes : (recorded : Recorded) → Going rows trace recorded → Going rows new recorded
   pub still : Still rows trace → Still rows new
@@ -180,7 +180,7 @@ if-calm t one calm = go (is_own t)
 -- ---- what is so after each mark
 
 pub data Inv (setting : Setting) (journal : List Mark) (trace : Trace) : Type 0 where
-  Past : is_ended (log_of_journal setting journal) ≡ true → is_lost (rows_of HOUSE (log_of_journal setting journal)) ≡ false
+  Past : is_run_over (log_of_journal setting journal) ≡ true → is_lost (rows_of HOUSE (log_of_journal setting journal)) ≡ false
       → (Throughout (AfterEnd setting) journal → Still (log_of_journal setting journal) trace) → Inv setting journal trace
   Here : (recorded : Recorded) → Going (log_of_journal setting journal) trace recorded → SentSo trace.forwarding_state.greeted (bytes_of HOUSE journal) → Inv setting journal trace
 
@@ -214,7 +214,7 @@ quiet-step policy pid picks given before mark trace new silent calm sound reache
 
 -- after the end only what is accepted makes rows
 pub record IsPast (rows : List Row) : Type 0 where
-  pub ended : is_ended rows ≡ true
+  pub ended : is_run_over rows ≡ true
   pub kept : is_lost (rows_of HOUSE rows) ≡ false
 
 -- a client that was accepted has another number
@@ -394,7 +394,7 @@ module _ (policy : Policy) (pid : ℕ) (picks : List ℕ) (given : List HouseRep
       after-is (House (HouseTook size)) before new (took-step setting rows trace new size recorded apart g follows)
       (after-so setting before (House (HouseTook size)) trace new (bytes-same (House (HouseTook size)) before refl) forwarding_state.greeted said)
 
-  -- ---- the forwarder speaks
+  -- ---- the forwarder sends
 
   said-mark : (before : List Mark) (bytes : List ℕ) (trace new : Trace) (recorded : Recorded) → OneMore before (House (HouseSaid bytes)) trace new → Going (log_of_journal setting before) trace recorded → SentSo trace.forwarding_state.greeted (bytes_of HOUSE before)
       → Inv setting (House (HouseSaid bytes) ∷ before) new
@@ -472,12 +472,12 @@ module _ (policy : Policy) (pid : ℕ) (picks : List ℕ) (given : List HouseRep
   spares-received (Took t n) is = absurd is
   spares-received item is = tt
 
-  past-none : (item : Item) (rows : List Row) → is_took item ≡ false → is_ended rows ≡ true → more_of setting rows item ≡ rows
+  past-none : (item : Item) (rows : List Row) → is_took item ≡ false → is_run_over rows ≡ true → more_of setting rows item ≡ rows
   past-none item rows none ended =
       ap (λ (b : Bool). elim (elim b as (λ _. Bool) [ true ↦ is_took item | false ↦ makes_row rows item ]) as (λ _. List Row) [ false ↦ rows | true ↦ next_row setting rows item ∷ rows ]) ended
       ∙ ap (λ (b : Bool). elim b as (λ _. List Row) [ false ↦ rows | true ↦ next_row setting rows item ∷ rows ]) none
 
-  own-none : (item : Item) (rows : List Row) → is_took item ≡ false → is_ended rows ≡ true → rows_of HOUSE (more_of setting rows item) ≡ rows_of HOUSE rows
+  own-none : (item : Item) (rows : List Row) → is_took item ≡ false → is_run_over rows ≡ true → rows_of HOUSE (more_of setting rows item) ≡ rows_of HOUSE rows
   own-none item rows none ended = ap (rows_of HOUSE) (past-none item rows none ended)
 
   own-took : (t n : ℕ) (rows : List Row) → (t == HOUSE) ≡ false → rows_of HOUSE (more_of setting rows (Took t n)) ≡ rows_of HOUSE rows
@@ -487,7 +487,7 @@ module _ (policy : Policy) (pid : ℕ) (picks : List ℕ) (given : List HouseRep
       go false = refl
       go true = others-stay (next_row setting rows (Took t n)) rows (next-other policy pid picks given rows (Took t n) other)
 
-  own-item : (item : Item) (rows : List Row) → SparesHouse item → is_ended rows ≡ true → rows_of HOUSE (more_of setting rows item) ≡ rows_of HOUSE rows
+  own-item : (item : Item) (rows : List Row) → SparesHouse item → is_run_over rows ≡ true → rows_of HOUSE (more_of setting rows item) ≡ rows_of HOUSE rows
   own-item (Took t n) rows spares ended = own-took t n rows spares
   own-item (Admit k) rows spares ended = own-none (Admit k) rows refl ended
   own-item (Says k outgoing reply) rows spares ended = own-none (Says k outgoing reply) rows refl ended
@@ -500,14 +500,14 @@ module _ (policy : Policy) (pid : ℕ) (picks : List ℕ) (given : List HouseRep
   own-item ServerFailed rows spares ended = own-none ServerFailed rows refl ended
   own-item (RunEnd cause) rows spares ended = own-none (RunEnd cause) rows refl ended
 
-  ended-item : (item : Item) (rows : List Row) → is_ended rows ≡ true → is_ended (more_of setting rows item) ≡ true
+  ended-item : (item : Item) (rows : List Row) → is_run_over rows ≡ true → is_run_over (more_of setting rows item) ≡ true
   ended-item item rows ended = go (makes_next rows item)
     where
-      go : (b : Bool) → is_ended (elim b as (λ _. List Row) [ false ↦ rows | true ↦ next_row setting rows item ∷ rows ]) ≡ true
+      go : (b : Bool) → is_run_over (elim b as (λ _. List Row) [ false ↦ rows | true ↦ next_row setting rows item ∷ rows ]) ≡ true
       go false = ended
-      go true = or-yes (is_end (next_row setting rows item).fate) (is_ended rows) ended
+      go true = or-yes (is_end (next_row setting rows item).fate) (is_run_over rows) ended
 
-  own-items : (items : List Item) (rows : List Row) → Each SparesHouse items → is_ended rows ≡ true → rows_of HOUSE (more_all setting rows items) ≡ rows_of HOUSE rows
+  own-items : (items : List Item) (rows : List Row) → Each SparesHouse items → is_run_over rows ≡ true → rows_of HOUSE (more_all setting rows items) ≡ rows_of HOUSE rows
   own-items [] rows spares ended = refl
   own-items (item ∷ items) rows spares ended =
       own-items items (more_of setting rows item) spares.1 (ended-item item rows ended) ∙ own-item item rows spares.0 ended
@@ -517,7 +517,7 @@ module _ (policy : Policy) (pid : ℕ) (picks : List ℕ) (given : List HouseRep
     calm : Each IsCalm (calls_at setting before mark)
     spares : Each SparesHouse (items_in before mark)
 
-  idle-still : (before : List Mark) (mark : Mark) (trace new : Trace) → OneMore before mark trace new → is_ended (log_of_journal setting before) ≡ true → IsIdle before mark
+  idle-still : (before : List Mark) (mark : Mark) (trace new : Trace) → OneMore before mark trace new → is_run_over (log_of_journal setting before) ≡ true → IsIdle before mark
       → Still (log_of_journal setting before) trace → Still (log_of_journal setting (mark ∷ before)) new
   idle-still before mark trace new one ended idle s =
       let rows = log_of_journal setting before in
@@ -535,7 +535,7 @@ module _ (policy : Policy) (pid : ℕ) (picks : List ℕ) (given : List HouseRep
       by_server true = each-of IsReceivedItem SparesHouse spares-received (new_received (bytes_of 0 before) (bytes_of 0 before ++ bytes)) (is-heard-all (bytes_of 0 before) bytes)
       by_server false = spares-all (unless_own t (new_sayings t (bytes_of t before) (bytes_of t before ++ bytes))) (gets-other t (bytes_of t before) bytes (is_own_stream t) other)
 
-  past-house : (before : List Mark) (mark : HouseMark) (trace new : Trace) → (mark ≡ HouseIn → ⊥) → OneMore before (House mark) trace new → is_ended (log_of_journal setting before) ≡ true
+  past-house : (before : List Mark) (mark : HouseMark) (trace new : Trace) → (mark ≡ HouseIn → ⊥) → OneMore before (House mark) trace new → is_run_over (log_of_journal setting before) ≡ true
       → AfterEnd setting before (House mark) → Still (log_of_journal setting before) trace → Still (log_of_journal setting (House mark ∷ before)) new
   past-house before HouseIn trace new other one ended after s = absurd (other refl)
   past-house before (HouseSaid bytes) trace new other one ended after s = absurd (let bad : true ≡ false = sym ended ∙ after in cc)
@@ -551,7 +551,7 @@ module _ (policy : Policy) (pid : ℕ) (picks : List ℕ) (given : List HouseRep
       idle-still before (House (HouseOrder order number)) trace new one ended (record { calm = (tt, tt); spares = tt }) s
 
   -- what waited for the forwarder as the run ended still waits, or it receives it
-  past-still : (before : List Mark) (mark : Mark) (trace new : Trace) → (mark ≡ House HouseIn → ⊥) → OneMore before mark trace new → is_ended (log_of_journal setting before) ≡ true
+  past-still : (before : List Mark) (mark : Mark) (trace new : Trace) → (mark ≡ House HouseIn → ⊥) → OneMore before mark trace new → is_run_over (log_of_journal setting before) ≡ true
       → AfterEnd setting before mark → Still (log_of_journal setting before) trace → Still (log_of_journal setting (mark ∷ before)) new
   past-still before (Waits waiting want streams shown) trace new other one ended after s =
       idle-still before (Waits waiting want streams shown) trace new one ended (record { calm = tt; spares = tt }) s
@@ -581,7 +581,7 @@ module _ (policy : Policy) (pid : ℕ) (picks : List ℕ) (given : List HouseRep
       Past p.ended p.kept (λ after. past-still before mark trace new other one ended after.0 (still after.1))
   next heard before mark trace new other one (Here recorded g said) = step heard before mark trace new recorded other one g said
 
-  -- ---- the forwarder is let in
+  -- ---- the forwarder is admitted
 
   first-own : List Row
   first-own = plain_row (Admit HOUSE) HOUSE [] (frame_answer (Greets VERSION) ∷ []) ∷ []
@@ -615,7 +615,7 @@ module _ (policy : Policy) (pid : ℕ) (picks : List ℕ) (given : List HouseRep
     phase = (no-grant, record { channels = refl; asked = refl; forwardings = refl; silent = refl });
   }
 
-  -- the forwarder began with some forwardings, and then it is let in
+  -- the forwarder began with some forwardings, and then it is admitted
   let-in : (starts : Starts) (trace : Trace) → TraceReaches first_trace (Begins starts ∷ []) trace → Inv setting (House HouseIn ∷ []) trace
   let-in starts trace reached =
       let c = calms first-own (Begins starts ∷ []) first_trace trace (tt, tt) (record { relay_traces = tt; past = tt }) reached in
@@ -700,7 +700,7 @@ module _ (policy : Policy) (pid : ℕ) (picks : List ℕ) (given : List HouseRep
   ends-unlost journal trace (Past ended kept still) = kept
   ends-unlost journal trace (Here recorded g said) = in-kept (rows_of HOUSE (log_of_journal setting journal)) g.inside
 
-  -- ---- a forwarder that was not let in has no rows
+  -- ---- a forwarder that was not admitted has no rows
 
   Nobody : List Row → Type 0
   Nobody rows = rows_of HOUSE rows ≡ []

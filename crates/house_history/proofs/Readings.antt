@@ -23,17 +23,17 @@ use Rattle.mux_history.specs.Journal.{new_sayings, sent_item}
 use Rattle.mux_history.specs.Rows.{Says}
 use Rattle.mux_history.specs.declared.limits.TheConstants.{HOUSE}
 use Rattle.house_relay.specs.Next.{chunk, sends_held, sends_in, sends_live, sends_of, sends_offered}
-use Rattle.house_relay.specs.Relay.{is_finished}
+use Rattle.house_relay.specs.Relay.{is_to_be_closed}
 use Rattle.house_relay.specs.declared.line.Live.{Live as LiveState}
 use Rattle.house_relay.specs.declared.line.ChannelState.{ChannelState}
 use Rattle.house_relay.specs.declared.line.ChannelState.TheVariants.{Dialing, Asked, Opened, Offered, Live, Over}
 use Rattle.house_relay.specs.declared.relay.Relay.{Relay}
 use Rattle.house_relay.specs.declared.relay.Outgoing.{Outgoing}
 use Rattle.house_relay.specs.declared.relay.Outgoing.TheVariants.{Open, Confirmation, OpenFailure, Close, Failure, Data, Eof, Adjust}
-use Rattle.house_relay.specs.declared.relay.Socket.{Socket}
-use Rattle.house_relay.specs.declared.relay.Socket.TheVariants as socket
+use Rattle.house_relay.specs.declared.relay.RelaySocket.{RelaySocket}
+use Rattle.house_relay.specs.declared.relay.RelaySocket.TheVariants as socket
 use Rattle.house_forward.specs.Forwardings.{has_request}
-use Rattle.house_forward.specs.Said.{framed, direct, confirmed, not_connected, requested, request_payload, request_name, request_port, payload_of, said_payload_in, in_live, in_offer}
+use Rattle.house_forward.specs.Said.{framed, direct, confirmation_of_open, not_connected, forwarding_request, request_payload, request_name, request_port, payload_of, said_payload_in, sent_in_live, in_offer}
 use Rattle.house_forward.specs.declared.forwarding.Forwarding.{Forwarding}
 use Rattle.house_forward.specs.declared.forwarding.Stage.{Stage}
 use Rattle.house_forward.specs.declared.forwarding.Stage.TheVariants.{ToListen, Ordered, Listening, ToRequest, Requested, Live as ServedOn, Cancelling}
@@ -162,7 +162,7 @@ OfferSends (Some Confirmation) = Unit {0}
 OfferSends (Some OpenFailure) = Unit {0}
 OfferSends (Some s) = ⊥
 
-pub offer-says : (k : Socket) → OfferSends (sends_offered k)
+pub offer-says : (k : RelaySocket) → OfferSends (sends_offered k)
 offer-says (socket.Open t) = tt
 offer-says socket.Unmade = tt
 offer-says (socket.Connecting t) = tt
@@ -172,7 +172,7 @@ offer-says socket.Closed = tt
 
 offer-reads : (remote number : ℕ) (s : Outgoing) → OfferSends (Some s) → remote < 2 ^ 32 → number < 2 ^ 32 → ReadsOffer remote number s (in_offer s remote number)
 offer-reads remote number Open h there here = absurd h
-offer-reads remote number Confirmation h there here = reads-as (full.To remote (full.Confirmation number 2097152 32768 [])) (confirmed remote number) (record {
+offer-reads remote number Confirmation h there here = reads-as (full.To remote (full.Confirmation number 2097152 32768 [])) (confirmation_of_open remote number) (record {
   is_message = (there, (here, omega arith, omega arith));
   flag = 0;
   boolean = refl;
@@ -217,21 +217,21 @@ live-says r live =
     let holds = either held (nat_lt 0 held) (if nat_lt 0 (chunk r live) then Some (Data (chunk r live)) else None) (if r.ended && not live.eof_sent then Some Eof else None) fills end in
     let adjust = either held (nat_lt 0 live.owed) (Some (Adjust (min live.owed (2 ^ 32 - 1)))) (sends_held r live) adjusts holds in
     let fail = either held (nat_lt 0 live.failures) (Some Failure) (if nat_lt 0 live.owed then Some (Adjust (min live.owed (2 ^ 32 - 1))) else sends_held r live) tt adjust in
-    let close = either held (is_finished r.socket r.queue.waiting live) (Some Close) (if nat_lt 0 live.failures then Some Failure else (if nat_lt 0 live.owed then Some (Adjust (min live.owed (2 ^ 32 - 1))) else sends_held r live)) tt fail in
-    either held live.close_sent None (if is_finished r.socket r.queue.waiting live then Some Close else (if nat_lt 0 live.failures then Some Failure else (if nat_lt 0 live.owed then Some (Adjust (min live.owed (2 ^ 32 - 1))) else sends_held r live))) tt close
+    let close = either held (is_to_be_closed r.socket r.queue.waiting live) (Some Close) (if nat_lt 0 live.failures then Some Failure else (if nat_lt 0 live.owed then Some (Adjust (min live.owed (2 ^ 32 - 1))) else sends_held r live)) tt fail in
+    either held live.close_sent None (if is_to_be_closed r.socket r.queue.waiting live then Some Close else (if nat_lt 0 live.failures then Some Failure else (if nat_lt 0 live.owed then Some (Adjust (min live.owed (2 ^ 32 - 1))) else sends_held r live))) tt close
 
-live-reads : (remote : ℕ) (held : List ℕ) (s : Outgoing) → LiveSends (length held) (Some s) → remote < 2 ^ 32 → length (framed (in_live s remote held)) ≤ 65536 → ReadsLive remote s (in_live s remote held)
+live-reads : (remote : ℕ) (held : List ℕ) (s : Outgoing) → LiveSends (length held) (Some s) → remote < 2 ^ 32 → length (framed (sent_in_live s remote held)) ≤ 65536 → ReadsLive remote s (sent_in_live s remote held)
 live-reads remote held Open h there fits = absurd h
 live-reads remote held Confirmation h there fits = absurd h
 live-reads remote held OpenFailure h there fits = absurd h
-live-reads remote held Close h there fits = reads-as (full.To remote full.Close) (in_live Close remote held) (record { is_message = (there, tt); flag = 0; boolean = refl; spelled = refl })
-live-reads remote held Failure h there fits = reads-as (full.To remote full.Failure) (in_live Failure remote held) (record { is_message = (there, tt); flag = 0; boolean = refl; spelled = refl })
+live-reads remote held Close h there fits = reads-as (full.To remote full.Close) (sent_in_live Close remote held) (record { is_message = (there, tt); flag = 0; boolean = refl; spelled = refl })
+live-reads remote held Failure h there fits = reads-as (full.To remote full.Failure) (sent_in_live Failure remote held) (record { is_message = (there, tt); flag = 0; boolean = refl; spelled = refl })
 live-reads remote held (Data n) h there fits =
     let size : length (take n held) ≡ n = omega (arith, h, length-take n held) in
-    reads-as (full.To remote (full.Data (take n held))) (in_live (Data n) remote held) (record { is_message = (there, omega (arith, fits)); flag = 0; boolean = refl; spelled = refl })
+    reads-as (full.To remote (full.Data (take n held))) (sent_in_live (Data n) remote held) (record { is_message = (there, omega (arith, fits)); flag = 0; boolean = refl; spelled = refl })
     ∙ ap (λ (k : ℕ). Ok (Within remote (Carries k))) size
-live-reads remote held Eof h there fits = reads-as (full.To remote full.Eof) (in_live Eof remote held) (record { is_message = (there, tt); flag = 0; boolean = refl; spelled = refl })
-live-reads remote held (Adjust n) h there fits = reads-as (full.To remote (full.Adjust n)) (in_live (Adjust n) remote held) (record { is_message = (there, h); flag = 0; boolean = refl; spelled = refl })
+live-reads remote held Eof h there fits = reads-as (full.To remote full.Eof) (sent_in_live Eof remote held) (record { is_message = (there, tt); flag = 0; boolean = refl; spelled = refl })
+live-reads remote held (Adjust n) h there fits = reads-as (full.To remote (full.Adjust n)) (sent_in_live (Adjust n) remote held) (record { is_message = (there, h); flag = 0; boolean = refl; spelled = refl })
 
 -- ---- any
 
@@ -306,20 +306,20 @@ IsAboutForwarding OtherName = ⊥
 abbrev pub IsRequestRead : List ℕ → Type 0
 IsRequestRead p = (what : Global) × IsAboutForwarding what × (read_summary p ≡ Ok (Requests what true))
 
-requested-long : (name address : List ℕ) (port : ℕ) → length address ≤ length (framed (requested name address port))
+requested-long : (name address : List ℕ) (port : ℕ) → length address ≤ length (framed (forwarding_request name address port))
 requested-long name address port =
     let outer = length-append (str name) (1 ∷ (str address ++ u32 port)) in
     let inner = length-append (str address) (u32 port) in
     omega (arith, outer, inner)
 
-forward-reads : (address : List ℕ) (port : ℕ) → length (framed (requested forward_name address port)) ≤ 65536 → IsRequestRead (requested forward_name address port)
+forward-reads : (address : List ℕ) (port : ℕ) → length (framed (forwarding_request forward_name address port)) ≤ 65536 → IsRequestRead (forwarding_request forward_name address port)
 forward-reads address port fits =
     let p = as-four port in
     let long = requested-long forward_name address port in
     let key : Key = Tcp address p.four in (
       Forward key,
       tt,
-      reads-as (full.Plain (full.GlobalRequest forward_name true (str address ++ u32 port) (Forward key))) (requested forward_name address port) (record {
+      reads-as (full.Plain (full.GlobalRequest forward_name true (str address ++ u32 port) (Forward key))) (forwarding_request forward_name address port) (record {
         is_message = (omega arith, (refl, record { fits = (omega (arith, long, fits), p.fits); spelled = ap (λ (four : List ℕ). str address ++ four) p.same }));
         flag = 1;
         boolean = refl;
@@ -327,14 +327,14 @@ forward-reads address port fits =
       }),
     )
 
-cancel-reads : (address : List ℕ) (port : ℕ) → length (framed (requested cancel_name address port)) ≤ 65536 → IsRequestRead (requested cancel_name address port)
+cancel-reads : (address : List ℕ) (port : ℕ) → length (framed (forwarding_request cancel_name address port)) ≤ 65536 → IsRequestRead (forwarding_request cancel_name address port)
 cancel-reads address port fits =
     let p = as-four port in
     let long = requested-long cancel_name address port in
     let key : Key = Tcp address p.four in (
       Cancel key,
       tt,
-      reads-as (full.Plain (full.GlobalRequest cancel_name true (str address ++ u32 port) (Cancel key))) (requested cancel_name address port) (record {
+      reads-as (full.Plain (full.GlobalRequest cancel_name true (str address ++ u32 port) (Cancel key))) (forwarding_request cancel_name address port) (record {
         is_message = (omega arith, (refl, record { fits = (omega (arith, long, fits), p.fits); spelled = ap (λ (four : List ℕ). str address ++ four) p.same }));
         flag = 1;
         boolean = refl;
@@ -342,7 +342,7 @@ cancel-reads address port fits =
       }),
     )
 
-request-in : (stage : Stage) (address : List ℕ) (port : ℕ) → length (framed (requested (request_name stage) address port)) ≤ 65536 → IsRequestRead (requested (request_name stage) address port)
+request-in : (stage : Stage) (address : List ℕ) (port : ℕ) → length (framed (forwarding_request (request_name stage) address port)) ≤ 65536 → IsRequestRead (forwarding_request (request_name stage) address port)
 request-in (ToListen host) address port fits = forward-reads address port fits
 request-in Ordered address port fits = forward-reads address port fits
 request-in (Listening l) address port fits = forward-reads address port fits

@@ -14,9 +14,9 @@ use Rattle.mux_outside.specs.declared.mark.Mark.{Mark}
 use Rattle.mux_outside.specs.declared.mark.Mark.TheVariants.{Waits, Accepts, Gets, Ends, Frees, Fails, Takes, Holds, WriteFails, Joins, House}
 use Rattle.mux_history.specs.declared.limits.TheConstants.{HOUSE}
 use Rattle.mux_history.specs.Choices.{Choices, FromLists, TheirOwn, pick_of, replies_given, reply_at, with_reply}
-use Rattle.mux_history.specs.Controls.{body_asks, greeted}
+use Rattle.mux_history.specs.Controls.{body_asks, client_has_greeted}
 use Rattle.mux_history.specs.Journal.{bytes_in, bytes_of, house_sent, is_own_stream, items_in, log_of_journal, new_received, new_sayings, received_item, sent_item, server_end, unless_own}
-use Rattle.mux_history.specs.Log.{Setting, bare, is_took, makes_next, more_all, more_of, next_row, treat}
+use Rattle.mux_history.specs.Log.{Setting, bare_row, is_took, makes_next, more_all, more_of, next_row, treat}
 use Rattle.mux_history.specs.Pending.{given_by, given_to, joined, pending, pending_down, took_by}
 use Rattle.mux_history.specs.Promises.{Throughout}
 use Rattle.mux_history.specs.Rows.{Gone, Item, Row, Says, ServerFailed, Took, rows_of}
@@ -27,7 +27,7 @@ use Rattle.mux_history.proofs.Nexts.{next-took}
 use Rattle.mux_engine.specs.Called.{calls_at, calls_in, house_calls, if_own}
 use Rattle.mux_engine.specs.Places.{IsOfOthers}
 use Rattle.house_forward.specs.Greeting.{sent_in, sent_on}
-use Rattle.house_history.specs.RunsRelay.{received_by, received_in}
+use Rattle.house_history.specs.RunsRelay.{received_by_call, received_in_calls}
 
 -- ---- what it sent
 
@@ -113,7 +113,7 @@ OfOthers (Took t n) = (t == HOUSE) ≡ false
 OfOthers item = is_took item ≡ false
 
 reply-took : (choices : Choices) (rows : List Row) (item : Item) → is_took (with_reply choices rows item) ≡ is_took item
-reply-took (FromLists picks given) rows (Says k (Body body) old) = elim (greeted (rows_of k rows) && body_asks body) as (λ b. is_took (elim b as (λ _. Item) [ true ↦ Says k (Body body) (Some (reply_at given (replies_given rows))) | false ↦ Says k (Body body) None ]) ≡ false) [ true ↦ refl | false ↦ refl ]
+reply-took (FromLists picks given) rows (Says k (Body body) old) = elim (client_has_greeted (rows_of k rows) && body_asks body) as (λ b. is_took (elim b as (λ _. Item) [ true ↦ Says k (Body body) (Some (reply_at given (replies_given rows))) | false ↦ Says k (Body body) None ]) ≡ false) [ true ↦ refl | false ↦ refl ]
 reply-took (FromLists picks given) rows (Says k (Payload p) old) = refl
 reply-took (FromLists picks given) rows (Says k (BadFraming fault) old) = refl
 reply-took (FromLists picks given) rows item = refl
@@ -129,12 +129,12 @@ next-none setting rows item still e =
     (ap is_took (treat-item setting.policy setting.pid (pick_of setting.choices rows item) rows (with_reply setting.choices rows item))
     ∙ (reply-took setting.choices rows item ∙ still))
 
-more-took : (setting : Setting) (rows : List Row) (t n : ℕ) → more_of setting rows (Took t n) ≡ bare (Took t n) t silent ∷ rows
+more-took : (setting : Setting) (rows : List Row) (t n : ℕ) → more_of setting rows (Took t n) ≡ bare_row (Took t n) t silent ∷ rows
 more-took setting rows t n =
     ap (λ b. elim b as (λ _. List Row) [ false ↦ rows | true ↦ next_row setting rows (Took t n) ∷ rows ]) (next-took rows t n)
     ∙ ap (λ row. row ∷ rows) (by_choices setting.choices)
   where
-    by_choices : (choices : Choices) → treat setting.policy setting.pid (pick_of choices rows (Took t n)) rows (with_reply choices rows (Took t n)) ≡ bare (Took t n) t silent
+    by_choices : (choices : Choices) → treat setting.policy setting.pid (pick_of choices rows (Took t n)) rows (with_reply choices rows (Took t n)) ≡ bare_row (Took t n) t silent
     by_choices (FromLists picks given) = refl
     by_choices TheirOwn = refl
 
@@ -148,7 +148,7 @@ held-still setting received rows item still h = by_next (makes_next rows item)
 held-more : (setting : Setting) (received : List ℕ) (rows : List Row) (item : Item) → OfOthers item → Held received rows → Held received (more_of setting rows item)
 held-more setting received rows (Took t n) other h =
     subst (Held received) (sym (more-took setting rows t n))
-    (held-row received (bare (Took t n) t silent) rows (λ e. absurd (both_ways (t == HOUSE) other e)) h)
+    (held-row received (bare_row (Took t n) t silent) rows (λ e. absurd (both_ways (t == HOUSE) other e)) h)
 held-more setting received rows item other h = held-still setting received rows item other h
 
 abbrev AllOfOthers : List Item → Type 0
@@ -201,43 +201,43 @@ gets-others before stream bytes = by_test (stream == 0)
     by_test true = heard-others _
     by_test false = unless-others stream _ (said-others stream _)
 
-received-append : (xs ys : List HouseCall) → received_in (xs ++ ys) ≡ received_in xs ++ received_in ys
+received-append : (xs ys : List HouseCall) → received_in_calls (xs ++ ys) ≡ received_in_calls xs ++ received_in_calls ys
 received-append [] ys = refl
-received-append (one ∷ xs) ys = ap (λ l. received_by one ++ l) (received-append xs ys) ∙ sym (append_assoc (received_by one) (received_in xs) (received_in ys))
+received-append (one ∷ xs) ys = ap (λ l. received_by_call one ++ l) (received-append xs ys) ∙ sym (append_assoc (received_by_call one) (received_in_calls xs) (received_in_calls ys))
 
-received-own : (t : ℕ) (one : HouseCall) → received_by one ≡ [] → received_in (if_own t one) ≡ []
+received-own : (t : ℕ) (one : HouseCall) → received_by_call one ≡ [] → received_in_calls (if_own t one) ≡ []
 received-own t one none = by_test (is_own t)
   where
-    by_test : (b : Bool) → received_in (if b then one ∷ [] else []) ≡ []
+    by_test : (b : Bool) → received_in_calls (if b then one ∷ [] else []) ≡ []
     by_test true = ap (λ (l : List ℕ). l ++ []) none
     by_test false = refl
 
-module _ (setting : Setting) (before : List Mark) (known : Held (received_in (calls_in setting before)) (log_of_journal setting before)) where
+module _ (setting : Setting) (before : List Mark) (known : Held (received_in_calls (calls_in setting before)) (log_of_journal setting before)) where
   abbrev log : List Row
   log = log_of_journal setting before
 
   abbrev Then : Mark → Type 0
-  Then mark = Held (received_in (calls_in setting (mark ∷ before))) (log_of_journal setting (mark ∷ before))
+  Then mark = Held (received_in_calls (calls_in setting (mark ∷ before))) (log_of_journal setting (mark ∷ before))
 
   -- it receives nothing
-  nothing : (mark : Mark) → received_in (calls_at setting before mark) ≡ [] → AllOfOthers (items_in before mark) → Then mark
+  nothing : (mark : Mark) → received_in_calls (calls_at setting before mark) ≡ [] → AllOfOthers (items_in before mark) → Then mark
   nothing mark none others =
       subst (λ (l : List ℕ). Held l (log_of_journal setting (mark ∷ before)))
       (sym (received-append (calls_in setting before) (calls_at setting before mark)
-      ∙ (ap (λ (l : List ℕ). received_in (calls_in setting before) ++ l) none ∙ append-nil (received_in (calls_in setting before)))))
-      (held-all setting (received_in (calls_in setting before)) log (items_in before mark) others known)
+      ∙ (ap (λ (l : List ℕ). received_in_calls (calls_in setting before) ++ l) none ∙ append-nil (received_in_calls (calls_in setting before)))))
+      (held-all setting (received_in_calls (calls_in setting before)) log (items_in before mark) others known)
 
   -- it receives the front of what waits
   some : (n : ℕ) → Then (House (HouseTook n))
   some n =
-      let old = received_in (calls_in setting before) in
-      let row = bare (Took HOUSE n) HOUSE silent in
-      let here : received_in (calls_in setting (House (HouseTook n) ∷ before)) ≡ old ++ take n (pending HOUSE log) =
+      let old = received_in_calls (calls_in setting before) in
+      let row = bare_row (Took HOUSE n) HOUSE silent in
+      let here : received_in_calls (calls_in setting (House (HouseTook n) ∷ before)) ≡ old ++ take n (pending HOUSE log) =
       received-append (calls_in setting before) (calls_at setting before (House (HouseTook n)))
       ∙ ap (λ (l : List ℕ). old ++ l) (append-nil (take n (pending HOUSE log))) in
       let left : pending HOUSE (row ∷ log) ≡ drop n (pending HOUSE log) =
       ap pending_down (filter-yes (λ (r : Row). r.client == HOUSE) row log refl) ∙ ap (drop n) (append-nil (pending HOUSE log)) in
-      subst (λ (rows : List Row). received_in (calls_in setting (House (HouseTook n) ∷ before)) ++ pending HOUSE rows ≡ given_to HOUSE rows)
+      subst (λ (rows : List Row). received_in_calls (calls_in setting (House (HouseTook n) ∷ before)) ++ pending HOUSE rows ≡ given_to HOUSE rows)
       (sym (more-took setting log HOUSE n))
       (ap (λ (l : List ℕ). l ++ pending HOUSE (row ∷ log)) here
       ∙ (ap (λ (l : List ℕ). (old ++ take n (pending HOUSE log)) ++ l) left
@@ -267,6 +267,6 @@ module _ (setting : Setting) (before : List Mark) (known : Held (received_in (ca
 
 -- all that it received, and then what waits for it, is what the rows give it
 pub received-all : (setting : Setting) (journal : List Mark) → Throughout IsOfOthers journal
-    → received_in (calls_in setting journal) ++ pending HOUSE (log_of_journal setting journal) ≡ given_to HOUSE (log_of_journal setting journal)
+    → received_in_calls (calls_in setting journal) ++ pending HOUSE (log_of_journal setting journal) ≡ given_to HOUSE (log_of_journal setting journal)
 received-all setting [] others = refl
 received-all setting (mark ∷ before) others = one-mark setting before (received-all setting before others.1) mark others.0

@@ -10,7 +10,7 @@ use Rattle.ssh_grammar.specs.Frames.{frame_payload}
 use Rattle.ssh_grammar.specs.IsMessage.{Spells}
 use Rattle.ssh_grammar.specs.Messages.{Opens}
 use Rattle.ssh_grammar.specs.Messages as full
-use Rattle.ssh_grammar.specs.ReadMessage.{Form, OfChannel, OfNone, OfPlain, Reading, forms, read_as, read_message, with_reading}
+use Rattle.ssh_grammar.specs.ReadMessage.{Form, OfChannel, OfNone, OfPlain, MessageReading, message_forms, read_as, read_message, with_reading}
 use Rattle.ssh_grammar.specs.SpellMessage.{in_payload, open_failure, recipient_place, request_failure, too_many_channels, payload_with_number, with_recipient}
 use Rattle.ssh_grammar.specs.Tables.{by_number}
 use Rattle.ssh_grammar.specs.declared.fault.Bad.{Bad}
@@ -25,12 +25,12 @@ use Rattle.mux_history.specs.Farewell.{farewell}
 use Rattle.mux_history.specs.Forwardings.{live_at}
 use Rattle.mux_history.specs.Summary.{Act, Answers, Asks, Carries, Closes, Confirmation, Confirms, Ends as EndsData, Fails, Summary, Grants, Open, Refuses, Requests, Succeeds, Transport, Within, summary, read_summary, reading}
 use Rattle.mux_history.specs.Heard.{Breaks, Dest, Disconnects, ToClient, ToMaster, dest, dest_summary, for_client, for_master, received_for, for_lost, received_summary, received_master, own_number, renamed}
-use Rattle.mux_history.specs.Log.{all_recorded, bare, fate_with, received_row, new_answers, overflow, queued, row_of, treat, with_farewell}
+use Rattle.mux_history.specs.Log.{all_recorded, bare_row, fate_with, received_row, new_answers, overflow, queued, row_of, treat, with_farewell}
 use Rattle.mux_history.specs.Pending.{joined, pending, pending_down, waiting_down}
 use Rattle.mux_history.specs.Policy.{Policy}
-use Rattle.mux_history.specs.Requests.{Ask, asks, is_reply, replies, unanswered_asks}
+use Rattle.mux_history.specs.Requests.{Ask, wanted_requests, is_reply, replies, unanswered_asks}
 use Rattle.mux_history.specs.Rows.{Drop, End, Fate, Goes, Heard, Item, Refused, Row, any_of, is_end, is_lost, loses, rows_of}
-use Rattle.mux_history.specs.Said.{Outcome, sends, silent, records}
+use Rattle.mux_history.specs.Said.{Outcome, sends_payload, silent, records}
 use Rattle.mux_history.proofs.Askers.{asks-local, asks_for, get-filter}
 use Rattle.mux_history.proofs.Dests.{Asked, Awaited, Legal, Offered, Reached, confirmed, dest-err, dest-ok, fails-awaited, offered, reached, refuses-asked, succeeds-asked, within-legal}
 use Rattle.mux_history.proofs.Finds.{filter-no, filter-yes}
@@ -71,7 +71,7 @@ master-goes : (p : List ℕ) → is_end (received_master p).ends ≡ false
 master-goes p = elim (read_summary p) as (λ r. is_end (elim r as (λ _. Outcome) [ Err bad ↦ silent | Ok m ↦ for_master m ]).ends ≡ false) [ Err bad ↦ refl | Ok m ↦ master-summary m ]
 
 client-summary : (own : List Row) (p : List ℕ) (m : Summary) → is_end (for_client own p m).ends ≡ false
-client-summary own p (Open what s w m) = elim (nat_lt (length (held_of own)) MAX_CHANNELS) as (λ b. is_end (elim b as (λ _. Outcome) [ true ↦ records (frame_payload p) | false ↦ sends (open_failure s RESOURCE_SHORTAGE too_many_channels) ]).ends ≡ false) [ true ↦ refl | false ↦ refl ]
+client-summary own p (Open what s w m) = elim (nat_lt (length (held_of own)) MAX_CHANNELS) as (λ b. is_end (elim b as (λ _. Outcome) [ true ↦ records (frame_payload p) | false ↦ sends_payload (open_failure s RESOURCE_SHORTAGE too_many_channels) ]).ends ≡ false) [ true ↦ refl | false ↦ refl ]
 client-summary own p m = refl
 
 client-goes : (own : List Row) (p : List ℕ) → is_end (received_for own p).ends ≡ false
@@ -97,11 +97,11 @@ farewell-client row own = elim (loses row) as (λ b. (elim b as (λ _. Row) [ tr
 
 row-goes : (item : Item) (k : ℕ) (o : Outcome) (own : List Row) → is_end o.ends ≡ false → is_end (row_of item k o own).fate ≡ false
 row-goes item k o own e =
-    let row = queued (all_recorded (bare item k o) own) (bare item k o) own in
-    ap is_end (farewell-fate row own) ∙ fate-goes o.ends (overflow (waiting_down own) (all_recorded (bare item k o) own)) e
+    let row = queued (all_recorded (bare_row item k o) own) (bare_row item k o) own in
+    ap is_end (farewell-fate row own) ∙ fate-goes o.ends (overflow (waiting_down own) (all_recorded (bare_row item k o) own)) e
 
 row-client : (item : Item) (k : ℕ) (o : Outcome) (own : List Row) → (row_of item k o own).client ≡ k
-row-client item k o own = farewell-client (queued (all_recorded (bare item k o) own) (bare item k o) own) own
+row-client item k o own = farewell-client (queued (all_recorded (bare_row item k o) own) (bare_row item k o) own) own
 
 others-go : (row : Row) (rows : List Row) (trace : Trace) (recorded : Recorded) (most : ℕ) → (row.client == HOUSE) ≡ false → is_end row.fate ≡ false → Going rows trace recorded → Next rows (row ∷ rows) trace most
 others-go row rows trace recorded most other unended going =
@@ -126,9 +126,9 @@ young-asks : (rows : List Row) → IsYoung (rows_of HOUSE rows) → Asked rows H
 young-asks rows young a =
     let i = length (replies rows) in
     let mine : asks_for HOUSE a.ask ≡ true = ap (λ (j : ℕ). j == HOUSE) a.client ∙ same-at HOUSE in
-    let got = get-filter (asks_for HOUSE) (asks rows) i a.ask a.is mine in
-    let none : filter (asks_for HOUSE) (asks rows) ≡ [] = asks-local HOUSE rows ∙ young.asked in
-    let bad : None ≡ Some a.ask = sym (ap (λ (l : List Ask). slice_get l (length (filter (asks_for HOUSE) (take i (asks rows))))) none) ∙ got in
+    let got = get-filter (asks_for HOUSE) (wanted_requests rows) i a.ask a.is mine in
+    let none : filter (asks_for HOUSE) (wanted_requests rows) ≡ [] = asks-local HOUSE rows ∙ young.asked in
+    let bad : None ≡ Some a.ask = sym (ap (λ (l : List Ask). slice_get l (length (filter (asks_for HOUSE) (take i (wanted_requests rows))))) none) ∙ got in
     absurd cc
 
 young-forwards : (rows : List Row) (s : ℕ) (what : Opens) → IsYoung (rows_of HOUSE rows) → Offered rows s what HOUSE → ⊥
@@ -244,7 +244,7 @@ record Plain (own : List Row) (p : List ℕ) (d : ForwarderEvent own p) : Type 0
   is : row_of (Heard p) HOUSE (received_for own p) own ≡ plain_row (Heard p) HOUSE d.sent (map frame_payload (d.first ++ qs))
   replies : Each IsReply qs
   sized : Each IsSizedPayload (d.first ++ qs)
-  count : length (new_answers (bare (Heard p) HOUSE (outcome-of own p d)) own) ≡ length qs
+  count : length (new_answers (bare_row (Heard p) HOUSE (outcome-of own p d)) own) ≡ length qs
   little : length (joined (map frame_payload (d.first ++ qs))) ≤ 65 * (length p + 5)
 
 count-map : (qs : List (List ℕ)) → length (map frame_payload qs) ≡ length qs
@@ -254,8 +254,8 @@ count-map (q ∷ qs) = let ih = count-map qs in omega (arith, ih)
 plain-of : (own : List Row) (p : List ℕ) (d : ForwarderEvent own p) → is_lost own ≡ false → AllUsed own → unanswered_asks own ≤ 64 → length p + 1 ≤ 262144 → length (pending_down own) + 65 * (length p + 5) ≤ 33554432 → Plain own p d
 plain-of own p d lost used few short room =
     let o : Outcome = outcome-of own p d in
-    let new = new_answers (bare (Heard p) HOUSE o) own in
-    let l = answer-list p short new (new-replies (bare (Heard p) HOUSE o) own) (heard-answers HOUSE p o own used) in
+    let new = new_answers (bare_row (Heard p) HOUSE o) own in
+    let l = answer-list p short new (new-replies (bare_row (Heard p) HOUSE o) own) (heard-answers HOUSE p o own used) in
     let all : map frame_payload d.first ++ new ≡ map frame_payload (d.first ++ l.qs) = ap (λ (fs : List (List ℕ)). map frame_payload d.first ++ fs) l.are ∙ sym (map-append frame_payload d.first l.qs) in
     let many : length (joined new) ≤ 64 * (length p + 5) = heard-little HOUSE p o own used few in
     let many' : length (joined (map frame_payload l.qs)) ≤ 64 * (length p + 5) = subst (λ (fs : List (List ℕ)). length (joined fs) ≤ 64 * (length p + 5)) l.are many in
@@ -296,10 +296,10 @@ seen-on own p d relay_traces payloads qs down replies s =
     }
 
 asked-on : (own : List Row) (p : List ℕ) (d : ForwarderEvent own p) (payloads qs : List (List ℕ)) (down : List (List ℕ)) (n : ℕ) → Each IsReply qs
-    → length (new_answers (bare (Heard p) HOUSE (outcome-of own p d)) own) ≡ length qs → n ≡ unanswered_asks own + replies-in payloads
+    → length (new_answers (bare_row (Heard p) HOUSE (outcome-of own p d)) own) ≡ length qs → n ≡ unanswered_asks own + replies-in payloads
     → n ≡ unanswered_asks (plain_row (Heard p) HOUSE d.sent down ∷ own) + replies-in (payloads ++ (d.first ++ qs))
 asked-on own p d payloads qs down n replies count was =
-    let a : unanswered_asks (plain_row (Heard p) HOUSE d.sent down ∷ own) + length (new_answers (bare (Heard p) HOUSE (outcome-of own p d)) own) ≡ unanswered_asks own + 0 = asks-go-on (bare (Heard p) HOUSE (outcome-of own p d)) own in
+    let a : unanswered_asks (plain_row (Heard p) HOUSE d.sent down ∷ own) + length (new_answers (bare_row (Heard p) HOUSE (outcome-of own p d)) own) ≡ unanswered_asks own + 0 = asks-go-on (bare_row (Heard p) HOUSE (outcome-of own p d)) own in
     let b = replies-append payloads (d.first ++ qs) in
     let c = replies-append d.first qs in
     let e = replies-all qs replies in
@@ -307,7 +307,7 @@ asked-on own p d payloads qs down n replies count was =
     omega (arith, a, b, c, e, q, count, was)
 
 forwarder_event-goes : (rows : List Row) (p : List ℕ) (trace : Trace) (recorded : Recorded) (d : ForwarderEvent (rows_of HOUSE rows) p) (down : List (List ℕ)) (qs : List (List ℕ)) → Going rows trace recorded → trace.forwarding_state.greeted ≡ true → GrantedOrProxy trace.stage recorded
-    → down ≡ map frame_payload (d.first ++ qs) → Each IsReply qs → Each IsSizedPayload (d.first ++ qs) → length (new_answers (bare (Heard p) HOUSE (outcome-of (rows_of HOUSE rows) p d)) (rows_of HOUSE rows)) ≡ length qs
+    → down ≡ map frame_payload (d.first ++ qs) → Each IsReply qs → Each IsSizedPayload (d.first ++ qs) → length (new_answers (bare_row (Heard p) HOUSE (outcome-of (rows_of HOUSE rows) p d)) (rows_of HOUSE rows)) ≡ length qs
     → Going (plain_row (Heard p) HOUSE d.sent down ∷ rows) trace (more-recorded recorded (d.first ++ qs))
 forwarder_event-goes rows p trace recorded d down qs going greeted granted are replies sized count =
     let own = rows_of HOUSE rows in
@@ -396,7 +396,7 @@ within-plain p n act reads = let r = summary-from p (Within n act) reads in sym 
 recipient-fits : (n : ℕ) (form : Form) (rest : List ℕ) (r : ℕ) (m : full.ChannelMessage) → read_as n form rest ≡ Ok (full.To r m) → 4 ≤ length rest
 recipient-fits n (OfPlain read) rest r m e = by_case (read rest) e
   where
-    by_case : (x : Reading full.PlainMessage) → with_reading x full.Plain ≡ Ok (full.To r m) → 4 ≤ length rest
+    by_case : (x : MessageReading full.PlainMessage) → with_reading x full.Plain ≡ Ok (full.To r m) → 4 ≤ length rest
     by_case (Ok x) e = cc
     by_case (Err x) e = cc
 recipient-fits n (OfChannel read) [] r m e = cc
@@ -415,7 +415,7 @@ message-length p m c e =
     by_message p (full.Plain m) e = refl
     by_message [] (full.To r m) e = cc
     by_message (n ∷ rest) (full.To r m) e =
-        let four = recipient-fits n (by_number (forms n) n OfNone) rest r m e in
+        let four = recipient-fits n (by_number (message_forms n) n OfNone) rest r m e in
         length-with_u32 (n ∷ rest) 1 c (omega (arith, four))
 
 renamed-length : (p : List ℕ) (g : Summary) (c : ℕ) → read_summary p ≡ Ok g → length (with_recipient p c) ≡ length p
@@ -593,8 +593,8 @@ forwarder_event-open rows p what s w m lost bytes some short reads unused = by_r
     none : Each (λ (z : Channel). is_number z.remote s ≡ false) (held_of (rows_of HOUSE rows))
     none = none-remote HOUSE rows s unused
 
-    is : (b : Bool) → nat_lt (length (held_of (rows_of HOUSE rows))) MAX_CHANNELS ≡ b → received_for (rows_of HOUSE rows) p ≡ elim b as (λ _. Outcome) [ true ↦ records (frame_payload p) | false ↦ sends (open_failure s RESOURCE_SHORTAGE too_many_channels) ]
-    is b e = for-house (rows_of HOUSE rows) p (Open what s w m) lost reads ∙ ap (λ (b : Bool). elim b as (λ _. Outcome) [ true ↦ records (frame_payload p) | false ↦ sends (open_failure s RESOURCE_SHORTAGE too_many_channels) ]) e
+    is : (b : Bool) → nat_lt (length (held_of (rows_of HOUSE rows))) MAX_CHANNELS ≡ b → received_for (rows_of HOUSE rows) p ≡ elim b as (λ _. Outcome) [ true ↦ records (frame_payload p) | false ↦ sends_payload (open_failure s RESOURCE_SHORTAGE too_many_channels) ]
+    is b e = for-house (rows_of HOUSE rows) p (Open what s w m) lost reads ∙ ap (λ (b : Bool). elim b as (λ _. Outcome) [ true ↦ records (frame_payload p) | false ↦ sends_payload (open_failure s RESOURCE_SHORTAGE too_many_channels) ]) e
 
     by_room : (b : Bool) → nat_lt (length (held_of (rows_of HOUSE rows))) MAX_CHANNELS ≡ b → ForwarderEvent (rows_of HOUSE rows) p
     by_room true e =

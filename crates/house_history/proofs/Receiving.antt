@@ -25,8 +25,8 @@ use Rattle.mux_history.specs.Pending.{joined}
 use Rattle.house_forward.specs.Forwardings.{served_at}
 use Rattle.house_forward.specs.RelayTraces.{Trace, Follows, RelayReceivesAt, ReceivesFrame, RelaysReceiveFrames, ReceivesMessage, ReceivesReading, OpensFor, cut_off, is_grant, with_received}
 use Rattle.house_forward.specs.declared.forwarding.Forwarding.{Forwarding}
-use Rattle.house_forward.specs.declared.forwarder_state.Stage.{Stage}
-use Rattle.house_forward.specs.declared.forwarder_state.Stage.TheVariants.{Control, Proxy}
+use Rattle.house_forward.specs.declared.forwarder_state.ForwarderStage.{ForwarderStage}
+use Rattle.house_forward.specs.declared.forwarder_state.ForwarderStage.TheVariants.{Control, Proxy}
 use Rattle.house_history.proofs.Lists.{Each, each-append}
 
 -- ---- what it is sent
@@ -68,21 +68,21 @@ pub record Granted (t : Recorded) : Type 0 where
   pub is : grants grant ≡ true
   pub split : t.answers ≡ front ++ grant ∷ []
 
-abbrev pub InStage : Stage → Recorded → Type 0
+abbrev pub InStage : ForwarderStage → Recorded → Type 0
 InStage Control t = NoGrant t ⊎ Granted t
 InStage Proxy t = t.answers ≡ []
 
 -- the proxy is granted, or will be by what waits
-abbrev pub GrantedOrProxy : Stage → Recorded → Type 0
+abbrev pub GrantedOrProxy : ForwarderStage → Recorded → Type 0
 GrantedOrProxy Control t = Granted t
 GrantedOrProxy Proxy t = Unit {0}
 
 -- neither
-abbrev pub Ungranted : Stage → Recorded → Type 0
+abbrev pub Ungranted : ForwarderStage → Recorded → Type 0
 Ungranted Control t = NoGrant t
 Ungranted Proxy t = ⊥
 
-abbrev pub framing-of : Stage → Framing
+abbrev pub framing-of : ForwarderStage → Framing
 framing-of Control = framing.Control
 framing-of Proxy = framing.Proxy
 
@@ -130,19 +130,19 @@ pub record Heard (trace new : Trace) (pending : List ℕ) (t : Recorded) : Type 
 
 -- ---- the front of what it is sent
 
-abbrev stage-by : Bool → Stage
+abbrev stage-by : Bool → ForwarderStage
 stage-by true = Proxy
 stage-by false = Control
 
-abbrev stage-after : Stage → List ℕ → Stage
+abbrev stage-after : ForwarderStage → List ℕ → ForwarderStage
 stage-after Control a = stage-by (grants a)
 stage-after Proxy p = Proxy
 
-abbrev heard-of : Stage → List ℕ → List (List ℕ)
+abbrev heard-of : ForwarderStage → List ℕ → List (List ℕ)
 heard-of Control a = []
 heard-of Proxy p = p ∷ []
 
-record Comes (s : Stage) (t : Recorded) : Type 0 where
+record Comes (s : ForwarderStage) (t : Recorded) : Type 0 where
   content : List ℕ
   left : Recorded
   bytes : bytes-of t ≡ frame (framing-of s) content ++ bytes-of left
@@ -161,7 +161,7 @@ no-split : (front : List (List ℕ)) (g : List ℕ) → [] ≡ front ++ g ∷ []
 no-split [] g e = cc
 no-split (f ∷ fs) g e = cc
 
-of-ungranted : (s : Stage) (t : Recorded) → Ungranted s t → InStage s t
+of-ungranted : (s : ForwarderStage) (t : Recorded) → Ungranted s t → InStage s t
 of-ungranted Control t u = inl u
 of-ungranted Proxy t u = absurd u
 
@@ -186,7 +186,7 @@ go-granted a more ps g = by_front g.front g.plain g.split
         let its : Granted (record { answers = more; payloads = ps }) = record { front = fs; grant = g.grant; plain = plain.1; is = g.is; split = split } in
         subst (λ (b : Bool). InStage (stage-by b) (record { answers = more; payloads = ps }) × GrantedOrProxy (stage-by b) (record { answers = more; payloads = ps })) (sym is) (inr its, its)
 
-comes : (s : Stage) (answers payloads : List (List ℕ)) → InStage s (record { answers = answers; payloads = payloads }) → IsSized (record { answers = answers; payloads = payloads })
+comes : (s : ForwarderStage) (answers payloads : List (List ℕ)) → InStage s (record { answers = answers; payloads = payloads }) → IsSized (record { answers = answers; payloads = payloads })
     → Nothing (record { answers = answers; payloads = payloads }) ⊎ Comes s (record { answers = answers; payloads = payloads })
 comes Proxy (a ∷ more) ps e sized = absurd (let bad : a ∷ more ≡ [] = e in cc)
 comes Proxy [] [] e sized = inl (record { answers = refl; payloads = refl })
@@ -286,7 +286,7 @@ nothing-bytes : (t : Recorded) → Nothing t → bytes-of t ≡ []
 nothing-bytes t n = ap (λ (l : List (List ℕ)). joined (map frame_body l) ++ joined (map frame_payload t.payloads)) n.answers ∙ ap (λ (l : List (List ℕ)). joined (map frame_payload l)) n.payloads
 
 -- a front that is there is that of all that it is sent
-record IsRecorded (s : Stage) (t : Recorded) (content rest : List ℕ) : Type 0 where
+record IsRecorded (s : ForwarderStage) (t : Recorded) (content rest : List ℕ) : Type 0 where
   comes : Comes s t
   same : comes.content ≡ content
   bytes : rest ≡ bytes-of comes.left
@@ -374,13 +374,13 @@ step c middle pending t content rest r e h = by_stage c.stage refl (recorded-fro
             fault = r.fault;
             framing = refl;
             bytes = f.bytes;
-            stage = subst (λ (x : Stage). InStage x f.comes.left) goes-on f.comes.stage;
+            stage = subst (λ (x : ForwarderStage). InStage x f.comes.left) goes-on f.comes.stage;
             sized = f.comes.sized;
           };
           split = f.comes.split;
           goes = λ ps b h. receives-from ps c _ b (record { relay_traces = refl; past = refl; joins = refl; forwarding_state = refl }) h;
           granted = λ g. tt;
-          ungranted = λ u. subst (λ (x : Stage). Ungranted x f.comes.left) goes-on (f.comes.ungranted (subst (λ (x : Stage). Ungranted x t) s u));
+          ungranted = λ u. subst (λ (x : ForwarderStage). Ungranted x f.comes.left) goes-on (f.comes.ungranted (subst (λ (x : ForwarderStage). Ungranted x t) s u));
         })
     by_grant false f s g is =
         let same : grants f.comes.content ≡ false = ap grants f.same ∙ g in
@@ -392,16 +392,16 @@ step c middle pending t content rest r e h = by_stage c.stage refl (recorded-fro
             fault = r.fault;
             framing = r.framing;
             bytes = f.bytes;
-            stage = subst (λ (x : Stage). InStage x f.comes.left) goes-on f.comes.stage;
+            stage = subst (λ (x : ForwarderStage). InStage x f.comes.left) goes-on f.comes.stage;
             sized = f.comes.sized;
           };
           split = f.comes.split;
           goes = λ ps b h. receives-from ps c _ b (record { relay_traces = refl; past = refl; joins = refl; forwarding_state = refl }) h;
-          granted = λ g. subst (λ (x : Stage). GrantedOrProxy x f.comes.left) goes-on (f.comes.granted (subst (λ (x : Stage). GrantedOrProxy x t) s g));
-          ungranted = λ u. subst (λ (x : Stage). Ungranted x f.comes.left) goes-on (f.comes.ungranted (subst (λ (x : Stage). Ungranted x t) s u));
+          granted = λ g. subst (λ (x : ForwarderStage). GrantedOrProxy x f.comes.left) goes-on (f.comes.granted (subst (λ (x : ForwarderStage). GrantedOrProxy x t) s g));
+          ungranted = λ u. subst (λ (x : ForwarderStage). Ungranted x f.comes.left) goes-on (f.comes.ungranted (subst (λ (x : ForwarderStage). Ungranted x t) s u));
         })
 
-    by_stage : (s : Stage) → c.stage ≡ s → IsRecorded s t content (rest ++ pending) → ReceivesFrame s content (cut_off (Frame content rest) c) middle → Step c middle pending t
+    by_stage : (s : ForwarderStage) → c.stage ≡ s → IsRecorded s t content (rest ++ pending) → ReceivesFrame s content (cut_off (Frame content rest) c) middle → Step c middle pending t
     by_stage Control s f h = by_grant (grants content) f s refl h
     by_stage Proxy s f h =
         let l = reading-leaves (reading content) (cut_off (Frame content rest) c) middle h in
@@ -413,13 +413,13 @@ step c middle pending t content rest r e h = by_stage c.stage refl (recorded-fro
             fault = ap (λ (x : FramerState). x.fault) l.framer ∙ r.fault;
             framing = ap (λ (x : FramerState). x.framing) l.framer ∙ (r.framing ∙ ap framing-of (sym l.stage));
             bytes = ap (λ (x : FramerState). x.rest ++ pending) l.framer ∙ f.bytes;
-            stage = subst (λ (x : Stage). InStage x f.comes.left) (sym here) f.comes.stage;
+            stage = subst (λ (x : ForwarderStage). InStage x f.comes.left) (sym here) f.comes.stage;
             sized = f.comes.sized;
           };
           split = f.comes.split ∙ ap (λ (x : List ℕ). x ∷ f.comes.left.payloads) f.same;
           goes = λ ps b on. (cut_off (Frame content rest) c, middle, record { relay_traces = refl; past = refl; joins = refl; forwarding_state = refl }, h, on);
-          granted = λ g. subst (λ (x : Stage). GrantedOrProxy x f.comes.left) (sym here) tt;
-          ungranted = λ u. absurd (subst (λ (x : Stage). Ungranted x t) s u);
+          granted = λ g. subst (λ (x : ForwarderStage). GrantedOrProxy x f.comes.left) (sym here) tt;
+          ungranted = λ u. absurd (subst (λ (x : ForwarderStage). Ungranted x t) s u);
         }
 
 runs : (contents : List (List ℕ)) (c new : Trace) (pending : List ℕ) (t : Recorded) → Ready c pending t → RelaysReceiveFrames contents c new → Heard c new pending t
@@ -497,12 +497,12 @@ recorded-more trace pending t p w g low high = record {
   whole = w.whole;
 }
   where
-    by_stage : (s : Stage) → InStage s t → GrantedOrProxy s t → InStage s (record t { payloads = t.payloads ++ p ∷ [] })
+    by_stage : (s : ForwarderStage) → InStage s t → GrantedOrProxy s t → InStage s (record t { payloads = t.payloads ++ p ∷ [] })
     by_stage Control i g = inr (record { front = g.front; grant = g.grant; plain = g.plain; is = g.is; split = g.split })
     by_stage Proxy i g = i
 
 -- whether payloads may follow stays so
-pub more-granted : (s : Stage) (t : Recorded) (p : List ℕ) → GrantedOrProxy s t → GrantedOrProxy s (record t { payloads = t.payloads ++ p ∷ [] })
+pub more-granted : (s : ForwarderStage) (t : Recorded) (p : List ℕ) → GrantedOrProxy s t → GrantedOrProxy s (record t { payloads = t.payloads ++ p ∷ [] })
 more-granted Control t p g = record { front = g.front; grant = g.grant; plain = g.plain; is = g.is; split = g.split }
 more-granted Proxy t p g = tt
 
@@ -524,7 +524,7 @@ recorded-answer trace pending t a w s u low high = record {
       ∙ (sym (joined-one frame_body t.answers a)
       ∙ (sym (append-nil (joined (map frame_body (t.answers ++ a ∷ []))))
       ∙ ap (λ (l : List (List ℕ)). joined (map frame_body (t.answers ++ a ∷ [])) ++ joined (map frame_payload l)) (sym u.none))));
-  stage = subst (λ (x : Stage). InStage x (record t { answers = t.answers ++ a ∷ [] })) (sym s) (by_grant (grants a) refl);
+  stage = subst (λ (x : ForwarderStage). InStage x (record t { answers = t.answers ++ a ∷ [] })) (sym s) (by_grant (grants a) refl);
   sized = record { answers = each-append IsSizedAnswer t.answers (a ∷ []) w.sized.answers ((low, high), tt); payloads = w.sized.payloads };
   whole = w.whole;
 }
@@ -540,7 +540,7 @@ waits-same a b pending t f s w = record {
   fault = ap (λ (x : FramerState). x.fault) f ∙ w.fault;
   framing = ap (λ (x : FramerState). x.framing) f ∙ (w.framing ∙ ap framing-of (sym s));
   bytes = ap (λ (x : FramerState). x.rest ++ pending) f ∙ w.bytes;
-  stage = subst (λ (x : Stage). InStage x t) (sym s) w.stage;
+  stage = subst (λ (x : ForwarderStage). InStage x t) (sym s) w.stage;
   sized = w.sized;
   whole = λ e. w.whole (ap (λ (x : FramerState). answer_to (front_of x)) (sym f) ∙ e);
 }

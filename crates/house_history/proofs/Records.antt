@@ -9,7 +9,7 @@ use Rattle.ssh_grammar.specs.declared.fault.Breach.TheVariants.{NotOpen}
 use Rattle.mux_history.specs.Channels.{Channel, any_act, any_by, is_closes, is_confirmed, is_confirms, is_fails, is_channel_held, is_number, is_up}
 use Rattle.mux_history.specs.Summary.{Act, Answers, Asks, Carries, Closes, Confirms, Ends, Fails, Grants}
 use Rattle.mux_history.specs.Laws.{with_act}
-use Rattle.mux_history.specs.Ledger.{answered, breach, carried, sum_of}
+use Rattle.mux_history.specs.Ledger.{reply_count, breach, carried, sum_of}
 use Rattle.mux_history.specs.Rows.{any_of}
 use Rattle.mux_history.proofs.RoomActs.{Accounted}
 use Rattle.house_history.proofs.Lists.{Each, each-append, each-behind, each-of, find-at, some-same}
@@ -238,11 +238,11 @@ recorded-failed hs fs bs x c good are own up none vs fit =
 fresh-accounted : (y : Channel) (w m : ℕ) → y.acts ≡ (Down, Confirms w m) ∷ [] → Accounted y
 fresh-accounted y w m acts Up =
     let c : sum_of carried Up y.acts ≡ 0 = ap (λ l. sum_of carried Up l) acts in
-    let a : sum_of answered Down y.acts ≡ 0 = ap (λ l. sum_of answered Down l) acts in
+    let a : sum_of reply_count Down y.acts ≡ 0 = ap (λ l. sum_of reply_count Down l) acts in
     record { within = omega (arith, c); answered = omega (arith, a) }
 fresh-accounted y w m acts Down =
     let c : sum_of carried Down y.acts ≡ 0 = ap (λ l. sum_of carried Down l) acts in
-    let a : sum_of answered Up y.acts ≡ 0 = ap (λ l. sum_of answered Up l) acts in
+    let a : sum_of reply_count Up y.acts ≡ 0 = ap (λ l. sum_of reply_count Up l) acts in
     record { within = omega (arith, c); answered = omega (arith, a) }
 
 fresh-account : (x : Channel) (s w m : ℕ) → w ≤ 4294967295 → IsFreshUp x → IsAccount (record x { remote = Some s; acts = (Down, Confirms w m) ∷ x.acts }) (fresh-acct s w m)

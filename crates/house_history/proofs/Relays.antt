@@ -11,11 +11,11 @@ use Rattle.mux_history.specs.Choices.{FromLists, pick_of}
 use Rattle.mux_history.specs.Summary.{Answers, Carries, Closes, Confirmation, Ends, Fails, Grants, Open, Within, reading}
 use Rattle.mux_history.specs.Journal.{new_sayings}
 use Rattle.mux_history.specs.Kept.{AtEach}
-use Rattle.mux_history.specs.Log.{bare, makes_next, more_all, new_answers, next_row, row_of}
+use Rattle.mux_history.specs.Log.{bare_row, makes_next, more_all, new_answers, next_row, row_of}
 use Rattle.mux_history.specs.Pending.{joined, pending, pending_down, waiting_down}
 use Rattle.mux_history.specs.Policy.{Policy}
 use Rattle.mux_history.specs.Requests.{is_reply, unanswered_asks, wanted_in}
-use Rattle.mux_history.specs.Rows.{Goes, Item, Row, Says, is_ended, is_out, rows_of}
+use Rattle.mux_history.specs.Rows.{Goes, Item, Row, Says, is_run_over, is_out, rows_of}
 use Rattle.mux_history.specs.Said.{Outcome, sent_payload}
 use Rattle.mux_history.specs.Settings.{by_lists}
 use Rattle.mux_history.proofs.Readings.{reading-ok}
@@ -27,7 +27,7 @@ use Rattle.house_relay.specs.declared.relay.Outgoing.TheVariants as outgoing
 use Rattle.house_forward.specs.ForwardingState.{ForwardingState}
 use Rattle.house_forward.specs.RelayTraces.{Trace, Life, SendsBy}
 use Rattle.house_forward.specs.Said.{framed, payload_of}
-use Rattle.house_forward.specs.declared.forwarder_state.Stage.{Stage}
+use Rattle.house_forward.specs.declared.forwarder_state.ForwarderStage.{ForwarderStage}
 use Rattle.house_forward.proofs.Sound.{Each as EachLife, Sound}
 use Rattle.house_relay.specs.ChannelState.{ends}
 use Rattle.house_history.proofs.Lists.{Each, each-of}
@@ -135,7 +135,7 @@ asks-none line.Over n s p h = absurd h
 abbrev item-of : List ℕ → Item
 item-of p = Says HOUSE (Payload p) None
 
-said-one : (policy : Policy) (pid : ℕ) (picks : List ℕ) (given : List HouseReply) (rows : List Row) (p : List ℕ) → is_ended rows ≡ false → is_out (rows_of HOUSE rows) ≡ false
+said-one : (policy : Policy) (pid : ℕ) (picks : List ℕ) (given : List HouseReply) (rows : List Row) (p : List ℕ) → is_run_over rows ≡ false → is_out (rows_of HOUSE rows) ≡ false
     → more_all (by_lists policy pid picks given) rows (item-of p ∷ [])
     ≡ row_of (item-of p) HOUSE (sent_payload policy HOUSE (rows_of HOUSE rows) (pick_of (FromLists picks given) rows (item-of p)) p) (rows_of HOUSE rows) ∷ rows
 said-one policy pid picks given rows p on inside =
@@ -177,8 +177,8 @@ relay-goes : (rows : List Row) (trace new : Trace) (recorded : Recorded) (p : Li
 relay-goes rows trace new recorded p o tolds g greets w empty asks ends frames few sized quiet forwarding_state framer stage seen =
     let own = rows_of HOUSE rows in
     let item = item-of p in
-    let unanswered : new_answers (bare item HOUSE o) own ≡ [] = no-answers (bare item HOUSE o) own asks refl in
-    let down : List (List ℕ) = o.recorded ++ new_answers (bare item HOUSE o) own in
+    let unanswered : new_answers (bare_row item HOUSE o) own ≡ [] = no-answers (bare_row item HOUSE o) own asks refl in
+    let down : List (List ℕ) = o.recorded ++ new_answers (bare_row item HOUSE o) own in
     let are : down ≡ map frame_payload tolds = ap (λ (fs : List (List ℕ)). o.recorded ++ fs) unanswered ∙ (append-nil o.recorded ∙ frames) in
     let brief = brief-recorded tolds few sized in
     let size : length (joined down) ≡ length (joined (map frame_payload tolds)) = ap (λ (fs : List (List ℕ)). length (joined fs)) are in
@@ -188,7 +188,7 @@ relay-goes rows trace new recorded p o tolds g greets w empty asks ends frames f
     let its : plain_row item HOUSE o.sent down ≡ plain_row item HOUSE o.sent (map frame_payload tolds) = ap (λ (fs : List (List ℕ)). plain_row item HOUSE o.sent fs) are in
     let row : Row = plain_row item HOUSE o.sent (map frame_payload tolds) in
     let same : rows_of HOUSE (row ∷ rows) ≡ row ∷ own = own-more row rows refl in
-    let phase : GrantedOrProxy new.stage recorded = subst (λ (s : Stage). GrantedOrProxy s recorded) (sym stage) (subst (λ (b : Bool). Phase b trace.stage recorded own) greets g.phase) in
+    let phase : GrantedOrProxy new.stage recorded = subst (λ (s : ForwarderStage). GrantedOrProxy s recorded) (sym stage) (subst (λ (b : Bool). Phase b trace.stage recorded own) greets g.phase) in
     let all = recorded-all new tolds (pending_down own) recorded (waits-same trace new (pending_down own) recorded framer stage g.waits) phase
     (each-of (λ (q : List ℕ). (1 ≤ length q) × (length q ≤ 200)) IsSizedPayload (λ q h. (h.0, let le = h.1 in omega (arith, le))) tolds sized) in
     let none : (recorded.answers ≡ []) × (recorded.payloads ≡ []) = none-left trace recorded w in

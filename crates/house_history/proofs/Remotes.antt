@@ -17,9 +17,9 @@ use Rattle.ssh_grammar.specs.ReadMessage.{read_message}
 use Rattle.ssh_grammar.specs.Said.{BadFraming, Body, InControl, InProxy, Mode, Payload, Outgoing, Stopped, first_in, mode_after, parse, parse_by, parse_front, said, sending_in}
 use Rattle.ssh_grammar.proofs.MessageReads.{reads_is_spelled}
 use Rattle.mux_history.specs.declared.limits.TheConstants.{HOUSE}
-use Rattle.mux_history.specs.Channels.{Channel, after_farewell, after_item, begun_by, channels_of, received_by, held_of, is_channel_held, is_number, opened_down, opened_up, own_number_of, with_down, with_up, with_ups}
+use Rattle.mux_history.specs.Channels.{Channel, after_farewell, after_item, begun_by, channels_of, channel_after_item, held_of, is_channel_held, is_number, opened_down, opened_up, own_number_of, with_down, with_up, with_ups}
 use Rattle.mux_history.specs.Choices.{FromLists, pick_of, replies_given, reply_at, with_reply}
-use Rattle.mux_history.specs.Controls.{body_asks, greeted}
+use Rattle.mux_history.specs.Controls.{body_asks, client_has_greeted}
 use Rattle.mux_history.specs.Summary.{Confirmation, Confirms, Summary, Open, Within, summary, read_summary, reading}
 use Rattle.mux_history.specs.Journal.{IsLawful, LawfulHouse, LawfulMark, bytes_in, bytes_of, received_item, house_sent, is_own_stream, items_in, log_of_journal, new_received, new_sayings, sent_item, server_end, unless_own}
 use Rattle.mux_history.specs.Kept.{AtEach}
@@ -144,7 +144,7 @@ items-bytes before mark all lawful = tt
 
 module _ (policy : Policy) (pid : ℕ) (picks : List ℕ) (given : List HouseReply) where
   reply-bytes : (rows : List Row) (item : Item) → HasBytes item → HasBytes (with_reply (FromLists picks given) rows item)
-  reply-bytes rows (Says j (Body body) reply) a = elim (greeted (rows_of j rows) && body_asks body) as (λ b. HasBytes (elim b as (λ _. Item) [ true ↦ Says j (Body body) (Some (reply_at given (replies_given rows))) | false ↦ Says j (Body body) None ])) [ true ↦ a | false ↦ a ]
+  reply-bytes rows (Says j (Body body) reply) a = elim (client_has_greeted (rows_of j rows) && body_asks body) as (λ b. HasBytes (elim b as (λ _. Item) [ true ↦ Says j (Body body) (Some (reply_at given (replies_given rows))) | false ↦ Says j (Body body) None ])) [ true ↦ a | false ↦ a ]
   reply-bytes rows (Says j (Payload p) reply) a = a
   reply-bytes rows (Says j (BadFraming fault) reply) a = tt
   reply-bytes rows (Heard p) a = a
@@ -228,13 +228,13 @@ small-down p (Confirmation n s w max) x bytes reads small = elim (is_number x.nu
 small-down p (Within n act) x bytes reads small = elim (is_number x.number n && is_channel_held x) as (λ b. IsSmallChannel (elim b as (λ _. Channel) [ true ↦ record x { acts = (Down, act) ∷ x.acts } | false ↦ x ])) [ true ↦ small | false ↦ small ]
 small-down p m x bytes reads small = small
 
-small-heard : (item : Item) (x : Channel) → HasBytes item → IsSmallChannel x → IsSmallChannel (received_by item x)
+small-heard : (item : Item) (x : Channel) → HasBytes item → IsSmallChannel x → IsSmallChannel (channel_after_item item x)
 small-heard (Heard p) x bytes small = small-read p (λ m. with_down m x) x (λ m e. small-down p m x bytes e small) small
 small-heard item x bytes small = small
 
 small-item : (row : Row) → RowBytes row → (x : Channel) → IsSmallChannel x → IsSmallChannel (after_item row x)
-small-item row bytes x small = elim (x.client == row.client) as (λ b. IsSmallChannel (elim b as (λ _. Channel) [ true ↦ with_ups (own_number_of row.item) row.up (received_by row.item x) | false ↦ x ]))
-    [ true ↦ small-ups (own_number_of row.item) row.up (received_by row.item x) (small-heard row.item x bytes small) | false ↦ small ]
+small-item row bytes x small = elim (x.client == row.client) as (λ b. IsSmallChannel (elim b as (λ _. Channel) [ true ↦ with_ups (own_number_of row.item) row.up (channel_after_item row.item x) | false ↦ x ]))
+    [ true ↦ small-ups (own_number_of row.item) row.up (channel_after_item row.item x) (small-heard row.item x bytes small) | false ↦ small ]
 
 small-farewell : (row : Row) (x : Channel) → IsSmallChannel x → IsSmallChannel (after_farewell row x)
 small-farewell row x small = elim (x.client == row.client) as (λ b. IsSmallChannel (elim b as (λ _. Channel) [ true ↦ with_ups None row.farewell x | false ↦ x ]))

@@ -5,10 +5,10 @@ use Rattle.std.specs.List.{concat, list_any}
 use Rattle.ssh_fields.specs.Fields.{split_at, take_u8}
 use Rattle.socks_dialog.specs.Hosts.{dotted, grouped}
 use Rattle.socks_dialog.specs.Replies.{general_failure, granted4, granted_to, no_authentication, not_allowed, refused4, refused_to, reply5, succeeded}
-use Rattle.socks_dialog.specs.Socks.{Dialog, address4, address5, command4, command5, either, end5, is_for_name, methods5, name4, name5, on, replying, request5, reserved5, socks, socks4, take_port, take_text, user4, version}
+use Rattle.socks_dialog.specs.Socks.{Dialog, address4, address5, command4, command5, either_dialog, end5, is_for_name, methods5, name4, name5, on, replying, request5, reserved5, socks, socks4, take_port, take_text, user4, version}
 use Rattle.socks_dialog.specs.declared.outcome.Outcome.{Outcome}
 use Rattle.socks_dialog.specs.declared.outcome.Outcome.TheVariants.{Breaks, Connects, Wants}
-use Rattle.house_relay.specs.Acts.{Confirmed, OpenAnswer, Refused, RelayAct, Unanswered, answer, before_in, last_reply, outcome_in, read, replies, replies_if, replies_in}
+use Rattle.house_relay.specs.Acts.{Confirmed, OpenAnswer, Refused, RelayAct, Unanswered, answer, before_in, last_reply, outcome_in, read, dialog_replies, replies_if, replies_in}
 
 -- the reply of a dialog that breaks has ten bytes at most
 abbrev IsShortEnd : Outcome → Type 0
@@ -32,7 +32,7 @@ last-on : {X : Type 0} (o : Option (X × List ℕ)) (next : X → List ℕ → D
 last-on None next last = record { none = refl; short = tt }
 last-on (Some p) next last = last p.0 p.1
 
-last-either : (b : Bool) (c d : Dialog) → IsLast c → IsLast d → IsLast (either b c d)
+last-either : (b : Bool) (c d : Dialog) → IsLast c → IsLast d → IsLast (either_dialog b c d)
 last-either true c d first second = first
 last-either false c d first second = second
 
@@ -91,7 +91,7 @@ short-on : {X : Type 0} (o : Option (X × List ℕ)) (next : X → List ℕ → 
 short-on None next short = record { few = omega arith; short = tt }
 short-on (Some p) next short = short p.0 p.1
 
-short-either : (b : Bool) (c d : Dialog) → IsShort c → IsShort d → IsShort (either b c d)
+short-either : (b : Bool) (c d : Dialog) → IsShort c → IsShort d → IsShort (either_dialog b c d)
 short-either true c d first second = first
 short-either false c d first second = second
 
@@ -154,5 +154,5 @@ if-short false bytes a = omega arith
 if-short true bytes a = in-short bytes a
 
 -- the replies to a dialog have twelve bytes at most
-pub replies-short : (dials : Bool) (acts : List RelayAct) → length (replies dials acts) ≤ 12
+pub replies-short : (dials : Bool) (acts : List RelayAct) → length (dialog_replies dials acts) ≤ 12
 replies-short dials acts = if-short dials (read acts) (answer acts)

@@ -11,11 +11,11 @@ use Rattle.house_forward.specs.ForwarderEvents.{ForwarderEvent, Does, Leave}
 use Rattle.house_forward.specs.ForwarderEvents.{Begins, Asks, Answers, Greets, Requests, Replies, Listens as ListensAt, Unlistens}
 use Rattle.house_forward.specs.ForwardingState.{ForwardingState, request_sent, reply_received, standing_at}
 use Rattle.house_forward.specs.Asks.{turns_away}
-use Rattle.house_forward.specs.Forwardings.{Begins as BeginsAt, StartsIf, Standing, Opens, counts, how_many, is_new, has_request, requests_at, forwarding_request_of, forwarding_request_at, after_sending, changed, stage_after, closing_after, standing, closes_of, after_close, EndsLeave, ComesIf, ComesUnless, is_asked, asks_at, is_cancelled, cancels_at, replied_all, removed_at, first_of, has_listener}
+use Rattle.house_forward.specs.Forwardings.{AskedAtStart as BeginsAt, StartsIf, Standing, OpensForwarding, is_asked_or_live, how_many, is_new, has_request, requests_at, forwarding_request_of, forwarding_request_at, after_request_sent, forwarding_changed, listener_stage_after, closing_after, standing, closes_of, after_close, EndsLeave, ComesIf, ComesUnless, is_listen_unanswered, asks_at, is_cancelled, cancels_at, replied_all, removed_at, first_forwarding_request, has_listener}
 use Rattle.house_forward.specs.RelayTraces.{Trace, TraceReaches, first_trace}
 use Rattle.house_forward.specs.Rules.{listens_here, is_ruled_out, rules_of}
-use Rattle.house_forward.specs.declared.asks.Asked.{Asked as Comes}
-use Rattle.house_forward.specs.declared.asks.Asked.TheVariants.{Now, Later}
+use Rattle.house_forward.specs.declared.asks.ImmediateOutcome.{ImmediateOutcome as Comes}
+use Rattle.house_forward.specs.declared.asks.ImmediateOutcome.TheVariants.{Now, Later}
 use Rattle.house_forward.specs.declared.forwarding.Change.{Change}
 use Rattle.house_forward.specs.declared.forwarding.Change.TheVariants as change
 use Rattle.house_forward.specs.declared.forwarding.Forwarding.{Forwarding}
@@ -91,27 +91,27 @@ once-rest (r ∷ rs) once = once.1
 -- ---- how many count
 
 one-less : (f : Forwarding) (fs : List Forwarding) → how_many fs ≤ how_many (f ∷ fs)
-one-less f fs = go (counts f) refl
+one-less f fs = go (is_asked_or_live f) refl
   where
-    go : (b : Bool) → counts f ≡ b → how_many fs ≤ how_many (f ∷ fs)
-    go true e = let m = ap length (filter-yes counts f fs e) in omega (arith, m)
-    go false e = let m = ap length (filter-no counts f fs e) in omega (arith, m)
+    go : (b : Bool) → is_asked_or_live f ≡ b → how_many fs ≤ how_many (f ∷ fs)
+    go true e = let m = ap length (filter-yes is_asked_or_live f fs e) in omega (arith, m)
+    go false e = let m = ap length (filter-no is_asked_or_live f fs e) in omega (arith, m)
 
-few-cons : (f g : Forwarding) (fs gs : List Forwarding) → (counts g ≡ true → counts f ≡ true) → how_many gs ≤ how_many fs
+few-cons : (f g : Forwarding) (fs gs : List Forwarding) → (is_asked_or_live g ≡ true → is_asked_or_live f ≡ true) → how_many gs ≤ how_many fs
     → how_many (g ∷ gs) ≤ how_many (f ∷ fs)
-few-cons f g fs gs same less = go (counts g) refl
+few-cons f g fs gs same less = go (is_asked_or_live g) refl
   where
-    go : (b : Bool) → counts g ≡ b → how_many (g ∷ gs) ≤ how_many (f ∷ fs)
+    go : (b : Bool) → is_asked_or_live g ≡ b → how_many (g ∷ gs) ≤ how_many (f ∷ fs)
     go true e =
-        let m = ap length (filter-yes counts g gs e) in
-        let n = ap length (filter-yes counts f fs (same e)) in
+        let m = ap length (filter-yes is_asked_or_live g gs e) in
+        let n = ap length (filter-yes is_asked_or_live f fs (same e)) in
         omega (arith, m, n, less)
     go false e =
-        let m = ap length (filter-no counts g gs e) in
+        let m = ap length (filter-no is_asked_or_live g gs e) in
         let n = one-less f fs in
         omega (arith, m, n, less)
 
-few-map : (to : Forwarding → Forwarding) (fs : List Forwarding) → ((f : Forwarding) → In f fs → counts (to f) ≡ true → counts f ≡ true)
+few-map : (to : Forwarding → Forwarding) (fs : List Forwarding) → ((f : Forwarding) → In f fs → is_asked_or_live (to f) ≡ true → is_asked_or_live f ≡ true)
     → how_many (map to fs) ≤ how_many fs
 few-map to [] same = omega arith
 few-map to (f ∷ fs) same = few-cons f (to f) fs (map to fs) (same f (inl refl)) (few-map to fs (λ g h. same g (inr h)))
@@ -126,9 +126,9 @@ few-removed : (o : Option ℕ) (fs : List Forwarding) → how_many (removed_at o
 few-removed None fs = omega arith
 few-removed (Some i) fs = few-remove fs i
 
-few-set : (fs : List Forwarding) (i : ℕ) (f g : Forwarding) → f ≡ get_or fs i f → counts g ≡ counts f → how_many (set fs i g) ≤ how_many fs
+few-set : (fs : List Forwarding) (i : ℕ) (f g : Forwarding) → f ≡ get_or fs i f → is_asked_or_live g ≡ is_asked_or_live f → how_many (set fs i g) ≤ how_many fs
 few-set [] i f g e same = omega arith
-few-set (x ∷ fs) zero f g e same = few-cons x g fs fs (λ h. ap counts (sym e) ∙ (sym same ∙ h)) (omega arith)
+few-set (x ∷ fs) zero f g e same = few-cons x g fs fs (λ h. ap is_asked_or_live (sym e) ∙ (sym same ∙ h)) (omega arith)
 few-set (x ∷ fs) (suc i) f g e same = few-cons x x fs (set fs i g) (λ h. h) (few-set fs i f g e same)
 
 few-filter : (p : Forwarding → Bool) (fs : List Forwarding) → how_many (filter p fs) ≤ how_many fs
@@ -141,21 +141,21 @@ few-filter p (f ∷ fs) = go (p f) refl (few-filter p fs)
         (let m = one-less f fs in omega (arith, m, h))
 
 few-push : (fs : List Forwarding) (f : Forwarding) → how_many (fs ++ f ∷ []) ≤ suc (how_many fs)
-few-push [] f = go (counts f) refl
+few-push [] f = go (is_asked_or_live f) refl
   where
-    go : (b : Bool) → counts f ≡ b → how_many (f ∷ []) ≤ 1
-    go true e = let m = ap length (filter-yes counts f [] e) in omega (arith, m)
-    go false e = let m = ap length (filter-no counts f [] e) in omega (arith, m)
-few-push (x ∷ fs) f = go (counts x) refl (few-push fs f)
+    go : (b : Bool) → is_asked_or_live f ≡ b → how_many (f ∷ []) ≤ 1
+    go true e = let m = ap length (filter-yes is_asked_or_live f [] e) in omega (arith, m)
+    go false e = let m = ap length (filter-no is_asked_or_live f [] e) in omega (arith, m)
+few-push (x ∷ fs) f = go (is_asked_or_live x) refl (few-push fs f)
   where
-    go : (b : Bool) → counts x ≡ b → how_many (fs ++ f ∷ []) ≤ suc (how_many fs) → how_many (x ∷ (fs ++ f ∷ [])) ≤ suc (how_many (x ∷ fs))
+    go : (b : Bool) → is_asked_or_live x ≡ b → how_many (fs ++ f ∷ []) ≤ suc (how_many fs) → how_many (x ∷ (fs ++ f ∷ [])) ≤ suc (how_many (x ∷ fs))
     go true e h =
-        let m = ap length (filter-yes counts x (fs ++ f ∷ []) e) in
-        let n = ap length (filter-yes counts x fs e) in
+        let m = ap length (filter-yes is_asked_or_live x (fs ++ f ∷ []) e) in
+        let n = ap length (filter-yes is_asked_or_live x fs e) in
         omega (arith, m, n, h)
     go false e h =
-        let m = ap length (filter-no counts x (fs ++ f ∷ []) e) in
-        let n = ap length (filter-no counts x fs e) in
+        let m = ap length (filter-no is_asked_or_live x (fs ++ f ∷ []) e) in
+        let n = ap length (filter-no is_asked_or_live x fs e) in
         omega (arith, m, n, h)
 
 -- ---- one that is new
@@ -165,7 +165,7 @@ room-for ends fs None e = ltb-true (how_many fs) MOST_FORWARDINGS e
 room-for ends fs (Some f) e = cc
 
 opens-few : (b : Bool) (ends : Ends) (serial : ℕ) (start : Option ℕ) (old new : List Forwarding) → (b ≡ true → how_many old < 64)
-    → Opens b ends serial start old new → how_many old ≤ 64 → how_many new ≤ 64
+    → OpensForwarding b ends serial start old new → how_many old ≤ 64 → how_many new ≤ 64
 opens-few false ends serial start old new room o few = subst (λ (fs : List Forwarding). how_many fs ≤ 64) (sym o) few
 opens-few true ends serial start old new room o few =
     let less = room refl in
@@ -189,17 +189,17 @@ begins-few rules asks (suc i) old new l b few =
 
 -- ---- one that changes
 
-changed-if : (c : Change) (b : Bool) (f : Forwarding) → (b ≡ true → not (closing_after c f.closing && listens_here f.kind) ≡ true → counts f ≡ true)
-    → counts (if b then record f { stage = stage_after c f.listen_port f.stage; closing = closing_after c f.closing } else f) ≡ true
-    → counts f ≡ true
+changed-if : (c : Change) (b : Bool) (f : Forwarding) → (b ≡ true → not (closing_after c f.closing && listens_here f.kind) ≡ true → is_asked_or_live f ≡ true)
+    → is_asked_or_live (if b then record f { stage = listener_stage_after c f.listen_port f.stage; closing = closing_after c f.closing } else f) ≡ true
+    → is_asked_or_live f ≡ true
 changed-if c true f k h = k refl h
 changed-if c false f k h = h
 
 few-changed : (c : Change) (serial : ℕ) (fs : List Forwarding)
-    → ((f : Forwarding) → In f fs → f.serial ≡ serial → not (closing_after c f.closing && listens_here f.kind) ≡ true → counts f ≡ true)
-    → how_many (map (changed c serial) fs) ≤ how_many fs
+    → ((f : Forwarding) → In f fs → f.serial ≡ serial → not (closing_after c f.closing && listens_here f.kind) ≡ true → is_asked_or_live f ≡ true)
+    → how_many (map (forwarding_changed c serial) fs) ≤ how_many fs
 few-changed c serial fs k =
-    few-map (changed c serial) fs (λ f h e. changed-if c (f.serial == serial) f (λ is. k f h (eqb-true f.serial serial is)) e)
+    few-map (forwarding_changed c serial) fs (λ f h e. changed-if c (f.serial == serial) f (λ is. k f h (eqb-true f.serial serial is)) e)
 
 closed-counts : (closing here : Bool) → not (true && here) ≡ true → not (closing && here) ≡ true
 closed-counts true here e = e
@@ -213,7 +213,7 @@ few-closed : (comes : Comes) (fs : List Forwarding) → how_many (after_close co
 few-closed (Now o) fs = omega arith
 few-closed (Later serial) fs = few-changed change.Close serial fs (λ f h is e. closed-counts f.closing (listens_here f.kind) e)
 
-few-said : (r : ForwardingRequest) (fs : List Forwarding) → how_many (after_sending r fs) ≤ how_many fs
+few-said : (r : ForwardingRequest) (fs : List Forwarding) → how_many (after_request_sent r fs) ≤ how_many fs
 few-said (Listen serial) fs = few-changed change.ForwardingRequest serial fs (λ f h is e. e)
 few-said (Cancel serial) fs = few-changed change.Cancel serial fs (λ f h is e. e)
 
@@ -270,10 +270,10 @@ cancelled-there forwarder_events d f k h e =
 -- ---- a reply
 
 replied-few : (success : Bool) (port : Option ℕ) (forwarder_events : List ForwarderEvent) (d : ForwardingState) (rs : List ForwardingRequest) → d.requests ≡ rs → Knows forwarder_events d → Tracks d → Wants d
-    → how_many (replied_all success port (first_of rs) d.all) ≤ how_many d.all
+    → how_many (replied_all success port (first_forwarding_request rs) d.all) ≤ how_many d.all
 replied-few success port forwarder_events d [] e k t w = omega arith
 replied-few true port forwarder_events d (Listen serial ∷ rs) e k t w = few-changed (change.Live port) serial d.all (λ f h is c. c)
-replied-few false port forwarder_events d (Listen serial ∷ rs) e k t w = few-removed (position (is_asked serial) d.all) d.all
+replied-few false port forwarder_events d (Listen serial ∷ rs) e k t w = few-removed (position (is_listen_unanswered serial) d.all) d.all
 replied-few true port forwarder_events d (Cancel serial ∷ rs) e k t w = few-removed (position (is_cancelled serial) d.all) d.all
 replied-few false port forwarder_events d (Cancel serial ∷ rs) e k t w =
     let its = w.said (Cancel serial) (subst (In (Cancel serial)) (sym e) (inl refl)) in
@@ -381,17 +381,17 @@ cancels-not Requested e = cc
 cancels-not (Live port) e = cc
 cancels-not (Cancelling port) e = refl
 
-of-one : (forwarder_events : List ForwarderEvent) (d : ForwardingState) (r : ForwardingRequest) → Knows forwarder_events d → IsOfStream d.all r → In r (map own_of (filter counts d.all))
+of-one : (forwarder_events : List ForwarderEvent) (d : ForwardingState) (r : ForwardingRequest) → Knows forwarder_events d → IsOfStream d.all r → In r (map own_of (filter is_asked_or_live d.all))
 of-one forwarder_events d (Listen n) k h =
     let f = h.0 in
     let is : own_of f ≡ Listen n = ap (λ (b : Bool). own_if b f.serial) h.3 ∙ ap (λ (m : ℕ). Listen m) h.2 in
-    subst (λ (r : ForwardingRequest). In r (map own_of (filter counts d.all))) is
-    (in-map own_of f (filter counts d.all) (in-filter counts f d.all (other-counts f.closing (listens_here f.kind) (asked-there forwarder_events d f k h.1 h.3)) h.1))
+    subst (λ (r : ForwardingRequest). In r (map own_of (filter is_asked_or_live d.all))) is
+    (in-map own_of f (filter is_asked_or_live d.all) (in-filter is_asked_or_live f d.all (other-counts f.closing (listens_here f.kind) (asked-there forwarder_events d f k h.1 h.3)) h.1))
 of-one forwarder_events d (Cancel n) k h =
     let f = h.0 in
     let is : own_of f ≡ Cancel n = ap (λ (b : Bool). own_if b f.serial) (cancels-not f.stage h.3) ∙ ap (λ (m : ℕ). Cancel m) h.2 in
-    subst (λ (r : ForwardingRequest). In r (map own_of (filter counts d.all))) is
-    (in-map own_of f (filter counts d.all) (in-filter counts f d.all (other-counts f.closing (listens_here f.kind) (cancelled-there forwarder_events d f k h.1 h.3)) h.1))
+    subst (λ (r : ForwardingRequest). In r (map own_of (filter is_asked_or_live d.all))) is
+    (in-map own_of f (filter is_asked_or_live d.all) (in-filter is_asked_or_live f d.all (other-counts f.closing (listens_here f.kind) (cancelled-there forwarder_events d f k h.1 h.3)) h.1))
 
 pub few-requests : (forwarder_events : List ForwarderEvent) (forwarding_state : ForwardingState) → Leave forwarder_events forwarding_state → length forwarding_state.requests ≤ 64
 few-requests forwarder_events forwarding_state left =
@@ -399,8 +399,8 @@ few-requests forwarder_events forwarding_state left =
     let w = wants forwarder_events forwarding_state left in
     let k = knows forwarder_events forwarding_state left in
     let few = h.few in
-    let less = no-more forwarding_state.requests (map own_of (filter counts forwarding_state.all)) h.once (λ r is. of-one forwarder_events forwarding_state r k (w.said r is)) in
-    let many : length (map own_of (filter counts forwarding_state.all)) ≡ how_many forwarding_state.all = length-map (filter counts forwarding_state.all) own_of in
+    let less = no-more forwarding_state.requests (map own_of (filter is_asked_or_live forwarding_state.all)) h.once (λ r is. of-one forwarder_events forwarding_state r k (w.said r is)) in
+    let many : length (map own_of (filter is_asked_or_live forwarding_state.all)) ≡ how_many forwarding_state.all = length-map (filter is_asked_or_live forwarding_state.all) own_of in
     omega (arith, less, many, few)
 
 pub requests-few : (calls : List HouseCall) (trace : Trace) → TraceReaches first_trace calls trace → length trace.forwarding_state.requests ≤ 64

@@ -15,10 +15,10 @@ use Rattle.mux_history.specs.declared.why.Why.{Why}
 use Rattle.mux_history.specs.declared.why.Why.TheVariants as why
 use Rattle.mux_history.specs.Summary.{reading}
 use Rattle.mux_history.specs.Journal.{received_item, new_received}
-use Rattle.mux_history.specs.Log.{all_recorded, bare, fate_with, new_answers, overflow, queued, row_of, with_farewell}
+use Rattle.mux_history.specs.Log.{all_recorded, bare_row, fate_with, new_answers, overflow, queued, row_of, with_farewell}
 use Rattle.mux_history.specs.Pending.{joined, waiting_down}
 use Rattle.mux_history.specs.Requests.{answers, answers_to, is_reply, is_sent, replies, reply_in, sent_flags, unanswered_asks, wanted, wanted_by}
-use Rattle.mux_history.specs.Rows.{Fate, Gone, Goes, Heard, Item, Row, Says, is_ended, is_lost, loses, rows_of}
+use Rattle.mux_history.specs.Rows.{Fate, Gone, Goes, Heard, Item, Row, Says, is_run_over, is_lost, loses, rows_of}
 use Rattle.mux_history.specs.Said.{Outcome}
 use Rattle.mux_history.proofs.Answered.{answers-grow}
 use Rattle.mux_isolation.specs.LogView.{waiting_left_of}
@@ -58,7 +58,7 @@ plain-stays (Gone j) k up down e = cc
 plain-stays item k up down e = refl
 
 queued-plain : (item : Item) (k : ℕ) (sent recorded frames : List (List ℕ)) (own : List Row) → waiting_down own + length (joined frames) ≤ MAX_QUEUE
-    → queued frames (bare item k (record { sent = sent; recorded = recorded; ends = Goes })) own ≡ plain_row item k sent frames
+    → queued frames (bare_row item k (record { sent = sent; recorded = recorded; ends = Goes })) own ≡ plain_row item k sent frames
 queued-plain item k sent recorded frames own le =
     let none = none-over (waiting_down own) frames le in
     let all = all-fit (waiting_down own) frames none in
@@ -66,19 +66,19 @@ queued-plain item k sent recorded frames own le =
     ∙ ap (λ (o : Option Why). record { item = item; client = k; up = sent; farewell = []; down = frames; fate = fate_with Goes o }) none
 
 plain-goes : (item : Item) (k : ℕ) (sent recorded : List (List ℕ)) (own : List Row) → is_gone_item item ≡ false → is_lost own ≡ false
-    → waiting_down own + length (joined (recorded ++ new_answers (bare item k (record { sent = sent; recorded = recorded; ends = Goes })) own)) ≤ MAX_QUEUE
-    → row_of item k (record { sent = sent; recorded = recorded; ends = Goes }) own ≡ plain_row item k sent (recorded ++ new_answers (bare item k (record { sent = sent; recorded = recorded; ends = Goes })) own)
+    → waiting_down own + length (joined (recorded ++ new_answers (bare_row item k (record { sent = sent; recorded = recorded; ends = Goes })) own)) ≤ MAX_QUEUE
+    → row_of item k (record { sent = sent; recorded = recorded; ends = Goes }) own ≡ plain_row item k sent (recorded ++ new_answers (bare_row item k (record { sent = sent; recorded = recorded; ends = Goes })) own)
 plain-goes item k sent recorded own gone lost le =
     let o : Outcome = record { sent = sent; recorded = recorded; ends = Goes } in
-    let frames = recorded ++ new_answers (bare item k o) own in
-    let records : all_recorded (bare item k o) own ≡ frames = rw (lost, all_recorded) refl in
-    let q : queued (all_recorded (bare item k o) own) (bare item k o) own ≡ plain_row item k sent frames = ap (λ (fs : List (List ℕ)). queued fs (bare item k o) own) records ∙ queued-plain item k sent recorded frames own le in
+    let frames = recorded ++ new_answers (bare_row item k o) own in
+    let records : all_recorded (bare_row item k o) own ≡ frames = rw (lost, all_recorded) refl in
+    let q : queued (all_recorded (bare_row item k o) own) (bare_row item k o) own ≡ plain_row item k sent frames = ap (λ (fs : List (List ℕ)). queued fs (bare_row item k o) own) records ∙ queued-plain item k sent recorded frames own le in
     let kept : with_farewell (plain_row item k sent frames) own ≡ plain_row item k sent frames = rw (plain-stays item k sent frames gone, with_farewell) refl in
     ap (λ (r : Row). with_farewell r own) q ∙ kept
 
 pub plain-row : (item : Item) (k : ℕ) (o : Outcome) (own : List Row) → o.ends ≡ Goes → is_gone_item item ≡ false → is_lost own ≡ false
-    → waiting_down own + length (joined (o.recorded ++ new_answers (bare item k o) own)) ≤ MAX_QUEUE
-    → row_of item k o own ≡ record { item = item; client = k; up = o.sent; farewell = []; down = o.recorded ++ new_answers (bare item k o) own; fate = Goes }
+    → waiting_down own + length (joined (o.recorded ++ new_answers (bare_row item k o) own)) ≤ MAX_QUEUE
+    → row_of item k o own ≡ record { item = item; client = k; up = o.sent; farewell = []; down = o.recorded ++ new_answers (bare_row item k o) own; fate = Goes }
 plain-row item k o own ends gone lost le =
     ap (λ (f : Fate). row_of item k (record { sent = o.sent; recorded = o.recorded; ends = f }) own) ends
     ∙ plain-goes item k o.sent o.recorded own gone lost le
@@ -88,11 +88,11 @@ pub plain-kept : (item : Item) (k : ℕ) (up down : List (List ℕ)) (own : List
 plain-kept item k up down own gone lost = rw (plain-stays item k up down gone, is_lost) lost
 
 pub row-kept : (item : Item) (k : ℕ) (o : Outcome) (own : List Row) → o.ends ≡ Goes → is_gone_item item ≡ false → is_lost own ≡ false
-    → waiting_down own + length (joined (o.recorded ++ new_answers (bare item k o) own)) ≤ MAX_QUEUE
+    → waiting_down own + length (joined (o.recorded ++ new_answers (bare_row item k o) own)) ≤ MAX_QUEUE
     → is_lost (row_of item k o own ∷ own) ≡ false
 row-kept item k o own ends gone lost le =
     ap (λ (r : Row). is_lost (r ∷ own)) (plain-row item k o own ends gone lost le)
-    ∙ plain-kept item k o.sent (o.recorded ++ new_answers (bare item k o) own) own gone lost
+    ∙ plain-kept item k o.sent (o.recorded ++ new_answers (bare_row item k o) own) own gone lost
 
 -- ---- how many are unanswered
 
@@ -211,7 +211,7 @@ none-left (true ∷ flags) [] e = omega arith
 none-left (true ∷ flags) (p ∷ heard) e = let l = none-left flags heard e in omega (arith, l)
 
 -- by the law RepliesAreAwaited of mux_bounds
-pub used-awaited : (rows : List Row) (k : ℕ) → RepliesAwaited rows → is_ended rows ≡ false → AllUsed (rows_of k rows)
+pub used-awaited : (rows : List Row) (k : ℕ) → RepliesAwaited rows → is_run_over rows ≡ false → AllUsed (rows_of k rows)
 used-awaited rows k awaited going = none-left (wanted (rows_of k rows)) (replies (rows_of k rows)) (awaited going k)
 
 trues-more : (xs ys : List Bool) → trues xs ≤ trues (xs ++ ys)
@@ -266,8 +266,8 @@ quiet-little row own silent used =
     let e : answers (row ∷ own) ≡ answers own ++ m.rest = ap (answers_to (wanted (row ∷ own))) (replies-same row own silent) ∙ m.are in
     subst (λ (fs : List (List ℕ)). length (joined fs) ≤ 6) (sym (new-more row own m.rest e)) m.few
 
-pub said-little : (k : ℕ) (p : List ℕ) (given : Option HouseReply) (o : Outcome) (own : List Row) → AllUsed own → length (joined (new_answers (bare (Says k (Payload p) given) k o) own)) ≤ 16
-said-little k p given o own used = let l = quiet-little (bare (Says k (Payload p) given) k o) own refl used in omega (arith, l)
+pub said-little : (k : ℕ) (p : List ℕ) (given : Option HouseReply) (o : Outcome) (own : List Row) → AllUsed own → length (joined (new_answers (bare_row (Says k (Payload p) given) k o) own)) ≤ 16
+said-little k p given o own used = let l = quiet-little (bare_row (Says k (Payload p) given) k o) own refl used in omega (arith, l)
 
 -- a reply is answered as it is, and refusals that waited for it
 abbrev IsBrief : ℕ → List ℕ → Type 0
@@ -304,17 +304,17 @@ reply-some [] e = absurd (let h : false ≡ true = e in cc)
 reply-some (b ∷ p) e = omega arith
 
 -- any bound of the requests without an answer bounds them
-pub heard-within : (n k : ℕ) (p : List ℕ) (o : Outcome) (own : List Row) → unanswered_asks own ≤ n → length (joined (new_answers (bare (Heard p) k o) own)) ≤ n * (length p + 5)
+pub heard-within : (n k : ℕ) (p : List ℕ) (o : Outcome) (own : List Row) → unanswered_asks own ≤ n → length (joined (new_answers (bare_row (Heard p) k o) own)) ≤ n * (length p + 5)
 heard-within n k p o own few = by_case (reading p is_reply false) refl
   where
-    by_case : (b : Bool) → reading p is_reply false ≡ b → length (joined (new_answers (bare (Heard p) k o) own)) ≤ n * (length p + 5)
+    by_case : (b : Bool) → reading p is_reply false ≡ b → length (joined (new_answers (bare_row (Heard p) k o) own)) ≤ n * (length p + 5)
     by_case false e =
-        let row = bare (Heard p) k o in
+        let row = bare_row (Heard p) k o in
         let silent : reply_in row.item ≡ [] = rw (e, reply_in) refl in
         let none = ap (λ (fs : List (List ℕ)). length (joined fs)) (no-answers row own refl silent) in
         omega (arith, none)
     by_case true e =
-        let row = bare (Heard p) k o in
+        let row = bare_row (Heard p) k o in
         let came : reply_in row.item ≡ p ∷ [] = rw (e, reply_in) refl in
         let r = replied (wanted own) (replies own) p (reply-some p e) in
         let are : answers (row ∷ own) ≡ answers own ++ r.rest =
@@ -326,7 +326,7 @@ heard-within n k p o own few = by_case (reading p is_reply false) refl
         let le : length r.rest ≤ n = omega (arith, count, asks, few) in
         subst (λ (fs : List (List ℕ)). length (joined fs) ≤ n * (length p + 5)) (sym new) (weight-many n (length p + 5) r.rest le r.brief)
 
-pub heard-little : (k : ℕ) (p : List ℕ) (o : Outcome) (own : List Row) → AllUsed own → unanswered_asks own ≤ 64 → length (joined (new_answers (bare (Heard p) k o) own)) ≤ 64 * (length p + 5)
+pub heard-little : (k : ℕ) (p : List ℕ) (o : Outcome) (own : List Row) → AllUsed own → unanswered_asks own ≤ 64 → length (joined (new_answers (bare_row (Heard p) k o) own)) ≤ 64 * (length p + 5)
 heard-little k p o own used few = heard-within 64 k p o own few
 
 -- ---- how long what is received at once is

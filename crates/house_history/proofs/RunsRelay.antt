@@ -22,7 +22,7 @@ use Rattle.mux_engine.specs.Called.{calls_in}
 use Rattle.mux_engine.specs.Places.{IsOfOthers, listeners_in, own_in}
 use Rattle.mux_engine.specs.Run.{Rested, RestedAt}
 use Rattle.mux_engine.specs.Sides.{AtWaits, Knows}
-use Rattle.house_relay.specs.Acts.{RelayAct, adjusted, delivered, replies, sent_close, taken, taken_data, to_take}
+use Rattle.house_relay.specs.Acts.{RelayAct, adjusted, delivered, dialog_replies, was_close_sent, accepted_length, taken_data, to_take}
 use Rattle.house_relay.specs.Relay.{LineStands, OwesRight, RelayRepresents, SilentIn}
 use Rattle.house_relay.specs.declared.line.ChannelState.{ChannelState}
 use Rattle.house_relay.specs.declared.line.ChannelState.TheVariants.{Asked, Dialing, Live, Offered, Opened, Over}
@@ -35,7 +35,7 @@ use Rattle.house_forward.specs.ForwardingState.{ForwardingState}
 use Rattle.house_forward.specs.Known.{ordering_of}
 use Rattle.house_forward.specs.Laws.{KeepsWindow, Rests}
 use Rattle.house_forward.specs.Links.{own_stream_of, streams_of}
-use Rattle.house_forward.specs.RelayTraces.{AreRelayTraces, HasLived, Held, Life, StandsSince, Trace, TraceReaches, first_trace, taken_in}
+use Rattle.house_forward.specs.RelayTraces.{AreRelayTraces, HasLived, Held, Life, StandsSince, Trace, TraceReaches, first_trace, accepted_length_in}
 use Rattle.house_forward.specs.Streaming.{IsOfStream}
 use Rattle.house_forward.specs.Forwardings.{listeners_of}
 use Rattle.mux_history.specs.Journal.{is_own_stream}
@@ -71,7 +71,7 @@ use Rattle.house_history.proofs.Marks.{house-stays}
 use Rattle.house_history.proofs.Replies.{replies-short}
 use Rattle.house_history.proofs.Runs.{leads-on}
 use Rattle.house_history.proofs.Windows.{Ran, Windowed, ran-till, windows}
-use Rattle.house_forward.specs.Numbers.{number_of, open_streams}
+use Rattle.house_forward.specs.Numbers.{own_stream_number, open_streams}
 use Rattle.std.proofs.lemmas.List.{length-map}
 use Rattle.std.proofs.lemmas.List.Sums.{sum_by-cons}
 
@@ -92,14 +92,14 @@ bound-by window replied came took room granted kept = omega arith
 
 -- what waits for a socket is bounded, by what its relay represents
 bounded : (dials : Bool) (acts : List RelayAct) (r : Relay) → RelayRepresents dials acts r → KeepsWindow acts
-    → length r.queue.waiting ≤ WINDOW + (length (replies dials acts) - taken acts)
+    → length r.queue.waiting ≤ WINDOW + (length (dialog_replies dials acts) - accepted_length acts)
 bounded dials acts r stands kept =
-    let size : length r.queue.waiting ≡ (length (replies dials acts) + length (delivered acts)) - taken acts =
+    let size : length r.queue.waiting ≡ (length (dialog_replies dials acts) + length (delivered acts)) - accepted_length acts =
     ap length (keeps dials acts r stands).waits
-    ∙ length-drop (taken acts) (to_take dials acts)
-    ∙ ap (λ n. n - taken acts) (length-append (replies dials acts) (delivered acts)) in
-    subst (λ n. n ≤ WINDOW + (length (replies dials acts) - taken acts)) (sym size)
-    (bound-by WINDOW (length (replies dials acts)) (length (delivered acts)) (taken acts) (adjusted acts)
+    ∙ length-drop (accepted_length acts) (to_take dials acts)
+    ∙ ap (λ n. n - accepted_length acts) (length-append (dialog_replies dials acts) (delivered acts)) in
+    subst (λ n. n ≤ WINDOW + (length (dialog_replies dials acts) - accepted_length acts)) (sym size)
+    (bound-by WINDOW (length (dialog_replies dials acts)) (length (delivered acts)) (accepted_length acts) (adjusted acts)
     (relays dials acts r stands).granted kept)
 
 all-of : (P : Life → Type 0) → ((l : Life) → Sound l → P l) → (ls : List Life) → EachLife Sound ls → All P ls
@@ -127,7 +127,7 @@ within-most : (window waits replied took : ℕ) → waits ≤ window + (replied 
 within-most window waits replied took fits short = omega (arith, fits, short)
 
 waits-few : (l : Life) → StaysInWindow l → length l.relay.queue.waiting ≤ longest_own_queue
-waits-few l s = within-most WINDOW (length l.relay.queue.waiting) (length (replies l.dials l.acts)) (taken l.acts) s.waits (replies-short l.dials l.acts)
+waits-few l s = within-most WINDOW (length l.relay.queue.waiting) (length (dialog_replies l.dials l.acts)) (accepted_length l.acts) s.waits (replies-short l.dials l.acts)
 
 sum-few : (ls : List Life) → All StaysInWindow ls → sum_by waiting_for ls ≤ length (open_streams ls) * longest_own_queue
 sum-few [] all = omega arith
@@ -139,7 +139,7 @@ sum-few (l ∷ ls) all =
     fits = waits-few l (All-head StaysInWindow l ls all)
 
     go : (o : Option OwnStream) → sum_by waiting_for ls ≤ length (open_streams ls) * longest_own_queue
-        → waiting_if o (length l.relay.queue.waiting) + sum_by waiting_for ls ≤ length (cons_option (number_of o) (open_streams ls)) * longest_own_queue
+        → waiting_if o (length l.relay.queue.waiting) + sum_by waiting_for ls ≤ length (cons_option (own_stream_number o) (open_streams ls)) * longest_own_queue
     go None rest = omega (arith, rest)
     go (Some own) rest = omega (arith, rest, fits)
 
@@ -240,13 +240,13 @@ none-ordered None e = refl
 none-ordered (Some (Listen host port)) e = cc
 none-ordered (Some (Connect host port)) e = cc
 
-lived-since : (o : Option Ordering) (calls : List HouseCall) (h : Held) → o ≡ None → StandsSince o calls h → taken_in calls < 2 ^ 64 → HasLived calls h
+lived-since : (o : Option Ordering) (calls : List HouseCall) (h : Held) → o ≡ None → StandsSince o calls h → accepted_length_in calls < 2 ^ 64 → HasLived calls h
 lived-since None calls h none since small = subst (HasLived calls) (sym since.2) (since.1 small)
 lived-since (Some ordering) calls h none since small = cc
 
 -- a channel at rest owes no room
 granted-in : (line : ChannelState) (live : LiveState) (dials : Bool) (acts : List RelayAct) (r : Relay) → line ≡ Live live → LineStands line dials acts → SilentIn line r
-    → OwesRight line dials acts → sent_close acts ≡ false → adjusted acts ≡ taken_data dials acts
+    → OwesRight line dials acts → was_close_sent acts ≡ false → adjusted acts ≡ taken_data dials acts
 granted-in (Live now) live dials acts r e stands silent owes open-yet = owes open-yet (silent (stands.close_sent ∙ open-yet)).2
 granted-in (Dialing dialog) live dials acts r e stands silent owes open-yet = cc
 granted-in (Asked host port version) live dials acts r e stands silent owes open-yet = cc
@@ -318,17 +318,17 @@ module _ {T : Type 0} (recorded : T → Option (List HouseMark)) (has : T → Fo
   abbrev rests : AtWaits
   rests = (BegunRests state true starts).rests
 
-  at-wait : (before : Option (List HouseMark)) (journal : List Mark) → Rested rests set before journal → taken_in (calls_in set journal) < 2 ^ 64
+  at-wait : (before : Option (List HouseMark)) (journal : List Mark) → Rested rests set before journal → accepted_length_in (calls_in set journal) < 2 ^ 64
       → AtEachRead (record { setting = set; starts = starts; journal = journal }) (RestsAt (record { setting = set; starts = starts; journal = journal }))
   at-wait before journal rested small later earlier waiting streams shown are =
       let wait = Waits waiting Read streams shown in
       let run : ForwarderRun = record { setting = set; starts = starts; journal = journal } in
       let there : journal ≡ (later ++ wait ∷ []) ++ earlier = are ∙ sym (append_assoc later (wait ∷ []) earlier) in
-      let first : taken_in (calls_in set earlier) ≤ taken_in (calls_in set journal) =
-      subst (λ (j : List Mark). taken_in (calls_in set earlier) ≤ taken_in (calls_in set j)) (sym there) (taken-first set (later ++ wait ∷ []) earlier) in
+      let first : accepted_length_in (calls_in set earlier) ≤ accepted_length_in (calls_in set journal) =
+      subst (λ (j : List Mark). accepted_length_in (calls_in set earlier) ≤ accepted_length_in (calls_in set j)) (sym there) (taken-first set (later ++ wait ∷ []) earlier) in
       let at = throughout-at (RestedAt rests set before) later wait earlier (subst (Throughout (RestedAt rests set before)) are rested) refl in
       let house = has at.0 in
-      let less : taken_in (calls_in set earlier) < 2 ^ 64 = omega (arith, first, small) in
+      let less : accepted_length_in (calls_in set earlier) < 2 ^ 64 = omega (arith, first, small) in
       let lived = lived-since house.ordering (calls_up_to run earlier) (held_in house) (none-ordered house.ordering at.1.3.none_awaited) at.1.2.since less in (
         lived.trace,
         record { later = later ++ wait ∷ []; are = there; reached = lived.reached },

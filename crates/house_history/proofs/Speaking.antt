@@ -3,10 +3,10 @@
 use Rattle.std.proofs.Common.{◌≡◌, ◌≤◌, ◌<◌, ◌+◌, ◌-◌, ◌^◌, ℕ, Bool, true, false, not, min, ◌&&◌, Option, Some, None, List, [], ◌∷◌, ◌++◌, refl, sym, ap, ◌∙◌, subst, arith, length, length-append, append_assoc, IsTrue}
 use Rattle.std.specs.Prelude.{nat_lt, is_some, if◌then◌else◌}
 use Rattle.std.proofs.lemmas.Bool.{ltb-true}
-use Rattle.house_relay.specs.Acts.{RelayAct, adjusted, delivered, replies, sent_eof, taken, to_take}
-use Rattle.house_relay.specs.ChannelState.{counts, over_if}
+use Rattle.house_relay.specs.Acts.{RelayAct, adjusted, delivered, dialog_replies, sent_eof, accepted_length, to_take}
+use Rattle.house_relay.specs.ChannelState.{is_counted_channel, over_if}
 use Rattle.house_relay.specs.Next.{chunk, sends_held, sends_in, sends_live, sends_of}
-use Rattle.house_relay.specs.Relay.{IsLive as StandsLive, LineStands, RelayRepresents, is_finished, sent_act}
+use Rattle.house_relay.specs.Relay.{IsLive as StandsLive, LineStands, RelayRepresents, is_to_be_closed, sent_act}
 use Rattle.house_relay.specs.Steps.{is_socket_closed, is_gone, sent_of}
 use Rattle.house_relay.specs.declared.line.ChannelState.{ChannelState}
 use Rattle.house_relay.specs.declared.line.ChannelState.TheVariants.{Asked, Dialing, Live, Offered, Opened, Over}
@@ -16,7 +16,7 @@ use Rattle.house_relay.specs.declared.relay.Outgoing.{Outgoing}
 use Rattle.house_relay.specs.declared.relay.Outgoing.TheVariants.{Adjust, Close, Confirmation, Data, Eof, Failure, Open, OpenFailure}
 use Rattle.house_relay.proofs.Whole.{relays}
 use Rattle.house_forward.specs.Going.{act_of_sending}
-use Rattle.house_forward.specs.Links.{after_sending}
+use Rattle.house_forward.specs.Links.{relay_after_sending}
 use Rattle.house_forward.specs.RelayTraces.{Trace, Life, SendsBy, Speaks, kept_in}
 use Rattle.house_forward.specs.Said.{framed, payload_if}
 use Rattle.house_forward.proofs.Sound.{Each as EachLife, Sound, each-back}
@@ -82,7 +82,7 @@ and-right : (a b : Bool) → (a && b) ≡ true → b ≡ true
 and-right true b e = e
 and-right false b e = cc
 
-uncounted-none : (line : ChannelState) (acts : List RelayAct) (v : View) → counts line ≡ false → ViewOf line acts v → v ≡ NoChannel
+uncounted-none : (line : ChannelState) (acts : List RelayAct) (v : View) → is_counted_channel line ≡ false → ViewOf line acts v → v ≡ NoChannel
 uncounted-none (Dialing dialog) acts v e h = h.0
 uncounted-none (Asked host port version) acts v e h = cc
 uncounted-none (Opened version) acts v e h = cc
@@ -91,7 +91,7 @@ uncounted-none (Live live) acts v e h = cc
 uncounted-none Over acts v e h = h
 
 pub gone-none : (l : Life) (v : View) → is_gone l.relay ≡ true → ViewOf l.relay.line l.acts v → v ≡ NoChannel
-gone-none l v e h = uncounted-none l.relay.line l.acts v (not-true (counts l.relay.line) (and-right (is_socket_closed l.relay.socket) (not (counts l.relay.line)) e)) h
+gone-none l v e h = uncounted-none l.relay.line l.acts v (not-true (is_counted_channel l.relay.line) (and-right (is_socket_closed l.relay.socket) (not (is_counted_channel l.relay.line)) e)) h
 
 -- the entries of those that are left
 record Sweeps (relay_traces : List Life) (es : List Entry) : Type 0 where
@@ -163,7 +163,7 @@ live-says : (r : Relay) (live : LiveState) → LiveSends r live (sends_live r li
 live-says r live =
     let P = LiveSends r live in
     either P live.close_sent None _ (λ e. tt) (λ unclosed.
-    either P (is_finished r.socket r.queue.waiting live) (Some Close) _ (λ e. unclosed) (λ e.
+    either P (is_to_be_closed r.socket r.queue.waiting live) (Some Close) _ (λ e. unclosed) (λ e.
     either P (nat_lt 0 live.failures) (Some Failure) _ (λ e. (unclosed, ltb-true 0 live.failures e)) (λ e.
     either P (nat_lt 0 live.owed) (Some (Adjust (min live.owed (2 ^ 32 - 1)))) _ (λ e. (unclosed, omega arith)) (λ e.
     held-says r live unclosed))))
@@ -273,10 +273,10 @@ live-eof live r acts a unclosed more h = record {
 }
 
 -- no more room is given back than data came
-live-adjust : (n : ℕ) (live : LiveState) (r : Relay) (dials : Bool) (acts : List RelayAct) (a : Acct) → live.close_sent ≡ false → n ≤ live.owed → StandsLive live dials acts → taken acts ≤ length (to_take dials acts) → LiveIs live acts a → Does (Live live) r (Adjust n) acts (IsLive a)
+live-adjust : (n : ℕ) (live : LiveState) (r : Relay) (dials : Bool) (acts : List RelayAct) (a : Acct) → live.close_sent ≡ false → n ≤ live.owed → StandsLive live dials acts → accepted_length acts ≤ length (to_take dials acts) → LiveIs live acts a → Does (Live live) r (Adjust n) acts (IsLive a)
 live-adjust n live r dials acts a unclosed owes stands fits h =
-    let owed : adjusted acts + live.owed ≡ taken acts - length (replies dials acts) = stands.owed unclosed in
-    let size : length (to_take dials acts) ≡ length (replies dials acts) + length (delivered acts) = length-append (replies dials acts) (delivered acts) in
+    let owed : adjusted acts + live.owed ≡ accepted_length acts - length (dialog_replies dials acts) = stands.owed unclosed in
+    let size : length (to_take dials acts) ≡ length (dialog_replies dials acts) + length (delivered acts) = length-append (dialog_replies dials acts) (delivered acts) in
     let given : adjusted acts ≡ a.given = h.given in
     let came : length (delivered acts) ≤ a.came = h.came in
     record {
@@ -299,7 +299,7 @@ live-adjust n live r dials acts a unclosed owes stands fits h =
       );
     }
 
-live-does : (s : Outgoing) (live : LiveState) (r : Relay) (dials : Bool) (acts : List RelayAct) (a : Acct) → LiveSends r live (Some s) → StandsLive live dials acts → taken acts ≤ length (to_take dials acts) → (IsTrue (sent_eof acts) → r.held.waiting ≡ []) → LiveIs live acts a → Does (Live live) r s acts (IsLive a)
+live-does : (s : Outgoing) (live : LiveState) (r : Relay) (dials : Bool) (acts : List RelayAct) (a : Acct) → LiveSends r live (Some s) → StandsLive live dials acts → accepted_length acts ≤ length (to_take dials acts) → (IsTrue (sent_eof acts) → r.held.waiting ≡ []) → LiveIs live acts a → Does (Live live) r s acts (IsLive a)
 live-does Open live r dials acts a l stands fits last h = absurd l
 live-does Confirmation live r dials acts a l stands fits last h = absurd l
 live-does OpenFailure live r dials acts a l stands fits last h = absurd l
@@ -350,7 +350,7 @@ unclosed-does s host port version r acts e h =
 
 -- ---- any
 
-does-in : (line : ChannelState) (r : Relay) (dials : Bool) (acts : List RelayAct) (s : Outgoing) (v : View) → sends_in line r ≡ Some s → LineStands line dials acts → taken acts ≤ length (to_take dials acts) → (IsTrue (sent_eof acts) → r.held.waiting ≡ []) → ViewOf line acts v → Does line r s acts v
+does-in : (line : ChannelState) (r : Relay) (dials : Bool) (acts : List RelayAct) (s : Outgoing) (v : View) → sends_in line r ≡ Some s → LineStands line dials acts → accepted_length acts ≤ length (to_take dials acts) → (IsTrue (sent_eof acts) → r.held.waiting ≡ []) → ViewOf line acts v → Does line r s acts v
 does-in (Dialing dialog) r dials acts s v e stands fits last h = absurd (cc)
 does-in (Asked host port version) r dials acts s v e stands fits last h =
     subst (λ (v : View). Does (Asked host port version) r s acts v) (sym h.0) (unclosed-does s host port version r acts e h.1)
@@ -378,7 +378,7 @@ word-of r (Some s) e some = record { word = s; is = e }
 
 next-view : (bytes : List ℕ) (a b : Life) (s : Outgoing) (v : View) → sends_of a.relay ≡ Some s → Speaks bytes a b → (d : Does a.relay.line a.relay s a.acts v) → IsView b (Some a.relay.number, d.now)
 next-view bytes a b s v e goes d =
-    let relay : b.relay ≡ sent_of s a.relay = goes.1.relay.0 ∙ ap (λ (o : Option Outgoing). after_sending o a.relay) e in
+    let relay : b.relay ≡ sent_of s a.relay = goes.1.relay.0 ∙ ap (λ (o : Option Outgoing). relay_after_sending o a.relay) e in
     let acts : b.acts ≡ sent_act s a.relay ∷ a.acts = goes.1.acts ∙ ap (λ (o : Option Outgoing). act_of_sending o a.relay ∷ a.acts) e in
     record {
       number = ap (λ (n : ℕ). Some n) (sym (ap (λ (r : Relay). r.number) relay ∙ number-said s a.relay));

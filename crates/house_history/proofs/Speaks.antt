@@ -22,7 +22,7 @@ use Rattle.mux_history.specs.Laws.{IsAccounted, with_act}
 use Rattle.mux_history.specs.Policy.{Policy, permits}
 use Rattle.mux_history.specs.Requests.{is_reply}
 use Rattle.mux_history.specs.Rows.{Goes, Row, Says}
-use Rattle.mux_history.specs.Said.{Outcome, confirmed_at, fails_open, is_failing, on_breach, on_confirmed, on_unused, on_waiting, sent_summary, sent_open, sent_payload, sends, sends_as, sends_open, waiting_at}
+use Rattle.mux_history.specs.Said.{Outcome, confirmed_at, fails_open, is_failing, on_breach, on_confirmed, on_unused, on_waiting, sent_summary, open_outcome, sent_payload, sends_payload, sends_as, sends_open, waiting_at}
 use Rattle.mux_history.proofs.Readings.{summary-ok, reading-ok}
 use Rattle.house_relay.specs.declared.line.ChannelState.{ChannelState}
 use Rattle.house_relay.specs.declared.line.ChannelState.TheVariants as line
@@ -62,7 +62,7 @@ SendsRow policy own pick p given number now front behind = SendsBy (sent_payload
 
 -- nothing is recorded
 says-quiet : (q : List ℕ) (own : List Row) (p : List ℕ) (given : Option HouseReply) (n : ℕ) (now : View) (front behind : List Entry)
-    → ((down : List (List ℕ)) → Fit (said-held (sends q) own p given down) (front ++ (Some n, now) ∷ behind)) → SendsBy (sends q) own p given n now front behind
+    → ((down : List (List ℕ)) → Fit (said-held (sends_payload q) own p given down) (front ++ (Some n, now) ∷ behind)) → SendsBy (sends_payload q) own p given n now front behind
 says-quiet q own p given n now front behind fit = record {
   ends = refl;
   recorded = [];
@@ -163,15 +163,15 @@ says-open policy own pick p given n key front behind bytes small reads fit =
     none : find (owned-at n) (held_of own) ≡ None
     none = (each-behind (Fits (held_of own)) front (e ∷ behind) fit.fits).0
 
-    summary-is : (o : Outcome) → sent_open policy own pick p n (Direct key) ≡ o → sent_summary policy HOUSE own pick p (Open (Direct key) n 2097152 32768) ≡ o
-    summary-is o is = unused own n (sent_open policy own pick p n (Direct key)) none ∙ is
+    summary-is : (o : Outcome) → open_outcome policy own pick p n (Direct key) ≡ o → sent_summary policy HOUSE own pick p (Open (Direct key) n 2097152 32768) ≡ o
+    summary-is o is = unused own n (open_outcome policy own pick p n (Direct key)) none ∙ is
 
-    fails : (reason : ℕ) (text : List ℕ) → reason < 2 ^ 32 → length text ≤ 100 → sent_open policy own pick p n (Direct key) ≡ fails_open n reason text → SendsRow policy own pick p given n IsOpened front behind
+    fails : (reason : ℕ) (text : List ℕ) → reason < 2 ^ 32 → length text ≤ 100 → open_outcome policy own pick p n (Direct key) ≡ fails_open n reason text → SendsRow policy own pick p given n IsOpened front behind
     fails reason text few short is =
         says-as policy own pick p given n IsOpened front behind (Open (Direct key) n 2097152 32768) (fails_open n reason text) reads (summary-is (fails_open n reason text) is)
         (says-fails own p given n reason text front behind small few short (λ down. said-nothing HOUSE own (Payload p) given down) fit)
 
-    opens : sent_open policy own pick p n (Direct key) ≡ sends_as pick p → SendsRow policy own pick p given n IsOpened front behind
+    opens : open_outcome policy own pick p n (Direct key) ≡ sends_as pick p → SendsRow policy own pick p given n IsOpened front behind
     opens is =
         says-as policy own pick p given n IsOpened front behind (Open (Direct key) n 2097152 32768) (sends_as pick p) reads (summary-is (sends_as pick p) is)
         (says-quiet (with_sender p pick) own p given n IsOpened front behind (λ down.
@@ -181,12 +181,12 @@ says-open policy own pick p given n key front behind bytes small reads fit =
         (opens-one (held_of own) front behind n x refl (record { by = refl; remote = refl; acts = refl; window = refl }) fit)))
 
     by_room : permits policy.opens key ≡ true → (b : Bool) → nat_lt (length (held_of own)) MAX_CHANNELS ≡ b → SendsRow policy own pick p given n IsOpened front behind
-    by_room h true f = opens (rw (h, f, sent_open, sends_open) refl)
-    by_room h false f = fails RESOURCE_SHORTAGE too_many_channels (omega arith) (omega arith) (rw (h, f, sent_open, sends_open) refl)
+    by_room h true f = opens (rw (h, f, open_outcome, sends_open) refl)
+    by_room h false f = fails RESOURCE_SHORTAGE too_many_channels (omega arith) (omega arith) (rw (h, f, open_outcome, sends_open) refl)
 
     by_permits : (b : Bool) → permits policy.opens key ≡ b → SendsRow policy own pick p given n IsOpened front behind
     by_permits true h = by_room h (nat_lt (length (held_of own)) MAX_CHANNELS) refl
-    by_permits false h = fails ADMINISTRATIVELY_PROHIBITED not_permitted (omega arith) (omega arith) (rw (h, sent_open) refl)
+    by_permits false h = fails ADMINISTRATIVELY_PROHIBITED not_permitted (omega arith) (omega arith) (rw (h, open_outcome) refl)
 
 -- ---- a channel that the server opened
 
@@ -272,8 +272,8 @@ says-refusal policy own pick p given n s w m front behind reads good mine fit =
     let e : Entry = (Some n, IsOffered s w m) in
     let its : FitsAs (held_of own) (Some n) (IsOffered s w m) = (each-behind (Fits (held_of own)) front (e ∷ behind) fit.fits).0 in
     let at = waits-at (held_of own) n s w m its in
-    let is : sent_summary policy HOUSE own pick p (Within s Fails) ≡ sends p = ap (λ (x : Option Channel). on_waiting s (sends p) x) at.waits in
-    says-as policy own pick p given n NoChannel front behind (Within s Fails) (sends p) reads is
+    let is : sent_summary policy HOUSE own pick p (Within s Fails) ≡ sends_payload p = ap (λ (x : Option Channel). on_waiting s (sends_payload p) x) at.waits in
+    says-as policy own pick p given n NoChannel front behind (Within s Fails) (sends_payload p) reads is
     (says-quiet p own p given n NoChannel front behind (λ down.
     let new = said-act HOUSE own p given down s Fails reads good mine at.front at.behind at.x at.are at.remote in
     let over : kept (with_act Up Fails at.x) at.behind ≡ at.behind = kept-over (with_act Up Fails at.x) at.behind refl in
@@ -375,14 +375,14 @@ says-live policy own pick p given n s act a front behind reads remote may good m
     let account : IsAccount x a = its.2 in
     let f : Found (owned-at n) x hs = found (owned-at n) x hs its.1 in
     let confirmed : confirmed_at own s ≡ Some x = subst (λ (r : ℕ). confirmed_at own r ≡ Some x) remote (found-confirmed hs n x a good its.1 account) in
-    let is : sent_summary policy HOUSE own pick p (Within s act) ≡ sends p =
-    ap (λ (b : Bool). elim b as (λ _. Outcome) [ true ↦ on_waiting s (sends p) (waiting_at own s) | false ↦ on_confirmed p s act (confirmed_at own s) ]) (may-not-fail act a may)
+    let is : sent_summary policy HOUSE own pick p (Within s act) ≡ sends_payload p =
+    ap (λ (b : Bool). elim b as (λ _. Outcome) [ true ↦ on_waiting s (sends_payload p) (waiting_at own s) | false ↦ on_confirmed p s act (confirmed_at own s) ]) (may-not-fail act a may)
     ∙ (ap (λ (o : Option Channel). on_confirmed p s act o) confirmed
     ∙ ap (λ (b : Option Breach). on_breach p s b) (no-breach act x a account may)) in
     let its-own : x.own ≡ Some n = own-is x.own n f.is in
     let held : is_channel_held x ≡ true = (each-behind (λ (y : Channel). is_channel_held y ≡ true) f.before (x ∷ f.behind) (subst (λ (l : List Channel). Each (λ (y : Channel). is_channel_held y ≡ true) l) f.are good.held)).0 in
     let more : Each (λ (y : Channel). owned-at n y ≡ false) f.behind = each-of (Far x) (λ (y : Channel). owned-at n y ≡ false) (λ y far. far.owns n f.is) f.behind (far-behind f.before f.behind x (subst AllFar f.are good.far)) in
-    says-as policy own pick p given n (said-view act a) front behind (Within s act) (sends p) reads is
+    says-as policy own pick p given n (said-view act a) front behind (Within s act) (sends_payload p) reads is
     (says-quiet p own p given n (said-view act a) front behind (λ down.
     let new = said-act HOUSE own p given down s act reads good mine f.before f.behind x f.are (account.remote ∙ ap (λ (r : ℕ). Some r) remote) in
     subst (λ (hs : List Channel). Fit hs (front ++ (Some n, said-view act a) ∷ behind)) (sym new)

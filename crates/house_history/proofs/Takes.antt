@@ -12,12 +12,12 @@ use Rattle.mux_history.specs.Channels.{Channel, after_farewell, after_item, held
 use Rattle.mux_history.specs.Choices.{Choices, FromLists, TheirOwn, pick_of, with_reply}
 use Rattle.mux_history.specs.Log.{Setting, more_all, new_answers, next_row, treat}
 use Rattle.mux_history.specs.Pending.{pending, pending_down}
-use Rattle.mux_history.specs.Requests.{asks, unanswered_asks}
+use Rattle.mux_history.specs.Requests.{wanted_requests, unanswered_asks}
 use Rattle.mux_history.specs.Rows.{Item, Row, Took, is_out, rows_of}
 use Rattle.mux_history.proofs.Nexts.{next-took}
 use Rattle.house_forward.specs.ForwardingState.{ForwardingState}
-use Rattle.house_forward.specs.RelayTraces.{Trace, Follows, MarksIn, OrdersIn, with_forwarding_state}
-use Rattle.house_forward.specs.declared.forwarder_state.Stage.{Stage}
+use Rattle.house_forward.specs.RelayTraces.{Trace, Follows, MarksIn, OrdersInTrace, with_forwarding_state}
+use Rattle.house_forward.specs.declared.forwarder_state.ForwarderStage.{ForwarderStage}
 use Rattle.house_forward.proofs.Sound.{All, Sound}
 use Rattle.house_history.proofs.Receiving.{Heard, Recorded, Waits, receives, waits-same}
 use Rattle.house_history.proofs.RowsOf.{asks-go-on, no-answers, plain_row}
@@ -46,7 +46,7 @@ rest-same old = record { framer = refl; stage = refl; greeted = refl; requests =
 rest-forwarding_state : (old new : Trace) (d : ForwardingState) → new ≡ with_forwarding_state d old → d.greeted ≡ old.forwarding_state.greeted → d.requests ≡ old.forwarding_state.requests → CalmRest old new
 rest-forwarding_state old new d e g r = rest-is old new (with_forwarding_state d old) e (record { framer = refl; stage = refl; greeted = g; requests = r })
 
-rest-orders : (o : Order) (number : Option ℕ) (old new : Trace) → OrdersIn o number old new → CalmRest old new
+rest-orders : (o : Order) (number : Option ℕ) (old new : Trace) → OrdersInTrace o number old new → CalmRest old new
 rest-orders (order.Listen host port) number old new h =
     let first = h.1.orders.others in
     let then = h.1.makes.others in
@@ -88,7 +88,7 @@ calm-step rows trace new call recorded sound c h g =
       requests = ap length rest.requests ∙ g.requests;
       phase =
           subst (λ (b : Bool). Phase b new.stage recorded own) (sym rest.greeted)
-          (subst (λ (s : Stage). Phase trace.forwarding_state.greeted s recorded own) (sym rest.stage) g.phase);
+          (subst (λ (s : ForwarderStage). Phase trace.forwarding_state.greeted s recorded own) (sym rest.stage) g.phase);
     }
 
 -- and what waited for the forwarder still waits
@@ -111,7 +111,7 @@ took_row n = plain_row (Took HOUSE n) HOUSE [] []
 pub young-took : (n : ℕ) (own : List Row) → IsYoung own → IsYoung (plain_row (Took HOUSE n) HOUSE [] [] ∷ own)
 young-took n own y = record {
   channels = ap (λ (xs : List Channel). map (after_farewell (took_row n)) (map (after_item (took_row n)) xs ++ [])) y.channels;
-  asked = append-nil (asks own) ∙ y.asked;
+  asked = append-nil (wanted_requests own) ∙ y.asked;
   forwardings = y.forwardings;
   silent = y.silent;
 }

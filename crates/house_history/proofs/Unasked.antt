@@ -37,8 +37,8 @@ use Rattle.mux_engine.proofs.Deferred.{is_deferred}
 use Rattle.house_forward.specs.ForwardingState.{ForwardingState}
 use Rattle.house_forward.specs.Forwardings.{has_request}
 use Rattle.house_forward.specs.RelayTraces.{Trace, ReceivesFrame, RelaysReceiveFrames, TraceReaches, SendsBy, is_grant, with_received}
-use Rattle.house_forward.specs.declared.forwarder_state.Stage.{Stage}
-use Rattle.house_forward.specs.declared.forwarder_state.Stage.TheVariants.{Control as InControlStage, Proxy as InProxyStage}
+use Rattle.house_forward.specs.declared.forwarder_state.ForwarderStage.{ForwarderStage}
+use Rattle.house_forward.specs.declared.forwarder_state.ForwarderStage.TheVariants.{Control as InControlStage, Proxy as InProxyStage}
 use Rattle.house_history.proofs.ForwardingStates.{reading-heard}
 use Rattle.house_history.proofs.Takes.{calm-rest}
 
@@ -48,7 +48,7 @@ if-forwarding_state : (b : Bool) (x y : Trace) → x.forwarding_state ≡ y.forw
 if-forwarding_state true x y e = e
 if-forwarding_state false x y e = refl
 
-frame-greeted : (stage : Stage) (content : List ℕ) (old new : Trace) → ReceivesFrame stage content old new → new.forwarding_state.greeted ≡ old.forwarding_state.greeted
+frame-greeted : (stage : ForwarderStage) (content : List ℕ) (old new : Trace) → ReceivesFrame stage content old new → new.forwarding_state.greeted ≡ old.forwarding_state.greeted
 frame-greeted InControlStage content old new h =
     ap (λ (c : Trace). c.forwarding_state.greeted) h ∙ ap (λ (d : ForwardingState). d.greeted) (if-forwarding_state (is_grant (take_u32 content)) (record old { stage = InProxyStage; framer = switched framing.Proxy old.framer }) old refl)
 frame-greeted InProxyStage content old new h = (reading-heard content (reading content) refl old new h).greeted
@@ -76,7 +76,7 @@ trace-greets (TakesBytes t bytes ∷ calls) old new e h = trace-greets calls h.0
 abbrev pub NoneOfHouse : List HouseMark → Type 0
 NoneOfHouse asks = (id : ℕ) → list_any (is_deferred HOUSE id) asks ≡ false
 
--- it asks nothing, whoever says it
+-- it asks nothing, whoever sends it
 abbrev Mild : Outgoing → Type 0
 Mild (Body body) = (k : ℕ) (reply : HouseReply) → reading_asks k reply (read_control body) ≡ []
 Mild outgoing = Unit {0}

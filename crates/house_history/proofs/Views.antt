@@ -5,7 +5,7 @@ use Rattle.ssh_grammar.specs.declared.side.Side.TheVariants.{Up, Down}
 use Rattle.mux_history.specs.Channels.{Channel, any_by, is_closes, is_confirmed, is_ends}
 use Rattle.mux_history.specs.Summary.{Act, Answers, Asks, Carries, Closes, Ends, Grants}
 use Rattle.mux_history.proofs.RoomActs.{Accounted}
-use Rattle.mux_history.specs.Ledger.{carried, granted, initial, maximum_of, room, sum_of, unanswered}
+use Rattle.mux_history.specs.Ledger.{carried, granted_size, initial, maximum_of, room, sum_of, unanswered}
 
 -- a channel that is confirmed: the server's number, how much data the server accepts and at most in
 -- one message, whether EOF and CLOSE were sent, whether CLOSE was received, how many of its
@@ -42,7 +42,7 @@ pub record IsAccount (x : Channel) (a : Acct) : Type 0 where
   pub asks : a.close_sent ≡ false → unanswered Down x ≡ a.failures
   pub few : a.close_sent ≡ false → a.failures ≤ 1024
   pub window : initial Down x ≡ 2097152
-  pub given : sum_of granted Up x.acts ≡ a.given
+  pub given : sum_of granted_size Up x.acts ≡ a.given
   pub came : a.came ≤ sum_of carried Down x.acts
   pub accounted : Accounted x
 

@@ -41,19 +41,19 @@ use Rattle.mux_engine.specs.Called.{calls_at, calls_in, if_own}
 use Rattle.mux_engine.specs.Places.{IsOfOthers}
 use Rattle.house_relay.specs.Acts.{Confirms, Delivers, Other, Reads, ReceivesClose, ReceivesEof, Refuses, RelayAct, Takes, delivered}
 use Rattle.house_relay.specs.Next.{sends_of}
-use Rattle.house_relay.specs.Relay.{answered_in, delivers, delivers_in, received_in, sent_act}
+use Rattle.house_relay.specs.Relay.{answered_in, delivers, delivers_in, received_if_live, sent_act}
 use Rattle.house_relay.specs.declared.TheConstants.{WINDOW}
 use Rattle.house_relay.specs.declared.line.ChannelState.{ChannelState}
 use Rattle.house_relay.specs.declared.line.ChannelState.TheVariants.{Asked, Dialing, Live, Offered, Opened, Over}
 use Rattle.house_relay.specs.declared.relay.Outgoing.{Outgoing}
 use Rattle.house_relay.specs.declared.relay.Outgoing.TheVariants as outgoing
 use Rattle.house_relay.specs.declared.relay.Relay.{Relay}
-use Rattle.house_relay.specs.declared.relay.Socket.{Socket}
+use Rattle.house_relay.specs.declared.relay.RelaySocket.{RelaySocket}
 use Rattle.house_forward.specs.Forwardings.{has_request, served_at}
 use Rattle.house_forward.specs.Going.{GetsOn, TakesOn, act_of_sending}
 use Rattle.house_forward.specs.Heard.{act_received}
 use Rattle.house_forward.specs.Laws.{KeepsWindow}
-use Rattle.house_forward.specs.RelayTraces.{Follows, Life, Listens, MakesOne, MarksIn, OpensFor, OrdersIn, ReceivesMessage, ReceivesOpen, ReceivesReading, RelayGoesBy, RelayReceivesAt, SendsBy, Speaks, StepsBy, Trace, TraceReaches, TurnsTo, are_full, first_life_in, first_trace, has_channel, has_stream, has_words, made_life, relay_act_of, stepped, with_relay_traces}
+use Rattle.house_forward.specs.RelayTraces.{Follows, Life, Listens, MakesOne, MarksIn, OpensFor, OrdersInTrace, ReceivesMessage, ReceivesOpen, ReceivesReading, RelayGoesBy, RelayReceivesAt, SendsBy, Speaks, StepsBy, Trace, TraceReaches, TurnsTo, are_full, first_life_in, first_trace, has_channel, has_stream, has_words, made_life, relay_act_of, life_stepped, with_relay_traces}
 use Rattle.house_forward.specs.declared.forwarding.Forwarding.{Forwarding}
 use Rattle.house_forward.specs.declared.link.LinkStep.{LinkStep}
 use Rattle.house_forward.specs.declared.link.LinkStep.TheVariants as step
@@ -143,11 +143,11 @@ windows-says true (Some f) bytes old new h all = stay-by old new _ h.1 refl refl
 windows-says true None bytes old new h all =
     windows-left old new h.0 h.2 (each-one Windowed has_words (Speaks bytes) old.relay_traces h.0 (says-window bytes) h.1 all.relay_traces) all
 
-windows-stepped : (s : LinkStep) (t : ℕ) (ls : List Life) → EachLife Windowed ls → EachLife Windowed (map (stepped s t) ls)
+windows-stepped : (s : LinkStep) (t : ℕ) (ls : List Life) → EachLife Windowed ls → EachLife Windowed (map (life_stepped s t) ls)
 windows-stepped s t ls all = each-stepped Windowed s t (λ a kept is. step-window s a.acts kept) ls all
 
 windows-steps : (o : Order) (s : LinkStep) (t : ℕ) (old new : Trace) → StepsBy o s t old new → All Windowed old → All Windowed new
-windows-steps o s t old new h all = windows-left old new (map (stepped s t) old.relay_traces) h.1 (windows-stepped s t old.relay_traces all.relay_traces) all
+windows-steps o s t old new h all = windows-left old new (map (life_stepped s t) old.relay_traces) h.1 (windows-stepped s t old.relay_traces all.relay_traces) all
 
 windows-makes : (host : List ℕ) (port : ℕ) (number : Option ℕ) (old new : Trace) → MakesOne host port number old new → All Windowed old → All Windowed new
 windows-makes host port number old new h all =
@@ -159,7 +159,7 @@ windows-makes host port number old new h all =
       past = all.past;
     })
 
-windows-orders : (o : Order) (number : Option ℕ) (old new : Trace) → OrdersIn o number old new → All Windowed old → All Windowed new
+windows-orders : (o : Order) (number : Option ℕ) (old new : Trace) → OrdersInTrace o number old new → All Windowed old → All Windowed new
 windows-orders (order.Listen host port) number old new h all = stay-by old new _ h.2 refl refl all
 windows-orders (order.Connect host port) number old new h all = windows-makes host port number old new h all
 windows-orders (order.Unlisten l) number old new h all = stay-by old new _ h.2 refl refl all
@@ -215,7 +215,7 @@ answered-window (Offered remote window maximum) act acts goes kept = kept
 answered-window (Live live) act acts goes kept = kept
 answered-window Over act acts goes kept = kept
 
-received-window : (line : ChannelState) (act : RelayAct) (acts : List RelayAct) → (KeepsWindow acts → KeepsWindow (act ∷ acts)) → KeepsWindow acts → KeepsWindow (received_in line act ∷ acts)
+received-window : (line : ChannelState) (act : RelayAct) (acts : List RelayAct) → (KeepsWindow acts → KeepsWindow (act ∷ acts)) → KeepsWindow acts → KeepsWindow (received_if_live line act ∷ acts)
 received-window (Dialing dialog) act acts goes kept = kept
 received-window (Asked host port version) act acts goes kept = kept
 received-window (Opened version) act acts goes kept = kept
@@ -232,7 +232,7 @@ windows-at n m old new none (inl h) all =
 windows-at n m old new none (inr h) all = stay-by old new old h.1 refl refl all
 
 -- data that is no breach of its channel
-data-window : (line : ChannelState) (s : Socket) (bytes : List ℕ) (acts : List RelayAct) (v : View) → BoundView (summary.Carries (length bytes)) v → ViewOf line acts v → KeepsWindow acts
+data-window : (line : ChannelState) (s : RelaySocket) (bytes : List ℕ) (acts : List RelayAct) (v : View) → BoundView (summary.Carries (length bytes)) v → ViewOf line acts v → KeepsWindow acts
     → KeepsWindow ((if delivers_in line s then Delivers bytes else Other) ∷ acts)
 data-window (Dialing dialog) s bytes acts v bound i kept = kept
 data-window (Asked host port version) s bytes acts v bound i kept = kept

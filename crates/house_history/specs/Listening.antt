@@ -17,7 +17,7 @@ use Rattle.mux_history.specs.declared.ended.Ended.{Ended}
 use Rattle.mux_history.specs.declared.ended.Ended.TheVariants.{OutOfMemory}
 use Rattle.mux_engine.specs.Called.{calls_in}
 use Rattle.mux_engine.specs.Run.{IsRun, setting_of}
-use Rattle.house_forward.specs.RelayTraces.{taken_in}
+use Rattle.house_forward.specs.RelayTraces.{accepted_length_in}
 use Rattle.house_forward.specs.Rules.{is_permitted_here}
 use Rattle.ssh_mux.specs.Starts.{BeganWith, BegunRests}
 
@@ -45,5 +45,5 @@ RunsListen May state house = (present : Bool) (starts : Starts) (policy : Policy
     (state house) present policy pid turns before (state house).recorded start seen refused
     answer)
     → answer ≢ OutOfMemory
-    → taken_in (calls_in (setting_of policy pid run.choices) run.wire.journal) < 2 ^ 64
+    → accepted_length_in (calls_in (setting_of policy pid run.choices) run.wire.journal) < 2 ^ 64
     → All (ListensWherePermitted starts.here) run.wire.journal

@@ -47,12 +47,12 @@ pub record IsMarked (run : ForwarderRun) (mark : HouseMark) (earlier : List Mark
   pub follows : Follows (Marks mark) old new
 
 -- this is so wherever the run has this mark, by the calls before it and by the trace before it
-abbrev pub AtEachMark : ForwarderRun → HouseMark → (List HouseCall → Trace → Type 0) → Type 0
-AtEachMark run mark So = (earlier : List Mark) (old new : Trace)
+abbrev pub WhereverMarked : ForwarderRun → HouseMark → (List HouseCall → Trace → Type 0) → Type 0
+WhereverMarked run mark So = (earlier : List Mark) (old new : Trace)
     → IsMarked run mark earlier old new → So (calls_up_to run earlier) old
 
 -- an event of the run, after those before it, and what these leave and it leaves
-pub record IsEvent (run : ForwarderRun) (event : ForwarderEvent) (before : List ForwarderEvent)
+pub record IsRunEvent (run : ForwarderRun) (event : ForwarderEvent) (before : List ForwarderEvent)
     (old new : ForwardingState) : Type 0 where
   pub earlier : List Mark
   pub trace : Trace
@@ -66,7 +66,7 @@ pub record IsEvent (run : ForwarderRun) (event : ForwarderEvent) (before : List 
 abbrev pub AtEachEvent : ForwarderRun → ForwarderEvent
     → (List ForwarderEvent → ForwardingState → ForwardingState → Type 0) → Type 0
 AtEachEvent run event So = (before : List ForwarderEvent) (old new : ForwardingState)
-    → IsEvent run event before old new → So before old new
+    → IsRunEvent run event before old new → So before old new
 
 -- at each wait at which more is read, the calls before it lead to a trace of which this is so
 abbrev pub AtEachRead : ForwarderRun → (List Mark → Trace → Type 0) → Type 0

@@ -22,7 +22,7 @@ use Rattle.mux_engine.specs.Answers.{AnswersOpen}
 use Rattle.mux_engine.specs.Called.{calls_in}
 use Rattle.mux_engine.specs.Places.{IsOfOthers}
 use Rattle.mux_engine.specs.Run.{IsRun, setting_of}
-use Rattle.house_forward.specs.RelayTraces.{Trace, TraceReaches, first_trace, taken_in}
+use Rattle.house_forward.specs.RelayTraces.{Trace, TraceReaches, first_trace, accepted_length_in}
 use Rattle.ssh_mux.specs.Starts.{BeganWith, BegunRests}
 
 -- ---- journals
@@ -54,7 +54,7 @@ HouseStays = (policy : Policy) (pid : ℕ) (picks : List ℕ) (replies : List Ho
 -- whatever calls the forwarder represents, they lead to a trace, unless its own streams accepted
 -- 2^64 bytes or more in all
 abbrev pub LeadsOn : (List HouseCall → Type 0) → Type 0
-LeadsOn stands = (calls : List HouseCall) → stands calls → taken_in calls < 2 ^ 64
+LeadsOn stands = (calls : List HouseCall) → stands calls → accepted_length_in calls < 2 ^ 64
     → (trace : Trace) × TraceReaches first_trace calls trace
 
 -- no row drops the forwarder in a run that it began with some forwardings, unless memory ran out or
@@ -67,5 +67,5 @@ RunsKeep May state house = (present : Bool) (starts : Starts) (policy : Policy) 
     (state house) present policy pid turns before (state house).recorded start seen refused
     answer)
     → answer ≢ OutOfMemory
-    → taken_in (calls_in (setting_of policy pid run.choices) run.wire.journal) < 2 ^ 64
+    → accepted_length_in (calls_in (setting_of policy pid run.choices) run.wire.journal) < 2 ^ 64
     → is_lost (rows_of HOUSE run.log.rows) ≡ false

@@ -29,28 +29,28 @@ use Rattle.mux_history.specs.Rows.{Row, is_lost, rows_of}
 use Rattle.mux_engine.specs.Called.{calls_in}
 use Rattle.mux_engine.specs.Places.{listeners_in, own_in}
 use Rattle.mux_engine.specs.Run.{IsRun, setting_of}
-use Rattle.house_relay.specs.Acts.{RelayAct, adjusted, behind, delivered, read, received_close, received_eof, replies, sent, sent_close, sent_eof, socket_has_ended, taken, taken_data, took}
+use Rattle.house_relay.specs.Acts.{RelayAct, adjusted, read_after_dialog, delivered, read, received_close, received_eof, dialog_replies, all_data_sent, was_close_sent, sent_eof, socket_has_ended, accepted_length, taken_data, socket_accepted}
 use Rattle.house_relay.specs.Relay.{is_broken}
 use Rattle.house_relay.specs.declared.TheConstants.{WINDOW}
 use Rattle.house_relay.specs.declared.line.Live.{Live as LiveState}
 use Rattle.house_relay.specs.declared.line.ChannelState.TheVariants.{Live}
-use Rattle.house_forward.specs.Causes.{AnswerHasCause, AwaitsReply, CancelsAsked, EndsAsked, EndsCancel, ForwarderIsAtRest, IsGrant, IsRefused, IsServed}
+use Rattle.house_forward.specs.Causes.{AnswerHasCause, AwaitsReply, CancelsAsked, EndsAsked, EndsCancel, ForwarderIsAtRest, IsGrant, IsRequestRefused, IsRequestServed}
 use Rattle.house_forward.specs.Closing.{IsCloseOf}
 use Rattle.house_forward.specs.Confirming.{IsConfirmationOf, IsFailureOf, is_confirmation, is_failure}
-use Rattle.house_forward.specs.Connects.{connects_in, still_to_connect, taken_in as opens_taken_in}
+use Rattle.house_forward.specs.Connects.{connects_in, still_to_connect, accepted_places_in as opens_taken_in}
 use Rattle.house_forward.specs.ForwarderEvents.{Answers, Asks, ForwarderEvent, Happen, Leave, Replies, Requests, Unlistens}
-use Rattle.house_forward.specs.Forwardings.{first_of, forwarding_request_of, listeners_of}
+use Rattle.house_forward.specs.Forwardings.{first_forwarding_request, forwarding_request_of, listeners_of}
 use Rattle.house_forward.specs.Greeting.{GreetsOnce, sent_in}
 use Rattle.house_forward.specs.Laws.{KeepsWindow, Rests}
 use Rattle.house_forward.specs.Numbers.{made_by_mark, open_streams, relay_channels_of}
-use Rattle.house_forward.specs.Opening.{IsOneJoined, IsOpenOf, is_open, openers_in, openers_left, opens_in}
-use Rattle.house_forward.specs.RelayTraces.{Life, Trace, first_trace, taken_in}
+use Rattle.house_forward.specs.Opening.{IsOneJoined, IsOpenOf, is_open_message, openers_in, openers_left, opens_in}
+use Rattle.house_forward.specs.RelayTraces.{Life, Trace, first_trace, accepted_length_in}
 use Rattle.house_forward.specs.Said.{framed}
 use Rattle.house_forward.specs.Starting.{IsRecorded, WasRefused, WasServed}
 use Rattle.house_forward.specs.declared.forwarding.Forwarding.{Forwarding}
 use Rattle.house_forward.specs.declared.forwarding.ForwardingRequest.TheVariants.{Cancel}
 use Rattle.ssh_mux.specs.Starts.{BeganWith, BegunRests}
-use Rattle.house_history.specs.Moments.{AtEachEvent, AtEachMark, AtEachMoment, AtEachRead, ForwarderRun, HasMoments, IsMoment, calls_up_to}
+use Rattle.house_history.specs.Moments.{AtEachEvent, WhereverMarked, AtEachMoment, AtEachRead, ForwarderRun, HasMoments, IsMoment, calls_up_to}
 
 -- ---- bytes
 
@@ -64,8 +64,8 @@ use Rattle.house_history.specs.Moments.{AtEachEvent, AtEachMark, AtEachMoment, A
 -- - EOF is sent only after the socket's end, with nothing held.
 -- - At most 65,536 bytes are held.
 pub record CarriesBytes (l : Life) : Type 0 where
-  pub sends : sent l.acts ++ l.relay.held.waiting ≡ behind l.dials l.acts
-  pub accepts : took l.acts ++ l.relay.queue.waiting ≡ replies l.dials l.acts ++ delivered l.acts
+  pub sends : all_data_sent l.acts ++ l.relay.held.waiting ≡ read_after_dialog l.dials l.acts
+  pub accepts : socket_accepted l.acts ++ l.relay.queue.waiting ≡ dialog_replies l.dials l.acts ++ delivered l.acts
   pub grants : adjusted l.acts ≤ taken_data l.dials l.acts
   pub last : IsTrue (sent_eof l.acts)
       → IsTrue (socket_has_ended l.acts) × (l.relay.held.waiting ≡ [])
@@ -86,7 +86,7 @@ pub record IsOfSocket (journal : List Mark) (t : ℕ) (acts : List RelayAct) : T
   pub are : journal ≡ since ++ opening ∷ before
   pub opens : stream_opened_at opening ≡ Some t
   pub gave : read acts ≡ bytes_of t since
-  pub accepted : took acts ≡ taken_by t since
+  pub accepted : socket_accepted acts ≡ taken_by t since
 
 -- the same of a relay and its stream, while that is open, if its number is that of an own stream, as
 -- each is that a wire gives
@@ -101,7 +101,7 @@ HasItsSocket journal l = IfSome l.own (λ own. is_own_stream own.number ≡ true
 pub record StaysInWindow (l : Life) : Type 0 where
   pub delivers : KeepsWindow l.acts
   pub waits : length l.relay.queue.waiting
-      ≤ WINDOW + (length (replies l.dials l.acts) - taken l.acts)
+      ≤ WINDOW + (length (dialog_replies l.dials l.acts) - accepted_length l.acts)
 
 -- the replies of a dialog: 2 bytes for its methods, and 10 for its outcome
 abbrev pub longest_replies : ℕ
@@ -144,23 +144,23 @@ pub record CarriesAll (run : ForwarderRun) : Type 0 where
 -- ---- what it sends and receives as a client
 
 -- the bytes that the forwarder received by a call, and by all of them
-abbrev pub received_by : HouseCall → List ℕ
-received_by (Receives bytes) = bytes
-received_by call = []
+abbrev pub received_by_call : HouseCall → List ℕ
+received_by_call (Receives bytes) = bytes
+received_by_call call = []
 
-abbrev pub received_in : List HouseCall → List ℕ
-received_in [] = []
-received_in (call ∷ calls) = received_by call ++ received_in calls
+abbrev pub received_in_calls : List HouseCall → List ℕ
+received_in_calls [] = []
+received_in_calls (call ∷ calls) = received_by_call call ++ received_in_calls calls
 
 -- At each moment of a run.
 --
 -- - The pieces that the forwarder sent are all that the journal has of it as a client.
 -- - What it received, then what waits for it, is what the rows give it as a client.
-pub record SpeaksRight (run : ForwarderRun) : Type 0 where
+pub record RunSpeaksRight (run : ForwarderRun) : Type 0 where
   pub sends : AtEachMoment run (λ earlier trace.
       joined (sent_in (calls_up_to run earlier)) ≡ bytes_of HOUSE earlier)
   pub receives : AtEachMoment run (λ earlier trace.
-      received_in (calls_up_to run earlier) ++ pending HOUSE (log_of_journal run.setting earlier)
+      received_in_calls (calls_up_to run earlier) ++ pending HOUSE (log_of_journal run.setting earlier)
       ≡ given_to HOUSE (log_of_journal run.setting earlier))
 
 -- ---- connections
@@ -188,7 +188,7 @@ pub record IsChannelCloseOf (relay_traces : List Life) (bytes : List ℕ) : Type
   pub says : bytes ≡ framed (close live.remote)
   pub cause : (is_broken life.relay.socket ≡ true)
       ⊎ ((received_close life.acts ≡ true) ⊎ HasFinished life)
-  pub lost : behind life.dials life.acts ≡ sent life.acts ++ life.relay.held.waiting
+  pub lost : read_after_dialog life.dials life.acts ≡ all_data_sent life.acts ++ life.relay.held.waiting
   pub few : length life.relay.held.waiting ≤ LONGEST_PIECE
 
 -- Opens, connects and closes.
@@ -215,26 +215,26 @@ pub record ConnectsRight (run : ForwarderRun) : Type 0 where
       → AllPairs (λ a b. a ≢ b)
       (openers_in (calls_up_to run earlier) first_trace trace moment.reached
       ++ openers_left trace.relay_traces)
-  pub goes : (bytes : List ℕ) → AtEachMark run (HouseSaid bytes) (λ calls trace.
-      is_open bytes ≡ true → IsOpenOf calls trace.relay_traces bytes)
+  pub goes : (bytes : List ℕ) → WhereverMarked run (HouseSaid bytes) (λ calls trace.
+      is_open_message bytes ≡ true → IsOpenOf calls trace.relay_traces bytes)
   pub connects : (earlier : List Mark) (trace : Trace) (moment : IsMoment run earlier trace)
       → opens_taken_in (calls_up_to run earlier) first_trace trace moment.reached
       ≡ connects_in (calls_up_to run earlier) ++ still_to_connect trace.relay_traces
-  pub confirms : (bytes : List ℕ) → AtEachMark run (HouseSaid bytes) (λ calls trace.
+  pub confirms : (bytes : List ℕ) → WhereverMarked run (HouseSaid bytes) (λ calls trace.
       is_confirmation bytes ≡ true → IsConfirmationOf calls trace.relay_traces bytes)
-  pub refuses : (bytes : List ℕ) → AtEachMark run (HouseSaid bytes) (λ calls trace.
+  pub refuses : (bytes : List ℕ) → WhereverMarked run (HouseSaid bytes) (λ calls trace.
       is_failure bytes ≡ true → IsFailureOf calls trace.relay_traces bytes)
-  pub closes : (t : ℕ) (number : Option ℕ) → AtEachMark run (HouseOrder (order.Close t) number)
+  pub closes : (t : ℕ) (number : Option ℕ) → WhereverMarked run (HouseOrder (order.Close t) number)
       (λ calls trace. IsCloseOf calls trace.relay_traces t)
-  pub ends : (bytes : List ℕ) → AtEachMark run (HouseSaid bytes) (λ calls trace.
+  pub ends : (bytes : List ℕ) → WhereverMarked run (HouseSaid bytes) (λ calls trace.
       is_close bytes ≡ true → IsChannelCloseOf trace.relay_traces bytes)
 
 -- ---- requests
 
--- What the requests to open and close get, and what is said and closed for them.
+-- What the requests to open and close get, and what is sent and closed for them.
 --
 -- - At each moment it is known what happened: it is what the forwarder's marks and the server's
---   replies tell, in order.
+--   replies record, in order.
 -- - A request that is granted at once is for a forwarding that has a listener, or that the server
 --   granted. One that is refused at once has a cause of the rules. A later reply has its cause in
 --   what happened since the request.
@@ -247,10 +247,10 @@ pub record AnswersRight (run : ForwarderRun) : Type 0 where
       × Leave events trace.forwarding_state)
   pub served : (client id : ℕ) (opening : Bool) (ask : StartAsk) (reply : HouseReply)
       → AtEachEvent run (Asks client id opening ask reply) (λ before old new.
-      IsGrant reply → IsServed opening ask reply old.all before)
+      IsGrant reply → IsRequestServed opening ask reply old.all before)
   pub refused : (client id : ℕ) (opening : Bool) (ask : StartAsk)
       → AtEachEvent run (Asks client id opening ask Refused) (λ before old new.
-      IsRefused client id opening ask old)
+      IsRequestRefused client id opening ask old)
   pub answered : (client id : ℕ) (reply : HouseReply)
       → AtEachEvent run (Answers client id reply) (λ before old new.
       AnswerHasCause client id reply before)
@@ -260,7 +260,7 @@ pub record AnswersRight (run : ForwarderRun) : Type 0 where
       forwarding_request_of f ≡ Cancel f.serial → CancelsAsked f old.waiting before)
   pub cancelled : (success : Bool) (port : Option ℕ) (serial : ℕ)
       → AtEachEvent run (Replies success port) (λ before old new.
-      first_of old.requests ≡ Some (Cancel serial) → EndsCancel serial success before old new)
+      first_forwarding_request old.requests ≡ Some (Cancel serial) → EndsCancel serial success before old new)
   pub greets : AtEachMoment run (λ earlier trace. GreetsOnce (sent_in (calls_up_to run earlier)))
 
 -- ---- at rest
@@ -273,7 +273,7 @@ StartHasBegun starts events first i ask =
 -- in a channel that is confirmed and in which no CLOSE was sent, room is given back for all data
 -- that the socket accepted
 abbrev pub HasGrantedAll : Life → Type 0
-HasGrantedAll l = (live : LiveState) → l.relay.line ≡ Live live → sent_close l.acts ≡ false
+HasGrantedAll l = (live : LiveState) → l.relay.line ≡ Live live → was_close_sent l.acts ≡ false
     → adjusted l.acts ≡ taken_data l.dials l.acts
 
 -- Before a wait at which more is read.
@@ -310,7 +310,7 @@ pub record RestsAt (run : ForwarderRun) (earlier : List Mark) (trace : Trace) : 
 pub record RelaysRight (answer : Ended) (rows : List Row) (run : ForwarderRun) : Type 0 where
   pub moments : answer ≢ OutOfMemory → HasMoments run
   pub carries : CarriesAll run
-  pub speaks : SpeaksRight run
+  pub speaks : RunSpeaksRight run
   pub connects : ConnectsRight run
   pub answers : AnswersRight run
   pub rests : AtEachRead run (RestsAt run)
@@ -324,7 +324,7 @@ RunsRelay May state left = (starts : Starts) (policy : Policy) (pid turns : ℕ)
     (refused : Option ℕ) (answer : Ended)
     → (run : IsRun May (BegunRests state true starts).rests (BeganWith starts)
     left true policy pid turns before left.recorded start seen refused answer)
-    → taken_in (calls_in (setting_of policy pid run.choices) run.wire.journal) < 2 ^ 64
+    → accepted_length_in (calls_in (setting_of policy pid run.choices) run.wire.journal) < 2 ^ 64
     → RelaysRight answer run.log.rows (record {
       setting = setting_of policy pid run.choices;
       starts = starts;

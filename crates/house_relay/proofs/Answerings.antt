@@ -5,7 +5,7 @@ use Rattle.std.proofs.lemmas.List.{append-nil}
 use Rattle.std.specs.List.{concat}
 use Rattle.proxy_frames.specs.Queued.{with_bytes}
 use Rattle.socks_dialog.specs.declared.outcome.Outcome.TheVariants.{Connects}
-use Rattle.house_relay.specs.Acts.{RelayAct, Confirms, Refuses, OpenAnswer, Unanswered, Confirmed, Refused, read, delivered, took, taken, adjusted, before_in, last_reply, replies_in, replies_if, replies}
+use Rattle.house_relay.specs.Acts.{RelayAct, Confirms, Refuses, OpenAnswer, Unanswered, Confirmed, Refused, read, delivered, socket_accepted, accepted_length, adjusted, before_in, last_reply, replies_in, replies_if, dialog_replies}
 use Rattle.house_relay.specs.Dialing.{grant_of, dialog_refusal_of}
 use Rattle.house_relay.specs.ChannelState.{fresh_live}
 use Rattle.house_relay.specs.Relay.{RelayRepresents, LineStands, IsChannelOpened, DialogWaitsFor}
@@ -51,11 +51,11 @@ one-more (Some version) host port a true acts s =
     last Confirmed = ap (λ n. grant_of (Some n)) (sym s.1)
     last (Refused reason) = ap (λ n. dialog_refusal_of (Some n) reason) (sym s.1)
 
--- what the socket is to take then
+-- what the socket is to be given then
 record Answered (r : Relay) (more : List ℕ) (a : OpenAnswer) (dials : Bool) (acts : List RelayAct) : Type 0 where
-  pub whole : took acts ++ (r.queue.waiting ++ more) ≡ replies_if dials (read acts) a ++ delivered acts
-  pub size : length (r.queue.waiting ++ more) ≡ length (replies_if dials (read acts) a) - taken acts
-  pub within : taken acts ≤ length (replies_if dials (read acts) a)
+  pub whole : socket_accepted acts ++ (r.queue.waiting ++ more) ≡ replies_if dials (read acts) a ++ delivered acts
+  pub size : length (r.queue.waiting ++ more) ≡ length (replies_if dials (read acts) a) - accepted_length acts
+  pub within : accepted_length acts ≤ length (replies_if dials (read acts) a)
 
 answered : (r : Relay) (version : Option ℕ) (a : OpenAnswer) (dials : Bool) (acts : List RelayAct) → IsChannelOpened version dials acts
     → RelayRepresents dials acts r → Answered r (reply_of version a) a dials acts
@@ -65,13 +65,13 @@ answered r version a dials acts o s =
     let then = replies_if dials (read acts) a in
     let grows : then ≡ front ++ more = one-more version o.host o.port a dials acts o.waits in
     let none : delivered acts ≡ [] = o.nothing.no_data in
-    let before = took acts in
+    let before = socket_accepted acts in
     let waits : before ++ r.queue.waiting ≡ front =
     s.delivers
-    ∙ ap (λ b. replies dials acts ++ b) none
-    ∙ append-nil (replies dials acts)
+    ∙ ap (λ b. dialog_replies dials acts ++ b) none
+    ∙ append-nil (dialog_replies dials acts)
     ∙ ap (replies_if dials (read acts)) o.nothing.no_answer in
-    let had : length before ≡ taken acts = took-length acts in
+    let had : length before ≡ accepted_length acts = took-length acts in
     let all : before ++ (r.queue.waiting ++ more) ≡ then =
     sym (append_assoc before r.queue.waiting more) ∙ ap (λ b. b ++ more) waits ∙ sym grows in
     let sizes : length before + length (r.queue.waiting ++ more) ≡ length then =
@@ -105,7 +105,7 @@ confirms r version remote window maximum dials acts is s =
     let o : IsChannelOpened version dials acts = subst (λ l. LineStands l dials acts) is s.line in
     let n = o.nothing in
     let a = answered r version Confirmed dials acts o s in
-    let within : taken acts ≤ length (replies_if dials (read acts) Confirmed) = a.within in
+    let within : accepted_length acts ≤ length (replies_if dials (read acts) Confirmed) = a.within in
     let no_room : adjusted acts ≡ 0 = n.no_room in
     record {
       sends = s.sends;

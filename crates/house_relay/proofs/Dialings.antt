@@ -8,7 +8,7 @@ use Rattle.std.specs.Prelude.{slice_index}
 use Rattle.proxy_frames.specs.Queued.{with_bytes}
 use Rattle.proxy_frames.specs.State.{QueueState}
 use Rattle.socks_dialog.specs.Socks.{Dialog, socks}
-use Rattle.socks_dialog.specs.State.{State, dialog_bytes, pushed, step_in, step_to, step_of, stepped, gives_in, version_of, DialogHistory, DialogRepresents, RestIs}
+use Rattle.socks_dialog.specs.State.{DialogState, dialog_bytes, dialog_pushed, step_in, step_to, step_of, dialog_stepped, gives_in, version_of, DialogHistory, DialogRepresents, RestIs}
 use Rattle.socks_dialog.specs.declared.outcome.Outcome.{Outcome}
 use Rattle.socks_dialog.specs.declared.outcome.Outcome.TheVariants.{Wants, Connects, Breaks}
 use Rattle.socks_dialog.specs.declared.step.DialogStep.{DialogStep}
@@ -33,17 +33,17 @@ nothing_in [] e = refl
 nothing_in (x ∷ xs) e = absurd (omega arith)
 
 -- where all were given, the outcome is the next step
-gives_none : (d : State) (n : ℕ) → drop (d.given + n) (socks d.bytes).replies ≡ []
+gives_none : (d : DialogState) (n : ℕ) → drop (d.given + n) (socks d.bytes).replies ≡ []
     → (step_of (record d { given = d.given + n }) ≡ step_to (socks d.bytes).outcome)
-    × (stepped (record d { given = d.given + n }) ≡ record d { given = d.given + n + 0 })
+    × (dialog_stepped (record d { given = d.given + n }) ≡ record d { given = d.given + n + 0 })
 gives_none d n none = (
   ap (λ left. step_in left (socks d.bytes).outcome) none,
   ap (λ left. record d { given = d.given + n + gives_in left }) none,
 )
 
 -- a reply, and then the outcome
-pub gives_one : (d : State) (reply : List ℕ) (queue : QueueState) → GaveSome d → step_of d ≡ step.Reply reply
-    → GivesAll d (stepped (stepped d)) (step_of (stepped d)) queue (with_bytes reply queue)
+pub gives_one : (d : DialogState) (reply : List ℕ) (queue : QueueState) → GaveSome d → step_of d ≡ step.Reply reply
+    → GivesAll d (dialog_stepped (dialog_stepped d)) (step_of (dialog_stepped d)) queue (with_bytes reply queue)
 unfolding before_in outcome_in
 gives_one d reply queue some is = by_left (drop d.given all) refl
   where
@@ -51,7 +51,7 @@ gives_one d reply queue some is = by_left (drop d.given all) refl
     all = (socks d.bytes).replies
 
     by_left : (left : List (List ℕ)) → drop d.given all ≡ left
-        → GivesAll d (stepped (stepped d)) (step_of (stepped d)) queue (with_bytes reply queue)
+        → GivesAll d (dialog_stepped (dialog_stepped d)) (step_of (dialog_stepped d)) queue (with_bytes reply queue)
     by_left [] e = absurd (no_reply (socks d.bytes).outcome reply
         (sym (ap (λ left. step_in left (socks d.bytes).outcome) e) ∙ is))
     by_left (first ∷ more) e =
@@ -65,26 +65,26 @@ gives_one d reply queue some is = by_left (drop d.given all) refl
         let first_is : step.Reply first ≡ step.Reply reply =
         sym (ap (λ left. step_in left (socks d.bytes).outcome) e) ∙ is in
         let same : reply ≡ first = cc in
-        let mid : stepped d ≡ record d { given = d.given + 1 } = ap (λ left. record d { given = d.given + gives_in left }) e in
+        let mid : dialog_stepped d ≡ record d { given = d.given + 1 } = ap (λ left. record d { given = d.given + gives_in left }) e in
         let then = gives_none d 1 none in
         record {
           outcome = ap step_of mid ∙ then.0;
           bytes = refl;
-          given = ap (λ (s : State). (stepped s).given) mid ∙ ap (λ (s : State). s.given) then.1 ∙ omega arith;
+          given = ap (λ (s : DialogState). (dialog_stepped s).given) mid ∙ ap (λ (s : DialogState). s.given) then.1 ∙ omega arith;
           waiting = ap (λ r. with_bytes r queue)
               (same ∙ sym (append-nil first) ∙ ap (λ m. first ++ concat m) (sym alone) ∙ ap concat (sym e));
         }
 
 -- no reply, and the outcome
-pub gives_outcome : (d : State) (queue : QueueState) → GaveSome d
-    → ((reply : List ℕ) → step_of d ≡ step.Reply reply → ⊥) → GivesAll d (stepped d) (step_of d) queue queue
+pub gives_outcome : (d : DialogState) (queue : QueueState) → GaveSome d
+    → ((reply : List ℕ) → step_of d ≡ step.Reply reply → ⊥) → GivesAll d (dialog_stepped d) (step_of d) queue queue
 unfolding before_in outcome_in
 gives_outcome d queue some not_reply = by_left (drop d.given all) refl
   where
     all : List (List ℕ)
     all = (socks d.bytes).replies
 
-    by_left : (left : List (List ℕ)) → drop d.given all ≡ left → GivesAll d (stepped d) (step_of d) queue queue
+    by_left : (left : List (List ℕ)) → drop d.given all ≡ left → GivesAll d (dialog_stepped d) (step_of d) queue queue
     by_left (first ∷ more) e = absurd (not_reply first (ap (λ left. step_in left (socks d.bytes).outcome) e))
     by_left [] e =
         let within : d.given ≤ length all = some in
@@ -113,7 +113,7 @@ not_wanting bytes host port e w = no_wants (sym e ∙ w)
     no_wants f = cc
 
 -- the outcome of a step, where it is the outcome of all bytes
-came_to : (o : Outcome) (version first : ℕ) (came : Came) (bytes : List ℕ) (new : State) (queue queue' : QueueState)
+came_to : (o : Outcome) (version first : ℕ) (came : Came) (bytes : List ℕ) (new : DialogState) (queue queue' : QueueState)
     → outcome_in bytes ≡ o → IsCame (step_to o) version came queue queue'
     → (o ≢ Wants → version ≡ slice_index bytes 0)
     → (o ≡ Wants → (new.bytes ≡ bytes) × (new.given ≡ length (before_in bytes)))
@@ -131,16 +131,16 @@ came_to (Breaks reply) version first came bytes new queue queue' e is speaks rea
   ap (λ (q : QueueState). q.waiting) is.1,
 )
 
-pub receives : (old mid new : State) (piece : List ℕ) (count : ℕ) (s : DialogStep) (came : Came) (queue queue1 queue2 : QueueState)
-    → mid ≡ pushed piece old → RestIs old piece count
+pub receives : (old mid new : DialogState) (piece : List ℕ) (count : ℕ) (s : DialogStep) (came : Came) (queue queue1 queue2 : QueueState)
+    → mid ≡ dialog_pushed piece old → RestIs old piece count
     → (GaveSome mid → GivesAll mid new s queue queue1)
     → IsCame s (version_of new) came queue1 queue2 → IsDialogReading old
     → AreBytesReceived old new piece (record { count = count; came = came }) queue queue2
 unfolding before_in outcome_in behind_in replies_in
 receives old mid new piece count s came queue queue1 queue2 is rest gives comes reads =
     let all = old.bytes ++ piece in
-    let kept : mid.bytes ≡ dialog_bytes all = ap (λ (d : State). d.bytes) is in
-    let had : mid.given ≡ length (socks old.bytes).replies = ap (λ (d : State). d.given) is ∙ reads.given in
+    let kept : mid.bytes ≡ dialog_bytes all = ap (λ (d : DialogState). d.bytes) is in
+    let had : mid.given ≡ length (socks old.bytes).replies = ap (λ (d : DialogState). d.given) is ∙ reads.given in
     let same : socks mid.bytes ≡ ended (socks all) = ap socks kept ∙ kept_alone all in
     let every : (socks mid.bytes).replies ≡ (socks all).replies = ap (λ (d : Dialog). d.replies) same in
     let came_out : (socks mid.bytes).outcome ≡ (socks all).outcome = ap (λ (d : Dialog). d.outcome) same in

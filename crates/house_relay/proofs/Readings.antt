@@ -7,11 +7,11 @@ use Rattle.proxy_frames.specs.State.{QueueState}
 use Rattle.mux_outside.specs.declared.piece.TheConstants.{LONGEST_PIECE}
 use Rattle.socks_dialog.specs.Laws.{followed}
 use Rattle.socks_dialog.specs.Socks.{Dialog, socks}
-use Rattle.socks_dialog.specs.State.{State, IsConnect}
+use Rattle.socks_dialog.specs.State.{DialogState, IsConnect}
 use Rattle.socks_dialog.specs.declared.outcome.Outcome.{Outcome}
 use Rattle.socks_dialog.specs.declared.outcome.Outcome.TheVariants.{Wants, Connects, Breaks}
 use Rattle.socks_dialog.proofs.Dialogs.{socks-parse}
-use Rattle.house_relay.specs.Acts.{RelayAct, Reads, OpenAnswer, Unanswered, answer, read, sent, delivered, took, taken, adjusted, socket_has_ended, sent_eof, outcome_in, before_in, behind_in, last_reply, replies_in, replies_if, replies, behind_if}
+use Rattle.house_relay.specs.Acts.{RelayAct, Reads, OpenAnswer, Unanswered, answer, read, all_data_sent, delivered, socket_accepted, accepted_length, adjusted, socket_has_ended, sent_eof, outcome_in, before_in, behind_in, last_reply, replies_in, replies_if, dialog_replies, behind_if}
 use Rattle.house_relay.specs.Dialing.{DialogCameTo, AreBytesReceived, IsDialogReading}
 use Rattle.house_relay.specs.Relay.{RelayRepresents, LineStands, IsDialing, IsDialogSettled, HasAsked, DialogWaitsFor, NothingYet, RelayMayRead, holding}
 use Rattle.house_relay.specs.declared.dialing.Came.{Came}
@@ -20,7 +20,7 @@ use Rattle.house_relay.specs.declared.dialing.DialogReceived.{DialogReceived}
 use Rattle.house_relay.specs.declared.line.ChannelState.{ChannelState}
 use Rattle.house_relay.specs.declared.line.ChannelState.TheVariants.{Dialing, Asked, Opened, Offered, Live, Over}
 use Rattle.house_relay.specs.declared.relay.Relay.{Relay}
-use Rattle.house_relay.specs.declared.relay.Socket.{Socket}
+use Rattle.house_relay.specs.declared.relay.RelaySocket.{RelaySocket}
 use Rattle.house_relay.proofs.Comings.{LineAfter}
 
 -- ---- a dialog that has an outcome
@@ -58,7 +58,7 @@ asked-more : (dials : Bool) (bytes piece : List ℕ) → (dials ≡ true → out
 asked-more false bytes piece same s = tt
 asked-more true bytes piece same s = subst IsConnect (sym (same refl)) s
 
-settled-in : (line : ChannelState) (dials : Bool) (acts : List RelayAct) → ((dialog : State) → line ≡ Dialing dialog → ⊥)
+settled-in : (line : ChannelState) (dials : Bool) (acts : List RelayAct) → ((dialog : DialogState) → line ≡ Dialing dialog → ⊥)
     → LineStands line dials acts → IsDialogSettled dials (read acts)
 settled-in (Dialing dialog) dials acts other s = absurd (other dialog refl)
 settled-in (Asked host port version) dials acts other s = settled-waits version host port dials acts s.waits
@@ -116,12 +116,12 @@ waits-more (Some version) outcome dials acts piece same s =
     (s.0, s.1 ∙ sym (same.first s.0), same.outcome s.0 ∙ s.2)
 
 nothing-more : (dials : Bool) (acts : List RelayAct) (piece : List ℕ)
-    → length (replies dials acts) ≤ length (replies dials (Reads piece ∷ acts)) → NothingYet dials acts
+    → length (dialog_replies dials acts) ≤ length (dialog_replies dials (Reads piece ∷ acts)) → NothingYet dials acts
     → NothingYet dials (Reads piece ∷ acts)
 nothing-more dials acts piece most s = record {
   no_answer = s.no_answer;
   no_data = s.no_data;
-  no_take = let t : taken acts ≤ length (replies dials acts) = s.no_take in omega arith;
+  no_take = let t : accepted_length acts ≤ length (dialog_replies dials acts) = s.no_take in omega arith;
   no_room = s.no_room;
   no_eof = s.no_eof;
   no_close = s.no_close;
@@ -130,7 +130,7 @@ nothing-more dials acts piece most s = record {
 }
 
 line-more : (line : ChannelState) (dials : Bool) (acts : List RelayAct) (piece : List ℕ) → SameDialog dials (read acts) piece
-    → IsDialogSettled dials (read acts) → ((dialog : State) → line ≡ Dialing dialog → ⊥)
+    → IsDialogSettled dials (read acts) → ((dialog : DialogState) → line ≡ Dialing dialog → ⊥)
     → LineStands line dials acts → LineStands line dials (Reads piece ∷ acts)
 line-more (Dialing dialog) dials acts piece same settled other s = absurd (other dialog refl)
 line-more (Asked host port version) dials acts piece same settled other s = record {
@@ -148,28 +148,28 @@ line-more (Offered remote window maximum) dials acts piece same settled other s 
   nothing = nothing-more dials acts piece (omega (arith, ap length (same.replies (answer acts)))) s.nothing;
 }
 line-more (Live live) dials acts piece same settled other s =
-    let sizes : length (replies dials (Reads piece ∷ acts)) ≡ length (replies dials acts) =
+    let sizes : length (dialog_replies dials (Reads piece ∷ acts)) ≡ length (dialog_replies dials acts) =
     ap length (same.replies (answer acts)) in
     record {
       eof_sent = s.eof_sent;
       eof_received = s.eof_received;
       close_sent = s.close_sent;
       close_received = s.close_received;
-      replies = λ f. s.replies f ∙ ap (λ n. n - taken acts) (sym sizes);
-      owed = λ f. s.owed f ∙ ap (λ n. taken acts - n) (sym sizes);
-      most = subst (λ n. adjusted acts ≤ taken acts - n) (sym sizes) s.most;
+      replies = λ f. s.replies f ∙ ap (λ n. n - accepted_length acts) (sym sizes);
+      owed = λ f. s.owed f ∙ ap (λ n. accepted_length acts - n) (sym sizes);
+      most = subst (λ n. adjusted acts ≤ accepted_length acts - n) (sym sizes) s.most;
       settled = settled-more dials (read acts) piece same settled;
       asked = asked-more dials (read acts) piece same.outcome s.asked;
     }
 line-more Over dials acts piece same settled other s =
-    let sizes : length (replies dials (Reads piece ∷ acts)) ≡ length (replies dials acts) =
+    let sizes : length (dialog_replies dials (Reads piece ∷ acts)) ≡ length (dialog_replies dials acts) =
     ap length (same.replies (answer acts)) in
     record {
-      most = subst (λ n. adjusted acts ≤ taken acts - n) (sym sizes) s.most;
+      most = subst (λ n. adjusted acts ≤ accepted_length acts - n) (sym sizes) s.most;
       settled = settled-more dials (read acts) piece same settled;
     }
 
--- what hasn't ended has said no end
+-- what hasn't ended has named no end
 unsaid : (r : Relay) (dials : Bool) (acts : List RelayAct) → r.ended ≡ false → RelayRepresents dials acts r
     → IsTrue (sent_eof acts) → ⊥
 unsaid r dials acts going s said = clash (socket_has_ended acts) (sym s.ends ∙ going) (s.last said).0
@@ -180,13 +180,13 @@ unsaid r dials acts going s said = clash (socket_has_ended acts) (sym s.ends ∙
 
 -- a channel's bytes
 pub reads-more : (r : Relay) (piece : List ℕ) (dials : Bool) (acts : List RelayAct)
-    → ((dialog : State) → r.line ≡ Dialing dialog → ⊥) → RelayMayRead piece r → RelayRepresents dials acts r
+    → ((dialog : DialogState) → r.line ≡ Dialing dialog → ⊥) → RelayMayRead piece r → RelayRepresents dials acts r
     → RelayRepresents dials (Reads piece ∷ acts) (holding piece r)
 reads-more r piece dials acts other may s =
     let settled = settled-in r.line dials acts other s.line in
     let same = same-dialog dials (read acts) piece settled in
     record {
-      sends = sym (append_assoc (sent acts) r.held.waiting piece) ∙ ap (λ b. b ++ piece) s.sends ∙ sym same.behind;
+      sends = sym (append_assoc (all_data_sent acts) r.held.waiting piece) ∙ ap (λ b. b ++ piece) s.sends ∙ sym same.behind;
       delivers = s.delivers ∙ ap (λ f. f ++ delivered acts) (sym (same.replies (answer acts)));
       ends = s.ends;
       last = λ said. absurd (unsaid r dials acts may.unended s said);
@@ -203,7 +203,7 @@ over-now acts nothing ne = record {
   settled = ne;
 }
 
-line-after : (came : Came) (new : State) (line : ChannelState) (acts : List RelayAct) → DialogCameTo came (read acts) new
+line-after : (came : Came) (new : DialogState) (line : ChannelState) (acts : List RelayAct) → DialogCameTo came (read acts) new
     → NothingYet true acts → LineAfter came new line → LineStands line true acts
 line-after Nothing new line acts came nothing is = subst (λ l. LineStands l true acts) (sym is) (record {
   socks = refl;
@@ -221,7 +221,7 @@ line-after Fault new line acts came nothing is =
     subst (λ l. LineStands l true acts) (sym is) (over-now acts nothing (no_breaks (outcome_in (read acts)) came.0 came.1))
 
 -- what AreBytesReceived says, where the dialog's bytes are all that were read
-same-bytes : (old new : State) (piece : List ℕ) (heard : DialogReceived) (q q' : QueueState) (bytes : List ℕ)
+same-bytes : (old new : DialogState) (piece : List ℕ) (heard : DialogReceived) (q q' : QueueState) (bytes : List ℕ)
     → old.bytes ≡ bytes → AreBytesReceived old new piece heard q q'
     → DialogCameTo heard.came (bytes ++ piece) new × (behind_in (bytes ++ piece) ≡ drop heard.count piece)
     × ((more : List ℕ) × (q'.waiting ≡ q.waiting ++ more)
@@ -237,8 +237,8 @@ unfolding outcome_in behind_in
 none-behind bytes e = (socks-parse.front bytes).wanting e
 
 -- a dialog's bytes
-pub reads-dialog : (r : Relay) (old new : State) (piece : List ℕ) (heard : DialogReceived) (q' : QueueState) (line' : ChannelState)
-    (socket' : Socket) (dials : Bool) (acts : List RelayAct)
+pub reads-dialog : (r : Relay) (old new : DialogState) (piece : List ℕ) (heard : DialogReceived) (q' : QueueState) (line' : ChannelState)
+    (socket' : RelaySocket) (dials : Bool) (acts : List RelayAct)
     → r.line ≡ Dialing old → (IsDialogReading old → AreBytesReceived old new piece heard r.queue q')
     → LineAfter heard.came new line' → RelayMayRead piece r → RelayRepresents dials acts r
     → RelayRepresents dials (Reads piece ∷ acts)
@@ -261,26 +261,26 @@ reads-dialog r old new piece heard q' line' socket' dials acts is receives after
         let queued : q'.waiting ≡ r.queue.waiting ++ more = (all.2).1 in
         let replied : replies_in (read acts ++ piece) Unanswered ≡ replies_in (read acts) Unanswered ++ more = (all.2).2 in
         let unanswered : answer acts ≡ Unanswered = d.nothing.no_answer in
-        let replied' : replies true (Reads piece ∷ acts) ≡ replies true acts ++ more =
+        let replied' : dialog_replies true (Reads piece ∷ acts) ≡ dialog_replies true acts ++ more =
         ap (replies_in (read acts ++ piece)) unanswered ∙ replied
         ∙ ap (λ a. replies_in (read acts) a ++ more) (sym unanswered) in
-        let before = took acts in
+        let before = socket_accepted acts in
         let none : delivered acts ≡ [] = d.nothing.no_data in
-        let behind_none : sent acts ++ r.held.waiting ≡ [] = s.sends ∙ none-behind (read acts) d.wants in
+        let behind_none : all_data_sent acts ++ r.held.waiting ≡ [] = s.sends ∙ none-behind (read acts) d.wants in
         record {
-          sends = sym (append_assoc (sent acts) r.held.waiting (drop heard.count piece))
+          sends = sym (append_assoc (all_data_sent acts) r.held.waiting (drop heard.count piece))
               ∙ ap (λ b. b ++ drop heard.count piece) behind_none ∙ sym all.1;
           delivers = ap (λ q. before ++ q) queued
               ∙ sym (append_assoc before r.queue.waiting more)
-              ∙ ap (λ b. b ++ more) (s.delivers ∙ ap (λ b. replies true acts ++ b) none ∙ append-nil (replies true acts))
+              ∙ ap (λ b. b ++ more) (s.delivers ∙ ap (λ b. dialog_replies true acts ++ b) none ∙ append-nil (dialog_replies true acts))
               ∙ sym replied'
-              ∙ sym (append-nil (replies true (Reads piece ∷ acts)))
-              ∙ ap (λ b. replies true (Reads piece ∷ acts) ++ b) (sym none);
+              ∙ sym (append-nil (dialog_replies true (Reads piece ∷ acts)))
+              ∙ ap (λ b. dialog_replies true (Reads piece ∷ acts) ++ b) (sym none);
           ends = s.ends;
           last = λ said. absurd (unsaid r true acts may.unended s said);
           few = let room : length r.held.waiting + length piece ≤ LONGEST_PIECE = may.room in
               omega (arith, length-append r.held.waiting (drop heard.count piece), length-drop heard.count piece);
           line = line-after heard.came new line' (Reads piece ∷ acts) all.0
-              (nothing-more true acts piece (omega (arith, ap length replied', length-append (replies true acts) more)) d.nothing)
+              (nothing-more true acts piece (omega (arith, ap length replied', length-append (dialog_replies true acts) more)) d.nothing)
               after;
         }

@@ -6,15 +6,15 @@ use Rattle.mux_outside.specs.declared.order.Order.TheVariants as order
 use Rattle.mux_outside.specs.declared.own_streams.OwnStream.{OwnStream}
 use Rattle.house_relay.specs.ChannelState.{takes, has_no_more, receives_end}
 use Rattle.house_relay.specs.Next.{chunk, sends_held, sends_live, sends_offered, sends_in, sends_of, orders_open, orders_in, orders_of}
-use Rattle.house_relay.specs.Relay.{SilentIn, IsResting, is_broken, is_finished, is_stuck, socket_stream_of}
+use Rattle.house_relay.specs.Relay.{SilentIn, IsResting, is_broken, is_to_be_closed, is_stuck, socket_stream_of}
 use Rattle.house_relay.specs.declared.line.ChannelState.{ChannelState}
 use Rattle.house_relay.specs.declared.line.ChannelState.TheVariants.{Dialing, Asked, Opened, Offered, Live, Over}
 use Rattle.house_relay.specs.declared.line.Live.{Live as LiveState}
 use Rattle.house_relay.specs.declared.relay.Relay.{Relay}
 use Rattle.house_relay.specs.declared.relay.Outgoing.{Outgoing}
 use Rattle.house_relay.specs.declared.relay.Outgoing.TheVariants as outgoing
-use Rattle.house_relay.specs.declared.relay.Socket.{Socket}
-use Rattle.house_relay.specs.declared.relay.Socket.TheVariants as socket
+use Rattle.house_relay.specs.declared.relay.RelaySocket.{RelaySocket}
+use Rattle.house_relay.specs.declared.relay.RelaySocket.TheVariants as socket
 
 -- where the first of two choices isn't taken, the second gives nothing either
 passed : {X : Type 0} (b : Bool) (x : X) (o : Option X) → (if b then Some x else o) ≡ None → (b ≡ false) × (o ≡ None)
@@ -27,7 +27,7 @@ behind false o f e = e
 
 -- ---- sends
 
-offered : (s : Socket) → sends_offered s ≡ None → is_broken s ≡ false
+offered : (s : RelaySocket) → sends_offered s ≡ None → is_broken s ≡ false
 offered (socket.Open t) e = cc
 offered socket.Unmade e = refl
 offered (socket.Connecting t) e = refl
@@ -62,7 +62,7 @@ end-said r live e ended none =
 
 live-silent : (r : Relay) (live : LiveState) → sends_live r live ≡ None → SilentIn (Live live) r
 live-silent r live e = λ unsaid.
-    let close = passed (is_finished r.socket r.queue.waiting live) outgoing.Close _ (behind live.close_sent _ unsaid e) in
+    let close = passed (is_to_be_closed r.socket r.queue.waiting live) outgoing.Close _ (behind live.close_sent _ unsaid e) in
     let failure = passed (nat_lt 0 live.failures) outgoing.Failure _ close.1 in
     let adjust = passed (nat_lt 0 live.owed) _ _ failure.1 in
     let answered = ltb-false 0 live.failures failure.0 in
@@ -77,14 +77,14 @@ silent-in (Offered remote window maximum) r e = offered r.socket e
 silent-in (Live live) r e = live-silent r live e
 silent-in Over r e = tt
 
--- it has nothing to say
+-- it has nothing to send
 pub silent : (r : Relay) → sends_of r ≡ None → SilentIn r.line r
 silent r e = silent-in r.line r e
 
 -- ---- orders
 
 -- its socket is whole, and gets no order
-whole : (s : Socket) (r : Relay) (stream : OwnStream) → socket_stream_of s ≡ Some stream.number → orders_in s r stream ≡ None
+whole : (s : RelaySocket) (r : Relay) (stream : OwnStream) → socket_stream_of s ≡ Some stream.number → orders_in s r stream ≡ None
     → (is_broken s ≡ false) × (orders_open r stream ≡ None)
 whole (socket.Open t) r stream has e = (refl, e)
 whole socket.Unmade r stream has e = cc

@@ -1,11 +1,11 @@
 -- How many bytes the socket accepted.
 use Rattle.std.proofs.Common.{◌≡◌, ◌∙◌, refl, ap, ◌+◌, List, [], ◌∷◌, length, length-append}
-use Rattle.house_relay.specs.Acts.{RelayAct, Reads, Ends, Takes, Fails, Confirms, Refuses, Delivers, ReceivesEof, ReceivesClose, SendsData, SendsAdjust, SendsEof, SendsClose, Other, took, taken}
+use Rattle.house_relay.specs.Acts.{RelayAct, Reads, Ends, Takes, Fails, Confirms, Refuses, Delivers, ReceivesEof, ReceivesClose, SendsData, SendsAdjust, SendsEof, SendsClose, Other, socket_accepted, accepted_length}
 
-pub took-length : (acts : List RelayAct) → length (took acts) ≡ taken acts
+pub took-length : (acts : List RelayAct) → length (socket_accepted acts) ≡ accepted_length acts
 took-length [] = refl
 took-length (Takes bytes ∷ acts) =
-    length-append (took acts) bytes ∙ ap (λ n. n + length bytes) (took-length acts)
+    length-append (socket_accepted acts) bytes ∙ ap (λ n. n + length bytes) (took-length acts)
 took-length (Reads bytes ∷ acts) = took-length acts
 took-length (Ends ∷ acts) = took-length acts
 took-length (Fails ∷ acts) = took-length acts

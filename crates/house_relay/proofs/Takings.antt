@@ -2,7 +2,7 @@
 use Rattle.std.proofs.Common.{◌≡◌, ◌∙◌, refl, sym, ap, subst, arith, ℕ, ◌+◌, ◌-◌, ◌≤◌, Bool, true, false, if◌then◌else◌, List, ◌∷◌, ◌++◌, length, take, drop, length-take, length-append, Option, Some, None}
 use Rattle.std.proofs.lemmas.Grind.{common_steps}
 use Rattle.std.proofs.lemmas.List.{append_assoc, take-append-drop}
-use Rattle.house_relay.specs.Acts.{RelayAct, Takes, took, taken, delivered, adjusted, replies, to_take, taken_data}
+use Rattle.house_relay.specs.Acts.{RelayAct, Takes, socket_accepted, accepted_length, delivered, adjusted, dialog_replies, to_take, taken_data}
 use Rattle.house_relay.specs.ChannelState.{takes_in, takes_more}
 use Rattle.house_relay.specs.Steps.{relay_taken_of}
 use Rattle.socks_dialog.specs.declared.outcome.Outcome.{Outcome}
@@ -41,9 +41,9 @@ live-takes live bytes dials acts s = by_case live.close_sent refl
       eof_received = s.eof_received;
       close_sent = s.close_sent;
       close_received = s.close_received;
-      replies = λ f. let r : live.replies ≡ length (replies dials acts) - taken acts = s.replies e in omega arith;
+      replies = λ f. let r : live.replies ≡ length (dialog_replies dials acts) - accepted_length acts = s.replies e in omega arith;
       owed = λ f.
-          let r : live.replies ≡ length (replies dials acts) - taken acts = s.replies e in
+          let r : live.replies ≡ length (dialog_replies dials acts) - accepted_length acts = s.replies e in
           let o : adjusted acts + live.owed ≡ taken_data dials acts = s.owed e in
           omega arith;
       most = let m : adjusted acts ≤ taken_data dials acts = s.most in omega arith;
@@ -53,13 +53,13 @@ live-takes live bytes dials acts s = by_case live.close_sent refl
 
 -- before the OPEN is answered no more than the replies is accepted
 pub nothing-takes : (bytes : List ℕ) (dials : Bool) (acts : List RelayAct) (queue : List ℕ) → NothingYet dials acts
-    → took acts ++ queue ≡ to_take dials acts → length bytes ≤ length queue
+    → socket_accepted acts ++ queue ≡ to_take dials acts → length bytes ≤ length queue
     → NothingYet dials (Takes bytes ∷ acts)
 nothing-takes bytes dials acts queue s whole few =
-    let before = took acts in
-    let had : length before ≡ taken acts = took-length acts in
-    let sizes : length before + length queue ≡ length (replies dials acts) + length (delivered acts) =
-    sym (length-append before queue) ∙ ap length whole ∙ length-append (replies dials acts) (delivered acts) in
+    let before = socket_accepted acts in
+    let had : length before ≡ accepted_length acts = took-length acts in
+    let sizes : length before + length queue ≡ length (dialog_replies dials acts) + length (delivered acts) =
+    sym (length-append before queue) ∙ ap length whole ∙ length-append (dialog_replies dials acts) (delivered acts) in
     let none : length (delivered acts) ≡ 0 = ap length s.no_data in
     record {
       no_answer = s.no_answer;
@@ -78,7 +78,7 @@ waits-takes bytes dials acts None outcome s = s
 waits-takes bytes dials acts (Some version) outcome s = s
 
 pub line-takes : (line : ChannelState) (bytes : List ℕ) (dials : Bool) (acts : List RelayAct) (queue : List ℕ)
-    → took acts ++ queue ≡ to_take dials acts → length bytes ≤ length queue
+    → socket_accepted acts ++ queue ≡ to_take dials acts → length bytes ≤ length queue
     → LineStands line dials acts → LineStands (takes_in (length bytes) line) dials (Takes bytes ∷ acts)
 line-takes (Dialing dialog) bytes dials acts queue whole few s = record {
   socks = s.socks;
@@ -115,9 +115,9 @@ goes-front r bytes rest dials acts front left s =
     let few : length bytes ≤ length r.queue.waiting = omega (arith, ap length front, length-append bytes rest) in
     record {
       sends = s.sends;
-      delivers = append_assoc (took acts) bytes (drop (length bytes) r.queue.waiting)
-          ∙ ap (λ q. took acts ++ (bytes ++ q)) left
-          ∙ ap (λ q. took acts ++ q) (sym front)
+      delivers = append_assoc (socket_accepted acts) bytes (drop (length bytes) r.queue.waiting)
+          ∙ ap (λ q. socket_accepted acts ++ (bytes ++ q)) left
+          ∙ ap (λ q. socket_accepted acts ++ q) (sym front)
           ∙ s.delivers;
       ends = s.ends;
       last = s.last;

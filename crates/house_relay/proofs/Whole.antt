@@ -5,7 +5,7 @@ use Rattle.mux_outside.specs.declared.own_streams.OwnStream.{OwnStream}
 use Rattle.house_relay.specs.ChannelState.{takes}
 use Rattle.std.proofs.lemmas.List.{length-append}
 use Rattle.std.proofs.Math.Seq.{drop-append_seam}
-use Rattle.house_relay.specs.Acts.{RelayAct, Relays, read, sent, took, taken, adjusted, held, waiting, to_take, taken_data, outcome_in}
+use Rattle.house_relay.specs.Acts.{RelayAct, Relays, read, all_data_sent, socket_accepted, accepted_length, adjusted, read_not_sent, waiting, to_take, taken_data, outcome_in}
 use Rattle.house_relay.specs.Relay.{RelayRepresents, RelayKeeps, OwesRight, AsksRight, SilentIn, IsResting, stuck_in, is_stuck, LineStands, NothingYet, DialogWaitsFor}
 use Rattle.mux_outside.specs.declared.piece.TheConstants.{LONGEST_PIECE}
 use Rattle.socks_dialog.specs.declared.outcome.Outcome.TheVariants.{Connects}
@@ -15,20 +15,20 @@ use Rattle.house_relay.specs.declared.line.ChannelState.TheVariants.{Dialing, As
 use Rattle.house_relay.specs.declared.relay.Relay.{Relay}
 use Rattle.house_relay.proofs.Taken.{took-length}
 
-pub holds : (dials : Bool) (acts : List RelayAct) (r : Relay) → RelayRepresents dials acts r → r.held.waiting ≡ held dials acts
-holds dials acts r s = sym (drop-append_seam (sent acts) r.held.waiting) ∙ ap (drop (length (sent acts))) s.sends
+pub holds : (dials : Bool) (acts : List RelayAct) (r : Relay) → RelayRepresents dials acts r → r.held.waiting ≡ read_not_sent dials acts
+holds dials acts r s = sym (drop-append_seam (all_data_sent acts) r.held.waiting) ∙ ap (drop (length (all_data_sent acts))) s.sends
 
 pub waits : (dials : Bool) (acts : List RelayAct) (r : Relay) → RelayRepresents dials acts r → r.queue.waiting ≡ waiting dials acts
 waits dials acts r s =
-    sym (drop-append_seam (took acts) r.queue.waiting)
-    ∙ ap (drop (length (took acts))) s.delivers
+    sym (drop-append_seam (socket_accepted acts) r.queue.waiting)
+    ∙ ap (drop (length (socket_accepted acts))) s.delivers
     ∙ ap (λ n. drop n (to_take dials acts)) (took-length acts)
 
-few : (dials : Bool) (acts : List RelayAct) (r : Relay) → RelayRepresents dials acts r → taken acts ≤ length (to_take dials acts)
+few : (dials : Bool) (acts : List RelayAct) (r : Relay) → RelayRepresents dials acts r → accepted_length acts ≤ length (to_take dials acts)
 few dials acts r s =
-    let e : length (took acts) + length r.queue.waiting ≡ length (to_take dials acts) =
-    sym (length-append (took acts) r.queue.waiting) ∙ ap length s.delivers in
-    let t : length (took acts) ≡ taken acts = took-length acts in
+    let e : length (socket_accepted acts) + length r.queue.waiting ≡ length (to_take dials acts) =
+    sym (length-append (socket_accepted acts) r.queue.waiting) ∙ ap length s.delivers in
+    let t : length (socket_accepted acts) ≡ accepted_length acts = took-length acts in
     omega arith
 
 none-yet : (dials : Bool) (acts : List RelayAct) → NothingYet dials acts → adjusted acts ≤ taken_data dials acts
@@ -70,8 +70,8 @@ asks Over dials acts s = s.settled
 
 pub relays : (dials : Bool) (acts : List RelayAct) (r : Relay) → RelayRepresents dials acts r → Relays dials acts
 relays dials acts r s = record {
-  prefix = ap (λ h. sent acts ++ h) (sym (holds dials acts r s)) ∙ s.sends;
-  in_order = ap (λ w. took acts ++ w) (sym (waits dials acts r s)) ∙ s.delivers;
+  prefix = ap (λ h. all_data_sent acts ++ h) (sym (holds dials acts r s)) ∙ s.sends;
+  in_order = ap (λ w. socket_accepted acts ++ w) (sym (waits dials acts r s)) ∙ s.delivers;
   fits = few dials acts r s;
   granted = most r.line dials acts s.line;
   last = λ said. ((s.last said).0, sym (holds dials acts r s) ∙ (s.last said).1);
@@ -105,10 +105,10 @@ pub empty-at-rest : (r : Relay) (stream : OwnStream) → SilentIn r.line r → I
     → stream.paused ≡ false → r.held.waiting ≡ []
 empty-at-rest r stream silent rests going = by_held r.held.waiting refl
   where
-    by_held : (held : List ℕ) → r.held.waiting ≡ held → held ≡ []
+    by_held : (read_not_sent : List ℕ) → r.held.waiting ≡ read_not_sent → read_not_sent ≡ []
     by_held [] e = refl
-    by_held (byte ∷ held) e =
+    by_held (byte ∷ read_not_sent) e =
         let some : 0 < length r.held.waiting = omega (arith, ap length e) in
         let is : IsTrue (is_stuck r.line r.held.waiting) =
         subst (λ h. IsTrue (is_stuck r.line h)) (sym e) (stuck r.line r silent some) in
-        true_or (byte ∷ held ≡ []) stream.paused going (rests.paused is)
+        true_or (byte ∷ read_not_sent ≡ []) stream.paused going (rests.paused is)

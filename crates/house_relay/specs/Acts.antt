@@ -8,7 +8,7 @@ use Rattle.socks_dialog.specs.Socks.{socks}
 use Rattle.socks_dialog.specs.declared.outcome.Outcome.{Outcome}
 use Rattle.socks_dialog.specs.declared.outcome.Outcome.TheVariants.{Wants, Connects, Breaks}
 
--- the socket gave bytes, or its end, or took bytes of those that waited for it, or failed; the OPEN
+-- the socket gave bytes, or its end, or accepted some of those that waited, or failed; the OPEN
 -- was confirmed, or refused for a reason; data was delivered in the channel; EOF or CLOSE was
 -- received there; data, room for so many bytes, EOF or CLOSE was sent there; or nothing of this
 pub data RelayAct : Type 0 where
@@ -33,11 +33,11 @@ read [] = []
 read (Reads bytes ∷ acts) = read acts ++ bytes
 read (_ ∷ acts) = read acts
 
--- all data said in the channel
-abbrev pub sent : List RelayAct → List ℕ
-sent [] = []
-sent (SendsData bytes ∷ acts) = sent acts ++ bytes
-sent (_ ∷ acts) = sent acts
+-- all data sent in the channel
+abbrev pub all_data_sent : List RelayAct → List ℕ
+all_data_sent [] = []
+all_data_sent (SendsData bytes ∷ acts) = all_data_sent acts ++ bytes
+all_data_sent (_ ∷ acts) = all_data_sent acts
 
 -- all data delivered in the channel
 abbrev pub delivered : List RelayAct → List ℕ
@@ -46,16 +46,16 @@ delivered (Delivers bytes ∷ acts) = delivered acts ++ bytes
 delivered (_ ∷ acts) = delivered acts
 
 -- all bytes that the socket accepted
-abbrev pub took : List RelayAct → List ℕ
-took [] = []
-took (Takes bytes ∷ acts) = took acts ++ bytes
-took (_ ∷ acts) = took acts
+abbrev pub socket_accepted : List RelayAct → List ℕ
+socket_accepted [] = []
+socket_accepted (Takes bytes ∷ acts) = socket_accepted acts ++ bytes
+socket_accepted (_ ∷ acts) = socket_accepted acts
 
 -- how many they are
-abbrev pub taken : List RelayAct → ℕ
-taken [] = 0
-taken (Takes bytes ∷ acts) = taken acts + length bytes
-taken (_ ∷ acts) = taken acts
+abbrev pub accepted_length : List RelayAct → ℕ
+accepted_length [] = 0
+accepted_length (Takes bytes ∷ acts) = accepted_length acts + length bytes
+accepted_length (_ ∷ acts) = accepted_length acts
 
 -- for how many bytes room was given back
 abbrev pub adjusted : List RelayAct → ℕ
@@ -88,10 +88,10 @@ sent_eof (SendsEof ∷ acts) = true
 sent_eof (_ ∷ acts) = sent_eof acts
 
 -- whether CLOSE was sent
-abbrev pub sent_close : List RelayAct → Bool
-sent_close [] = false
-sent_close (SendsClose ∷ acts) = true
-sent_close (_ ∷ acts) = sent_close acts
+abbrev pub was_close_sent : List RelayAct → Bool
+was_close_sent [] = false
+was_close_sent (SendsClose ∷ acts) = true
+was_close_sent (_ ∷ acts) = was_close_sent acts
 
 -- ---- the dialog in front
 
@@ -138,34 +138,34 @@ abbrev pub replies_if : Bool → List ℕ → OpenAnswer → List ℕ
 replies_if false bytes a = []
 replies_if true bytes a = replies_in bytes a
 
-abbrev pub replies : Bool → List RelayAct → List ℕ
-replies dials acts = replies_if dials (read acts) (answer acts)
+abbrev pub dialog_replies : Bool → List RelayAct → List ℕ
+dialog_replies dials acts = replies_if dials (read acts) (answer acts)
 
 -- and what is for the channel are the bytes after it
 abbrev pub behind_if : Bool → List ℕ → List ℕ
 behind_if false bytes = bytes
 behind_if true bytes = behind_in bytes
 
-abbrev pub behind : Bool → List RelayAct → List ℕ
-behind dials acts = behind_if dials (read acts)
+abbrev pub read_after_dialog : Bool → List RelayAct → List ℕ
+read_after_dialog dials acts = behind_if dials (read acts)
 
 -- ---- what is left
 
 -- the bytes for the channel that were read and not sent
-abbrev pub held : Bool → List RelayAct → List ℕ
-held dials acts = drop (length (sent acts)) (behind dials acts)
+abbrev pub read_not_sent : Bool → List RelayAct → List ℕ
+read_not_sent dials acts = drop (length (all_data_sent acts)) (read_after_dialog dials acts)
 
--- what the socket is to take: the replies, and then what was delivered
+-- what the socket is to be given: the replies, and then what was delivered
 abbrev pub to_take : Bool → List RelayAct → List ℕ
-to_take dials acts = replies dials acts ++ delivered acts
+to_take dials acts = dialog_replies dials acts ++ delivered acts
 
--- that of it which the socket didn't take
+-- that of it which the socket didn't accept
 abbrev pub waiting : Bool → List RelayAct → List ℕ
-waiting dials acts = drop (taken acts) (to_take dials acts)
+waiting dials acts = drop (accepted_length acts) (to_take dials acts)
 
 -- how many bytes of data the socket accepted: those that it accepted after the replies
 abbrev pub taken_data : Bool → List RelayAct → ℕ
-taken_data dials acts = taken acts - length (replies dials acts)
+taken_data dials acts = accepted_length acts - length (dialog_replies dials acts)
 
 -- ---- what holds at every moment
 
@@ -174,9 +174,9 @@ taken_data dials acts = taken acts - length (replies dials acts)
 -- data was accepted; EOF goes on after everything alone; and no more is held than one piece has at
 -- most
 pub record Relays (dials : Bool) (acts : List RelayAct) : Type 0 where
-  pub prefix : sent acts ++ held dials acts ≡ behind dials acts
-  pub in_order : took acts ++ waiting dials acts ≡ to_take dials acts
-  pub fits : taken acts ≤ length (to_take dials acts)
+  pub prefix : all_data_sent acts ++ read_not_sent dials acts ≡ read_after_dialog dials acts
+  pub in_order : socket_accepted acts ++ waiting dials acts ≡ to_take dials acts
+  pub fits : accepted_length acts ≤ length (to_take dials acts)
   pub granted : adjusted acts ≤ taken_data dials acts
-  pub last : IsTrue (sent_eof acts) → IsTrue (socket_has_ended acts) × (held dials acts ≡ [])
-  pub few : length (held dials acts) ≤ LONGEST_PIECE
+  pub last : IsTrue (sent_eof acts) → IsTrue (socket_has_ended acts) × (read_not_sent dials acts ≡ [])
+  pub few : length (read_not_sent dials acts) ≤ LONGEST_PIECE

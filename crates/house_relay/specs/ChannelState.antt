@@ -5,13 +5,13 @@ use Rattle.house_relay.specs.declared.line.ChannelState.{ChannelState}
 use Rattle.house_relay.specs.declared.line.ChannelState.TheVariants.{Dialing, Asked, Opened, Offered, Live, Over}
 
 -- whether it counts as a channel
-abbrev pub counts : ChannelState → Bool
-counts (Dialing dialog) = false
-counts (Asked host port version) = true
-counts (Opened version) = true
-counts (Offered remote window maximum) = true
-counts (Live live) = true
-counts Over = false
+abbrev pub is_counted_channel : ChannelState → Bool
+is_counted_channel (Dialing dialog) = false
+is_counted_channel (Asked host port version) = true
+is_counted_channel (Opened version) = true
+is_counted_channel (Offered remote window maximum) = true
+is_counted_channel (Live live) = true
+is_counted_channel Over = false
 
 -- whether the server's EOF came
 abbrev pub receives_end : ChannelState → Bool
@@ -42,13 +42,13 @@ owed_in (Live live) = live.owed
 owed_in Over = 0
 
 -- a step of a channel that is confirmed; another stays
-abbrev pub in_live : (LiveState → ChannelState) → ChannelState → ChannelState
-in_live step (Dialing dialog) = Dialing dialog
-in_live step (Asked host port version) = Asked host port version
-in_live step (Opened version) = Opened version
-in_live step (Offered remote window maximum) = Offered remote window maximum
-in_live step (Live live) = step live
-in_live step Over = Over
+abbrev pub step_if_live : (LiveState → ChannelState) → ChannelState → ChannelState
+step_if_live step (Dialing dialog) = Dialing dialog
+step_if_live step (Asked host port version) = Asked host port version
+step_if_live step (Opened version) = Opened version
+step_if_live step (Offered remote window maximum) = Offered remote window maximum
+step_if_live step (Live live) = step live
+step_if_live step Over = Over
 
 -- a channel as it is confirmed, while so many bytes of replies wait
 abbrev pub fresh_live : ℕ → ℕ → ℕ → ℕ → LiveState
@@ -73,22 +73,22 @@ takes live = min live.room live.maximum
 abbrev pub over_if : Bool → LiveState → ChannelState
 over_if b live = if b then Over else Live live
 
-abbrev pub closes : LiveState → ChannelState
-closes live = over_if live.close_received (record live { close_sent = true; failures = 0; owed = 0 })
+abbrev pub live_after_close : LiveState → ChannelState
+live_after_close live = over_if live.close_received (record live { close_sent = true; failures = 0; owed = 0 })
 
-abbrev pub answers : LiveState → LiveState
-answers live = record live { failures = live.failures - 1 }
+abbrev pub answers_failure : LiveState → LiveState
+answers_failure live = record live { failures = live.failures - 1 }
 
-abbrev pub sends : ℕ → LiveState → LiveState
-sends n live = record live { room = live.room - n }
+abbrev pub live_after_sending : ℕ → LiveState → LiveState
+live_after_sending n live = record live { room = live.room - n }
 
 abbrev pub ends : LiveState → LiveState
 ends live = record live { eof_sent = true }
 
-abbrev pub grants : ℕ → LiveState → LiveState
-grants n live = record live { owed = live.owed - n }
+abbrev pub live_after_grant : ℕ → LiveState → LiveState
+live_after_grant n live = record live { owed = live.owed - n }
 
--- too much room isn't taken
+-- too much room isn't accepted
 abbrev pub receives_room : ℕ → LiveState → LiveState
 receives_room n live =
     if nat_lt (live.room + n) (2 ^ 32) then record live { room = live.room + n } else live
@@ -112,4 +112,4 @@ takes_more n live = if live.close_sent then live else record live {
 
 -- the socket accepted so many bytes
 abbrev pub takes_in : ℕ → ChannelState → ChannelState
-takes_in n = in_live (λ live. Live (takes_more n live))
+takes_in n = step_if_live (λ live. Live (takes_more n live))

@@ -4,7 +4,7 @@ use Rattle.mux_outside.specs.declared.order.Order.{Order}
 use Rattle.mux_outside.specs.declared.order.Order.TheVariants as order
 use Rattle.mux_outside.specs.declared.own_streams.OwnStream.{OwnStream}
 use Rattle.house_relay.specs.ChannelState.{takes, has_no_more, receives_end}
-use Rattle.house_relay.specs.Relay.{is_finished, is_stuck}
+use Rattle.house_relay.specs.Relay.{is_to_be_closed, is_stuck}
 use Rattle.house_relay.specs.declared.TheConstants.{MAXIMUM}
 use Rattle.house_relay.specs.declared.line.Live.{Live as LiveState}
 use Rattle.house_relay.specs.declared.line.ChannelState.{ChannelState}
@@ -12,8 +12,8 @@ use Rattle.house_relay.specs.declared.line.ChannelState.TheVariants.{Dialing, As
 use Rattle.house_relay.specs.declared.relay.Relay.{Relay}
 use Rattle.house_relay.specs.declared.relay.Outgoing.{Outgoing}
 use Rattle.house_relay.specs.declared.relay.Outgoing.TheVariants as outgoing
-use Rattle.house_relay.specs.declared.relay.Socket.{Socket}
-use Rattle.house_relay.specs.declared.relay.Socket.TheVariants as socket
+use Rattle.house_relay.specs.declared.relay.RelaySocket.{RelaySocket}
+use Rattle.house_relay.specs.declared.relay.RelaySocket.TheVariants as socket
 
 -- ---- sends
 
@@ -29,12 +29,12 @@ sends_held r live = if nat_lt 0 (length r.held.waiting)
 
 abbrev pub sends_live : Relay → LiveState → Option Outgoing
 sends_live r live = if live.close_sent then None
-    else (if is_finished r.socket r.queue.waiting live then Some outgoing.Close
+    else (if is_to_be_closed r.socket r.queue.waiting live then Some outgoing.Close
     else (if nat_lt 0 live.failures then Some outgoing.Failure
     else (if nat_lt 0 live.owed then Some (outgoing.Adjust (min live.owed (2 ^ 32 - 1)))
     else sends_held r live)))
 
-abbrev pub sends_offered : Socket → Option Outgoing
+abbrev pub sends_offered : RelaySocket → Option Outgoing
 sends_offered (socket.Open t) = Some outgoing.Confirmation
 sends_offered socket.Unmade = None
 sends_offered (socket.Connecting t) = None
@@ -64,7 +64,7 @@ orders_open r stream =
     else (if (length r.held.waiting == 0) && stream.paused then Some (order.Resume stream.number)
     else None)))
 
-abbrev pub orders_in : Socket → Relay → OwnStream → Option Order
+abbrev pub orders_in : RelaySocket → Relay → OwnStream → Option Order
 orders_in (socket.Open t) r stream = orders_open r stream
 orders_in socket.Unmade r stream = None
 orders_in (socket.Connecting t) r stream = orders_open r stream

@@ -1,15 +1,15 @@
 -- How a relay stands, for what happened in it.
 use Rattle.std.specs.Prelude.{◌≡◌, ◌≢◌, ◌+◌, ◌-◌, ◌≤◌, ◌<◌, ◌&&◌, ◌||◌, ◌==◌, ℕ, Bool, true, false, not, is_some, List, [], ◌∷◌, ◌++◌, length, take, slice_index, IsTrue, Option, Some, None}
 use Rattle.house_relay.specs.Acts.{RelayAct, SendsData, SendsAdjust, SendsEof, SendsClose, Other}
-use Rattle.house_relay.specs.Acts.{read, sent, delivered, took, taken, adjusted, socket_has_ended, received_eof, received_close, sent_eof, sent_close}
-use Rattle.house_relay.specs.Acts.{Unanswered, answer, outcome_in, before_in, replies, behind, held, to_take, waiting, taken_data}
+use Rattle.house_relay.specs.Acts.{read, all_data_sent, delivered, socket_accepted, accepted_length, adjusted, socket_has_ended, received_eof, received_close, sent_eof, was_close_sent}
+use Rattle.house_relay.specs.Acts.{Unanswered, answer, outcome_in, before_in, dialog_replies, read_after_dialog, read_not_sent, to_take, waiting, taken_data}
 use Rattle.mux_outside.specs.declared.order.Order.{Order}
 use Rattle.mux_outside.specs.declared.order.Order.TheVariants.{Listen, Connect, Unlisten, Pause, Resume, Finish}
 use Rattle.mux_outside.specs.declared.order.Order.TheVariants as close
 use Rattle.mux_outside.specs.declared.own_streams.OwnStream.{OwnStream}
 use Rattle.mux_outside.specs.declared.piece.TheConstants.{LONGEST_PIECE}
 use Rattle.proxy_frames.specs.Queued.{with_bytes}
-use Rattle.socks_dialog.specs.State.{State, IsConnect}
+use Rattle.socks_dialog.specs.State.{DialogState, IsConnect}
 use Rattle.socks_dialog.specs.declared.outcome.Outcome.{Outcome}
 use Rattle.socks_dialog.specs.declared.outcome.Outcome.TheVariants.{Wants, Connects}
 use Rattle.house_relay.specs.ChannelState.{takes, has_no_more, receives_end}
@@ -19,8 +19,8 @@ use Rattle.house_relay.specs.declared.line.ChannelState.TheVariants.{Dialing, As
 use Rattle.house_relay.specs.declared.relay.Relay.{Relay}
 use Rattle.house_relay.specs.declared.relay.Outgoing.{Outgoing}
 use Rattle.house_relay.specs.declared.relay.Outgoing.TheVariants.{Open, Confirmation, OpenFailure, Close, Failure, Data, Eof, Adjust}
-use Rattle.house_relay.specs.declared.relay.Socket.{Socket}
-use Rattle.house_relay.specs.declared.relay.Socket.TheVariants as socket
+use Rattle.house_relay.specs.declared.relay.RelaySocket.{RelaySocket}
+use Rattle.house_relay.specs.declared.relay.RelaySocket.TheVariants as socket
 
 -- ---- sides
 
@@ -50,7 +50,7 @@ IsChannelOffered (Live live) = ⊥
 IsChannelOffered Over = ⊥
 
 -- its socket is connected
-abbrev pub IsConnected : Socket → Type 0
+abbrev pub IsConnected : RelaySocket → Type 0
 IsConnected (socket.Open t) = Unit {0}
 IsConnected socket.Unmade = ⊥
 IsConnected (socket.Connecting t) = ⊥
@@ -59,7 +59,7 @@ IsConnected (socket.NoChannelLeft t) = ⊥
 IsConnected socket.Closed = ⊥
 
 -- its socket failed, or there is none any more
-abbrev pub is_broken : Socket → Bool
+abbrev pub is_broken : RelaySocket → Bool
 is_broken (socket.Open t) = false
 is_broken socket.Unmade = false
 is_broken (socket.Connecting t) = false
@@ -69,8 +69,8 @@ is_broken socket.Closed = true
 
 -- whether a channel is to be closed: its socket is broken, or CLOSE was received, or EOF went both
 -- ways and nothing waits for the socket
-abbrev pub is_finished : Socket → List ℕ → LiveState → Bool
-is_finished s queue live = is_broken s
+abbrev pub is_to_be_closed : RelaySocket → List ℕ → LiveState → Bool
+is_to_be_closed s queue live = is_broken s
     || (live.close_received || (live.eof_sent && (live.eof_received && (length queue == 0))))
 
 -- ---- what may be sent
@@ -80,7 +80,7 @@ IsSending Open r = IsChannelAsked r.line
 IsSending Confirmation r = IsChannelOffered r.line × IsConnected r.socket
 IsSending OpenFailure r = IsChannelOffered r.line
 IsSending Close r = InLive r.line (λ live. (live.close_sent ≡ false)
-    × IsTrue (is_finished r.socket r.queue.waiting live))
+    × IsTrue (is_to_be_closed r.socket r.queue.waiting live))
 IsSending Failure r = InLive r.line (λ live. (live.close_sent ≡ false) × (0 < live.failures))
 IsSending (Data n) r = InLive r.line (λ live. (live.close_sent ≡ false) × (0 < n)
     × (n ≤ length r.held.waiting) × (n ≤ takes live))
@@ -100,13 +100,13 @@ sent_act Eof r = SendsEof
 sent_act (Adjust n) r = SendsAdjust n
 
 -- what is received in a channel that is confirmed; in another nothing is
-abbrev pub received_in : ChannelState → RelayAct → RelayAct
-received_in (Dialing dialog) act = Other
-received_in (Asked host port version) act = Other
-received_in (Opened version) act = Other
-received_in (Offered remote window maximum) act = Other
-received_in (Live live) act = act
-received_in Over act = Other
+abbrev pub received_if_live : ChannelState → RelayAct → RelayAct
+received_if_live (Dialing dialog) act = Other
+received_if_live (Asked host port version) act = Other
+received_if_live (Opened version) act = Other
+received_if_live (Offered remote window maximum) act = Other
+received_if_live (Live live) act = act
+received_if_live Over act = Other
 
 -- an answer to the OPEN is received while it is sent and unanswered
 abbrev pub answered_in : ChannelState → RelayAct → RelayAct
@@ -123,16 +123,16 @@ answered_in Over act = Other
 pub record NothingYet (dials : Bool) (acts : List RelayAct) : Type 0 where
   pub no_answer : answer acts ≡ Unanswered
   pub no_data : delivered acts ≡ []
-  pub no_take : taken acts ≤ length (replies dials acts)
+  pub no_take : accepted_length acts ≤ length (dialog_replies dials acts)
   pub no_room : adjusted acts ≡ 0
   pub no_eof : sent_eof acts ≡ false
-  pub no_close : sent_close acts ≡ false
+  pub no_close : was_close_sent acts ≡ false
   pub none_received : received_eof acts ≡ false
   pub none_closed : received_close acts ≡ false
 
 -- a dialog that is read has all bytes that were read, has given all its replies, and wants more
 -- bytes
-pub record IsDialing (dialog : State) (dials : Bool) (acts : List RelayAct) : Type 0 where
+pub record IsDialing (dialog : DialogState) (dials : Bool) (acts : List RelayAct) : Type 0 where
   pub socks : dials ≡ true
   pub bytes : dialog.bytes ≡ read acts
   pub given : dialog.given ≡ length (before_in (read acts))
@@ -177,9 +177,9 @@ HasAsked true bytes = IsConnect (outcome_in bytes)
 pub record IsLive (live : LiveState) (dials : Bool) (acts : List RelayAct) : Type 0 where
   pub eof_sent : live.eof_sent ≡ sent_eof acts
   pub eof_received : live.eof_received ≡ received_eof acts
-  pub close_sent : live.close_sent ≡ sent_close acts
+  pub close_sent : live.close_sent ≡ was_close_sent acts
   pub close_received : live.close_received ≡ received_close acts
-  pub replies : live.close_sent ≡ false → live.replies ≡ length (replies dials acts) - taken acts
+  pub replies : live.close_sent ≡ false → live.replies ≡ length (dialog_replies dials acts) - accepted_length acts
   pub owed : live.close_sent ≡ false → adjusted acts + live.owed ≡ taken_data dials acts
   pub most : adjusted acts ≤ taken_data dials acts
   pub settled : IsDialogSettled dials (read acts)
@@ -200,8 +200,8 @@ LineStands Over dials acts = IsChannelOver dials acts
 
 -- a relay represents what happened in it; it began with a dialog, or not
 pub record RelayRepresents (dials : Bool) (acts : List RelayAct) (r : Relay) : Type 0 where
-  pub sends : sent acts ++ r.held.waiting ≡ behind dials acts
-  pub delivers : took acts ++ r.queue.waiting ≡ to_take dials acts
+  pub sends : all_data_sent acts ++ r.held.waiting ≡ read_after_dialog dials acts
+  pub delivers : socket_accepted acts ++ r.queue.waiting ≡ to_take dials acts
   pub ends : r.ended ≡ socket_has_ended acts
   pub last : IsTrue (sent_eof acts) → IsTrue (socket_has_ended acts) × (r.held.waiting ≡ [])
   pub few : length r.held.waiting ≤ LONGEST_PIECE
@@ -230,13 +230,13 @@ SilentIn (Asked host port version) r = ⊥
 SilentIn (Opened version) r = Unit {0}
 SilentIn (Offered remote window maximum) r = is_broken r.socket ≡ false
 SilentIn (Live live) r = live.close_sent ≡ false
-    → (is_finished r.socket r.queue.waiting live ≡ false) × (live.failures ≡ 0)
+    → (is_to_be_closed r.socket r.queue.waiting live ≡ false) × (live.failures ≡ 0)
     × (live.owed ≡ 0) × (0 < length r.held.waiting → takes live ≡ 0)
     × (IsTrue r.ended → r.held.waiting ≡ [] → IsTrue live.eof_sent)
 SilentIn Over r = Unit {0}
 
 -- its stream, if it has one
-abbrev pub socket_stream_of : Socket → Option ℕ
+abbrev pub socket_stream_of : RelaySocket → Option ℕ
 socket_stream_of (socket.Open t) = Some t
 socket_stream_of socket.Unmade = None
 socket_stream_of (socket.Connecting t) = Some t
@@ -245,7 +245,7 @@ socket_stream_of (socket.NoChannelLeft t) = Some t
 socket_stream_of socket.Closed = None
 
 -- whether data that comes in the channel is for the socket
-abbrev pub delivers_in : ChannelState → Socket → Bool
+abbrev pub delivers_in : ChannelState → RelaySocket → Bool
 delivers_in (Dialing dialog) s = false
 delivers_in (Asked host port version) s = false
 delivers_in (Opened version) s = false
@@ -305,7 +305,7 @@ OwesRight (Asked host port version) dials acts = Unit {0}
 OwesRight (Opened version) dials acts = Unit {0}
 OwesRight (Offered remote window maximum) dials acts = Unit {0}
 OwesRight (Live live) dials acts =
-    sent_close acts ≡ false → live.owed ≡ 0 → adjusted acts ≡ taken_data dials acts
+    was_close_sent acts ≡ false → live.owed ≡ 0 → adjusted acts ≡ taken_data dials acts
 OwesRight Over dials acts = Unit {0}
 
 -- a channel is that of a dialog that asked for its end, if there is a dialog; one that wants more
@@ -320,7 +320,7 @@ AsksRight (Live live) dials acts = HasAsked dials (read acts)
 AsksRight Over dials acts = IsDialogSettled dials (read acts)
 
 pub record RelayKeeps (dials : Bool) (acts : List RelayAct) (r : Relay) : Type 0 where
-  pub holds : r.held.waiting ≡ held dials acts
+  pub holds : r.held.waiting ≡ read_not_sent dials acts
   pub waits : r.queue.waiting ≡ waiting dials acts
   pub owes : OwesRight r.line dials acts
   pub asks : AsksRight r.line dials acts

@@ -6,17 +6,17 @@ use Rattle.socks_dialog.specs.declared.outcome.Outcome.TheVariants.{Wants, Conne
 use Rattle.socks_dialog.specs.State.{new_dialog}
 use Rattle.house_relay.specs.Acts.{outcome_in}
 use Rattle.house_relay.specs.Dialing.{IsDialogReading, grant_of, dialog_refusal_of}
-use Rattle.house_relay.specs.ChannelState.{counts, in_live, fresh_live, closes, answers, sends, ends, grants, receives_room, receives_eof, receives_close, receives_request, takes_in}
+use Rattle.house_relay.specs.ChannelState.{is_counted_channel, step_if_live, fresh_live, live_after_close, answers_failure, live_after_sending, ends, live_after_grant, receives_room, receives_eof, receives_close, receives_request, takes_in}
 use Rattle.house_relay.specs.declared.line.ChannelState.{ChannelState}
 use Rattle.house_relay.specs.declared.line.ChannelState.TheVariants.{Dialing, Asked, Opened, Offered, Live, Over}
 use Rattle.house_relay.specs.declared.relay.Relay.{Relay}
 use Rattle.house_relay.specs.declared.relay.Outgoing.{Outgoing}
 use Rattle.house_relay.specs.declared.relay.Outgoing.TheVariants.{Open, Confirmation, OpenFailure, Close, Failure, Data, Eof, Adjust}
-use Rattle.house_relay.specs.declared.relay.Socket.{Socket}
-use Rattle.house_relay.specs.declared.relay.Socket.TheVariants as socket
+use Rattle.house_relay.specs.declared.relay.RelaySocket.{RelaySocket}
+use Rattle.house_relay.specs.declared.relay.RelaySocket.TheVariants as socket
 
 -- a relay in which nothing happened yet
-abbrev pub fresh_relay : ℕ → ChannelState → Socket → Relay
+abbrev pub fresh_relay : ℕ → ChannelState → RelaySocket → Relay
 fresh_relay number line socket = record {
   number = number;
   line = line;
@@ -26,12 +26,12 @@ fresh_relay number line socket = record {
   queue = empty_queue;
 }
 
--- a channel whose end a dialog is to say, of which nothing was read yet
+-- a channel whose end a dialog is to name, of which nothing was read yet
 abbrev pub fresh_dialing : ChannelState
 fresh_dialing = Dialing new_dialog
 
 -- whether nothing is left of it
-abbrev pub is_socket_closed : Socket → Bool
+abbrev pub is_socket_closed : RelaySocket → Bool
 is_socket_closed (socket.Connecting stream) = false
 is_socket_closed (socket.Open stream) = false
 is_socket_closed socket.Unmade = false
@@ -40,18 +40,18 @@ is_socket_closed (socket.NoChannelLeft stream) = false
 is_socket_closed socket.Closed = true
 
 abbrev pub is_gone : Relay → Bool
-is_gone r = is_socket_closed r.socket && not (counts r.line)
+is_gone r = is_socket_closed r.socket && not (is_counted_channel r.line)
 
 -- ---- the channel
 
 -- the OPEN was sent
-abbrev pub sent_open : ChannelState → ChannelState
-sent_open (Dialing dialog) = Dialing dialog
-sent_open (Asked host port version) = Opened version
-sent_open (Opened version) = Opened version
-sent_open (Offered remote window maximum) = Offered remote window maximum
-sent_open (Live live) = Live live
-sent_open Over = Over
+abbrev pub channel_after_open : ChannelState → ChannelState
+channel_after_open (Dialing dialog) = Dialing dialog
+channel_after_open (Asked host port version) = Opened version
+channel_after_open (Opened version) = Opened version
+channel_after_open (Offered remote window maximum) = Offered remote window maximum
+channel_after_open (Live live) = Live live
+channel_after_open Over = Over
 
 -- the server's OPEN was confirmed
 abbrev pub sent_confirmation : ChannelState → ChannelState
@@ -67,30 +67,30 @@ on_line step r = record r { line = step r.line }
 
 -- this was sent
 abbrev pub sent_of : Outgoing → Relay → Relay
-sent_of Open r = on_line sent_open r
+sent_of Open r = on_line channel_after_open r
 sent_of Confirmation r = on_line sent_confirmation r
 sent_of OpenFailure r = record r { line = Over }
-sent_of Close r = on_line (in_live closes) r
-sent_of Failure r = on_line (in_live (λ live. Live (answers live))) r
+sent_of Close r = on_line (step_if_live live_after_close) r
+sent_of Failure r = on_line (step_if_live (λ live. Live (answers_failure live))) r
 sent_of (Data n) r = record r {
-  line = in_live (λ live. Live (sends n live)) r.line;
+  line = step_if_live (λ live. Live (live_after_sending n live)) r.line;
   held = without_first_bytes n r.held;
 }
-sent_of Eof r = on_line (in_live (λ live. Live (ends live))) r
-sent_of (Adjust n) r = on_line (in_live (λ live. Live (grants n live))) r
+sent_of Eof r = on_line (step_if_live (λ live. Live (ends live))) r
+sent_of (Adjust n) r = on_line (step_if_live (λ live. Live (live_after_grant n live))) r
 
 -- room, EOF, CLOSE or a request was received
 abbrev pub room_received : ℕ → ChannelState → ChannelState
-room_received n = in_live (λ live. Live (receives_room n live))
+room_received n = step_if_live (λ live. Live (receives_room n live))
 
 abbrev pub eof_received : ChannelState → ChannelState
-eof_received = in_live (λ live. Live (receives_eof live))
+eof_received = step_if_live (λ live. Live (receives_eof live))
 
 abbrev pub close_received : ChannelState → ChannelState
-close_received = in_live receives_close
+close_received = step_if_live receives_close
 
 abbrev pub request_received : Bool → ChannelState → ChannelState
-request_received want = in_live (λ live. Live (receives_request want live))
+request_received want = step_if_live (λ live. Live (receives_request want live))
 
 -- the OPEN was confirmed, and a dialog that waits for that is granted what it asked for
 abbrev pub confirmed_in : ChannelState → ℕ → ℕ → ℕ → Relay → Relay
@@ -129,21 +129,21 @@ relay_taken_of n r = record r {
 }
 
 -- it is made, or couldn't be
-abbrev pub made_as : Option ℕ → Socket
+abbrev pub made_as : Option ℕ → RelaySocket
 made_as (Some stream) = socket.Connecting stream
 made_as None = socket.Closed
 
 -- it accepts bytes, or is connected
-abbrev pub connected : Socket → Socket
-connected (socket.Connecting stream) = socket.Open stream
-connected (socket.Open stream) = socket.Open stream
-connected socket.Unmade = socket.Unmade
-connected (socket.Failed stream) = socket.Failed stream
-connected (socket.NoChannelLeft stream) = socket.NoChannelLeft stream
-connected socket.Closed = socket.Closed
+abbrev pub socket_connected : RelaySocket → RelaySocket
+socket_connected (socket.Connecting stream) = socket.Open stream
+socket_connected (socket.Open stream) = socket.Open stream
+socket_connected socket.Unmade = socket.Unmade
+socket_connected (socket.Failed stream) = socket.Failed stream
+socket_connected (socket.NoChannelLeft stream) = socket.NoChannelLeft stream
+socket_connected socket.Closed = socket.Closed
 
 -- it failed
-abbrev pub failing : Socket → Socket
+abbrev pub failing : RelaySocket → RelaySocket
 failing (socket.Connecting stream) = socket.Failed stream
 failing (socket.Open stream) = socket.Failed stream
 failing socket.Unmade = socket.Unmade
@@ -152,7 +152,7 @@ failing (socket.NoChannelLeft stream) = socket.Failed stream
 failing socket.Closed = socket.Closed
 
 -- there is no channel for it
-abbrev pub no_channel_left_of : Socket → Socket
+abbrev pub no_channel_left_of : RelaySocket → RelaySocket
 no_channel_left_of (socket.Connecting stream) = socket.NoChannelLeft stream
 no_channel_left_of (socket.Open stream) = socket.NoChannelLeft stream
 no_channel_left_of socket.Unmade = socket.Unmade

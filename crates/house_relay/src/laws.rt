@@ -21,7 +21,7 @@ pub fn relays_relay()
         → RelayRepresents dials acts r → RelayKeeps dials acts r }
 {}
 
-/// A relay that has nothing to say, and nothing to order of its stream, is at rest.
+/// A relay that has nothing to send, and nothing to order of its stream, is at rest.
 pub fn relays_that_want_nothing_rest()
     ensures silent { (r : TheRelay) → sends_of r ≡ None → SilentIn r.line r }
     ensures rests { (r : TheRelay) (stream : TheStream) → socket_stream_of r.socket ≡ Some stream.number

@@ -20,9 +20,9 @@ mod line;
 mod relay;
 
 pub use line::{ChannelState, Live};
-pub use relay::{Outgoing, Relay, Socket};
+pub use relay::{Outgoing, Relay, RelaySocket};
 
-/// The window of each channel: what may be under way before the socket has taken it.
+/// The window of each channel: what may be under way before the socket has accepted it.
 pub const WINDOW: u32 = 2_097_152;
 
 /// The longest data of one message.

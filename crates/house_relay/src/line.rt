@@ -1,6 +1,6 @@
 //! The channel's side of a relay.
 ghost use Rattle.std.specs.Prelude.{◌≡◌, ◌≤◌, ◌<◌, ◌+◌, ◌-◌, ◌^◌};
-ghost use Rattle.house_relay.specs.ChannelState.{counts, has_no_more, receives_end, fresh_live, takes, closes, answers, sends, ends, grants, receives_room, receives_eof, receives_close, receives_request, takes_more, takes_in, owed_in};
+ghost use Rattle.house_relay.specs.ChannelState.{is_counted_channel, has_no_more, receives_end, fresh_live, takes, live_after_close, answers_failure, live_after_sending, ends, live_after_grant, receives_room, receives_eof, receives_close, receives_request, takes_more, takes_in, owed_in};
 ghost use Rattle.house_relay.specs.Relay.{stuck_in};
 
 use socks_dialog::Dialog;
@@ -50,7 +50,7 @@ pub enum ChannelState {
         window: u32,
         maximum: u32,
     },
-    /// Both sides may speak.
+    /// Both sides may send.
     Live(Live),
     /// It has ended.
     Over,
@@ -59,7 +59,7 @@ pub enum ChannelState {
 impl ChannelState {
     /// Whether it counts as a channel.
     pub fn counts(&self) -> bool
-        ensures { result ≡ counts self.now }
+        ensures { result ≡ is_counted_channel self.now }
     {
         match self {
             ChannelState::Dialing(_) | ChannelState::Over => false,
@@ -139,7 +139,7 @@ impl Live {
 
     /// CLOSE is sent.
     pub fn closes(self) -> ChannelState
-        ensures { result ≡ closes self }
+        ensures { result ≡ live_after_close self }
     {
         if self.close_received {
             ChannelState::Over
@@ -155,7 +155,7 @@ impl Live {
 
     /// A request is answered.
     pub fn answers(self) -> Live
-        ensures { result ≡ answers self }
+        ensures { result ≡ answers_failure self }
     {
         Live {
             failures: self.failures.saturating_sub(1),
@@ -166,7 +166,7 @@ impl Live {
     /// So many bytes of data are sent.
     pub fn sends(self, len: u32) -> Live
         requires { len ≤ self.room }
-        ensures { result ≡ sends len self }
+        ensures { result ≡ live_after_sending len self }
     {
         Live {
             room: self.room - len,
@@ -187,7 +187,7 @@ impl Live {
     /// Room is given back for so many bytes of those that are owed.
     pub fn grants(self, n: u32) -> Live
         requires { n ≤ self.owed }
-        ensures { result ≡ grants n self }
+        ensures { result ≡ live_after_grant n self }
     {
         Live {
             owed: self.owed - u64::from(n),

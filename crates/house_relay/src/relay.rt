@@ -2,9 +2,9 @@
 ghost use Rattle.std.specs.Prelude.{◌≡◌, ◌+◌, ◌≤◌, ◌<◌, ◌^◌, ◌++◌, ℕ, List, [], true, false, if◌then◌else◌, length, take, drop, min, IfSome, OnOk, IfOk, None, Some, IsTrue};
 ghost use Rattle.house_relay.specs.Acts.{RelayAct, Reads, Ends, Takes, Fails, Confirms, Refuses, Delivers, ReceivesEof, ReceivesClose, SendsData, SendsAdjust, SendsEof, SendsClose, Other};
 ghost use Rattle.house_relay.specs.Next.{sends_of, sends_offered, sends_live, orders_of};
-ghost use Rattle.house_relay.specs.Relay.{RelayRepresents, RelayGoesOn, IsSending, sent_act, SilentIn, is_broken, is_finished, socket_stream_of, delivers, IsChannelOffered, OrdersRight, IsResting, is_stuck, stuck_in, received_in, answered_in, RelayMayRead, holding};
+ghost use Rattle.house_relay.specs.Relay.{RelayRepresents, RelayGoesOn, IsSending, sent_act, SilentIn, is_broken, is_to_be_closed, socket_stream_of, delivers, IsChannelOffered, OrdersRight, IsResting, is_stuck, stuck_in, received_if_live, answered_in, RelayMayRead, holding};
 ghost use Rattle.house_relay.specs.ChannelState.{owed_in};
-ghost use Rattle.house_relay.specs.Steps.{sent_of, made_as, connected, failing, relay_taken_of, confirmed_in, refused_in, on_line, room_received, eof_received, close_received, request_received, data_received, no_channel_left_of, Dials, fresh_relay, is_gone};
+ghost use Rattle.house_relay.specs.Steps.{sent_of, made_as, socket_connected, failing, relay_taken_of, confirmed_in, refused_in, on_line, room_received, eof_received, close_received, request_received, data_received, no_channel_left_of, Dials, fresh_relay, is_gone};
 ghost use Rattle.proxy_frames.specs.Queued.{without_first_bytes};
 ghost use Rattle.socks_dialog.specs.State.{new_dialog};
 
@@ -19,7 +19,7 @@ use std::alloc::Global;
 
 /// How a socket stands.
 #[derive(Clone, Copy, PartialEq, Eq)]
-pub enum Socket {
+pub enum RelaySocket {
     /// It is to be connected, and has no number yet.
     Unmade,
     /// It connects.
@@ -34,7 +34,7 @@ pub enum Socket {
     Closed,
 }
 
-/// What a relay says next.
+/// What a relay sends next.
 #[derive(Clone, Copy, PartialEq, Eq)]
 pub enum Outgoing {
     Open,
@@ -55,18 +55,18 @@ pub struct Relay {
     /// The forwarder's own number of the channel.
     pub number: u32,
     pub line: ChannelState,
-    pub socket: Socket,
+    pub socket: RelaySocket,
     /// Whether the socket has given its end.
     pub ended: bool,
-    /// Read from the socket, and not said in the channel.
+    /// Read from the socket, and not sent in the channel.
     pub held: Queue,
-    /// Heard in the channel, and not taken by the socket.
+    /// Received in the channel, and not accepted by the socket.
     pub queue: Queue,
 }
 
 impl Relay {
     // A relay in which nothing happened yet.
-    fn begun(alloc: Global, number: u32, line: ChannelState, socket: Socket) -> Relay
+    fn begun(alloc: Global, number: u32, line: ChannelState, socket: RelaySocket) -> Relay
         ensures { result ≡ fresh_relay number line socket }
     {
         Relay {
@@ -79,11 +79,11 @@ impl Relay {
         }
     }
 
-    /// A socket that was joined, and is to be a channel to this end.
+    /// A socket that was accepted, and is to be a channel to this end.
     pub fn joined(alloc: Global, number: u32, stream: u64, host: Text, port: u32) -> Relay
         ensures stands { RelayRepresents false [] result }
         ensures exact { result
-            ≡ fresh_relay number (ChannelState.Asked host port None) (Socket.Open stream) }
+            ≡ fresh_relay number (ChannelState.Asked host port None) (RelaySocket.Open stream) }
     {
         Relay::begun(
             alloc,
@@ -93,34 +93,34 @@ impl Relay {
                 port,
                 version: None,
             },
-            Socket::Open(stream),
+            RelaySocket::Open(stream),
         )
     }
 
-    /// A socket that was joined, whose client requests the channel's end in a dialog.
+    /// A socket that was accepted, whose client requests the channel's end in a dialog.
     pub fn dynamic(alloc: Global, number: u32, stream: u64) -> Relay
         ensures stands { RelayRepresents true [] result }
         ensures exact { result
-            ≡ fresh_relay number (ChannelState.Dialing new_dialog) (Socket.Open stream) }
+            ≡ fresh_relay number (ChannelState.Dialing new_dialog) (RelaySocket.Open stream) }
     {
         Relay::begun(
             alloc,
             number,
             ChannelState::Dialing(Dialog::new()),
-            Socket::Open(stream),
+            RelaySocket::Open(stream),
         )
     }
 
-    /// A socket that was joined, and for which there is no channel.
+    /// A socket that was accepted, and for which there is no channel.
     pub fn no_channel_left(alloc: Global, number: u32, stream: u64) -> Relay
         ensures stands { RelayRepresents false [] result }
-        ensures exact { result ≡ fresh_relay number ChannelState.Over (Socket.NoChannelLeft stream) }
+        ensures exact { result ≡ fresh_relay number ChannelState.Over (RelaySocket.NoChannelLeft stream) }
     {
         Relay::begun(
             alloc,
             number,
             ChannelState::Over,
-            Socket::NoChannelLeft(stream),
+            RelaySocket::NoChannelLeft(stream),
         )
     }
 
@@ -128,7 +128,7 @@ impl Relay {
     pub fn offered(alloc: Global, number: u32, remote: u32, window: u32, maximum: u32) -> Relay
         ensures stands { RelayRepresents false [] result }
         ensures exact { result
-            ≡ fresh_relay number (ChannelState.Offered remote window maximum) Socket.Unmade }
+            ≡ fresh_relay number (ChannelState.Offered remote window maximum) RelaySocket.Unmade }
     {
         Relay::begun(
             alloc,
@@ -138,7 +138,7 @@ impl Relay {
                 window,
                 maximum,
             },
-            Socket::Unmade,
+            RelaySocket::Unmade,
         )
     }
 
@@ -147,11 +147,11 @@ impl Relay {
         ensures { result ≡ socket_stream_of self.now.socket }
     {
         match self.socket {
-            Socket::Connecting(stream)
-            | Socket::Open(stream)
-            | Socket::Failed(stream)
-            | Socket::NoChannelLeft(stream) => Some(stream),
-            Socket::Unmade | Socket::Closed => None,
+            RelaySocket::Connecting(stream)
+            | RelaySocket::Open(stream)
+            | RelaySocket::Failed(stream)
+            | RelaySocket::NoChannelLeft(stream) => Some(stream),
+            RelaySocket::Unmade | RelaySocket::Closed => None,
         }
     }
 
@@ -160,12 +160,12 @@ impl Relay {
         ensures { result ≡ is_gone self.now }
     {
         match self.socket {
-            Socket::Closed => !self.line.counts(),
-            Socket::Unmade
-            | Socket::Connecting(_)
-            | Socket::Open(_)
-            | Socket::Failed(_)
-            | Socket::NoChannelLeft(_) => false,
+            RelaySocket::Closed => !self.line.counts(),
+            RelaySocket::Unmade
+            | RelaySocket::Connecting(_)
+            | RelaySocket::Open(_)
+            | RelaySocket::Failed(_)
+            | RelaySocket::NoChannelLeft(_) => false,
         }
     }
 
@@ -174,8 +174,8 @@ impl Relay {
         ensures { result ≡ is_broken self.now.socket }
     {
         match self.socket {
-            Socket::Failed(_) | Socket::NoChannelLeft(_) | Socket::Closed => true,
-            Socket::Unmade | Socket::Connecting(_) | Socket::Open(_) => false,
+            RelaySocket::Failed(_) | RelaySocket::NoChannelLeft(_) | RelaySocket::Closed => true,
+            RelaySocket::Unmade | RelaySocket::Connecting(_) | RelaySocket::Open(_) => false,
         }
     }
 
@@ -205,11 +205,11 @@ impl Relay {
         ensures exact { result ≡ sends_offered self.now.socket }
     {
         match self.socket {
-            Socket::Open(_) => Some(Outgoing::Confirmation),
-            Socket::Failed(_) | Socket::NoChannelLeft(_) | Socket::Closed => Some(
+            RelaySocket::Open(_) => Some(Outgoing::Confirmation),
+            RelaySocket::Failed(_) | RelaySocket::NoChannelLeft(_) | RelaySocket::Closed => Some(
                 Outgoing::OpenFailure,
             ),
-            Socket::Unmade | Socket::Connecting(_) => None,
+            RelaySocket::Unmade | RelaySocket::Connecting(_) => None,
         }
     }
 
@@ -249,7 +249,7 @@ impl Relay {
 
     // Whether its channel is to be closed.
     fn is_finished(&self, live: Live) -> bool
-        ensures { result ≡ is_finished self.now.socket self.now.queue.waiting live }
+        ensures { result ≡ is_to_be_closed self.now.socket self.now.queue.waiting live }
     {
         self.is_broken()
             || live.close_received
@@ -356,9 +356,9 @@ impl Relay {
     {
         let t = stream.number;
         match self.socket {
-            Socket::Failed(_) | Socket::NoChannelLeft(_) => return Some(Order::Close(t)),
-            Socket::Open(_) | Socket::Connecting(_) => {}
-            Socket::Unmade | Socket::Closed => return None,
+            RelaySocket::Failed(_) | RelaySocket::NoChannelLeft(_) => return Some(Order::Close(t)),
+            RelaySocket::Open(_) | RelaySocket::Connecting(_) => {}
+            RelaySocket::Unmade | RelaySocket::Closed => return None,
         }
         if self.line.has_no_more(self.ended) && self.queue.is_empty() {
             return Some(Order::Close(t));
@@ -395,9 +395,9 @@ impl Relay {
     /// Its stream was ordered to close.
     pub fn closed(&mut self)
         ensures stands { RelayGoesOn self.old self.new Other }
-        ensures exact { self.new ≡ record self.old { socket = Socket.Closed } }
+        ensures exact { self.new ≡ record self.old { socket = RelaySocket.Closed } }
     {
-        self.socket = Socket::Closed;
+        self.socket = RelaySocket::Closed;
     }
 
     // ---- the outcome of its socket
@@ -408,8 +408,8 @@ impl Relay {
         ensures exact { self.new ≡ record self.old { socket = made_as stream } }
     {
         self.socket = match stream {
-            Some(stream) => Socket::Connecting(stream),
-            None => Socket::Closed,
+            Some(stream) => RelaySocket::Connecting(stream),
+            None => RelaySocket::Closed,
         };
     }
 
@@ -481,7 +481,7 @@ impl Relay {
         }
         self.line = ChannelState::Over;
         if let Some(stream) = self.stream() {
-            self.socket = Socket::NoChannelLeft(stream);
+            self.socket = RelaySocket::NoChannelLeft(stream);
         }
     }
 
@@ -496,10 +496,10 @@ impl Relay {
     /// Its socket gives bytes, or is connected.
     pub fn writable(&mut self)
         ensures stands { RelayGoesOn self.old self.new Other }
-        ensures exact { self.new ≡ record self.old { socket = connected self.old.socket } }
+        ensures exact { self.new ≡ record self.old { socket = socket_connected self.old.socket } }
     {
-        if let Socket::Connecting(stream) = self.socket {
-            self.socket = Socket::Open(stream);
+        if let RelaySocket::Connecting(stream) = self.socket {
+            self.socket = RelaySocket::Open(stream);
         }
     }
 
@@ -509,7 +509,7 @@ impl Relay {
         ensures exact { self.new ≡ record self.old { socket = failing self.old.socket } }
     {
         if let Some(stream) = self.stream() {
-            self.socket = Socket::Failed(stream);
+            self.socket = RelaySocket::Failed(stream);
         }
     }
 
@@ -606,7 +606,7 @@ impl Relay {
 
     /// The server ends its data.
     pub fn receives_eof(&mut self)
-        ensures stands { RelayGoesOn self.old self.new (received_in self.old.line ReceivesEof) }
+        ensures stands { RelayGoesOn self.old self.new (received_if_live self.old.line ReceivesEof) }
         ensures exact { self.new ≡ on_line eof_received self.old }
     {
         match &mut self.line {
@@ -621,7 +621,7 @@ impl Relay {
 
     /// The server closes the channel.
     pub fn receives_close(&mut self)
-        ensures stands { RelayGoesOn self.old self.new (received_in self.old.line ReceivesClose) }
+        ensures stands { RelayGoesOn self.old self.new (received_if_live self.old.line ReceivesClose) }
         ensures exact { self.new ≡ on_line close_received self.old }
     {
         match self.line {

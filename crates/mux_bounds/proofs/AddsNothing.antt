@@ -4,10 +4,10 @@ use Rattle.std.proofs.Common.{◌≡◌, ℕ, ◌≤◌, List, [], ◌∷◌, le
 use Rattle.std.specs.Prelude.{◌==◌}
 use Rattle.mux_outside.specs.declared.house.HouseReply.{HouseReply}
 use Rattle.mux_history.specs.Journal.{is_own_stream, server_end, unless_own}
-use Rattle.mux_history.specs.Log.{bare, is_took, makes_next, makes_row, more_all, more_of}
+use Rattle.mux_history.specs.Log.{bare_row, is_took, makes_next, makes_row, more_all, more_of}
 use Rattle.mux_history.specs.Pending.{pending_up}
 use Rattle.mux_history.specs.Policy.{Policy}
-use Rattle.mux_history.specs.Rows.{Gone, Item, Row, Took, is_ended}
+use Rattle.mux_history.specs.Rows.{Gone, Item, Row, Took, is_run_over}
 use Rattle.mux_history.specs.Said.{silent}
 use Rattle.mux_bounds.proofs.AddsLittle.{grows-by}
 use Rattle.mux_bounds.proofs.Entries.{EachItem, by-more, each-unless, next, setting}
@@ -20,20 +20,20 @@ waits rows = length (pending_up rows)
 
 -- only what is accepted makes rows
 abbrev pub Over : List Row → List Row → Type 0
-Over rows after = (waits after ≤ waits rows) × (is_ended after ≡ true)
+Over rows after = (waits after ≤ waits rows) × (is_run_over after ≡ true)
 
 module _ (policy : Policy) (pid : ℕ) (picks : List ℕ) (given : List HouseReply) where
-  over-one : (rows : List Row) (item : Item) → is_ended rows ≡ true → Over rows (more_of (setting policy pid picks given) rows item)
+  over-one : (rows : List Row) (item : Item) → is_run_over rows ≡ true → Over rows (more_of (setting policy pid picks given) rows item)
   over-one rows item ended = by-more policy pid picks given (Over rows) rows item (λ stays. (omega arith, ended)) (λ makes. took item (takes makes))
     where
       takes : makes_next rows item ≡ true → is_took item ≡ true
       takes makes = sym (ap (λ b. elim b as (λ _. Bool) [ true ↦ is_took item | false ↦ makes_row rows item ]) ended) ∙ makes
 
       took : (i : Item) → is_took i ≡ true → Over rows (next policy pid picks given rows i ∷ rows)
-      took (Took stream size) e = (let g = grows-by (bare (Took stream size) stream silent) rows in omega (arith, g), ended)
+      took (Took stream size) e = (let g = grows-by (bare_row (Took stream size) stream silent) rows in omega (arith, g), ended)
       took i e = cc
 
-  pub over-all : (rows : List Row) (xs : List Item) → is_ended rows ≡ true → Over rows (more_all (setting policy pid picks given) rows xs)
+  pub over-all : (rows : List Row) (xs : List Item) → is_run_over rows ≡ true → Over rows (more_all (setting policy pid picks given) rows xs)
   over-all rows [] ended = (omega arith, ended)
   over-all rows (item ∷ xs) ended =
       let one = over-one rows item ended in

@@ -2,13 +2,13 @@
 use Rattle.std.proofs.Common.{◌≡◌, ℕ, ◌+◌, ◌≤◌, List, [], ◌∷◌, ◌++◌, length, length-append, true, false, Bool, refl, ◌∙◌, ap, arith, sym, Option, Some, None, subst, Ok, Err}
 use Rattle.std.specs.Prelude.{◌==◌, ◌-◌, Result, nat_le}
 use Rattle.std.proofs.lemmas.Bool.Decides.{nat_tests}
-use Rattle.mux_history.specs.Controls.{greeted, house_sends, sent_body}
+use Rattle.mux_history.specs.Controls.{client_has_greeted, house_sends, sent_body}
 use Rattle.mux_history.specs.Summary.{Summary, Requests, read_summary}
 use Rattle.mux_history.specs.Heard.{Breaks, Dest, Disconnects, ToClient, ToMaster, dest, received_for}
 use Rattle.mux_history.specs.Kept.{AtEach, ForEach}
 use Rattle.mux_history.specs.Log.{admits, received_row, row_of, treat}
 use Rattle.mux_history.specs.Policy.{Policy}
-use Rattle.mux_history.specs.Requests.{answers, answers_to, asks, asks_of, is_sent, replies, reply_in, sent_flags, unanswered_asks, wanted, wanted_by, wanted_in}
+use Rattle.mux_history.specs.Requests.{answers, answers_to, wanted_requests, asks_of, is_sent, replies, reply_in, sent_flags, unanswered_asks, wanted, wanted_by, wanted_in}
 use Rattle.mux_history.specs.Rows.{Admit, Fate, Gone, Heard, HouseSays, Item, Row, Says, rows_of}
 use Rattle.mux_history.specs.Said.{Outcome, drops, sent_summary, sent_payload, sent_request, silent}
 use Rattle.mux_bounds.specs.Few.{RequestsBounded}
@@ -45,12 +45,12 @@ asks-one k false (Some what) = refl
 asks-one k true None = refl
 asks-one k false None = refl
 
-pub asks-trues : (own : List Row) → length (asks own) ≡ trues (wanted own)
+pub asks-trues : (own : List Row) → length (wanted_requests own) ≡ trues (wanted own)
 asks-trues [] = refl
 asks-trues (row ∷ own) =
     let a = asks-trues own in
     let b = asks-one row.client (is_sent row) (wanted_by row) in
-    let c = length-append (asks own) (asks_of row.client (is_sent row) (wanted_by row)) in
+    let c = length-append (wanted_requests own) (asks_of row.client (is_sent row) (wanted_by row)) in
     let d = trues-append (wanted own) (sent_flags (is_sent row) (wanted_by row)) in
     omega arith
 
@@ -64,7 +64,7 @@ answers-few (true ∷ flags) (p ∷ heard) = let l = answers-few flags heard in 
 below : (wants given : ℕ) → nat_le 1024 (wants - given) ≡ false → wants + 1 ≤ given + 1024
 below wants given e = grind (arith, nat_tests)
 
-has-room : (own : List Row) → nat_le 1024 (unanswered_asks own) ≡ false → length (asks own) + 1 ≤ length (replies own) + 1024
+has-room : (own : List Row) → nat_le 1024 (unanswered_asks own) ≡ false → length (wanted_requests own) + 1 ≤ length (replies own) + 1024
 has-room own e =
     let a = asks-trues own in
     let b = answers-few (wanted own) (replies own) in
@@ -75,7 +75,7 @@ has-room own e =
 
 abbrev Fits : List Row → Row → Type 0
 Fits before row =
-    length (asks (rows_of row.client before)) ≤ length (replies (rows_of row.client before)) + 1024 → length (asks (rows_of row.client before)) + length (asks_of row.client (is_sent row) (wanted_by row)) ≤ length (replies (rows_of row.client before)) + 1024
+    length (wanted_requests (rows_of row.client before)) ≤ length (replies (rows_of row.client before)) + 1024 → length (wanted_requests (rows_of row.client before)) + length (asks_of row.client (is_sent row) (wanted_by row)) ≤ length (replies (rows_of row.client before)) + 1024
 
 -- a row that wants no reply
 asks-none : (k : ℕ) (sent : Bool) → asks_of k sent None ≡ []
@@ -99,22 +99,22 @@ flag up = elim up [ [] ↦ false | p ∷ ps ↦ true ]
 said-fits : (policy : Policy) (before : List Row) (k pick : ℕ) (p : List ℕ) (reply : Option HouseReply) (fw down : List (List ℕ)) (fate : Fate) → Fits before (as_row (Says k (Payload p) reply) k (sent_payload policy k (rows_of k before) pick p).sent fw down fate)
 said-fits policy before k pick p reply fw down fate le = by_case (read_summary p)
   where
-    by_none : (sent : Bool) → length (asks (rows_of k before)) + length (asks_of k sent None) ≤ length (replies (rows_of k before)) + 1024
+    by_none : (sent : Bool) → length (wanted_requests (rows_of k before)) + length (asks_of k sent None) ≤ length (replies (rows_of k before)) + 1024
     by_none true = omega (arith, le)
     by_none false = omega (arith, le)
 
-    by_full : (what : Global) (b : Bool) → nat_le 1024 (unanswered_asks (rows_of k before)) ≡ b → length (asks (rows_of k before)) + length (asks_of k (flag (elim b as (λ _. Outcome) [ true ↦ drops (why.TooManyAsks 1024) | false ↦ sent_request policy k (rows_of k before) p what true ]).sent) (Some what)) ≤ length (replies (rows_of k before)) + 1024
+    by_full : (what : Global) (b : Bool) → nat_le 1024 (unanswered_asks (rows_of k before)) ≡ b → length (wanted_requests (rows_of k before)) + length (asks_of k (flag (elim b as (λ _. Outcome) [ true ↦ drops (why.TooManyAsks 1024) | false ↦ sent_request policy k (rows_of k before) p what true ]).sent) (Some what)) ≤ length (replies (rows_of k before)) + 1024
     by_full what true e = omega (arith, le)
     by_full what false e =
         let room = has-room (rows_of k before) e in
         let one = asks-few k (flag (sent_request policy k (rows_of k before) p what true).sent) (Some what) in
         omega arith
 
-    by_summary : (m : Summary) → length (asks (rows_of k before)) + length (asks_of k (flag (sent_summary policy k (rows_of k before) pick p m).sent) (wanted_in m)) ≤ length (replies (rows_of k before)) + 1024
+    by_summary : (m : Summary) → length (wanted_requests (rows_of k before)) + length (asks_of k (flag (sent_summary policy k (rows_of k before) pick p m).sent) (wanted_in m)) ≤ length (replies (rows_of k before)) + 1024
     by_summary (Requests what true) = by_full what (nat_le 1024 (unanswered_asks (rows_of k before))) refl
     by_summary m = by_none (flag (sent_summary policy k (rows_of k before) pick p m).sent)
 
-    by_case : (r : Result Summary Bad) → length (asks (rows_of k before)) + length (asks_of k (flag (elim r as (λ _. Outcome) [ Err bad ↦ drops (why.BadMessage bad) | Ok m ↦ sent_summary policy k (rows_of k before) pick p m ]).sent) (elim r as (λ _. Option Global) [ Err e ↦ None | Ok m ↦ wanted_in m ])) ≤ length (replies (rows_of k before)) + 1024
+    by_case : (r : Result Summary Bad) → length (wanted_requests (rows_of k before)) + length (asks_of k (flag (elim r as (λ _. Outcome) [ Err bad ↦ drops (why.BadMessage bad) | Ok m ↦ sent_summary policy k (rows_of k before) pick p m ]).sent) (elim r as (λ _. Option Global) [ Err e ↦ None | Ok m ↦ wanted_in m ])) ≤ length (replies (rows_of k before)) + 1024
     by_case (Err e) = by_none false
     by_case (Ok m) = by_summary m
 
@@ -135,7 +135,7 @@ fits-plain before item k o none = fits-row before item k o (λ fw down fate. fit
 fits-treat : (policy : Policy) (pid pick : ℕ) (before : List Row) (item : Item) → Fits before (treat policy pid pick before item)
 fits-treat policy pid pick before (Admit k) = fits-plain before (Admit k) k (admits before) (λ fw down fate. refl)
 fits-treat policy pid pick before (Says k (Payload p) reply) = fits-row before (Says k (Payload p) reply) k (sent_payload policy k (rows_of k before) pick p) (λ fw down fate. said-fits policy before k pick p reply fw down fate)
-fits-treat policy pid pick before (Says k (Body body) reply) = fits-plain before (Says k (Body body) reply) k (sent_body pid k reply (greeted (rows_of k before)) body) (λ fw down fate. refl)
+fits-treat policy pid pick before (Says k (Body body) reply) = fits-plain before (Says k (Body body) reply) k (sent_body pid k reply (client_has_greeted (rows_of k before)) body) (λ fw down fate. refl)
 fits-treat policy pid pick before (Says k (BadFraming fault) reply) = fits-plain before (Says k (BadFraming fault) reply) k (drops (why.BadFrame fault)) (λ fw down fate. refl)
 fits-treat policy pid pick before (HouseSays k id given) = fits-plain before (HouseSays k id given) k (house_sends (rows_of k before) id given) (λ fw down fate. refl)
 fits-treat policy pid pick before (Gone k) = fits-plain before (Gone k) k silent (λ fw down fate. refl)
@@ -150,16 +150,16 @@ fits-held : (rows : List Row) → ForEach Fits rows → RequestsBounded rows
 fits-held [] each k = omega arith
 fits-held (row ∷ before) each k = by_case (fits-held before each.1 k) (row.client == k) refl
   where
-    by_case : length (asks (rows_of k before)) ≤ length (replies (rows_of k before)) + 1024 → (b : Bool) → (row.client == k) ≡ b → length (asks (rows_of k (row ∷ before))) ≤ length (replies (rows_of k (row ∷ before))) + 1024
+    by_case : length (wanted_requests (rows_of k before)) ≤ length (replies (rows_of k before)) + 1024 → (b : Bool) → (row.client == k) ≡ b → length (wanted_requests (rows_of k (row ∷ before))) ≤ length (replies (rows_of k (row ∷ before))) + 1024
     by_case ih true e =
         let mine : row.client ≡ k = same-client row.client k e in
-        let fits : length (asks (rows_of k before)) + length (asks_of row.client (is_sent row) (wanted_by row)) ≤ length (replies (rows_of k before)) + 1024 = subst (λ (j : ℕ). length (asks (rows_of j before)) ≤ length (replies (rows_of j before)) + 1024 → length (asks (rows_of j before)) + length (asks_of row.client (is_sent row) (wanted_by row)) ≤ length (replies (rows_of j before)) + 1024) mine each.0 ih in
-        let at = ap (λ rs. length (asks rs)) (filter-yes (λ (r : Row). r.client == k) row before e) in
+        let fits : length (wanted_requests (rows_of k before)) + length (asks_of row.client (is_sent row) (wanted_by row)) ≤ length (replies (rows_of k before)) + 1024 = subst (λ (j : ℕ). length (wanted_requests (rows_of j before)) ≤ length (replies (rows_of j before)) + 1024 → length (wanted_requests (rows_of j before)) + length (asks_of row.client (is_sent row) (wanted_by row)) ≤ length (replies (rows_of j before)) + 1024) mine each.0 ih in
+        let at = ap (λ rs. length (wanted_requests rs)) (filter-yes (λ (r : Row). r.client == k) row before e) in
         let by = ap (λ rs. length (replies rs)) (filter-yes (λ (r : Row). r.client == k) row before e) in
-        let a = length-append (asks (rows_of k before)) (asks_of row.client (is_sent row) (wanted_by row)) in
+        let a = length-append (wanted_requests (rows_of k before)) (asks_of row.client (is_sent row) (wanted_by row)) in
         let r = length-append (replies (rows_of k before)) (reply_in row.item) in
         omega arith
-    by_case ih false e = subst (λ (rs : List Row). length (asks rs) ≤ length (replies rs) + 1024) (sym (filter-no (λ (r : Row). r.client == k) row before e)) ih
+    by_case ih false e = subst (λ (rs : List Row). length (wanted_requests rs) ≤ length (replies rs) + 1024) (sym (filter-no (λ (r : Row). r.client == k) row before e)) ih
 
 at-each : (rows : List Row) → ForEach Fits rows → AtEach RequestsBounded rows
 at-each [] each = fits-held [] each

@@ -4,13 +4,13 @@ use Rattle.std.specs.Prelude.{◌==◌, ◌||◌, ◌&&◌, filter, not, Result,
 use Rattle.std.proofs.lemmas.Bool.Decides.{nat_tests}
 use Rattle.mux_history.specs.Channels.{Channel, channels_of, held_of, is_channel_held, is_number}
 use Rattle.mux_history.specs.Farewell.{has_open_matters}
-use Rattle.mux_history.specs.Forwardings.{Forwarding, forwarded, forwardings_of, is_request, of_client, replied}
+use Rattle.mux_history.specs.Forwardings.{Forwarding, forwarded, forwardings_of, is_request, of_client, forwarding_after_reply}
 use Rattle.mux_history.specs.Summary.{Summary, Refuses, Succeeds, read_summary}
 use Rattle.mux_history.specs.Kept.{AtEach, ForEach}
 use Rattle.mux_history.specs.Keys.{bound}
 use Rattle.mux_history.specs.Log.{makes_row, sent_by_client, treat}
 use Rattle.mux_history.specs.Policy.{Policy}
-use Rattle.mux_history.specs.Requests.{asks, replies}
+use Rattle.mux_history.specs.Requests.{wanted_requests, replies}
 use Rattle.mux_history.specs.Right.{IsAdmitted}
 use Rattle.mux_history.specs.Rows.{Heard, Item, Row, Says, Took, any_of, is_admit, is_lost, is_out, is_refusal, loses, rows_of}
 use Rattle.mux_bounds.specs.Few.{HasNothing, LeavesNothing}
@@ -50,7 +50,7 @@ ends-all c k e (f ∷ fs) mine = (ap (λ b. (elim b as (λ _. Forwarding) [ true
     both : (a b k : ℕ) → (a == k) ≡ true → (b == k) ≡ true → (a == b) ≡ true
     both a b k e f = grind (arith, nat_tests)
 
-pub replied-done : (n : ℕ) (m : Summary) (f : Forwarding) → f.over ≡ true → (replied n m f).over ≡ true
+pub replied-done : (n : ℕ) (m : Summary) (f : Forwarding) → f.over ≡ true → (forwarding_after_reply n m f).over ≡ true
 replied-done n (Succeeds rest) f done = by_case (is_request f n) (is_number f.cancel n)
   where
     by_case : (a b : Bool) → (elim a as (λ _. Forwarding) [ true ↦ record f { live = Some (bound f.key rest) } | false ↦ elim b as (λ _. Forwarding) [ true ↦ record f { over = true } | false ↦ f ] ]).over ≡ true
@@ -65,9 +65,9 @@ replied-done n Refuses f done = by_case (is_request f n) (is_number f.cancel n)
     by_case false false = done
 replied-done n m f done = done
 
-stay-done : (c n : ℕ) (m : Summary) (fs : List Forwarding) → EachF is_done fs → EachF is_done (map (of_client c (replied n m)) fs)
+stay-done : (c n : ℕ) (m : Summary) (fs : List Forwarding) → EachF is_done fs → EachF is_done (map (of_client c (forwarding_after_reply n m)) fs)
 stay-done c n m [] done = tt
-stay-done c n m (f ∷ fs) done = (elim (f.client == c) as (λ b. (elim b as (λ _. Forwarding) [ true ↦ replied n m f | false ↦ f ]).over ≡ true) [ true ↦ replied-done n m f done.0 | false ↦ done.0 ], stay-done c n m fs done.1)
+stay-done c n m (f ∷ fs) done = (elim (f.client == c) as (λ b. (elim b as (λ _. Forwarding) [ true ↦ forwarding_after_reply n m f | false ↦ f ]).over ≡ true) [ true ↦ replied-done n m f done.0 | false ↦ done.0 ], stay-done c n m fs done.1)
 
 pub lost-out : (own : List Row) → is_lost own ≡ true → is_out own ≡ true
 lost-out [] lost = cc
@@ -91,7 +91,7 @@ forwarded-done policy pid pick before k item row own client is mine makes lost f
 
     by_item : (i : Item) → (treat policy pid pick before i).client ≡ k → makes_row before i ≡ true → EachF is_done (forwarded (record row { item = i }) own fs)
     by_item (Says j outgoing reply) mine makes = absurd (silent_lost j (sym (client-of (Says j outgoing reply) j (sent_by_client policy pid j (rows_of j before) pick outgoing reply) (rows_of j before)) ∙ mine) makes)
-    by_item (Heard p) mine makes = by_reading (read_summary p) (λ m. map (of_client row.client (replied (length (replies own)) m)) fs) (λ m. stay-done row.client (length (replies own)) m fs done)
+    by_item (Heard p) mine makes = by_reading (read_summary p) (λ m. map (of_client row.client (forwarding_after_reply (length (replies own)) m)) fs) (λ m. stay-done row.client (length (replies own)) m fs done)
     by_item i mine makes = done
 
 pub lost-done : (policy : Policy) (pid k : ℕ) (rows : List Row) → ForEach (RowKnown policy pid) rows → is_lost (rows_of k rows) ≡ true → EachF is_done (forwardings_of (rows_of k rows))
@@ -137,10 +137,10 @@ is-lost false b e n = cc
 pub nothing-left : (policy : Policy) (pid : ℕ) (rows : List Row) → LogKnown policy pid rows → (k : ℕ) → IsAdmitted k rows → has_open_matters (rows_of k rows) ≡ false → HasNothing (rows_of k rows)
 nothing-left policy pid rows known k admitted closed =
     let lost : is_lost (rows_of k rows) ≡ true = is-lost (any_of is_admit (rows_of k rows)) (is_lost (rows_of k rows)) admitted (or-left (any_of is_admit (rows_of k rows) && not (is_lost (rows_of k rows))) _ closed) in
-    let rest = or-right (any_of is_admit (rows_of k rows) && not (is_lost (rows_of k rows))) (any_of is_channel_held (held_of (rows_of k rows)) || nat_lt (length (replies (rows_of k rows))) (length (asks (rows_of k rows)))) closed in
+    let rest = or-right (any_of is_admit (rows_of k rows) && not (is_lost (rows_of k rows))) (any_of is_channel_held (held_of (rows_of k rows)) || nat_lt (length (replies (rows_of k rows))) (length (wanted_requests (rows_of k rows)))) closed in
     record {
-      channels = none-held (channels_of (rows_of k rows)) (or-left (any_of is_channel_held (held_of (rows_of k rows))) (nat_lt (length (replies (rows_of k rows))) (length (asks (rows_of k rows)))) rest);
-      requests = not-less (length (replies (rows_of k rows))) (length (asks (rows_of k rows))) (or-right (any_of is_channel_held (held_of (rows_of k rows))) (nat_lt (length (replies (rows_of k rows))) (length (asks (rows_of k rows)))) rest);
+      channels = none-held (channels_of (rows_of k rows)) (or-left (any_of is_channel_held (held_of (rows_of k rows))) (nat_lt (length (replies (rows_of k rows))) (length (wanted_requests (rows_of k rows)))) rest);
+      requests = not-less (length (replies (rows_of k rows))) (length (wanted_requests (rows_of k rows))) (or-right (any_of is_channel_held (held_of (rows_of k rows))) (nat_lt (length (replies (rows_of k rows))) (length (wanted_requests (rows_of k rows)))) rest);
       forwardings = none-current (forwardings_of (rows_of k rows)) (lost-done policy pid k rows known.each lost);
     }
 

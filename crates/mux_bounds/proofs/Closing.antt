@@ -10,7 +10,7 @@ use Rattle.mux_history.specs.Heard.{Breaks, Dest, Disconnects, ToClient, ToMaste
 use Rattle.mux_history.specs.Kept.{ForEach}
 use Rattle.mux_history.specs.Log.{admits, received_row, makes_row, sent_by_client, treat}
 use Rattle.mux_history.specs.Policy.{Policy}
-use Rattle.mux_history.specs.Requests.{asks, asks_of, is_sent, replies, reply_in, wanted_by}
+use Rattle.mux_history.specs.Requests.{wanted_requests, asks_of, is_sent, replies, reply_in, wanted_by}
 use Rattle.mux_history.specs.Rows.{Admit, Fate, Gone, Heard, HouseSays, Item, Row, Says, any_of, is_admit, is_lost, is_out, loses, rows_of}
 use Rattle.mux_history.specs.Said.{silent}
 use Rattle.mux_bounds.specs.Few.{HasNothing}
@@ -84,11 +84,11 @@ stays-closed row own nothing lost begins wants =
     let new = ap length begins in
     let held : held_of (row ∷ own) ≡ [] = no-more (held_of (row ∷ own)) (omega arith) in
     let asked = ap length (ap (asks_of row.client (is_sent row)) wants) ∙ asks-same row.client (is_sent row) in
-    let a = length-append (asks own) (asks_of row.client (is_sent row) (wanted_by row)) in
+    let a = length-append (wanted_requests own) (asks_of row.client (is_sent row) (wanted_by row)) in
     let r = length-append (replies own) (reply_in row.item) in
     let before = nothing.requests in
-    let fewer : length (asks (row ∷ own)) ≤ length (replies (row ∷ own)) = omega (arith, before) in
-    all-closed (any_of is_admit (row ∷ own)) (is_lost (row ∷ own)) (any_of is_channel_held (held_of (row ∷ own))) (nat_lt (length (replies (row ∷ own))) (length (asks (row ∷ own)))) (or-yes (loses row) (is_lost own) lost) (ap (any_of is_channel_held) held) (no-less (length (replies (row ∷ own))) (length (asks (row ∷ own))) fewer)
+    let fewer : length (wanted_requests (row ∷ own)) ≤ length (replies (row ∷ own)) = omega (arith, before) in
+    all-closed (any_of is_admit (row ∷ own)) (is_lost (row ∷ own)) (any_of is_channel_held (held_of (row ∷ own))) (nat_lt (length (replies (row ∷ own))) (length (wanted_requests (row ∷ own)))) (or-yes (loses row) (is_lost own) lost) (ap (any_of is_channel_held) held) (no-less (length (replies (row ∷ own))) (length (wanted_requests (row ∷ own))) fewer)
 
 -- lost, where the matters of one that was admitted are closed
 lost-of : (a l r : Bool) → a ≡ true → ((a && not l) || r) ≡ false → l ≡ true

@@ -5,7 +5,7 @@ use Rattle.std.specs.Prelude.{◌==◌, ◌&&◌, ◌||◌, not, is_none}
 use Rattle.std.proofs.lemmas.Bool.Decides.{nat_tests}
 use Rattle.ssh_grammar.specs.Messages.{Key}
 use Rattle.mux_history.specs.Channels.{is_number}
-use Rattle.mux_history.specs.Forwardings.{Forwarding, change_first, is_forwarding_free_at, is_request, of_client, replied, stopped}
+use Rattle.mux_history.specs.Forwardings.{Forwarding, change_first, is_forwarding_free_at, is_request, of_client, forwarding_after_reply, stopped}
 use Rattle.mux_history.specs.Summary.{Summary, Refuses, Succeeds}
 use Rattle.mux_history.specs.Keys.{bound, has_key}
 use Rattle.mux_history.specs.Requests.{Ask}
@@ -140,7 +140,7 @@ waits-once n j f apart sound waits some = by_place (covers n f) refl
         let bad : true ≡ false = sym yes ∙ e in absurd (let h = bad in cc)
 
 -- a reply at a place leaves what waits at another
-pub replied-other : (n j : ℕ) (m : Summary) (f : Forwarding) → (n == j) ≡ false → Sound f → covers j f ≡ true → replied n m f ≡ f
+pub replied-other : (n j : ℕ) (m : Summary) (f : Forwarding) → (n == j) ≡ false → Sound f → covers j f ≡ true → forwarding_after_reply n m f ≡ f
 replied-other n j (Succeeds rest) f apart sound waits = by_case (is_request f n) refl (is_number f.cancel n) refl
   where
     by_case : (a : Bool) → is_request f n ≡ a → (b : Bool) → is_number f.cancel n ≡ b → (elim a as (λ _. Forwarding) [ true ↦ record f { live = Some (bound f.key rest) } | false ↦ elim b as (λ _. Forwarding) [ true ↦ record f { over = true } | false ↦ f ] ]) ≡ f
@@ -155,7 +155,7 @@ replied-other n j Refuses f apart sound waits = by_case (is_request f n) refl (i
     by_case false a false be = refl
 replied-other n j m f apart sound waits = refl
 
-pub replied-sound : (n : ℕ) (m : Summary) (f : Forwarding) → Sound f → Sound (replied n m f)
+pub replied-sound : (n : ℕ) (m : Summary) (f : Forwarding) → Sound f → Sound (forwarding_after_reply n m f)
 replied-sound n (Succeeds rest) f sound = by_case (is_request f n) (is_number f.cancel n)
   where
     by_case : (a b : Bool) → Sound (elim a as (λ _. Forwarding) [ true ↦ record f { live = Some (bound f.key rest) } | false ↦ elim b as (λ _. Forwarding) [ true ↦ record f { over = true } | false ↦ f ] ])

@@ -10,12 +10,12 @@ use Rattle.mux_outside.specs.declared.house_mark.HouseMark.{HouseMark}
 use Rattle.mux_outside.specs.declared.house_mark.HouseMark.TheVariants.{HouseAnswer, HouseAsked, HouseIn, HouseOrder, HouseSaid, HouseTook}
 use Rattle.mux_history.specs.declared.limits.TheConstants.{HOUSE}
 use Rattle.mux_history.specs.Choices.{Choices, FromLists, pick_of, replies_given, reply_at, with_reply}
-use Rattle.mux_history.specs.Controls.{body_asks, greeted, house_sends}
+use Rattle.mux_history.specs.Controls.{body_asks, client_has_greeted, house_sends}
 use Rattle.mux_history.specs.Journal.{IsLawful, LawfulMark, bytes_of, received_item, is_accepted, is_known, is_own_stream, items_in, log_of_journal, new_received, new_sayings, sent_item, server_end, unless_own}
 use Rattle.mux_history.specs.Kept.{ForEach}
 use Rattle.mux_history.specs.Log.{Setting, admits, is_took, makes_next, makes_row, more_all, more_of, sent_by_client, treat}
 use Rattle.mux_history.specs.Policy.{Policy}
-use Rattle.mux_history.specs.Rows.{Admit, Fate, Gone, HouseSays, Item, Refused, Row, Says, ServerFailed, Took, any_of, is_admit, is_end, is_ended, is_out, is_refusal, loses, rows_of}
+use Rattle.mux_history.specs.Rows.{Admit, Fate, Gone, HouseSays, Item, Refused, Row, Says, ServerFailed, Took, any_of, is_admit, is_end, is_run_over, is_out, is_refusal, loses, rows_of}
 use Rattle.mux_history.specs.Said.{silent}
 use Rattle.mux_history.specs.Settings.{by_lists}
 use Rattle.mux_history.proofs.Bools.{or-left, or-right, or-yes, self}
@@ -72,7 +72,7 @@ admitted-of policy pid k (row ∷ before) each has going = by_case (admits_clien
 
 -- the run is over, or the client's admission made a row
 abbrev pub Entered : ℕ → List Row → Type 0
-Entered k rows = (is_ended rows ≡ true) ⊎ Has k rows
+Entered k rows = (is_run_over rows ≡ true) ⊎ Has k rows
 
 abbrev pub OwnKnown : List Row → Item → Type 0
 OwnKnown rows (Says k outgoing given) = Entered k rows
@@ -81,7 +81,7 @@ OwnKnown rows (Gone k) = Entered k rows
 OwnKnown rows item = Unit {0}
 
 entered-next : (k : ℕ) (row : Row) (rows : List Row) → Entered k rows → Entered k (row ∷ rows)
-entered-next k row rows (inl ended) = inl (or-yes (is_end row.fate) (is_ended rows) ended)
+entered-next k row rows (inl ended) = inl (or-yes (is_end row.fate) (is_run_over rows) ended)
 entered-next k row rows (inr has) = inr (or-yes (admits_client k row.item) (any_of (λ r. admits_client k r.item) rows) has)
 
 own-next : (row : Row) (rows : List Row) (item : Item) → OwnKnown rows item → OwnKnown (row ∷ rows) item
@@ -90,7 +90,7 @@ own-next row rows (HouseSays k id given) known = entered-next k row rows known
 own-next row rows (Gone k) known = entered-next k row rows known
 own-next row rows item known = tt
 
-took-not : (rows : List Row) (item : Item) → is_took item ≡ false → is_ended rows ≡ true → makes_next rows item ≡ true → ⊥
+took-not : (rows : List Row) (item : Item) → is_took item ≡ false → is_run_over rows ≡ true → makes_next rows item ≡ true → ⊥
 took-not rows item other ended makes =
     let no : makes_next rows item ≡ false = ap (λ b. elim b as (λ _. Bool) [ true ↦ is_took item | false ↦ makes_row rows item ]) ended ∙ other in
     let bad : true ≡ false = sym makes ∙ no in absurd (let h = bad in cc)
@@ -100,9 +100,9 @@ not-true true e = cc
 not-true false e = refl
 
 going-in : (policy : Policy) (pid k : ℕ) (rows : List Row) (item : Item) → ForEach (RowKnown policy pid) rows → is_took item ≡ false → makes_row rows item ≡ not (is_out (rows_of k rows)) → Entered k rows → makes_next rows item ≡ true → any_of is_admit (rows_of k rows) ≡ true
-going-in policy pid k rows item each other row entered makes = by_ended (is_ended rows) refl entered
+going-in policy pid k rows item each other row entered makes = by_ended (is_run_over rows) refl entered
   where
-    by_ended : (b : Bool) → is_ended rows ≡ b → Entered k rows → any_of is_admit (rows_of k rows) ≡ true
+    by_ended : (b : Bool) → is_run_over rows ≡ b → Entered k rows → any_of is_admit (rows_of k rows) ≡ true
     by_ended true e known = absurd (took-not rows item other e makes)
     by_ended false e (inl ended) = let bad : true ≡ false = sym ended ∙ e in absurd (let h = bad in cc)
     by_ended false e (inr has) = admitted-of policy pid k rows each has (not-true (is_out (rows_of k rows)) (sym row ∙ (sym (next-live rows item e) ∙ makes)))
@@ -155,7 +155,7 @@ module _ (policy : Policy) (pid : ℕ) (picks : List ℕ) (given : List HouseRep
 
   -- a reply changes nothing but the reply
   pub with-reply : (P : Item → Type 0) → ((k : ℕ) (body : List ℕ) (a b : Option HouseReply) → P (Says k (Body body) a) → P (Says k (Body body) b)) → (rows : List Row) (item : Item) → P item → P (with_reply lists rows item)
-  with-reply P any rows (Says k (Body body) old) p = elim (greeted (rows_of k rows) && body_asks body) as (λ b. P (elim b as (λ _. Item) [ true ↦ Says k (Body body) (Some (reply_at given (replies_given rows))) | false ↦ Says k (Body body) None ])) [ true ↦ any k body old (Some (reply_at given (replies_given rows))) p | false ↦ any k body old None p ]
+  with-reply P any rows (Says k (Body body) old) p = elim (client_has_greeted (rows_of k rows) && body_asks body) as (λ b. P (elim b as (λ _. Item) [ true ↦ Says k (Body body) (Some (reply_at given (replies_given rows))) | false ↦ Says k (Body body) None ])) [ true ↦ any k body old (Some (reply_at given (replies_given rows))) p | false ↦ any k body old None p ]
   with-reply P any rows (Says k (Payload q) old) p = p
   with-reply P any rows (Says k (BadFraming fault) old) p = p
   with-reply P any rows item p = p
@@ -180,9 +180,9 @@ module _ (policy : Policy) (pid : ℕ) (picks : List ℕ) (given : List HouseRep
   entered-more k rows (item ∷ xs) e = entered-more k (more_of setting rows item) xs (by-more (Entered k) rows item (λ stays. e) (λ makes. entered-next k (next rows item) rows e))
 
   accepted-row : (k : ℕ) (rows : List Row) → Entered k (more_of setting rows (Admit k))
-  accepted-row k rows = by_ended (is_ended rows) refl
+  accepted-row k rows = by_ended (is_run_over rows) refl
     where
-      by_ended : (b : Bool) → is_ended rows ≡ b → Entered k (more_of setting rows (Admit k))
+      by_ended : (b : Bool) → is_run_over rows ≡ b → Entered k (more_of setting rows (Admit k))
       by_ended true e = by-more (Entered k) rows (Admit k) (λ stays. inl e) (λ makes. entered-next k (next rows (Admit k)) rows (inl e))
       by_ended false e = by-more (Entered k) rows (Admit k)
           (λ stays. absurd (let bad : true ≡ false = sym (next-live rows (Admit k) e) ∙ stays in let h = bad in cc))

@@ -7,7 +7,7 @@ use Rattle.mux_history.specs.Farewell.{farewell, leave_channel, leave_forwarding
 use Rattle.mux_history.specs.Forwardings.{forwarded, forwardings_of}
 use Rattle.mux_history.specs.Heard.{Breaks, Dest, Disconnects, ToClient, ToMaster, dest, received_for}
 use Rattle.mux_history.specs.Kept.{ForEach}
-use Rattle.mux_history.specs.Log.{admits, all_recorded, bare, received_row, queued, row_of, sent_by_client, treat}
+use Rattle.mux_history.specs.Log.{admits, all_recorded, bare_row, received_row, queued, row_of, sent_by_client, treat}
 use Rattle.mux_history.specs.Policy.{Policy}
 use Rattle.mux_history.specs.Rows.{Admit, Gone, Heard, HouseSays, Item, Row, Says, loses, rows_of}
 use Rattle.mux_history.specs.Said.{Outcome, silent}
@@ -52,7 +52,7 @@ leaves-row : (before : List Row) (item : Item) (k : ℕ) (o : Outcome) → Leave
 leaves-row before item k o = by_case (loses recorded) refl
   where
     recorded : Row
-    recorded = queued (all_recorded (bare item k o) (rows_of k before)) (bare item k o) (rows_of k before)
+    recorded = queued (all_recorded (bare_row item k o) (rows_of k before)) (bare_row item k o) (rows_of k before)
 
     by_case : (b : Bool) → loses recorded ≡ b → Leaves before (elim b as (λ _. Row) [ true ↦ record recorded { farewell = farewell recorded (rows_of k before) } | false ↦ recorded ])
     by_case true e bounds =

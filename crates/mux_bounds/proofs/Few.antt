@@ -4,7 +4,7 @@ use Rattle.std.specs.Prelude.{◌==◌, Result, nat_lt, ◌⊎◌}
 use Rattle.std.proofs.Common.{inl, inr}
 use Rattle.std.proofs.lemmas.Bool.Decides.{nat_tests}
 use Rattle.mux_history.specs.Channels.{Channel, begun_by, held_of, opened_down, opened_up, with_own}
-use Rattle.mux_history.specs.Controls.{greeted, house_sends, sent_body}
+use Rattle.mux_history.specs.Controls.{client_has_greeted, house_sends, sent_body}
 use Rattle.mux_history.specs.Summary.{Confirmation, Summary, Open, Refuses, Requests, Succeeds, Transport, Within, read_summary, reading}
 use Rattle.mux_history.specs.Heard.{Breaks, Dest, Disconnects, ToClient, ToMaster, dest, for_client, for_lost, received_for, received_summary}
 use Rattle.mux_history.specs.Kept.{AtEach, ForEach}
@@ -12,7 +12,7 @@ use Rattle.mux_history.specs.Ledger.{room}
 use Rattle.mux_history.specs.Log.{admits, received_row, row_of, treat}
 use Rattle.mux_history.specs.Policy.{Policy, may_open}
 use Rattle.mux_history.specs.Rows.{Admit, Fate, Gone, Heard, HouseSays, Item, Row, Says, is_lost, rows_of}
-use Rattle.mux_history.specs.Said.{Outcome, drops, fails_open, on_unused, sent_summary, sent_open, sent_payload, sends, sends_as, sends_open, silent, records, reason_for, text_for}
+use Rattle.mux_history.specs.Said.{Outcome, drops, fails_open, on_unused, sent_summary, open_outcome, sent_payload, sends_payload, sends_as, sends_open, silent, records, reason_for, text_for}
 use Rattle.mux_bounds.specs.Few.{ChannelsBounded}
 use Rattle.mux_outside.specs.declared.house.HouseReply.{HouseReply}
 use Rattle.ssh_grammar.specs.Frames.{frame_payload}
@@ -59,7 +59,7 @@ other-not k [] s c w max = refl
 other-not k (p ∷ ps) s c w max = refl
 
 -- an open is sent only where there is room
-room-or-none : (policy : Policy) (own : List Row) (pick : ℕ) (p : List ℕ) (c : ℕ) (what : Opens) → ((on_unused c (sent_open policy own pick p c what) (with_own own c)).sent ≡ []) ⊎ (length (held_of own) + 1 ≤ 256)
+room-or-none : (policy : Policy) (own : List Row) (pick : ℕ) (p : List ℕ) (c : ℕ) (what : Opens) → ((on_unused c (open_outcome policy own pick p c what) (with_own own c)).sent ≡ []) ⊎ (length (held_of own) + 1 ≤ 256)
 room-or-none policy own pick p c what = by_unused (with_own own c)
   where
     by_room : (b : Bool) → nat_lt (length (held_of own)) 256 ≡ b → ((elim b as (λ _. Outcome) [ true ↦ sends_as pick p | false ↦ fails_open c 4 (too_many_channels) ]).sent ≡ []) ⊎ (length (held_of own) + 1 ≤ 256)
@@ -70,7 +70,7 @@ room-or-none policy own pick p c what = by_unused (with_own own c)
     by_permit true = by_room (nat_lt (length (held_of own)) 256) refl
     by_permit false = inl refl
 
-    by_unused : (o : Option Channel) → ((on_unused c (sent_open policy own pick p c what) o).sent ≡ []) ⊎ (length (held_of own) + 1 ≤ 256)
+    by_unused : (o : Option Channel) → ((on_unused c (open_outcome policy own pick p c what) o).sent ≡ []) ⊎ (length (held_of own) + 1 ≤ 256)
     by_unused None = by_permit (may_open policy what)
     by_unused (Some x) = inl refl
 
@@ -83,7 +83,7 @@ few-said policy before k pick p reply fw down fate le = by_case (read_summary p)
     by_summary : (m : Summary) → length (held_of (rows_of k before)) + length (opened_up k (sent_summary policy k (rows_of k before) pick p m).sent m) ≤ 256
     by_summary (Open what c w max) = by_room (room-or-none policy (rows_of k before) pick p c what)
       where
-        by_room : ((on_unused c (sent_open policy (rows_of k before) pick p c what) (with_own (rows_of k before) c)).sent ≡ []) ⊎ (length (held_of (rows_of k before)) + 1 ≤ 256) → length (held_of (rows_of k before)) + length (opened_up k (sent_summary policy k (rows_of k before) pick p (Open what c w max)).sent (Open what c w max)) ≤ 256
+        by_room : ((on_unused c (open_outcome policy (rows_of k before) pick p c what) (with_own (rows_of k before) c)).sent ≡ []) ⊎ (length (held_of (rows_of k before)) + 1 ≤ 256) → length (held_of (rows_of k before)) + length (opened_up k (sent_summary policy k (rows_of k before) pick p (Open what c w max)).sent (Open what c w max)) ≤ 256
         by_room (inl none) = let l = ap length (opened-not k (sent_summary policy k (rows_of k before) pick p (Open what c w max)).sent none (Open what c w max)) in omega (arith, le)
         by_room (inr room) = let l = opened-one k (sent_summary policy k (rows_of k before) pick p (Open what c w max)).sent (Open what c w max) in omega arith
     by_summary (Confirmation s c w max) = let l = ap length (other-not k (sent_summary policy k (rows_of k before) pick p (Confirmation s c w max)).sent s c w max) in omega (arith, le)
@@ -105,7 +105,7 @@ few-heard policy pid before k p fw down fate each to le = by_zero (k == 0)
     by_summary : (m : Summary) → read_summary p ≡ Ok m → length (held_of (rows_of k before)) + length (opened_down k (received_summary (rows_of k before) p m).sent m) ≤ 256
     by_summary (Open what s w max) reads = by_lost (is_lost (rows_of k before)) refl
       where
-        by_room : (b : Bool) → nat_lt (length (held_of (rows_of k before))) 256 ≡ b → length (held_of (rows_of k before)) + length (opened_down k (elim b as (λ _. Outcome) [ true ↦ records (frame_payload p) | false ↦ sends (open_failure s 4 too_many_channels) ]).sent (Open what s w max)) ≤ 256
+        by_room : (b : Bool) → nat_lt (length (held_of (rows_of k before))) 256 ≡ b → length (held_of (rows_of k before)) + length (opened_down k (elim b as (λ _. Outcome) [ true ↦ records (frame_payload p) | false ↦ sends_payload (open_failure s 4 too_many_channels) ]).sent (Open what s w max)) ≤ 256
         by_room true e = is-less (length (held_of (rows_of k before))) 256 e
         by_room false e = omega (arith, le)
 
@@ -141,7 +141,7 @@ few-dest policy pid before p each (Breaks cause) e = few-none before (received_r
 few-treat : (policy : Policy) (pid pick : ℕ) (before : List Row) (item : Item) → ForEach (RowKnown policy pid) before → Few before (treat policy pid pick before item)
 few-treat policy pid pick before (Admit k) each = few-row before (Admit k) k (admits before) refl
 few-treat policy pid pick before (Says k (Payload p) reply) each = row-parts (Few before) (Says k (Payload p) reply) k (sent_payload policy k (rows_of k before) pick p) (rows_of k before) (λ fw parting down fate. few-said policy before k pick p reply fw down fate)
-few-treat policy pid pick before (Says k (Body body) reply) each = few-row before (Says k (Body body) reply) k (sent_body pid k reply (greeted (rows_of k before)) body) refl
+few-treat policy pid pick before (Says k (Body body) reply) each = few-row before (Says k (Body body) reply) k (sent_body pid k reply (client_has_greeted (rows_of k before)) body) refl
 few-treat policy pid pick before (Says k (BadFraming fault) reply) each = few-row before (Says k (BadFraming fault) reply) k (drops (why.BadFrame fault)) refl
 few-treat policy pid pick before (HouseSays k id given) each = few-row before (HouseSays k id given) k (house_sends (rows_of k before) id given) refl
 few-treat policy pid pick before (Gone k) each = few-row before (Gone k) k silent refl

@@ -9,7 +9,7 @@ use Rattle.mux_history.specs.Farewell.{late}
 use Rattle.mux_history.specs.Summary.{Summary, Open, Requests, read_summary}
 use Rattle.mux_history.specs.Heard.{Breaks, Dest, Disconnects, ToClient, ToMaster, dest, for_client, for_lost, for_master, received_for, received_summary, received_master}
 use Rattle.mux_history.specs.Kept.{ForEach}
-use Rattle.mux_history.specs.Log.{bare, entered, goes, received_row, makes_row, new_answers, queued, row_of, sent_by_client, treat, with_farewell}
+use Rattle.mux_history.specs.Log.{bare_row, admitted_clients, goes, received_row, makes_row, new_answers, queued, row_of, sent_by_client, treat, with_farewell}
 use Rattle.mux_history.specs.Policy.{Policy}
 use Rattle.mux_history.specs.Rows.{Admit, Goes, Gone, Heard, HouseSays, Item, Row, Says, Took, any_of, is_admit, is_lost, is_out, loses, rows_of}
 use Rattle.mux_history.specs.Said.{Outcome, silent}
@@ -89,21 +89,21 @@ lost-silent own p lost = by_case (read_summary p)
     by_case (Ok m) = (late m own, ap (λ b. elim b as (λ _. Outcome) [ true ↦ for_lost own m | false ↦ for_client own p m ]) lost)
 
 lost-row : (p : List ℕ) (k : ℕ) (up : List (List ℕ)) (own : List Row) → is_lost own ≡ true → loses (row_of (Heard p) k (unheard up) own) ≡ false
-lost-row p k up own lost = ap (λ b. loses (with_farewell (queued (elim (goes Goes && not b) as (λ _. List (List ℕ)) [ true ↦ [] ++ new_answers (bare (Heard p) k (unheard up)) own | false ↦ [] ]) (bare (Heard p) k (unheard up)) own) own)) lost
+lost-row p k up own lost = ap (λ b. loses (with_farewell (queued (elim (goes Goes && not b) as (λ _. List (List ℕ)) [ true ↦ [] ++ new_answers (bare_row (Heard p) k (unheard up)) own | false ↦ [] ]) (bare_row (Heard p) k (unheard up)) own) own)) lost
 
 heard-keeps : (before : List Row) (p : List ℕ) (k : ℕ) → is_lost (rows_of k before) ≡ true → loses (row_of (Heard p) k (received_for (rows_of k before) p) (rows_of k before)) ≡ false
 heard-keeps before p k lost = let s = lost-silent (rows_of k before) p lost in ap (λ o. loses (row_of (Heard p) k o (rows_of k before))) s.1 ∙ lost-row p k s.0 (rows_of k before) lost
 
-master-keeps : (p : List ℕ) → loses (bare (Heard p) 0 (received_master p)) ≡ false
+master-keeps : (p : List ℕ) → loses (bare_row (Heard p) 0 (received_master p)) ≡ false
 master-keeps p = by_case (read_summary p)
   where
-    by_message : (m : Summary) → loses (bare (Heard p) 0 (for_master m)) ≡ false
+    by_message : (m : Summary) → loses (bare_row (Heard p) 0 (for_master m)) ≡ false
     by_message (Requests what true) = refl
     by_message (Requests what false) = refl
     by_message (Open what s w max) = refl
     by_message m = refl
 
-    by_case : (r : Result Summary Bad) → loses (bare (Heard p) 0 (elim r as (λ _. Outcome) [ Err bad ↦ silent | Ok m ↦ for_master m ])) ≡ false
+    by_case : (r : Result Summary Bad) → loses (bare_row (Heard p) 0 (elim r as (λ _. Outcome) [ Err bad ↦ silent | Ok m ↦ for_master m ])) ≡ false
     by_case (Err bad) = refl
     by_case (Ok m) = by_message m
 
@@ -140,7 +140,7 @@ row-once policy pid before row known =
     subst (LosesOnce before) known.is
     (by-next before known.item known.may
     (λ going makes. treat-once policy pid known.pick before known.item makes)
-    (λ stream size took. subst (λ (i : Item). LosesOnce before (treat policy pid known.pick before i)) (sym took) (keeps-none before (bare (Took stream size) stream silent) refl)))
+    (λ stream size took. subst (λ (i : Item). LosesOnce before (treat policy pid known.pick before i)) (sym took) (keeps-none before (bare_row (Took stream size) stream silent) refl)))
 
 -- ---- the step
 
@@ -153,8 +153,8 @@ live-step policy pid before row known each first little = by_loss (loses row) re
     after : is_live (rows_of row.client (row ∷ before)) ≡ not (loses row || is_lost (rows_of row.client before))
     after = ap is_live (filter-yes (λ (r : Row). r.client == row.client) row before (self row.client))
 
-    entered-is : (b : Bool) → is_admit row ≡ b → entered (row ∷ before) ≡ entered before ++ elim b as (λ _. List ℕ) [ true ↦ row.client ∷ [] | false ↦ [] ]
-    entered-is b e = ap (λ c. entered before ++ elim c as (λ _. List ℕ) [ true ↦ row.client ∷ [] | false ↦ [] ]) e
+    entered-is : (b : Bool) → is_admit row ≡ b → admitted_clients (row ∷ before) ≡ admitted_clients before ++ elim b as (λ _. List ℕ) [ true ↦ row.client ∷ [] | false ↦ [] ]
+    entered-is b e = ap (λ c. admitted_clients before ++ elim c as (λ _. List ℕ) [ true ↦ row.client ∷ [] | false ↦ [] ]) e
 
     in-once : Source before row → any_of is_admit (rows_of row.client before) ≡ true
     in-once (inl own) = first.0 own
@@ -163,9 +163,9 @@ live-step policy pid before row known each first little = by_loss (loses row) re
     new-one : is_admit row ≡ true → one_if (admits_one row.item) ≡ 1
     new-one e = ap one_if (admit-item row e)
 
-    stays : (b : Bool) → is_admit row ≡ b → counts is_live (row ∷ before) (entered (row ∷ before)) ≡ counts is_live (row ∷ before) (entered before) + elim b as (λ _. ℕ) [ true ↦ one_if (is_live (rows_of row.client (row ∷ before))) | false ↦ 0 ]
-    stays true e = ap (counts is_live (row ∷ before)) (entered-is true e) ∙ one-more is_live (row ∷ before) (entered before) row.client
-    stays false e = let a = ap (counts is_live (row ∷ before)) (entered-is false e ∙ append-nil (entered before)) in omega arith
+    stays : (b : Bool) → is_admit row ≡ b → counts is_live (row ∷ before) (admitted_clients (row ∷ before)) ≡ counts is_live (row ∷ before) (admitted_clients before) + elim b as (λ _. ℕ) [ true ↦ one_if (is_live (rows_of row.client (row ∷ before))) | false ↦ 0 ]
+    stays true e = ap (counts is_live (row ∷ before)) (entered-is true e) ∙ one-more is_live (row ∷ before) (admitted_clients before) row.client
+    stays false e = let a = ap (counts is_live (row ∷ before)) (entered-is false e ∙ append-nil (admitted_clients before)) in omega arith
 
     one-le : (b : Bool) → one_if b ≤ 1
     one-le true = omega arith
@@ -175,13 +175,13 @@ live-step policy pid before row known each first little = by_loss (loses row) re
     by_loss false l false e =
         let w = ap if_lost l in
         let same : is_live (rows_of row.client (row ∷ before)) ≡ was = after ∙ ap (λ x. not (x || is_lost (rows_of row.client before))) l in
-        let s = shift is_live row before was was refl same (entered before) in
+        let s = shift is_live row before was was refl same (admitted_clients before) in
         let c = stays false e in
         omega (arith, little, w, s, c)
     by_loss false l true e =
         let w = ap if_lost l in
         let same : is_live (rows_of row.client (row ∷ before)) ≡ was = after ∙ ap (λ x. not (x || is_lost (rows_of row.client before))) l in
-        let s = shift is_live row before was was refl same (entered before) in
+        let s = shift is_live row before was was refl same (admitted_clients before) in
         let c = stays true e in
         let o = one-le (is_live (rows_of row.client (row ∷ before))) in
         let n = new-one e in
@@ -189,7 +189,7 @@ live-step policy pid before row known each first little = by_loss (loses row) re
     by_loss true l true e =
         let w = ap if_lost l in
         let gone : is_live (rows_of row.client (row ∷ before)) ≡ false = after ∙ ap (λ x. not (x || is_lost (rows_of row.client before))) l in
-        let s = shift is_live row before was false refl gone (entered before) in
+        let s = shift is_live row before was false refl gone (admitted_clients before) in
         let c = stays true e in
         let o = ap one_if gone in
         let n = new-one e in
@@ -205,7 +205,7 @@ live-step policy pid before row known each first little = by_loss (loses row) re
         by_item : (b : Bool) → admits_one row.item ≡ b → weight row.farewell + 28928 * live (row ∷ before) ≤ 28928 * live before + 28928 * one_if (admits_one row.item)
         by_item true i =
             let v = w in
-            let s = shift is_live row before was false refl gone (entered before) in
+            let s = shift is_live row before was false refl gone (admitted_clients before) in
             let c = stays false e in
             let n = ap one_if i in
             omega (arith, little, v, s, c, n)
@@ -213,7 +213,7 @@ live-step policy pid before row known each first little = by_loss (loses row) re
             let v = w in
             let once = row-once policy pid before row known l i in
             let lives : was ≡ true = ap not once.0 in
-            let s = shift is_live row before true false lives gone (entered before) in
+            let s = shift is_live row before true false lives gone (admitted_clients before) in
             let c = stays false e in
-            let n : count row.client (entered before) ≡ 1 = entered-once policy pid before each row.client ∙ ap one_if (in-once once.1) in
+            let n : count row.client (admitted_clients before) ≡ 1 = entered-once policy pid before each row.client ∙ ap one_if (in-once once.1) in
             omega (arith, little, v, s, c, n)

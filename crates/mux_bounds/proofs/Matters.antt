@@ -5,7 +5,7 @@ use Rattle.std.specs.Prelude.{◌==◌, ◌||◌, not, nat_lt}
 use Rattle.std.proofs.lemmas.Bool.Decides.{nat_tests}
 use Rattle.mux_history.specs.Farewell.{has_open_matters}
 use Rattle.mux_history.specs.Kept.{AtEach, ForEach}
-use Rattle.mux_history.specs.Log.{entered, matters_of, open_matters, row_of, treat}
+use Rattle.mux_history.specs.Log.{admitted_clients, matters_of, open_matters, row_of, treat}
 use Rattle.mux_history.specs.Policy.{Policy}
 use Rattle.mux_history.specs.Rows.{Admit, Fate, Item, Refused, Row, any_of, is_admit, rows_of}
 use Rattle.mux_history.specs.Said.{Outcome, records}
@@ -69,9 +69,9 @@ let-append : (rows : List Row) (xs ys : List ℕ) → LetIn rows xs → LetIn ro
 let-append rows [] ys a b = b
 let-append rows (x ∷ xs) ys a b = (a.0, let-append rows xs ys a.1 b)
 
-pub let-entered : (rows : List Row) → LetIn rows (entered rows)
+pub let-entered : (rows : List Row) → LetIn rows (admitted_clients rows)
 let-entered [] = tt
-let-entered (row ∷ before) = let-append (row ∷ before) (entered before) (elim (is_admit row) as (λ _. List ℕ) [ true ↦ row.client ∷ [] | false ↦ [] ]) (let-next row before (entered before) (let-entered before)) (by_case (is_admit row) refl)
+let-entered (row ∷ before) = let-append (row ∷ before) (admitted_clients before) (elim (is_admit row) as (λ _. List ℕ) [ true ↦ row.client ∷ [] | false ↦ [] ]) (let-next row before (admitted_clients before) (let-entered before)) (by_case (is_admit row) refl)
   where
     by_case : (b : Bool) → is_admit row ≡ b → LetIn (row ∷ before) (elim b as (λ _. List ℕ) [ true ↦ row.client ∷ [] | false ↦ [] ])
     by_case true e = (ap (any_of is_admit) (filter-yes (λ (r : Row). r.client == row.client) row before (self row.client)) ∙ ap (λ b. b || any_of is_admit (rows_of row.client before)) e, tt)
@@ -107,7 +107,7 @@ treat-room policy pid pick before item admitted = absurd (not-admit (treat polic
 
 -- ---- all rows
 
--- a row closes nothing again, and lets in only below the limit
+-- a row closes nothing again, and admits only below the limit
 pub record FewMore (before : List Row) (row : Row) : Type 0 where
   pub stay : StayClosed before row
   pub room : Room before row
@@ -115,18 +115,18 @@ pub record FewMore (before : List Row) (row : Row) : Type 0 where
 matters-few : (before : List Row) (row : Row) → FewMore before row → MattersBounded before → MattersBounded (row ∷ before)
 matters-few before row few le = by_case (is_admit row) refl
   where
-    less : matters_of (row ∷ before) (entered before) ≤ open_matters before
-    less = matters-next before row few.stay (entered before) (let-entered before)
+    less : matters_of (row ∷ before) (admitted_clients before) ≤ open_matters before
+    less = matters-next before row few.stay (admitted_clients before) (let-entered before)
 
-    by_case : (b : Bool) → is_admit row ≡ b → matters_of (row ∷ before) (entered before ++ elim b as (λ _. List ℕ) [ true ↦ row.client ∷ [] | false ↦ [] ]) ≤ 64
+    by_case : (b : Bool) → is_admit row ≡ b → matters_of (row ∷ before) (admitted_clients before ++ elim b as (λ _. List ℕ) [ true ↦ row.client ∷ [] | false ↦ [] ]) ≤ 64
     by_case true e =
         let room = few.room e in
-        let one = matters-one (row ∷ before) (entered before) row.client in
+        let one = matters-one (row ∷ before) (admitted_clients before) row.client in
         let l = less in
         omega (arith, room)
     by_case false e =
         let l = less in
-        let same = ap (matters_of (row ∷ before)) (no-one (entered before)) in
+        let same = ap (matters_of (row ∷ before)) (no-one (admitted_clients before)) in
         omega (arith, le)
       where
         no-one : (ks : List ℕ) → ks ++ [] ≡ ks

@@ -2,16 +2,16 @@
 use Rattle.std.proofs.Common.{◌≡◌, ℕ, ◌+◌, ◌≤◌, List, [], ◌∷◌, ◌++◌, map, length, true, false, Bool, refl, ap, arith, sym, Option, None, subst, Ok, Err}
 use Rattle.std.specs.Prelude.{◌==◌, ◌&&◌, Result, nat_lt}
 use Rattle.std.proofs.lemmas.Bool.Decides.{nat_tests}
-use Rattle.mux_history.specs.Forwardings.{Forwarding, change_first, current, forwarded, forwardings_of, is_forwarding_free_at, of_client, replied, requested, stopped}
+use Rattle.mux_history.specs.Forwardings.{Forwarding, change_first, current, forwarded, forwardings_of, is_forwarding_free_at, of_client, forwarding_after_reply, forwardings_after_request, stopped}
 use Rattle.mux_history.specs.Controls.{house_sends, sent_body}
-use Rattle.mux_history.specs.Controls.{greeted}
+use Rattle.mux_history.specs.Controls.{client_has_greeted}
 use Rattle.mux_history.specs.Summary.{Summary, Requests, read_summary}
 use Rattle.mux_history.specs.Heard.{Breaks, Dest, Disconnects, ToClient, ToMaster, dest, received_for}
 use Rattle.mux_history.specs.Kept.{AtEach, ForEach}
 use Rattle.mux_history.specs.Keys.{is_askable}
 use Rattle.mux_history.specs.Log.{admits, received_row, row_of, treat}
 use Rattle.mux_history.specs.Policy.{Policy, permits}
-use Rattle.mux_history.specs.Requests.{asks, replies}
+use Rattle.mux_history.specs.Requests.{wanted_requests, replies}
 use Rattle.mux_history.specs.Rows.{Admit, Fate, Gone, Heard, HouseSays, Item, Row, Says, rows_of}
 use Rattle.mux_history.specs.Said.{Outcome, drops, is_full_of_asks, sent_summary, sent_payload, sends_if, silent}
 use Rattle.mux_bounds.specs.Few.{ForwardingsBounded}
@@ -37,10 +37,10 @@ Fits before row =
 heard-fits : (before : List Row) (p : List ℕ) (k : ℕ) (up fw down : List (List ℕ)) (fate : Fate) → Fits before (as_row (Heard p) k up fw down fate)
 heard-fits before p k up fw down fate le = by_case (read_summary p)
   where
-    by_case : (r : Result Summary Bad) → count (elim r as (λ _. List Forwarding) [ Err e ↦ forwardings_of (rows_of k before) | Ok m ↦ map (of_client k (replied (length (replies (rows_of k (rows_of k before)))) m)) (forwardings_of (rows_of k before)) ]) ≤ 64
+    by_case : (r : Result Summary Bad) → count (elim r as (λ _. List Forwarding) [ Err e ↦ forwardings_of (rows_of k before) | Ok m ↦ map (of_client k (forwarding_after_reply (length (replies (rows_of k (rows_of k before)))) m)) (forwardings_of (rows_of k before)) ]) ≤ 64
     by_case (Err e) = le
     by_case (Ok m) =
-        let fewer = count-map (of_client k (replied (length (replies (rows_of k (rows_of k before)))) m)) (of-client-ends k (replied (length (replies (rows_of k (rows_of k before)))) m) (λ f over. replied-done (length (replies (rows_of k (rows_of k before)))) m f over)) (forwardings_of (rows_of k before)) in
+        let fewer = count-map (of_client k (forwarding_after_reply (length (replies (rows_of k (rows_of k before)))) m)) (of-client-ends k (forwarding_after_reply (length (replies (rows_of k (rows_of k before)))) m) (λ f over. replied-done (length (replies (rows_of k (rows_of k before)))) m f over)) (forwardings_of (rows_of k before)) in
         omega (arith, le)
 
 abbrev flag : List (List ℕ) → Bool
@@ -65,30 +65,30 @@ is-less a b e = grind (arith, nat_tests)
 said-fits : (policy : Policy) (before : List Row) (k pick : ℕ) (p : List ℕ) (reply : Option HouseReply) (fw down : List (List ℕ)) (fate : Fate) → Fits before (as_row (Says k (Payload p) reply) k (sent_payload policy k (rows_of k before) pick p).sent fw down fate)
 said-fits policy before k pick p reply fw down fate le = by_case (read_summary p)
   where
-    by_request : (key : Key) (wants : Bool) → count (if_sent (sent_summary policy k (rows_of k before) pick p (Requests (Forward key) wants)).sent (requested k (length (asks (rows_of k (rows_of k before)))) (Requests (Forward key) wants) (forwardings_of (rows_of k before))) (forwardings_of (rows_of k before))) ≤ 64
+    by_request : (key : Key) (wants : Bool) → count (if_sent (sent_summary policy k (rows_of k before) pick p (Requests (Forward key) wants)).sent (forwardings_after_request k (length (wanted_requests (rows_of k (rows_of k before)))) (Requests (Forward key) wants) (forwardings_of (rows_of k before))) (forwardings_of (rows_of k before))) ≤ 64
     by_request key wants = by_full (is_full_of_asks wants (rows_of k before))
       where
-        by_room : (b : Bool) → (wants && (is_askable key && (permits policy.listens key && nat_lt (length (current (rows_of k before))) 64))) ≡ b → count (if_sent (sends_if b p).sent (forwardings_of (rows_of k before) ++ record { client = k; key = key; request = length (asks (rows_of k (rows_of k before))); live = None; cancel = None; over = false } ∷ []) (forwardings_of (rows_of k before))) ≤ 64
+        by_room : (b : Bool) → (wants && (is_askable key && (permits policy.listens key && nat_lt (length (current (rows_of k before))) 64))) ≡ b → count (if_sent (sends_if b p).sent (forwardings_of (rows_of k before) ++ record { client = k; key = key; request = length (wanted_requests (rows_of k (rows_of k before))); live = None; cancel = None; over = false } ∷ []) (forwardings_of (rows_of k before))) ≤ 64
         by_room true e =
             let room = is-less (length (current (rows_of k before))) 64 (last-test wants (is_askable key) (permits policy.listens key) (nat_lt (length (current (rows_of k before))) 64) e) in
-            let more = count-add (forwardings_of (rows_of k before)) (record { client = k; key = key; request = length (asks (rows_of k (rows_of k before))); live = None; cancel = None; over = false }) in
+            let more = count-add (forwardings_of (rows_of k before)) (record { client = k; key = key; request = length (wanted_requests (rows_of k (rows_of k before))); live = None; cancel = None; over = false }) in
             omega arith
         by_room false e = le
 
-        by_full : (b : Bool) → count (if_sent (elim b as (λ _. Outcome) [ true ↦ drops (why.TooManyAsks 1024) | false ↦ sends_if (wants && (is_askable key && (permits policy.listens key && nat_lt (length (current (rows_of k before))) 64))) p ]).sent (forwardings_of (rows_of k before) ++ record { client = k; key = key; request = length (asks (rows_of k (rows_of k before))); live = None; cancel = None; over = false } ∷ []) (forwardings_of (rows_of k before))) ≤ 64
+        by_full : (b : Bool) → count (if_sent (elim b as (λ _. Outcome) [ true ↦ drops (why.TooManyAsks 1024) | false ↦ sends_if (wants && (is_askable key && (permits policy.listens key && nat_lt (length (current (rows_of k before))) 64))) p ]).sent (forwardings_of (rows_of k before) ++ record { client = k; key = key; request = length (wanted_requests (rows_of k (rows_of k before))); live = None; cancel = None; over = false } ∷ []) (forwardings_of (rows_of k before))) ≤ 64
         by_full true = le
         by_full false = by_room (wants && (is_askable key && (permits policy.listens key && nat_lt (length (current (rows_of k before))) 64))) refl
 
-    by_summary : (m : Summary) → count (if_sent (sent_summary policy k (rows_of k before) pick p m).sent (requested k (length (asks (rows_of k (rows_of k before)))) m (forwardings_of (rows_of k before))) (forwardings_of (rows_of k before))) ≤ 64
+    by_summary : (m : Summary) → count (if_sent (sent_summary policy k (rows_of k before) pick p m).sent (forwardings_after_request k (length (wanted_requests (rows_of k (rows_of k before)))) m (forwardings_of (rows_of k before))) (forwardings_of (rows_of k before))) ≤ 64
     by_summary (Requests (Forward key) wants) = by_request key wants
     by_summary (Requests (Cancel key) wants) =
-        let fewer = count-first (is_forwarding_free_at k key) (stopped wants (length (asks (rows_of k (rows_of k before))))) (stopped-ends wants (length (asks (rows_of k (rows_of k before))))) (forwardings_of (rows_of k before)) in
-        both-ways (sent_summary policy k (rows_of k before) pick p (Requests (Cancel key) wants)).sent (change_first (is_forwarding_free_at k key) (stopped wants (length (asks (rows_of k (rows_of k before))))) (forwardings_of (rows_of k before))) (forwardings_of (rows_of k before)) (omega (arith, le)) le
+        let fewer = count-first (is_forwarding_free_at k key) (stopped wants (length (wanted_requests (rows_of k (rows_of k before))))) (stopped-ends wants (length (wanted_requests (rows_of k (rows_of k before))))) (forwardings_of (rows_of k before)) in
+        both-ways (sent_summary policy k (rows_of k before) pick p (Requests (Cancel key) wants)).sent (change_first (is_forwarding_free_at k key) (stopped wants (length (wanted_requests (rows_of k (rows_of k before))))) (forwardings_of (rows_of k before))) (forwardings_of (rows_of k before)) (omega (arith, le)) le
     by_summary (Requests KeepAlive wants) = both-ways (sent_summary policy k (rows_of k before) pick p (Requests KeepAlive wants)).sent (forwardings_of (rows_of k before)) (forwardings_of (rows_of k before)) le le
     by_summary (Requests OtherName wants) = both-ways (sent_summary policy k (rows_of k before) pick p (Requests OtherName wants)).sent (forwardings_of (rows_of k before)) (forwardings_of (rows_of k before)) le le
     by_summary m = both-ways (sent_summary policy k (rows_of k before) pick p m).sent (forwardings_of (rows_of k before)) (forwardings_of (rows_of k before)) le le
 
-    by_case : (r : Result Summary Bad) → count (if_sent (elim r as (λ _. Outcome) [ Err bad ↦ drops (why.BadMessage bad) | Ok m ↦ sent_summary policy k (rows_of k before) pick p m ]).sent (elim r as (λ _. List Forwarding) [ Err e ↦ forwardings_of (rows_of k before) | Ok m ↦ requested k (length (asks (rows_of k (rows_of k before)))) m (forwardings_of (rows_of k before)) ]) (forwardings_of (rows_of k before))) ≤ 64
+    by_case : (r : Result Summary Bad) → count (if_sent (elim r as (λ _. Outcome) [ Err bad ↦ drops (why.BadMessage bad) | Ok m ↦ sent_summary policy k (rows_of k before) pick p m ]).sent (elim r as (λ _. List Forwarding) [ Err e ↦ forwardings_of (rows_of k before) | Ok m ↦ forwardings_after_request k (length (wanted_requests (rows_of k (rows_of k before)))) m (forwardings_of (rows_of k before)) ]) (forwardings_of (rows_of k before))) ≤ 64
     by_case (Err e) = le
     by_case (Ok m) = by_summary m
 
@@ -106,7 +106,7 @@ fits-dest before p (Breaks cause) = heard-fits before p 0 (received_row before p
 fits-treat : (policy : Policy) (pid pick : ℕ) (before : List Row) (item : Item) → Fits before (treat policy pid pick before item)
 fits-treat policy pid pick before (Admit k) = fits-row before (Admit k) k (admits before) (λ fw down fate le. le)
 fits-treat policy pid pick before (Says k (Payload p) reply) = fits-row before (Says k (Payload p) reply) k (sent_payload policy k (rows_of k before) pick p) (λ fw down fate. said-fits policy before k pick p reply fw down fate)
-fits-treat policy pid pick before (Says k (Body body) reply) = fits-row before (Says k (Body body) reply) k (sent_body pid k reply (greeted (rows_of k before)) body) (λ fw down fate le. le)
+fits-treat policy pid pick before (Says k (Body body) reply) = fits-row before (Says k (Body body) reply) k (sent_body pid k reply (client_has_greeted (rows_of k before)) body) (λ fw down fate le. le)
 fits-treat policy pid pick before (Says k (BadFraming fault) reply) = fits-row before (Says k (BadFraming fault) reply) k (drops (why.BadFrame fault)) (λ fw down fate le. le)
 fits-treat policy pid pick before (HouseSays k id given) = fits-row before (HouseSays k id given) k (house_sends (rows_of k before) id given) (λ fw down fate le. le)
 fits-treat policy pid pick before (Gone k) = fits-row before (Gone k) k silent (λ fw down fate le. le)

@@ -7,11 +7,11 @@ use Rattle.mux_outside.specs.declared.house.HouseReply.{HouseReply}
 use Rattle.ssh_grammar.specs.Messages.{Cancel, Forward, Global, KeepAlive, Key, OtherName}
 use Rattle.ssh_grammar.specs.Said.{BadFraming, Body, Payload}
 use Rattle.ssh_grammar.specs.declared.fault.Bad.{Bad}
-use Rattle.mux_history.specs.Forwardings.{Forwarding, change_first, current, forwarded, forwardings_of, is_forwarding_free_at, of_client, replied, requested, stopped}
+use Rattle.mux_history.specs.Forwardings.{Forwarding, change_first, current, forwarded, forwardings_of, is_forwarding_free_at, of_client, forwarding_after_reply, forwardings_after_request, stopped}
 use Rattle.mux_history.specs.Summary.{Summary, Refuses, Requests, Succeeds, read_summary}
 use Rattle.mux_history.specs.Keys.{is_askable}
 use Rattle.mux_history.specs.Policy.{Policy, permits}
-use Rattle.mux_history.specs.Requests.{Ask, asks, asks_of, is_reply, is_sent, replies, reply_in, wanted_by, wanted_in}
+use Rattle.mux_history.specs.Requests.{Ask, wanted_requests, asks_of, is_reply, is_sent, replies, reply_in, wanted_by, wanted_in}
 use Rattle.mux_history.specs.Rows.{Heard, Item, Row, Says, any_of}
 use Rattle.mux_history.specs.Said.{sent_request, sends_if}
 use Rattle.mux_history.proofs.Finds.{filter-no, filter-yes}
@@ -83,7 +83,7 @@ held-changed : (place : ℕ) (us : List Ask) (fs gs : List Forwarding) → ((j :
 held-changed place us fs gs stays sound held = held-still place us [] gs refl (record { cover = cover-from place us fs gs (λ j le. stays j) held.cover; sound = sound })
 
 -- what is asked, where it is sent
-asked-held : (place last k : ℕ) (us : List Ask) (fs : List Forwarding) (what : Global) (wants : Bool) → place + length us ≡ last → ((key : Key) → what ≡ Forward key → wants ≡ true) → ((key : Key) → what ≡ Cancel key → any_of (is_forwarding_free_at k key) fs ≡ true) → Held place us fs → Held (place + 0) (us ++ asks_of k true (wanted_in (Requests what wants))) (requested k last (Requests what wants) fs)
+asked-held : (place last k : ℕ) (us : List Ask) (fs : List Forwarding) (what : Global) (wants : Bool) → place + length us ≡ last → ((key : Key) → what ≡ Forward key → wants ≡ true) → ((key : Key) → what ≡ Cancel key → any_of (is_forwarding_free_at k key) fs ≡ true) → Held place us fs → Held (place + 0) (us ++ asks_of k true (wanted_in (Requests what wants))) (forwardings_after_request k last (Requests what wants) fs)
 asked-held place last k us fs (Forward key) true here wanted free held = held-more place last k us (Forward key) fs (fs ++ new ∷ []) here (λ j. covered-append j fs (new ∷ [])) (λ is. covered-last last fs (new ∷ []) (ap (λ b. ((b && true) || false) || false) (self last))) (sound-append fs (new ∷ []) held.sound ((λ none. refl), tt)) held
   where
     new : Forwarding
@@ -106,27 +106,27 @@ asked-held place last k us fs OtherName true here wanted free held = held-more p
 asked-held place last k us fs OtherName false here wanted free held = held-still place us [] fs refl held
 
 -- a reply
-reply-held : (place k : ℕ) (us : List Ask) (m : Summary) (fs : List Forwarding) → Held place us fs → Held (place + 1) (drop 1 us) (map (of_client k (replied place m)) fs)
+reply-held : (place k : ℕ) (us : List Ask) (m : Summary) (fs : List Forwarding) → Held place us fs → Held (place + 1) (drop 1 us) (map (of_client k (forwarding_after_reply place m)) fs)
 reply-held place k us m fs held = record {
   cover = by_asks us held.cover;
-  sound = sound-map (of_client k (replied place m)) (λ f. client-sound k (replied place m) f (replied-sound place m f)) fs held.sound;
+  sound = sound-map (of_client k (forwarding_after_reply place m)) (λ f. client-sound k (forwarding_after_reply place m) f (replied-sound place m f)) fs held.sound;
 }
   where
     apart : (j : ℕ) → place + 1 ≤ j → (place == j) ≡ false
     apart j le = grind (arith, nat_tests)
 
-    step : (j : ℕ) → place + 1 ≤ j → covered j fs ≡ true → covered j (map (of_client k (replied place m)) fs) ≡ true
-    step j le = covered-map j (of_client k (replied place m)) fs held.sound (λ f sound waits. client-waits k j (replied place m) f (λ w. ap (covers j) (replied-other place j m f (apart j le) sound w) ∙ w) waits)
+    step : (j : ℕ) → place + 1 ≤ j → covered j fs ≡ true → covered j (map (of_client k (forwarding_after_reply place m)) fs) ≡ true
+    step j le = covered-map j (of_client k (forwarding_after_reply place m)) fs held.sound (λ f sound waits. client-waits k j (forwarding_after_reply place m) f (λ w. ap (covers j) (replied-other place j m f (apart j le) sound w) ∙ w) waits)
 
-    by_asks : (xs : List Ask) → CoverFrom place xs fs → CoverFrom (place + 1) (drop 1 xs) (map (of_client k (replied place m)) fs)
+    by_asks : (xs : List Ask) → CoverFrom place xs fs → CoverFrom (place + 1) (drop 1 xs) (map (of_client k (forwarding_after_reply place m)) fs)
     by_asks [] cover = tt
-    by_asks (x ∷ xs) cover = cover-from (place + 1) xs fs (map (of_client k (replied place m)) fs) step cover.1
+    by_asks (x ∷ xs) cover = cover-from (place + 1) xs fs (map (of_client k (forwarding_after_reply place m)) fs) step cover.1
 
 -- a message that is none
-other-held : (place k : ℕ) (us new : List Ask) (m : Summary) (fs : List Forwarding) → new ≡ [] → ((f : Forwarding) → replied place m f ≡ f) → Held place us fs → Held (place + 0) (us ++ new) (map (of_client k (replied place m)) fs)
-other-held place k us new m fs none same held = held-still place us new (map (of_client k (replied place m)) fs) none (record {
-  cover = cover-from place us fs (map (of_client k (replied place m)) fs) (λ j le. covered-map j (of_client k (replied place m)) fs held.sound (λ f sound waits. client-waits k j (replied place m) f (λ w. ap (covers j) (same f) ∙ w) waits)) held.cover;
-  sound = sound-map (of_client k (replied place m)) (λ f. client-sound k (replied place m) f (replied-sound place m f)) fs held.sound;
+other-held : (place k : ℕ) (us new : List Ask) (m : Summary) (fs : List Forwarding) → new ≡ [] → ((f : Forwarding) → forwarding_after_reply place m f ≡ f) → Held place us fs → Held (place + 0) (us ++ new) (map (of_client k (forwarding_after_reply place m)) fs)
+other-held place k us new m fs none same held = held-still place us new (map (of_client k (forwarding_after_reply place m)) fs) none (record {
+  cover = cover-from place us fs (map (of_client k (forwarding_after_reply place m)) fs) (λ j le. covered-map j (of_client k (forwarding_after_reply place m)) fs held.sound (λ f sound waits. client-waits k j (forwarding_after_reply place m) f (λ w. ap (covers j) (same f) ∙ w) waits)) held.cover;
+  sound = sound-map (of_client k (forwarding_after_reply place m)) (λ f. client-sound k (forwarding_after_reply place m) f (replied-sound place m f)) fs held.sound;
 })
 
 abbrev Next : Row → List Row → List Ask → List Forwarding → Type 0
@@ -137,18 +137,18 @@ pub record Asks (row : Row) (fs : List Forwarding) : Type 0 where
   pub wants : (j : ℕ) (p : List ℕ) (given : Option HouseReply) (key : Key) (want : Bool) → row.item ≡ Says j (Payload p) given → read_summary p ≡ Ok (Requests (Forward key) want) → is_sent row ≡ true → want ≡ true
   pub free : (j : ℕ) (p : List ℕ) (given : Option HouseReply) (key : Key) (want : Bool) → row.item ≡ Says j (Payload p) given → read_summary p ≡ Ok (Requests (Cancel key) want) → is_sent row ≡ true → any_of (is_forwarding_free_at row.client key) fs ≡ true
 
-pub next-held : (row : Row) (own : List Row) (us : List Ask) (fs : List Forwarding) → length (replies own) + length us ≡ length (asks own) → Asks row fs → Held (length (replies own)) us fs → Next row own us fs
+pub next-held : (row : Row) (own : List Row) (us : List Ask) (fs : List Forwarding) → length (replies own) + length us ≡ length (wanted_requests own) → Asks row fs → Held (length (replies own)) us fs → Next row own us fs
 next-held row own us fs here known held = by_item row.item refl
   where
-    by_summary : (j : ℕ) (p : List ℕ) (given : Option HouseReply) → row.item ≡ Says j (Payload p) given → is_sent row ≡ true → (m : Summary) → read_summary p ≡ Ok m → Held (length (replies own) + 0) (us ++ asks_of row.client true (wanted_in m)) (requested row.client (length (asks own)) m fs)
-    by_summary j p given item sent (Requests what wants) reads = asked-held (length (replies own)) (length (asks own)) row.client us fs what wants here
+    by_summary : (j : ℕ) (p : List ℕ) (given : Option HouseReply) → row.item ≡ Says j (Payload p) given → is_sent row ≡ true → (m : Summary) → read_summary p ≡ Ok m → Held (length (replies own) + 0) (us ++ asks_of row.client true (wanted_in m)) (forwardings_after_request row.client (length (wanted_requests own)) m fs)
+    by_summary j p given item sent (Requests what wants) reads = asked-held (length (replies own)) (length (wanted_requests own)) row.client us fs what wants here
         (λ key e. known.wants j p given key wants item (reads ∙ ap (λ g. Ok (Requests g wants)) e) sent)
         (λ key e. known.free j p given key wants item (reads ∙ ap (λ g. Ok (Requests g wants)) e) sent)
         held
     by_summary j p given item sent m reads = held-still (length (replies own)) us [] fs refl held
 
     by_sent : (j : ℕ) (p : List ℕ) (given : Option HouseReply) → row.item ≡ Says j (Payload p) given → (b : Bool) → is_sent row ≡ b → (r : Result Summary Bad) → read_summary p ≡ r
-        → Held (length (replies own) + 0) (us ++ asks_of row.client b (elim r as (λ _. Option Global) [ Err e ↦ None | Ok m ↦ wanted_in m ])) (elim b as (λ _. List Forwarding) [ true ↦ elim r as (λ _. List Forwarding) [ Err e ↦ fs | Ok m ↦ requested row.client (length (asks own)) m fs ] | false ↦ fs ])
+        → Held (length (replies own) + 0) (us ++ asks_of row.client b (elim r as (λ _. Option Global) [ Err e ↦ None | Ok m ↦ wanted_in m ])) (elim b as (λ _. List Forwarding) [ true ↦ elim r as (λ _. List Forwarding) [ Err e ↦ fs | Ok m ↦ forwardings_after_request row.client (length (wanted_requests own)) m fs ] | false ↦ fs ])
     by_sent j p given item false sent r reads = held-still (length (replies own)) us _ fs refl held
     by_sent j p given item true sent (Err e) reads = held-still (length (replies own)) us [] fs refl held
     by_sent j p given item true sent (Ok m) reads = by_summary j p given item sent m reads
@@ -156,12 +156,12 @@ next-held row own us fs here known held = by_item row.item refl
     none : asks_of row.client (is_sent row) None ≡ []
     none = asks-none row.client (is_sent row)
 
-    by_reply : (p : List ℕ) (m : Summary) → Held (length (replies own) + length (elim (is_reply m) as (λ _. List (List ℕ)) [ true ↦ p ∷ [] | false ↦ [] ])) (drop (length (elim (is_reply m) as (λ _. List (List ℕ)) [ true ↦ p ∷ [] | false ↦ [] ])) (us ++ asks_of row.client (is_sent row) None)) (map (of_client row.client (replied (length (replies own)) m)) fs)
-    by_reply p (Succeeds rest) = subst (λ (xs : List Ask). Held (length (replies own) + 1) (drop 1 xs) (map (of_client row.client (replied (length (replies own)) (Succeeds rest))) fs)) (sym (ap (λ xs. us ++ xs) none ∙ append-nil us)) (reply-held (length (replies own)) row.client us (Succeeds rest) fs held)
-    by_reply p Refuses = subst (λ (xs : List Ask). Held (length (replies own) + 1) (drop 1 xs) (map (of_client row.client (replied (length (replies own)) Refuses)) fs)) (sym (ap (λ xs. us ++ xs) none ∙ append-nil us)) (reply-held (length (replies own)) row.client us Refuses fs held)
+    by_reply : (p : List ℕ) (m : Summary) → Held (length (replies own) + length (elim (is_reply m) as (λ _. List (List ℕ)) [ true ↦ p ∷ [] | false ↦ [] ])) (drop (length (elim (is_reply m) as (λ _. List (List ℕ)) [ true ↦ p ∷ [] | false ↦ [] ])) (us ++ asks_of row.client (is_sent row) None)) (map (of_client row.client (forwarding_after_reply (length (replies own)) m)) fs)
+    by_reply p (Succeeds rest) = subst (λ (xs : List Ask). Held (length (replies own) + 1) (drop 1 xs) (map (of_client row.client (forwarding_after_reply (length (replies own)) (Succeeds rest))) fs)) (sym (ap (λ xs. us ++ xs) none ∙ append-nil us)) (reply-held (length (replies own)) row.client us (Succeeds rest) fs held)
+    by_reply p Refuses = subst (λ (xs : List Ask). Held (length (replies own) + 1) (drop 1 xs) (map (of_client row.client (forwarding_after_reply (length (replies own)) Refuses)) fs)) (sym (ap (λ xs. us ++ xs) none ∙ append-nil us)) (reply-held (length (replies own)) row.client us Refuses fs held)
     by_reply p m = other-held (length (replies own)) row.client us (asks_of row.client (is_sent row) None) m fs none (λ f. refl) held
 
-    by_received : (p : List ℕ) (r : Result Summary Bad) → Held (length (replies own) + length (elim (elim r as (λ _. Bool) [ Err e ↦ false | Ok m ↦ is_reply m ]) as (λ _. List (List ℕ)) [ true ↦ p ∷ [] | false ↦ [] ])) (drop (length (elim (elim r as (λ _. Bool) [ Err e ↦ false | Ok m ↦ is_reply m ]) as (λ _. List (List ℕ)) [ true ↦ p ∷ [] | false ↦ [] ])) (us ++ asks_of row.client (is_sent row) None)) (elim r as (λ _. List Forwarding) [ Err e ↦ fs | Ok m ↦ map (of_client row.client (replied (length (replies own)) m)) fs ])
+    by_received : (p : List ℕ) (r : Result Summary Bad) → Held (length (replies own) + length (elim (elim r as (λ _. Bool) [ Err e ↦ false | Ok m ↦ is_reply m ]) as (λ _. List (List ℕ)) [ true ↦ p ∷ [] | false ↦ [] ])) (drop (length (elim (elim r as (λ _. Bool) [ Err e ↦ false | Ok m ↦ is_reply m ]) as (λ _. List (List ℕ)) [ true ↦ p ∷ [] | false ↦ [] ])) (us ++ asks_of row.client (is_sent row) None)) (elim r as (λ _. List Forwarding) [ Err e ↦ fs | Ok m ↦ map (of_client row.client (forwarding_after_reply (length (replies own)) m)) fs ])
     by_received p (Err e) = held-still (length (replies own)) us (asks_of row.client (is_sent row) None) fs none held
     by_received p (Ok m) = by_reply p m
 

@@ -5,9 +5,9 @@ use Rattle.std.proofs.lemmas.List.{append-nil, length-drop}
 use Rattle.ssh_grammar.specs.Messages.{Cancel, Forward}
 use Rattle.mux_history.specs.Forwardings.{Forwarding, dropped, forwarded, forwardings_of, is_forwarding_free_at, of_client}
 use Rattle.mux_history.specs.Kept.{ForEach}
-use Rattle.mux_history.specs.Log.{bare, treat}
+use Rattle.mux_history.specs.Log.{bare_row, treat}
 use Rattle.mux_history.specs.Policy.{Policy}
-use Rattle.mux_history.specs.Requests.{Ask, asks, asks_of, is_sent, replies, reply_in, wanted_by}
+use Rattle.mux_history.specs.Requests.{Ask, wanted_requests, asks_of, is_sent, replies, reply_in, wanted_by}
 use Rattle.mux_history.specs.Rows.{Item, Row, Took, any_of, is_lost, loses, rows_of}
 use Rattle.mux_history.specs.Said.{silent}
 use Rattle.mux_history.specs.Steps.{unreplied}
@@ -35,10 +35,10 @@ front-few test (suc n) (x ∷ xs) = by_case (front-few test n xs) (test x) refl
     by_case ih true e = let a = ap length (filter-yes test x (take n xs) e) in let b = ap length (filter-yes test x xs e) in omega (arith, ih)
     by_case ih false e = let a = ap length (filter-no test x (take n xs) e) in let b = ap length (filter-no test x xs e) in omega (arith, ih)
 
-pub within-own : (rows : List Row) (k : ℕ) → Orderly rows → length (replies (rows_of k rows)) ≤ length (asks (rows_of k rows))
+pub within-own : (rows : List Row) (k : ℕ) → Orderly rows → length (replies (rows_of k rows)) ≤ length (wanted_requests (rows_of k rows))
 within-own rows k orderly =
     let a = orderly.each k in
-    let b = front-few (asks_for k) (length (replies rows)) (asks rows) in
+    let b = front-few (asks_for k) (length (replies rows)) (wanted_requests rows) in
     let c = ap length (asks-local k rows) in
     omega (arith, a, b, c)
 
@@ -71,7 +71,7 @@ asks-of-row policy before row said = record {
 not-dropped : (row : Row) (fs : List Forwarding) → loses row ≡ false → dropped row fs ≡ fs
 not-dropped row fs e = ap (λ b. elim b as (λ _. List Forwarding) [ true ↦ map (of_client row.client (λ f. record f { over = true })) fs | false ↦ fs ]) e
 
-state-live : (policy : Policy) (pid : ℕ) (before : List Row) (row : Row) → RowKnown policy pid before row → ForEach (RowKnown policy pid) before → length (replies (rows_of row.client before)) ≤ length (asks (rows_of row.client before)) → State (rows_of row.client before) → State (row ∷ rows_of row.client before)
+state-live : (policy : Policy) (pid : ℕ) (before : List Row) (row : Row) → RowKnown policy pid before row → ForEach (RowKnown policy pid) before → length (replies (rows_of row.client before)) ≤ length (wanted_requests (rows_of row.client before)) → State (rows_of row.client before) → State (row ∷ rows_of row.client before)
 state-live policy pid before row known each le state = by_lost (is_lost (rows_of row.client before)) refl
   where
     next : unreplied (row ∷ rows_of row.client before) ≡ drop (length (reply_in row.item)) (unreplied (rows_of row.client before) ++ asks_of row.client (is_sent row) (wanted_by row))
@@ -80,8 +80,8 @@ state-live policy pid before row known each le state = by_lost (is_lost (rows_of
     place : length (replies (row ∷ rows_of row.client before)) ≡ length (replies (rows_of row.client before)) + length (reply_in row.item)
     place = length-append (replies (rows_of row.client before)) (reply_in row.item)
 
-    here : length (replies (rows_of row.client before)) + length (unreplied (rows_of row.client before)) ≡ length (asks (rows_of row.client before))
-    here = let d = length-drop (length (replies (rows_of row.client before))) (asks (rows_of row.client before)) in omega (arith, d, le)
+    here : length (replies (rows_of row.client before)) + length (unreplied (rows_of row.client before)) ≡ length (wanted_requests (rows_of row.client before))
+    here = let d = length-drop (length (replies (rows_of row.client before))) (wanted_requests (rows_of row.client before)) in omega (arith, d, le)
 
     bounds : Bounds (rows_of row.client before) row
     bounds = row-bounds policy pid before row known each
@@ -113,17 +113,17 @@ state-live policy pid before row known each le state = by_lost (is_lost (rows_of
         or-yes true b e = refl
         or-yes false b e = e
 
-state-take : (stream size : ℕ) (own : List Row) → State own → State (bare (Took stream size) stream silent ∷ own)
+state-take : (stream size : ℕ) (own : List Row) → State own → State (bare_row (Took stream size) stream silent ∷ own)
 state-take stream size own state = record {
   few = subst (λ us. forwards_in us ≤ 64) (sym us-same) state.few;
-  held = λ on. subst (λ (n : ℕ). Held n (unreplied (bare (Took stream size) stream silent ∷ own)) (forwardings_of own)) (sym (ap length replies-same)) (subst (λ (us : List Ask). Held (length (replies own)) us (forwardings_of own)) (sym us-same) (state.held on));
+  held = λ on. subst (λ (n : ℕ). Held n (unreplied (bare_row (Took stream size) stream silent ∷ own)) (forwardings_of own)) (sym (ap length replies-same)) (subst (λ (us : List Ask). Held (length (replies own)) us (forwardings_of own)) (sym us-same) (state.held on));
 }
   where
-    replies-same : replies (bare (Took stream size) stream silent ∷ own) ≡ replies own
+    replies-same : replies (bare_row (Took stream size) stream silent ∷ own) ≡ replies own
     replies-same = append-nil (replies own)
 
-    us-same : unreplied (bare (Took stream size) stream silent ∷ own) ≡ unreplied own
-    us-same = ap (λ (rs : List (List ℕ)). drop (length rs) (asks own ++ [])) replies-same ∙ ap (drop (length (replies own))) (append-nil (asks own))
+    us-same : unreplied (bare_row (Took stream size) stream silent ∷ own) ≡ unreplied own
+    us-same = ap (λ (rs : List (List ℕ)). drop (length rs) (wanted_requests own ++ [])) replies-same ∙ ap (drop (length (replies own))) (append-nil (wanted_requests own))
 
 state-next : (policy : Policy) (pid : ℕ) (before : List Row) (row : Row) → RowKnown policy pid before row → ForEach (RowKnown policy pid) before → State (rows_of row.client before) → State (row ∷ rows_of row.client before)
 state-next policy pid before row known each state =
@@ -131,7 +131,7 @@ state-next policy pid before row known each state =
     (λ going makes. state-live policy pid before row known each (within-own before row.client (known.orderly going)) state)
     (λ stream size took. take stream size (sym known.is ∙ ap (λ (i : Item). treat policy pid known.pick before i) took))
   where
-    take : (stream size : ℕ) → row ≡ bare (Took stream size) stream silent → State (row ∷ rows_of row.client before)
+    take : (stream size : ℕ) → row ≡ bare_row (Took stream size) stream silent → State (row ∷ rows_of row.client before)
     take stream size is = subst (λ (r : Row). State (r ∷ rows_of row.client before)) (sym is) (state-take stream size (rows_of row.client before) state)
 
 states : (policy : Policy) (pid : ℕ) (rows : List Row) → ForEach (RowKnown policy pid) rows → (k : ℕ) → State (rows_of k rows)

@@ -16,9 +16,9 @@ use Rattle.mux_history.specs.Kept.{ForEach}
 use Rattle.mux_history.specs.Keys.{bound}
 use Rattle.mux_history.specs.Log.{received_row, treat}
 use Rattle.mux_history.specs.Policy.{Policy}
-use Rattle.mux_history.specs.Requests.{Ask, asker, asks, asks_of, is_reply, is_sent, replies, reply_in, wanted_by}
+use Rattle.mux_history.specs.Requests.{Ask, asker, wanted_requests, asks_of, is_reply, is_sent, replies, reply_in, wanted_by}
 use Rattle.mux_history.specs.Rows.{Heard, Item, Row, Took, is_lost, rows_of}
-use Rattle.mux_history.specs.Said.{Outcome, sends, silent, records}
+use Rattle.mux_history.specs.Said.{Outcome, sends_payload, silent, records}
 use Rattle.mux_history.specs.Steps.{unreplied}
 use Rattle.mux_bounds.specs.Bounds.{weight}
 use Rattle.mux_history.proofs.Askers.{Orderly, asker-local}
@@ -64,7 +64,7 @@ master-pays before p = pays-for before p (received_master p).sent (by_case (read
 client-pays : (own : List Row) (p : List ℕ) (m : Summary) → read_summary p ≡ Ok m → weight (for_client own p m).sent ≤ 3 * (length p + 5)
 client-pays own p (Open what s w max) reads = by_case (nat_lt (length (held_of own)) 256)
   where
-    by_case : (b : Bool) → weight (elim b as (λ _. Outcome) [ true ↦ records (frame_payload p) | false ↦ sends (open_failure s RESOURCE_SHORTAGE too_many_channels) ]).sent ≤ 3 * (length p + 5)
+    by_case : (b : Bool) → weight (elim b as (λ _. Outcome) [ true ↦ records (frame_payload p) | false ↦ sends_payload (open_failure s RESOURCE_SHORTAGE too_many_channels) ]).sent ≤ 3 * (length p + 5)
     by_case true = omega arith
     by_case false = let a = failure-weight s RESOURCE_SHORTAGE too_many_channels in let l = opens-long p what s w max reads in omega (arith, a, l)
 client-pays own p (Confirmation n s w max) reads = omega arith
@@ -94,17 +94,17 @@ first-of [] n a got = cc
 first-of (x ∷ xs) zero a got = (xs, let same : x ≡ a = cc in ap (λ y. y ∷ xs) same)
 first-of (x ∷ xs) (suc n) a got = first-of xs n a got
 
-reply-pays : (before : List Row) (k : ℕ) (p : List ℕ) (m : Summary) (f : Global → List (List ℕ)) → read_summary p ≡ Ok m → is_reply m ≡ true → ((what : Global) → AskShort what → weight (f what) ≤ if_forward (is_forward what)) → Orderly before → Asked before k → EachAsk IsBrief (asks (rows_of k before)) → Pays before p (with_ask (asker (rows_of k before)) f)
+reply-pays : (before : List Row) (k : ℕ) (p : List ℕ) (m : Summary) (f : Global → List (List ℕ)) → read_summary p ≡ Ok m → is_reply m ≡ true → ((what : Global) → AskShort what → weight (f what) ≤ if_forward (is_forward what)) → Orderly before → Asked before k → EachAsk IsBrief (wanted_requests (rows_of k before)) → Pays before p (with_ask (asker (rows_of k before)) f)
 reply-pays before k p m f reads replied each orderly asked brief = by_forward (is_forward asked.ask.what) refl
   where
     mine : asker (rows_of k before) ≡ Some asked.ask
     mine = asker-local before k orderly asked
 
     short : AskShort asked.ask.what
-    short = get-each IsBrief (asks (rows_of k before)) (length (replies (rows_of k before))) asked.ask brief mine
+    short = get-each IsBrief (wanted_requests (rows_of k before)) (length (replies (rows_of k before))) asked.ask brief mine
 
     first : (rest : List Ask) × (unreplied before ≡ asked.ask ∷ rest)
-    first = first-of (asks before) (length (replies before)) asked.ask asked.is
+    first = first-of (wanted_requests before) (length (replies before)) asked.ask asked.is
 
     one : reply_in (Heard p) ≡ p ∷ []
     one = ap (λ b. elim b as (λ _. List (List ℕ)) [ true ↦ p ∷ [] | false ↦ [] ]) (reading-ok p m is_reply false reads ∙ replied)
@@ -130,13 +130,13 @@ reply-pays before k p m f reads replied each orderly asked brief = by_forward (i
         let a = ap (λ b. add_if b (forwards_in first.0)) e in
         omega (arith, w, i, u, l, t, a)
 
-lost-pays : (before : List Row) (k : ℕ) (p : List ℕ) (m : Summary) → read_summary p ≡ Ok m → dest_summary before m ≡ ToClient k → Orderly before → EachAsk IsBrief (asks (rows_of k before)) → Pays before p (late m (rows_of k before))
+lost-pays : (before : List Row) (k : ℕ) (p : List ℕ) (m : Summary) → read_summary p ≡ Ok m → dest_summary before m ≡ ToClient k → Orderly before → EachAsk IsBrief (wanted_requests (rows_of k before)) → Pays before p (late m (rows_of k before))
 lost-pays before k p (Confirmation n s w max) reads to orderly brief = pays-for before p (late (Confirmation n s w max) (rows_of k before)) (let a = close-weight s in omega arith)
 lost-pays before k p (Succeeds rest) reads to orderly brief = reply-pays before k p (Succeeds rest) (late_success rest) reads refl (success-pays rest) orderly (succeeds-asked before rest k to) brief
 lost-pays before k p Refuses reads to orderly brief = reply-pays before k p Refuses late_refusal reads refl refusal-pays orderly (refuses-asked before k to) brief
 lost-pays before k p m reads to orderly brief = pays-for before p [] (omega arith)
 
-heard-pays : (before : List Row) (k : ℕ) (p : List ℕ) → dest before p ≡ ToClient k → Orderly before → EachAsk IsBrief (asks (rows_of k before)) → Pays before p (received_for (rows_of k before) p).sent
+heard-pays : (before : List Row) (k : ℕ) (p : List ℕ) → dest before p ≡ ToClient k → Orderly before → EachAsk IsBrief (wanted_requests (rows_of k before)) → Pays before p (received_for (rows_of k before) p).sent
 heard-pays before k p to orderly brief = by_case (read_summary p) refl
   where
     by_lost : (m : Summary) → read_summary p ≡ Ok m → (b : Bool) → Pays before p (elim b as (λ _. Outcome) [ true ↦ for_lost (rows_of k before) m | false ↦ for_client (rows_of k before) p m ]).sent
@@ -152,7 +152,7 @@ heard-pays before k p to orderly brief = by_case (read_summary p) refl
 abbrev RowPays : List Row → List ℕ → Row → Type 0
 RowPays before p row = Pays before p row.up
 
-dest-pays : (before : List Row) (p : List ℕ) (d : Dest) → dest before p ≡ d → Orderly before → ((k : ℕ) → EachAsk IsBrief (asks (rows_of k before))) → RowPays before p (received_row before p d)
+dest-pays : (before : List Row) (p : List ℕ) (d : Dest) → dest before p ≡ d → Orderly before → ((k : ℕ) → EachAsk IsBrief (wanted_requests (rows_of k before))) → RowPays before p (received_row before p d)
 dest-pays before p ToMaster e orderly brief = master-pays before p
 dest-pays before p (ToClient k) e orderly brief = row-parts (RowPays before p) (Heard p) k (received_for (rows_of k before) p) (rows_of k before) (λ fw parting down fate. heard-pays before k p e orderly (brief k))
 dest-pays before p Disconnects e orderly brief = pays-for before p [] (omega arith)

@@ -10,7 +10,7 @@ use Rattle.mux_history.specs.Kept.{ForEach}
 use Rattle.mux_history.specs.Log.{more_all, more_of}
 use Rattle.mux_history.specs.Pending.{pending_up}
 use Rattle.mux_history.specs.Policy.{Policy}
-use Rattle.mux_history.specs.Requests.{asks, asks_of, is_sent, replies, reply_in, wanted_by}
+use Rattle.mux_history.specs.Requests.{wanted_requests, asks_of, is_sent, replies, reply_in, wanted_by}
 use Rattle.mux_history.specs.Rows.{Admit, BadServer, Gone, Heard, HouseSays, Item, Row, RunEnd, Says, ServerCut, ServerEnd, ServerFailed, Took}
 use Rattle.mux_history.specs.Steps.{one_if}
 use Rattle.mux_history.proofs.LawfulItems.{treat-item}
@@ -71,9 +71,9 @@ live-row policy pid before row facts =
 -- a row that neither asks nor replies
 owed-still : (row : Row) (before : List Row) → reply_in row.item ≡ [] → wanted_by row ≡ None → owed (row ∷ before) ≡ owed before
 owed-still row before reply wants = ap forwards_in (
-    ap (λ r. drop (length (replies before ++ r)) (asks before ++ asks_of row.client (is_sent row) (wanted_by row))) reply
-    ∙ (ap (λ (rs : List (List ℕ)). drop (length rs) (asks before ++ asks_of row.client (is_sent row) (wanted_by row))) (append-nil (replies before))
-    ∙ ap (drop (length (replies before))) (ap (λ o. asks before ++ asks_of row.client (is_sent row) o) wants ∙ (ap (λ xs. asks before ++ xs) (asks-none row.client (is_sent row)) ∙ append-nil (asks before)))))
+    ap (λ r. drop (length (replies before ++ r)) (wanted_requests before ++ asks_of row.client (is_sent row) (wanted_by row))) reply
+    ∙ (ap (λ (rs : List (List ℕ)). drop (length rs) (wanted_requests before ++ asks_of row.client (is_sent row) (wanted_by row))) (append-nil (replies before))
+    ∙ ap (drop (length (replies before))) (ap (λ o. wanted_requests before ++ asks_of row.client (is_sent row) o) wants ∙ (ap (λ xs. wanted_requests before ++ xs) (asks-none row.client (is_sent row)) ∙ append-nil (wanted_requests before)))))
 
 owed-row : (policy : Policy) (pid : ℕ) (before : List Row) (row : Row) → Facts policy pid (row ∷ before) → IsMute row.item → with_owed (row ∷ before) ≤ with_owed before + owed_cost row.item
 owed-row policy pid before row facts mute = by_item row.item refl mute

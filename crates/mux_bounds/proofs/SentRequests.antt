@@ -5,7 +5,7 @@ use Rattle.mux_outside.specs.declared.house.HouseReply.{HouseReply}
 use Rattle.ssh_grammar.specs.Messages.{Global}
 use Rattle.ssh_grammar.specs.Said.{BadFraming, Body, Payload}
 use Rattle.mux_history.specs.declared.why.Why.TheVariants as why
-use Rattle.mux_history.specs.Controls.{greeted, house_sends, sent_body}
+use Rattle.mux_history.specs.Controls.{client_has_greeted, house_sends, sent_body}
 use Rattle.mux_history.specs.Summary.{Requests, read_summary}
 use Rattle.mux_history.specs.Heard.{Breaks, Dest, Disconnects, ToClient, ToMaster, dest, received_for}
 use Rattle.mux_history.specs.Log.{admits, received_row, row_of, treat}
@@ -52,7 +52,7 @@ dest-said policy before p (Breaks cause) = says-not policy (received_row before 
 treat-said : (policy : Policy) (pid pick : ℕ) (before : List Row) (item : Item) → SentRequest policy before (treat policy pid pick before item)
 treat-said policy pid pick before (Admit k) = row-not policy before (Admit k) k (admits before) (λ j q given e. cc)
 treat-said policy pid pick before (Says k (Payload p) given) = row-parts (SentRequest policy before) (Says k (Payload p) given) k (sent_payload policy k (rows_of k before) pick p) (rows_of k before) (λ fw parting down fate. payload-said policy before k pick p given fw down fate)
-treat-said policy pid pick before (Says k (Body body) given) = row-not policy before (Says k (Body body) given) k (sent_body pid k given (greeted (rows_of k before)) body) (λ j q other e. cc)
+treat-said policy pid pick before (Says k (Body body) given) = row-not policy before (Says k (Body body) given) k (sent_body pid k given (client_has_greeted (rows_of k before)) body) (λ j q other e. cc)
 treat-said policy pid pick before (Says k (BadFraming fault) given) = row-not policy before (Says k (BadFraming fault) given) k (drops (why.BadFrame fault)) (λ j q other e. cc)
 treat-said policy pid pick before (HouseSays k id given) = row-not policy before (HouseSays k id given) k (house_sends (rows_of k before) id given) (λ j q given e. cc)
 treat-said policy pid pick before (Gone k) = row-not policy before (Gone k) k silent (λ j q given e. cc)

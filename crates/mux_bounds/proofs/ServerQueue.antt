@@ -18,8 +18,8 @@ use Rattle.mux_history.specs.Policy.{Policy}
 use Rattle.mux_history.specs.Promises.{Throughout}
 use Rattle.mux_history.specs.Right.{AreFresh, IsRight}
 use Rattle.mux_history.specs.Wires.{reads}
-use Rattle.mux_history.specs.Rows.{Admit, Item, Row, ServerFailed, Took, is_ended}
-use Rattle.mux_bounds.specs.Bounds.{AddsAtOnce, IsLog, ReadsWithRoom, StaysBelow, speaks}
+use Rattle.mux_history.specs.Rows.{Admit, Item, Row, ServerFailed, Took, is_run_over}
+use Rattle.mux_bounds.specs.Bounds.{AddsAtOnce, IsLog, ReadsWithRoom, StaysBelow, house_speaks}
 use Rattle.std.proofs.lemmas.List.{reverse-append, take-append-drop, take_all}
 use Rattle.mux_history.proofs.Journals.{journal-items, log-more, logs-right}
 use Rattle.mux_history.proofs.RightLogs.{LogKnown, right-known}
@@ -87,11 +87,11 @@ module _ (policy : Policy) (pid : ℕ) (picks : List ℕ) (given : List HouseRep
   Still before mark n = with_owed (cut before mark n) ≤ with_owed (log before)
 
   record Receives (before : List Mark) (mark : Mark) (n : ℕ) : Type 0 where
-    reads : (reads mark || speaks mark) ≡ true
+    reads : (reads mark || house_speaks mark) ≡ true
     grows : with_owed (cut before mark n) ≤ with_owed (log before) + 983049
 
   record Says (before : List Mark) (mark : Mark) (n : ℕ) : Type 0 where
-    reads : (reads mark || speaks mark) ≡ true
+    reads : (reads mark || house_speaks mark) ≡ true
     grows : with_live (cut before mark n) ≤ with_live (log before) + 327683
 
   abbrev Moves : List Mark → Mark → ℕ → Type 0
@@ -166,7 +166,7 @@ module _ (policy : Policy) (pid : ℕ) (picks : List ℕ) (given : List HouseRep
   -- ---- what one mark adds
 
   adds-cut : (before : List Mark) (mark : Mark) (n : ℕ) → KnownCut before mark n → waits (cut before mark n) ≤ waits (log before) + 4096009
-  adds-cut before mark n known = by_end (is_ended (log before)) refl
+  adds-cut before mark n known = by_end (is_run_over (log before)) refl
     where
       was : Known before
       was = known-before before mark n known
@@ -174,7 +174,7 @@ module _ (policy : Policy) (pid : ℕ) (picks : List ℕ) (given : List HouseRep
       few : live (log before) ≤ 64
       few = live-few policy pid (log before) (log-known before was)
 
-      by_end : (b : Bool) → is_ended (log before) ≡ b → waits (cut before mark n) ≤ waits (log before) + 4096009
+      by_end : (b : Bool) → is_run_over (log before) ≡ b → waits (cut before mark n) ≤ waits (log before) + 4096009
       by_end true e = let o = (over-all policy pid picks given (log before) (take n (items_in before mark)) e).0 in omega (arith, o)
       by_end false e = by_move (moves before mark n known.lawful.0 (cut-facts before mark n known)) (owed-all-few policy pid (log before) (log-known before was) (facts-of before was).first e)
         where
@@ -187,10 +187,10 @@ module _ (policy : Policy) (pid : ℕ) (picks : List ℕ) (given : List HouseRep
 
   record Bound (rows : List Row) : Type 0 where
     waits : waits rows ≤ 8290313
-    going : is_ended rows ≡ false → with_owed rows ≤ 8290313
+    going : is_run_over rows ≡ false → with_owed rows ≤ 8290313
 
-  bound-next : (before : List Mark) (mark : Mark) (n : ℕ) → KnownCut before mark n → ((reads mark || speaks mark) ≡ true → waits (log before) < 4194304) → Bound (log before) → Bound (cut before mark n)
-  bound-next before mark n known room bound = by_end (is_ended (log before)) refl
+  bound-next : (before : List Mark) (mark : Mark) (n : ℕ) → KnownCut before mark n → ((reads mark || house_speaks mark) ≡ true → waits (log before) < 4194304) → Bound (log before) → Bound (cut before mark n)
+  bound-next before mark n known room bound = by_end (is_run_over (log before)) refl
     where
       was : Known before
       was = known-before before mark n known
@@ -198,10 +198,10 @@ module _ (policy : Policy) (pid : ℕ) (picks : List ℕ) (given : List HouseRep
       few : live (log before) ≤ 64
       few = live-few policy pid (log before) (log-known before was)
 
-      late-after : is_ended (cut before mark n) ≡ false → owed (cut before mark n) ≤ 4096
+      late-after : is_run_over (cut before mark n) ≡ false → owed (cut before mark n) ≤ 4096
       late-after going = owed-all-few policy pid (cut before mark n) (cut-known before mark n known) (cut-facts before mark n known).first going
 
-      by_end : (b : Bool) → is_ended (log before) ≡ b → Bound (cut before mark n)
+      by_end : (b : Bool) → is_run_over (log before) ≡ b → Bound (cut before mark n)
       by_end true e =
           let o = over-all policy pid picks given (log before) (take n (items_in before mark)) e in
           let w = o.0 in

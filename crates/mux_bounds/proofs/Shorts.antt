@@ -7,12 +7,12 @@ use Rattle.ssh_grammar.specs.Messages.{Cancel, Forward, Global, KeepAlive, Key, 
 use Rattle.ssh_grammar.specs.Said.{BadFraming, Body, Payload}
 use Rattle.ssh_grammar.specs.declared.fault.Bad.{Bad}
 use Rattle.mux_history.specs.Channels.{is_number}
-use Rattle.mux_history.specs.Forwardings.{Forwarding, change_first, current, dropped, forwarded, forwardings_of, is_forwarding_free_at, is_request, of_client, replied, requested, stopped}
+use Rattle.mux_history.specs.Forwardings.{Forwarding, change_first, current, dropped, forwarded, forwardings_of, is_forwarding_free_at, is_request, of_client, forwarding_after_reply, forwardings_after_request, stopped}
 use Rattle.mux_history.specs.Summary.{Summary, Refuses, Requests, Succeeds, read_summary, reading}
 use Rattle.mux_history.specs.Kept.{ForEach}
 use Rattle.mux_history.specs.Keys.{bound, has_key, is_askable}
 use Rattle.mux_history.specs.Policy.{Policy, permits}
-use Rattle.mux_history.specs.Requests.{Ask, asks, asks_of, is_sent, replies, wanted_by, wanted_in}
+use Rattle.mux_history.specs.Requests.{Ask, wanted_requests, asks_of, is_sent, replies, wanted_by, wanted_in}
 use Rattle.mux_history.specs.Rows.{Heard, Item, Row, Says, any_of, loses, rows_of}
 use Rattle.mux_history.specs.Said.{sent_request, sends_if}
 use Rattle.mux_history.proofs.Finds.{filter-no, filter-yes}
@@ -53,7 +53,7 @@ each-first test g stays (f ∷ fs) all = by_case (test f) (each-first test g sta
     by_case true ih = (stays f all.0, all.1)
     by_case false ih = (all.0, ih)
 
-replied-stays : (n : ℕ) (m : Summary) → Stays (replied n m)
+replied-stays : (n : ℕ) (m : Summary) → Stays (forwarding_after_reply n m)
 replied-stays n (Succeeds rest) f short = by_case (is_request f n) (is_number f.cancel n)
   where
     by_case : (a b : Bool) → IsShort (elim a as (λ _. Forwarding) [ true ↦ record f { live = Some (bound f.key rest) } | false ↦ elim b as (λ _. Forwarding) [ true ↦ record f { over = true } | false ↦ f ] ])
@@ -124,7 +124,7 @@ request-short policy k own p OtherName wants all sent = tt
 abbrev Asked : Row → Type 0
 Asked row = (k : ℕ) (p : List ℕ) (given : Option HouseReply) (what : Global) (wants : Bool) → row.item ≡ Says k (Payload p) given → read_summary p ≡ Ok (Requests what wants) → is_sent row ≡ true → AskShort what
 
-requested-short : (k n : ℕ) (m : Summary) (fs : List Forwarding) → ((what : Global) (wants : Bool) → m ≡ Requests what wants → AskShort what) → EachOf IsShort fs → EachOf IsShort (requested k n m fs)
+requested-short : (k n : ℕ) (m : Summary) (fs : List Forwarding) → ((what : Global) (wants : Bool) → m ≡ Requests what wants → AskShort what) → EachOf IsShort fs → EachOf IsShort (forwardings_after_request k n m fs)
 requested-short k n (Requests (Forward key) wants) fs new all = each-append fs _ all ((new (Forward key) wants refl, tt), tt)
 requested-short k n (Requests (Cancel key) wants) fs new all = each-first (is_forwarding_free_at k key) (stopped wants n) (stopped-stays wants n) fs all
 requested-short k n (Requests KeepAlive wants) fs new all = all
@@ -138,13 +138,13 @@ forwarded-short row own fs new all = by_item row.item refl
     by_reading p (Err bad) reads g each = all
     by_reading p (Ok m) reads g each = each m reads
 
-    by_sent : (j : ℕ) (p : List ℕ) (given : Option HouseReply) → row.item ≡ Says j (Payload p) given → (b : Bool) → is_sent row ≡ b → EachOf IsShort (elim b as (λ _. List Forwarding) [ true ↦ reading p (λ m. requested row.client (length (asks own)) m fs) fs | false ↦ fs ])
-    by_sent j p given item true sent = by_reading p (read_summary p) refl (λ m. requested row.client (length (asks own)) m fs) (λ m reads. requested-short row.client (length (asks own)) m fs (λ what wants e. new j p given what wants item (reads ∙ ap Ok e) sent) all)
+    by_sent : (j : ℕ) (p : List ℕ) (given : Option HouseReply) → row.item ≡ Says j (Payload p) given → (b : Bool) → is_sent row ≡ b → EachOf IsShort (elim b as (λ _. List Forwarding) [ true ↦ reading p (λ m. forwardings_after_request row.client (length (wanted_requests own)) m fs) fs | false ↦ fs ])
+    by_sent j p given item true sent = by_reading p (read_summary p) refl (λ m. forwardings_after_request row.client (length (wanted_requests own)) m fs) (λ m reads. requested-short row.client (length (wanted_requests own)) m fs (λ what wants e. new j p given what wants item (reads ∙ ap Ok e) sent) all)
     by_sent j p given item false sent = all
 
     by_item : (i : Item) → row.item ≡ i → EachOf IsShort (forwarded (record row { item = i }) own fs)
     by_item (Says j (Payload p) given) item = by_sent j p given item (is_sent row) refl
-    by_item (Heard p) item = by_reading p (read_summary p) refl (λ m. map (of_client row.client (replied (length (replies own)) m)) fs) (λ m reads. each-map (of_client row.client (replied (length (replies own)) m)) (client-stays row.client (replied (length (replies own)) m) (replied-stays (length (replies own)) m)) fs all)
+    by_item (Heard p) item = by_reading p (read_summary p) refl (λ m. map (of_client row.client (forwarding_after_reply (length (replies own)) m)) fs) (λ m reads. each-map (of_client row.client (forwarding_after_reply (length (replies own)) m)) (client-stays row.client (forwarding_after_reply (length (replies own)) m) (replied-stays (length (replies own)) m)) fs all)
     by_item i item = all
 
 dropped-short : (row : Row) (fs : List Forwarding) → EachOf IsShort fs → EachOf IsShort (dropped row fs)
@@ -220,6 +220,6 @@ new-brief row new = by_case (is_sent row) refl (wanted_by row) refl
     by_case true sent None e = tt
     by_case false sent o e = tt
 
-pub asks-brief : (policy : Policy) (pid : ℕ) (rows : List Row) → ForEach (RowKnown policy pid) rows → EachAsk IsBrief (asks rows)
+pub asks-brief : (policy : Policy) (pid : ℕ) (rows : List Row) → ForEach (RowKnown policy pid) rows → EachAsk IsBrief (wanted_requests rows)
 asks-brief policy pid [] each = tt
-asks-brief policy pid (row ∷ before) each = each-asks IsBrief (asks before) (asks_of row.client (is_sent row) (wanted_by row)) (asks-brief policy pid before each.1) (new-brief row (asked-short policy pid before row each.0 (forwardings-short policy pid before each.1)))
+asks-brief policy pid (row ∷ before) each = each-asks IsBrief (wanted_requests before) (asks_of row.client (is_sent row) (wanted_by row)) (asks-brief policy pid before each.1) (new-brief row (asked-short policy pid before row each.0 (forwardings-short policy pid before each.1)))

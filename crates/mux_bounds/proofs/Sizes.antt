@@ -14,7 +14,7 @@ use Rattle.ssh_fields.specs.Fields.{of_four}
 use Rattle.mux_outside.specs.declared.house_mark.HouseMark.TheVariants.{HouseAnswer, HouseAsked, HouseIn, HouseOrder, HouseSaid, HouseTook}
 use Rattle.mux_history.specs.declared.limits.TheConstants.{HOUSE}
 use Rattle.mux_history.specs.Choices.{FromLists, pick_of, replies_given, reply_at, with_reply}
-use Rattle.mux_history.specs.Controls.{body_asks, greeted}
+use Rattle.mux_history.specs.Controls.{body_asks, client_has_greeted}
 use Rattle.mux_history.specs.Journal.{bytes_of, received_item, is_own_stream, items, items_in, new_received, new_sayings, sent_item, server_end, unless_own}
 use Rattle.mux_history.specs.Kept.{ForEach}
 use Rattle.mux_history.specs.Log.{log_of, makes_next, more_of, treat}
@@ -174,7 +174,7 @@ SmallRows (row ∷ before) = SmallItem row.item × SmallRows before
 
 module _ (policy : Policy) (pid : ℕ) (picks : List ℕ) (given : List HouseReply) where
   reply-small : (rows : List Row) (item : Item) → SmallItem item → SmallItem (with_reply (FromLists picks given) rows item)
-  reply-small rows (Says k (Body body) old) small = elim (greeted (rows_of k rows) && body_asks body) as (λ b. SmallItem (elim b as (λ _. Item) [ true ↦ Says k (Body body) (Some (reply_at given (replies_given rows))) | false ↦ Says k (Body body) None ])) [ true ↦ tt | false ↦ tt ]
+  reply-small rows (Says k (Body body) old) small = elim (client_has_greeted (rows_of k rows) && body_asks body) as (λ b. SmallItem (elim b as (λ _. Item) [ true ↦ Says k (Body body) (Some (reply_at given (replies_given rows))) | false ↦ Says k (Body body) None ])) [ true ↦ tt | false ↦ tt ]
   reply-small rows (Says k (Payload p) old) small = small
   reply-small rows (Says k (BadFraming fault) old) small = small
   reply-small rows item small = tt

@@ -7,10 +7,10 @@ use Rattle.ssh_grammar.specs.Messages.{Global}
 use Rattle.mux_history.specs.Channels.{held_of, is_channel_held}
 use Rattle.mux_history.specs.Farewell.{has_open_matters}
 use Rattle.mux_history.specs.Kept.{AtEach, ForEach}
-use Rattle.mux_history.specs.Log.{entered, matters_of, open_matters}
+use Rattle.mux_history.specs.Log.{admitted_clients, matters_of, open_matters}
 use Rattle.mux_history.specs.Policy.{Policy}
-use Rattle.mux_history.specs.Requests.{Ask, asks, asks_of, is_sent, replies, wanted_by}
-use Rattle.mux_history.specs.Rows.{Row, any_of, is_admit, is_ended, is_lost, rows_of}
+use Rattle.mux_history.specs.Requests.{Ask, wanted_requests, asks_of, is_sent, replies, wanted_by}
+use Rattle.mux_history.specs.Rows.{Row, any_of, is_admit, is_run_over, is_lost, rows_of}
 use Rattle.mux_history.specs.Steps.{one_if, unreplied}
 use Rattle.mux_bounds.specs.Few.{MattersBounded}
 use Rattle.mux_history.proofs.Askers.{asks_for}
@@ -37,7 +37,7 @@ counts test rows (k ∷ ks) = add_if (test (rows_of k rows)) (counts test rows k
 
 -- those that can be lost
 abbrev pub live : List Row → ℕ
-live rows = counts is_live rows (entered rows)
+live rows = counts is_live rows (admitted_clients rows)
 
 -- the requests for forwardings that wait for a reply
 abbrev pub owed : List Row → ℕ
@@ -54,8 +54,8 @@ live-matters rows [] ins = omega arith
 live-matters rows (k ∷ ks) ins = add-le (is_live (rows_of k rows)) (has_open_matters (rows_of k rows)) (counts is_live rows ks) (matters_of rows ks) opens (live-matters rows ks ins.1)
   where
     opens : is_live (rows_of k rows) ≡ true → has_open_matters (rows_of k rows) ≡ true
-    opens on = ap (λ b. (b && not (is_lost (rows_of k rows))) || (any_of is_channel_held (held_of (rows_of k rows)) || nat_lt (length (replies (rows_of k rows))) (length (asks (rows_of k rows))))) ins.0
-        ∙ ap (λ b. b || (any_of is_channel_held (held_of (rows_of k rows)) || nat_lt (length (replies (rows_of k rows))) (length (asks (rows_of k rows))))) on
+    opens on = ap (λ b. (b && not (is_lost (rows_of k rows))) || (any_of is_channel_held (held_of (rows_of k rows)) || nat_lt (length (replies (rows_of k rows))) (length (wanted_requests (rows_of k rows))))) ins.0
+        ∙ ap (λ b. b || (any_of is_channel_held (held_of (rows_of k rows)) || nat_lt (length (replies (rows_of k rows))) (length (wanted_requests (rows_of k rows))))) on
 
 -- ---- requests, client by client
 
@@ -123,8 +123,8 @@ not-less : (a b : ℕ) → nat_lt a b ≡ false → b ≤ a
 not-less a b e = grind (arith, nat_tests)
 
 closed-none : (own : List Row) → has_open_matters own ≡ false → unreplied own ≡ []
-closed-none own closed = drop_all (length (replies own)) (asks own) (not-less (length (replies own)) (length (asks own))
-    (or-right (any_of is_channel_held (held_of own)) (nat_lt (length (replies own)) (length (asks own))) (or-right (any_of is_admit own && not (is_lost own)) _ closed)))
+closed-none own closed = drop_all (length (replies own)) (wanted_requests own) (not-less (length (replies own)) (length (wanted_requests own))
+    (or-right (any_of is_channel_held (held_of own)) (nat_lt (length (replies own)) (length (wanted_requests own))) (or-right (any_of is_admit own && not (is_lost own)) _ closed)))
 
 sum-few : (g : ℕ → ℕ) (rows : List Row) (ks : List ℕ) → ((k : ℕ) → g k ≤ 64) → ((k : ℕ) → has_open_matters (rows_of k rows) ≡ false → g k ≡ 0) → sum_over g ks ≤ 64 * matters_of rows ks
 sum-few g rows [] few none = omega arith
@@ -156,10 +156,10 @@ new-in before row first = by_case (is_sent row) (wanted_by row) refl
     by_case true None e = tt
     by_case false o e = tt
 
-asks-in : (rows : List Row) → ForEach LetFirst rows → EachAsk (IsIn rows) (asks rows)
+asks-in : (rows : List Row) → ForEach LetFirst rows → EachAsk (IsIn rows) (wanted_requests rows)
 asks-in [] each = tt
-asks-in (row ∷ before) each = each-asks (IsIn (row ∷ before)) (asks before) (asks_of row.client (is_sent row) (wanted_by row))
-    (each-of (IsIn before) (IsIn (row ∷ before)) (λ a is. still-in row before a.client is) (asks before) (asks-in before each.1))
+asks-in (row ∷ before) each = each-asks (IsIn (row ∷ before)) (wanted_requests before) (asks_of row.client (is_sent row) (wanted_by row))
+    (each-of (IsIn before) (IsIn (row ∷ before)) (λ a is. still-in row before a.client is) (wanted_requests before) (asks-in before each.1))
     (new-in before row each.0)
 
 -- ---- the totals
@@ -172,12 +172,12 @@ matters-few : (policy : Policy) (pid : ℕ) (rows : List Row) → LogKnown polic
 matters-few policy pid rows known = at-last MattersBounded rows (matters-bounded policy pid rows known)
 
 pub live-few : (policy : Policy) (pid : ℕ) (rows : List Row) → LogKnown policy pid rows → live rows ≤ 64
-live-few policy pid rows known = let a = live-matters rows (entered rows) (let-entered rows) in let b = matters-few policy pid rows known in omega (arith, a, b)
+live-few policy pid rows known = let a = live-matters rows (admitted_clients rows) (let-entered rows) in let b = matters-few policy pid rows known in omega (arith, a, b)
 
-pub owed-all-few : (policy : Policy) (pid : ℕ) (rows : List Row) → LogKnown policy pid rows → ForEach LetFirst rows → is_ended rows ≡ false → owed rows ≤ 4096
+pub owed-all-few : (policy : Policy) (pid : ℕ) (rows : List Row) → LogKnown policy pid rows → ForEach LetFirst rows → is_run_over rows ≡ false → owed rows ≤ 4096
 owed-all-few policy pid rows known first going =
-    let a = split (unreplied rows) (entered rows) among in
-    let b = sum-few (λ k. forwards_in (filter (asks_for k) (unreplied rows))) rows (entered rows) few none in
+    let a = split (unreplied rows) (admitted_clients rows) among in
+    let b = sum-few (λ k. forwards_in (filter (asks_for k) (unreplied rows))) rows (admitted_clients rows) few none in
     let c = matters-few policy pid rows known in
     omega (arith, a, b, c)
   where
@@ -190,6 +190,6 @@ owed-all-few policy pid rows known first going =
     none : (k : ℕ) → has_open_matters (rows_of k rows) ≡ false → forwards_in (filter (asks_for k) (unreplied rows)) ≡ 0
     none k closed = ap forwards_in (sym (local k) ∙ closed-none (rows_of k rows) closed)
 
-    among : EachAsk (λ a. 1 ≤ count a.client (entered rows)) (unreplied rows)
-    among = each-drop (λ a. 1 ≤ count a.client (entered rows)) (length (replies rows)) (asks rows)
-        (each-of (IsIn rows) (λ a. 1 ≤ count a.client (entered rows)) (λ a is. let e = entered-once policy pid rows known.each a.client ∙ ap one_if is in omega (arith, e)) (asks rows) (asks-in rows first))
+    among : EachAsk (λ a. 1 ≤ count a.client (admitted_clients rows)) (unreplied rows)
+    among = each-drop (λ a. 1 ≤ count a.client (admitted_clients rows)) (length (replies rows)) (wanted_requests rows)
+        (each-of (IsIn rows) (λ a. 1 ≤ count a.client (admitted_clients rows)) (λ a is. let e = entered-once policy pid rows known.each a.client ∙ ap one_if is in omega (arith, e)) (wanted_requests rows) (asks-in rows first))

@@ -2,12 +2,12 @@
 use Rattle.std.proofs.Common.{◌≡◌, ℕ, ◌+◌, ◌≤◌, List, [], ◌∷◌, length, length-append, true, false, Bool, refl, ◌∙◌, ap, arith, sym, Option, Some, None, subst, Ok, Err}
 use Rattle.std.specs.Prelude.{◌==◌, ◌-◌, ◌||◌, Result, nat_le}
 use Rattle.std.proofs.lemmas.Bool.Decides.{nat_tests}
-use Rattle.mux_history.specs.Controls.{greeted, house_sends, sent_body}
+use Rattle.mux_history.specs.Controls.{client_has_greeted, house_sends, sent_body}
 use Rattle.mux_history.specs.Farewell.{farewell}
 use Rattle.mux_history.specs.Summary.{Summary, Requests, read_summary}
 use Rattle.mux_history.specs.Heard.{Breaks, Dest, Disconnects, ToClient, ToMaster, dest, received_for}
 use Rattle.mux_history.specs.Kept.{AtEach, ForEach}
-use Rattle.mux_history.specs.Log.{admits, all_recorded, bare, fate_with, received_row, queued, row_of, treat}
+use Rattle.mux_history.specs.Log.{admits, all_recorded, bare_row, fate_with, received_row, queued, row_of, treat}
 use Rattle.mux_history.specs.Policy.{Policy}
 use Rattle.mux_history.specs.Requests.{answers, is_sent, sent_flags, unanswered_asks, wanted, wanted_by, wanted_in}
 use Rattle.mux_history.specs.Rows.{Admit, Gone, Heard, HouseSays, Item, Row, Says, is_lost, loses, rows_of}
@@ -66,10 +66,10 @@ module _ (own : List Row) (k : ℕ) (p : List ℕ) (reply : Option HouseReply) (
 
 -- a row of what an item does, whatever of it fits, drops its client where the item does
 by-row : (P : Row → Type 0) (item : Item) (k : ℕ) (o : Outcome) (own : List Row) → ((fw down : List (List ℕ)) (full : Option Why) → P (as_row item k o.sent fw down (fate_with o.ends full))) → P (row_of item k o own)
-by-row P item k o own each = by_case (loses (queued (all_recorded (bare item k o) own) (bare item k o) own))
+by-row P item k o own each = by_case (loses (queued (all_recorded (bare_row item k o) own) (bare_row item k o) own))
   where
-    by_case : (b : Bool) → P (elim b as (λ _. Row) [ true ↦ record (queued (all_recorded (bare item k o) own) (bare item k o) own) { farewell = farewell (queued (all_recorded (bare item k o) own) (bare item k o) own) own } | false ↦ queued (all_recorded (bare item k o) own) (bare item k o) own ])
-    by_case true = each (farewell (queued (all_recorded (bare item k o) own) (bare item k o) own) own) _ _
+    by_case : (b : Bool) → P (elim b as (λ _. Row) [ true ↦ record (queued (all_recorded (bare_row item k o) own) (bare_row item k o) own) { farewell = farewell (queued (all_recorded (bare_row item k o) own) (bare_row item k o) own) own } | false ↦ queued (all_recorded (bare_row item k o) own) (bare_row item k o) own ])
+    by_case true = each (farewell (queued (all_recorded (bare_row item k o) own) (bare_row item k o) own) own) _ _
     by_case false = each [] _ _
 
 fits-none : (before : List Row) (row : Row) → wanted_by row ≡ None → Fits before row
@@ -85,7 +85,7 @@ fits-dest before p (Breaks cause) = fits-none before (received_row before p (Bre
 
 fits-treat : (policy : Policy) (pid pick : ℕ) (before : List Row) (item : Item) → Fits before (treat policy pid pick before item)
 fits-treat policy pid pick before (Says k (Payload p) reply) = by-row (Fits before) (Says k (Payload p) reply) k (sent_payload policy k (rows_of k before) pick p) (rows_of k before) (λ fw down full. fitting-said (rows_of k before) k p reply fw down full policy pick (read_summary p))
-fits-treat policy pid pick before (Says k (Body body) reply) = by-row (Fits before) (Says k (Body body) reply) k (sent_body pid k reply (greeted (rows_of k before)) body) (rows_of k before) (λ fw down full. fits-none before (as_row (Says k (Body body) reply) k (sent_body pid k reply (greeted (rows_of k before)) body).sent fw down (fate_with (sent_body pid k reply (greeted (rows_of k before)) body).ends full)) refl)
+fits-treat policy pid pick before (Says k (Body body) reply) = by-row (Fits before) (Says k (Body body) reply) k (sent_body pid k reply (client_has_greeted (rows_of k before)) body) (rows_of k before) (λ fw down full. fits-none before (as_row (Says k (Body body) reply) k (sent_body pid k reply (client_has_greeted (rows_of k before)) body).sent fw down (fate_with (sent_body pid k reply (client_has_greeted (rows_of k before)) body).ends full)) refl)
 fits-treat policy pid pick before (Says k (BadFraming fault) reply) = by-row (Fits before) (Says k (BadFraming fault) reply) k (drops (why.BadFrame fault)) (rows_of k before) (λ fw down full. fits-none before (as_row (Says k (BadFraming fault) reply) k [] fw down (fate_with (drops (why.BadFrame fault)).ends full)) refl)
 fits-treat policy pid pick before (Admit k) = by-row (Fits before) (Admit k) k (admits before) (rows_of k before) (λ fw down full. fits-none before (as_row (Admit k) k (admits before).sent fw down (fate_with (admits before).ends full)) refl)
 fits-treat policy pid pick before (HouseSays k id given) = by-row (Fits before) (HouseSays k id given) k (house_sends (rows_of k before) id given) (rows_of k before) (λ fw down full. fits-none before (as_row (HouseSays k id given) k (house_sends (rows_of k before) id given).sent fw down (fate_with (house_sends (rows_of k before) id given).ends full)) refl)

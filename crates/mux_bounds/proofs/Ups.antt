@@ -13,7 +13,7 @@ use Rattle.ssh_grammar.specs.declared.numbers.TheConstants.{ADMINISTRATIVELY_PRO
 use Rattle.ssh_grammar.proofs.Renumbered.{sender_within}
 use Rattle.mux_history.specs.declared.why.Why.TheVariants as why
 use Rattle.mux_history.specs.Channels.{held_of}
-use Rattle.mux_history.specs.Controls.{greeted, house_sends, sent_body}
+use Rattle.mux_history.specs.Controls.{client_has_greeted, house_sends, sent_body}
 use Rattle.mux_history.specs.Farewell.{late, late_refusal, late_success, with_ask}
 use Rattle.mux_history.specs.Summary.{Confirmation, Summary, Open, Refuses, Requests, Succeeds, Within, read_summary}
 use Rattle.mux_history.specs.Heard.{Breaks, Dest, Disconnects, ToClient, ToMaster, dest, for_client, for_lost, for_master, received_for, received_summary, received_master}
@@ -21,9 +21,9 @@ use Rattle.mux_history.specs.Kept.{ForEach}
 use Rattle.mux_history.specs.Keys.{bound}
 use Rattle.mux_history.specs.Log.{admits, received_row, row_of, treat}
 use Rattle.mux_history.specs.Policy.{Policy}
-use Rattle.mux_history.specs.Requests.{Ask, asker, asks, replies}
+use Rattle.mux_history.specs.Requests.{Ask, asker, wanted_requests, replies}
 use Rattle.mux_history.specs.Rows.{Admit, Gone, Heard, HouseSays, Item, Row, Says, is_lost, rows_of}
-use Rattle.mux_history.specs.Said.{Outcome, drops, sent_summary, sent_payload, sends, silent, records}
+use Rattle.mux_history.specs.Said.{Outcome, drops, sent_summary, sent_payload, sends_payload, silent, records}
 use Rattle.mux_bounds.specs.Bounds.{weight}
 use Rattle.mux_history.proofs.Askers.{asks-local, asks_for}
 use Rattle.mux_history.proofs.Finds.{filter-no, filter-yes}
@@ -73,14 +73,14 @@ refusal-weight (Forward key) short = omega arith
 refusal-weight KeepAlive short = omega arith
 refusal-weight OtherName short = omega arith
 
-asked-weight : (own : List Row) (f : Global → List (List ℕ)) → ((what : Global) → AskShort what → weight (f what) ≤ 308) → EachAsk IsBrief (asks own) → weight (with_ask (asker own) f) ≤ 308
+asked-weight : (own : List Row) (f : Global → List (List ℕ)) → ((what : Global) → AskShort what → weight (f what) ≤ 308) → EachAsk IsBrief (wanted_requests own) → weight (with_ask (asker own) f) ≤ 308
 asked-weight own f each brief = by_case (asker own) refl
   where
     by_case : (o : Option Ask) → asker own ≡ o → weight (with_ask o f) ≤ 308
     by_case None e = omega arith
-    by_case (Some a) e = each a.what (get-each IsBrief (asks own) (length (replies own)) a brief e)
+    by_case (Some a) e = each a.what (get-each IsBrief (wanted_requests own) (length (replies own)) a brief e)
 
-pub late-weight : (m : Summary) (own : List Row) → EachAsk IsBrief (asks own) → weight (late m own) ≤ 308
+pub late-weight : (m : Summary) (own : List Row) → EachAsk IsBrief (wanted_requests own) → weight (late m own) ≤ 308
 late-weight (Confirmation n s w max) own brief = let a = close-weight s in omega arith
 late-weight (Succeeds rest) own brief = asked-weight own (late_success rest) (success-weight rest) brief
 late-weight Refuses own brief = asked-weight own late_refusal refusal-weight brief
@@ -89,14 +89,14 @@ late-weight m own brief = omega arith
 pub client-weight : (own : List Row) (p : List ℕ) (m : Summary) → weight (for_client own p m).sent ≤ 39
 client-weight own p (Open what s w max) = by_case (nat_lt (length (held_of own)) 256)
   where
-    by_case : (b : Bool) → weight (elim b as (λ _. Outcome) [ true ↦ records (frame_payload p) | false ↦ sends (open_failure s RESOURCE_SHORTAGE too_many_channels) ]).sent ≤ 39
+    by_case : (b : Bool) → weight (elim b as (λ _. Outcome) [ true ↦ records (frame_payload p) | false ↦ sends_payload (open_failure s RESOURCE_SHORTAGE too_many_channels) ]).sent ≤ 39
     by_case true = omega arith
     by_case false = let a = failure-weight s RESOURCE_SHORTAGE too_many_channels in omega arith
 client-weight own p (Confirmation n s w max) = omega arith
 client-weight own p (Within n act) = omega arith
 client-weight own p m = omega arith
 
-heard-weight : (own : List Row) (p : List ℕ) → EachAsk IsBrief (asks own) → weight (received_for own p).sent ≤ 308
+heard-weight : (own : List Row) (p : List ℕ) → EachAsk IsBrief (wanted_requests own) → weight (received_for own p).sent ≤ 308
 heard-weight own p brief = by_case (read_summary p)
   where
     by_lost : (m : Summary) (b : Bool) → weight (elim b as (λ _. Outcome) [ true ↦ for_lost own m | false ↦ for_client own p m ]).sent ≤ 308
@@ -140,16 +140,16 @@ brings-row item k o own le = row-parts Brings item k o own (λ fw parting down f
 none-weight : (ps : List (List ℕ)) (n : ℕ) → ps ≡ [] → weight ps ≤ n
 none-weight ps n none = let e = ap weight none in omega arith
 
-brings-dest : (before : List Row) (p : List ℕ) (d : Dest) → ((k : ℕ) → EachAsk IsBrief (asks (rows_of k before))) → Brings (received_row before p d)
+brings-dest : (before : List Row) (p : List ℕ) (d : Dest) → ((k : ℕ) → EachAsk IsBrief (wanted_requests (rows_of k before))) → Brings (received_row before p d)
 brings-dest before p ToMaster brief = let w = master-weight p in omega arith
 brings-dest before p (ToClient k) brief = brings-row (Heard p) k (received_for (rows_of k before) p) (rows_of k before) (heard-weight (rows_of k before) p (brief k))
 brings-dest before p Disconnects brief = omega arith
 brings-dest before p (Breaks cause) brief = omega arith
 
-brings-treat : (policy : Policy) (pid pick : ℕ) (before : List Row) (item : Item) → LawfulItem before item → ((k : ℕ) → EachAsk IsBrief (asks (rows_of k before))) → Brings (treat policy pid pick before item)
+brings-treat : (policy : Policy) (pid pick : ℕ) (before : List Row) (item : Item) → LawfulItem before item → ((k : ℕ) → EachAsk IsBrief (wanted_requests (rows_of k before))) → Brings (treat policy pid pick before item)
 brings-treat policy pid pick before (Admit k) lawful brief = brings-row (Admit k) k (admits before) (rows_of k before) (none-weight (admits before).sent 0 (admits-sent before))
 brings-treat policy pid pick before (Says k (Payload p) given) lawful brief = brings-row (Says k (Payload p) given) k (sent_payload policy k (rows_of k before) pick p) (rows_of k before) (payload-weight policy k (rows_of k before) pick p lawful.1)
-brings-treat policy pid pick before (Says k (Body body) given) lawful brief = brings-row (Says k (Body body) given) k (sent_body pid k given (greeted (rows_of k before)) body) (rows_of k before) (none-weight (sent_body pid k given (greeted (rows_of k before)) body).sent 0 (body-sent pid k given (greeted (rows_of k before)) body))
+brings-treat policy pid pick before (Says k (Body body) given) lawful brief = brings-row (Says k (Body body) given) k (sent_body pid k given (client_has_greeted (rows_of k before)) body) (rows_of k before) (none-weight (sent_body pid k given (client_has_greeted (rows_of k before)) body).sent 0 (body-sent pid k given (client_has_greeted (rows_of k before)) body))
 brings-treat policy pid pick before (Says k (BadFraming fault) given) lawful brief = brings-row (Says k (BadFraming fault) given) k (drops (why.BadFrame fault)) (rows_of k before) (omega arith)
 brings-treat policy pid pick before (HouseSays k id given) lawful brief = brings-row (HouseSays k id given) k (house_sends (rows_of k before) id given) (rows_of k before) (none-weight (house_sends (rows_of k before) id given).sent 0 (house-sent (rows_of k before) id given))
 brings-treat policy pid pick before (Gone k) lawful brief = brings-row (Gone k) k silent (rows_of k before) (omega arith)
@@ -164,8 +164,8 @@ ask-filter test (x ∷ xs) all = by_case (ask-filter test xs all.1) (test x) ref
     by_case ih true e = subst (EachAsk IsBrief) (sym (filter-yes test x xs e)) (all.0, ih)
     by_case ih false e = subst (EachAsk IsBrief) (sym (filter-no test x xs e)) ih
 
-pub owned-brief : (policy : Policy) (pid : ℕ) (rows : List Row) → ForEach (RowKnown policy pid) rows → (k : ℕ) → EachAsk IsBrief (asks (rows_of k rows))
-owned-brief policy pid rows each k = subst (EachAsk IsBrief) (asks-local k rows) (ask-filter (asks_for k) (asks rows) (asks-brief policy pid rows each))
+pub owned-brief : (policy : Policy) (pid : ℕ) (rows : List Row) → ForEach (RowKnown policy pid) rows → (k : ℕ) → EachAsk IsBrief (wanted_requests (rows_of k rows))
+owned-brief policy pid rows each k = subst (EachAsk IsBrief) (asks-local k rows) (ask-filter (asks_for k) (wanted_requests rows) (asks-brief policy pid rows each))
 
 pub row-brings : (policy : Policy) (pid : ℕ) (before : List Row) (row : Row) → RowKnown policy pid before row → ForEach (RowKnown policy pid) before → weight row.up ≤ brought row.item
 row-brings policy pid before row known each = subst Brings known.is (brings-treat policy pid known.pick before known.item known.lawful (owned-brief policy pid before each))

@@ -16,7 +16,7 @@ use Rattle.mux_history.specs.Policy.{Policy}
 use Rattle.mux_history.specs.Keys.{is_askable}
 use Rattle.mux_history.specs.Log.{Setting}
 use Rattle.mux_history.specs.Journal.{IsLawful, log_of_journal}
-use Rattle.mux_history.specs.Promises.{IsCut, SpeaksInTime, Throughout, WaitsAt, is_asked}
+use Rattle.mux_history.specs.Promises.{IsCut, SpeaksInTime, Throughout, WaitsAt, is_house_request}
 use Rattle.mux_history.specs.Wires.{ReadsWhenAsked, reads}
 use Rattle.mux_history.specs.Right.{AreFresh}
 use Rattle.mux_history.specs.Settings.{by_lists}
@@ -105,7 +105,7 @@ OverJournals P =
 abbrev pub AddsAtOnce : Setting → List Mark → List Row → Type 0
 AddsAtOnce setting [] rows = pending 0 rows ≡ []
 AddsAtOnce setting (House mark ∷ before) rows = let earlier = AddsAtOnce setting before rows in
-    MatchBool (is_asked mark) earlier
+    MatchBool (is_house_request mark) earlier
     (length (pending 0 rows) ≤ waiting_up setting before + longest_mark)
 AddsAtOnce setting (mark ∷ before) rows =
     length (pending 0 rows) ≤ waiting_up setting before + longest_mark
@@ -116,16 +116,16 @@ MarksAddLittle = OverJournals AddsAtOnce
 -- ---- all marks
 
 -- the forwarder is admitted, or sends something
-abbrev pub speaks : Mark → Bool
-speaks (House HouseIn) = true
-speaks (House (HouseSaid bytes)) = true
-speaks mark = false
+abbrev pub house_speaks : Mark → Bool
+house_speaks (House HouseIn) = true
+house_speaks (House (HouseSaid bytes)) = true
+house_speaks mark = false
 
 -- bytes are read, clients accepted and the forwarder read only while less than 4,194,304 bytes wait
 -- for the server
 abbrev pub ReadsWithRoom : Setting → List Mark → Mark → Type 0
 ReadsWithRoom setting before mark =
-    (reads mark || speaks mark) ≡ true → waiting_up setting before < READING_STOPS_AT
+    (reads mark || house_speaks mark) ≡ true → waiting_up setting before < READING_STOPS_AT
 
 -- 8,388,608 bytes
 abbrev pub longest_server_queue : ℕ

@@ -4,7 +4,7 @@ use Rattle.std.specs.Prelude.{ℕ, ◌+◌, ◌≡◌, ◌≤◌, List, [], fals
 use Rattle.mux_history.specs.declared.limits.TheConstants.{MAX_CHANNELS, MAX_CLIENTS, MAX_FORWARDINGS, MAX_GLOBAL_REQUESTS}
 use Rattle.mux_history.specs.Rows.{Row, rows_of, is_lost}
 use Rattle.mux_history.specs.Channels.{held_of}
-use Rattle.mux_history.specs.Requests.{asks, replies, unanswered_asks}
+use Rattle.mux_history.specs.Requests.{wanted_requests, replies, unanswered_asks}
 use Rattle.mux_history.specs.Forwardings.{current}
 use Rattle.mux_history.specs.Farewell.{has_open_matters}
 use Rattle.mux_history.specs.Log.{open_matters}
@@ -15,7 +15,7 @@ use Rattle.mux_history.specs.Laws.{OverRight}
 -- nothing is left of a client: no channel, no request without a reply, no forwarding
 pub record HasNothing (own : List Row) : Type 0 where
   pub channels : held_of own ≡ []
-  pub requests : length (asks own) ≤ length (replies own)
+  pub requests : length (wanted_requests own) ≤ length (replies own)
   pub forwardings : current own ≡ []
 
 -- nothing is left of an admitted client whose matters are closed
@@ -43,7 +43,7 @@ ForwardingsAreFew = OverRight (λ setting rows. AtEach ForwardingsBounded rows)
 -- at most 1,024 global requests of a client that were sent have no reply
 abbrev pub RequestsBounded : List Row → Type 0
 RequestsBounded rows = (k : ℕ)
-    → length (asks (rows_of k rows)) ≤ length (replies (rows_of k rows)) + MAX_GLOBAL_REQUESTS
+    → length (wanted_requests (rows_of k rows)) ≤ length (replies (rows_of k rows)) + MAX_GLOBAL_REQUESTS
 
 abbrev pub RequestsAreFew : Type 0
 RequestsAreFew = OverRight (λ setting rows. AtEach RequestsBounded rows)

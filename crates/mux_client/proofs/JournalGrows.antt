@@ -5,7 +5,7 @@ use Rattle.std.proofs.lemmas.List.{append-nil}
 use Rattle.std.proofs.lemmas.List.Elements.{All-push}
 use Rattle.std.proofs.lemmas.List.Folds.{list_any-append}
 use Rattle.std.proofs.lemmas.Grind.{flat_map-append}
-use Rattle.mux_outside.specs.Marks.{bytes_taken, taken_at}
+use Rattle.mux_outside.specs.Marks.{bytes_taken, accepted_at_mark}
 use Rattle.mux_outside.specs.declared.mark.Mark.{Mark}
 use Rattle.mux_client.specs.declared.asks.Asks.{Asks}
 use Rattle.mux_client.specs.Journal.{given_at, bytes_given, talk_ends_at, talk_has_ended, held_by, is_held_from, is_reply_held, TookFront, TalkWaitsRight, ThroughoutTalk, WaitOpen, AtEachMark, is_of_house}
@@ -20,8 +20,8 @@ or-false false = refl
 pub given-more : (marks : List Mark) (m : Mark) → bytes_given (marks ++ m ∷ []) ≡ bytes_given marks ++ given_at m
 given-more marks m = flat_map-append given_at marks (m ∷ []) ∙ ap (λ b. bytes_given marks ++ b) (append-nil (given_at m))
 
-pub taken-more : (marks : List Mark) (m : Mark) → bytes_taken 0 (marks ++ m ∷ []) ≡ bytes_taken 0 marks ++ taken_at 0 m
-taken-more marks m = flat_map-append (taken_at 0) marks (m ∷ []) ∙ ap (λ b. bytes_taken 0 marks ++ b) (append-nil (taken_at 0 m))
+pub taken-more : (marks : List Mark) (m : Mark) → bytes_taken 0 (marks ++ m ∷ []) ≡ bytes_taken 0 marks ++ accepted_at_mark 0 m
+taken-more marks m = flat_map-append (accepted_at_mark 0) marks (m ∷ []) ∙ ap (λ b. bytes_taken 0 marks ++ b) (append-nil (accepted_at_mark 0 m))
 
 pub ended-more : (marks : List Mark) (m : Mark) → talk_has_ended (marks ++ m ∷ []) ≡ (talk_has_ended marks || talk_ends_at m)
 ended-more marks m = list_any-append talk_ends_at marks (m ∷ []) ∙ ap (λ b. talk_has_ended marks || b) (or-false (talk_ends_at m))

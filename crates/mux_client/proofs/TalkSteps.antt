@@ -6,7 +6,7 @@ use Rattle.std.proofs.lemmas.List.{append-nil, append_cancel_left, take-append-d
 use Rattle.ssh_grammar.specs.declared.framing.Framing.TheVariants.{Control}
 use Rattle.ssh_grammar.specs.Frames.{More, first_frame, cut}
 use Rattle.ssh_grammar.proofs.Cuts.{cut-at}
-use Rattle.mux_outside.specs.Marks.{bytes_taken, taken_at}
+use Rattle.mux_outside.specs.Marks.{bytes_taken, accepted_at_mark}
 use Rattle.mux_outside.specs.declared.mark.Mark.{Mark}
 use Rattle.mux_outside.specs.declared.mark.Mark.TheVariants.{Waits, Accepts, Gets, Ends, Frees, Fails, Takes, Holds, WriteFails, Joins, House}
 use Rattle.mux_outside.specs.declared.shown.Shown.{Shown}
@@ -19,9 +19,9 @@ use Rattle.mux_client.specs.declared.talked.Talked.TheVariants as talked
 use Rattle.mux_client.specs.declared.verdict.OutLine.{OutLine}
 use Rattle.mux_client.specs.Verdicts.{text_of_some}
 use Rattle.mux_client.specs.Requests.{requests_of}
-use Rattle.mux_client.specs.Talk.{TalkOutcome, BrokenAt, Talk, talk, stops, sending, showing, tail_outcome}
-use Rattle.mux_client.specs.Journal.{given_at, bytes_given, talk_ends_at, talk_has_ended, held_by, is_reply_held, held_streams, talk_of, TookFront, TookAll, TalkWaitsRight, WaitOpen, Answers, TalkShows, is_of_house}
-use Rattle.mux_client.specs.Client.{TalkState, heard, without_sent, place_of, later_by, later, HasRequest, TalkRepresents, IsTalkSettled, IsSettledAt, talk_outcome_of, ReadsNextTo}
+use Rattle.mux_client.specs.Talk.{TalkOutcome, BrokenAt, Talk, talk, talk_stops, talk_sending, talk_showing, tail_outcome}
+use Rattle.mux_client.specs.Journal.{given_at, bytes_given, talk_ends_at, talk_has_ended, held_by, is_reply_held, held_streams, talk_of, TookFront, TookAll, TalkWaitsRight, WaitOpen, IsAnswerOfTalk, TalkShows, is_of_house}
+use Rattle.mux_client.specs.Client.{TalkState, talk_received, without_sent, awaited_place, later_by, later, HasRequest, TalkRepresents, IsTalkSettled, IsSettledAt, talk_outcome_of, ReadsNextTo}
 use Rattle.mux_client.specs.Talking.{IsGoing, IsAnswerAt, IsTalkOffered, IsJournal, Talking, IsTalk, TalksOn}
 use Rattle.mux_client.proofs.JournalGrows.{given-more, taken-more, ended-more, held-more, journal-more, recorded-one}
 use Rattle.mux_client.proofs.ReadFrames.{replied-none}
@@ -39,24 +39,24 @@ handed-on (Err e) answer On Over h o = subst Over (sym h) o
 -- ---- the talk that a client represents
 
 pub talk-now : {asks : Asks} {bytes taken shown : List ℕ} {s : TalkState} (h : TalkRepresents asks bytes taken shown s) (ended : Bool)
-    → talk asks bytes ended ≡ sending (taken ++ s.queue) (showing shown (later s asks [] ended))
+    → talk asks bytes ended ≡ talk_sending (taken ++ s.queue) (talk_showing shown (later s asks [] ended))
 talk-now {asks} {bytes} h ended = ap (λ b. talk asks b ended) (sym (append-nil bytes)) ∙ h.goes [] ended
 
 nothing-cut : (rest : List ℕ) → first_frame Control rest ≡ More → cut Control (rest ++ []) ≡ record { frames = []; rest = rest; fault = None }
 nothing-cut rest e = ap (cut Control) (append-nil rest) ∙ cut-at Control rest More e
 
 -- nothing is to come once all frames were read
-later-settled : (asks : Asks) (stage : TalkStage) (rest : List ℕ) (ended : Bool) → IsSettledAt stage rest → HasRequest asks stage → (ended ≡ true → place_of stage ≡ None)
-    → later_by stage (requests_of asks) (cut Control (rest ++ [])) ended ≡ stops (talk_outcome_of stage)
+later-settled : (asks : Asks) (stage : TalkStage) (rest : List ℕ) (ended : Bool) → IsSettledAt stage rest → HasRequest asks stage → (ended ≡ true → awaited_place stage ≡ None)
+    → later_by stage (requests_of asks) (cut Control (rest ++ [])) ended ≡ talk_stops (talk_outcome_of stage)
 later-settled asks stage rest ended settled request over = by_stage stage settled request over
   where
     by_end : (ended : Bool) (at : ℕ) → (ended ≡ true → Some at ≡ None) → tail_outcome ended at ≡ None
     by_end true at over = absurd (let z : Some at ≡ None = over refl in cc)
     by_end false at over = refl
 
-    by_stage : (stage : TalkStage) → IsSettledAt stage rest → HasRequest asks stage → (ended ≡ true → place_of stage ≡ None) → later_by stage (requests_of asks) (cut Control (rest ++ [])) ended ≡ stops (talk_outcome_of stage)
-    by_stage Greets e h over = ap (λ c. later_by Greets (requests_of asks) c ended) (nothing-cut rest e) ∙ ap stops (by_end ended 0 over)
-    by_stage (Asked id at) e h over = ap (λ c. later_by (Asked id at) (requests_of asks) c ended) (nothing-cut rest e) ∙ replied-none asks id at ended h.0 h.1 ∙ ap stops (by_end ended at over)
+    by_stage : (stage : TalkStage) → IsSettledAt stage rest → HasRequest asks stage → (ended ≡ true → awaited_place stage ≡ None) → later_by stage (requests_of asks) (cut Control (rest ++ [])) ended ≡ talk_stops (talk_outcome_of stage)
+    by_stage Greets e h over = ap (λ c. later_by Greets (requests_of asks) c ended) (nothing-cut rest e) ∙ ap talk_stops (by_end ended 0 over)
+    by_stage (Asked id at) e h over = ap (λ c. later_by (Asked id at) (requests_of asks) c ended) (nothing-cut rest e) ∙ replied-none asks id at ended h.0 h.1 ∙ ap talk_stops (by_end ended at over)
     by_stage Granted e h over = refl
     by_stage (Refused id) e h over = refl
     by_stage (Broken at) e h over = refl
@@ -65,28 +65,28 @@ later-settled asks stage rest ended settled request over = by_stage stage settle
 abbrev pub talk_at : List ℕ → List ℕ → Option TalkOutcome → Talk
 talk_at sent out outcome = record { sent = sent; out = out; outcome = outcome }
 
-stopped : (sent out : List ℕ) (outcome : Option TalkOutcome) → sending sent (showing out (stops outcome)) ≡ talk_at sent out outcome
+stopped : (sent out : List ℕ) (outcome : Option TalkOutcome) → talk_sending sent (talk_showing out (talk_stops outcome)) ≡ talk_at sent out outcome
 stopped sent out outcome = ap (λ s. talk_at s (out ++ []) outcome) (append-nil sent) ∙ ap (λ o. talk_at sent o outcome) (append-nil out)
 
-pub settled-talk : {asks : Asks} {bytes taken shown : List ℕ} {s : TalkState} (h : TalkRepresents asks bytes taken shown s) (ended : Bool) → IsTalkSettled s → (ended ≡ true → place_of s.stage ≡ None)
+pub settled-talk : {asks : Asks} {bytes taken shown : List ℕ} {s : TalkState} (h : TalkRepresents asks bytes taken shown s) (ended : Bool) → IsTalkSettled s → (ended ≡ true → awaited_place s.stage ≡ None)
     → talk asks bytes ended ≡ talk_at (taken ++ s.queue) shown (talk_outcome_of s.stage)
 settled-talk {asks} {bytes} {taken} {shown} {s} h ended settled over =
-    talk-now h ended ∙ ap (λ t. sending (taken ++ s.queue) (showing shown t)) (later-settled asks s.stage s.framer.rest ended settled h.request over)
+    talk-now h ended ∙ ap (λ t. talk_sending (taken ++ s.queue) (talk_showing shown t)) (later-settled asks s.stage s.framer.rest ended settled h.request over)
     ∙ stopped (taken ++ s.queue) shown (talk_outcome_of s.stage)
 
 -- ---- the calls of a client
 
-pub stands-receives : {asks : Asks} {bytes taken shown : List ℕ} {s : TalkState} (piece : List ℕ) → TalkRepresents asks bytes taken shown s → TalkRepresents asks (bytes ++ piece) taken shown (heard piece s)
+pub stands-receives : {asks : Asks} {bytes taken shown : List ℕ} {s : TalkState} (piece : List ℕ) → TalkRepresents asks bytes taken shown s → TalkRepresents asks (bytes ++ piece) taken shown (talk_received piece s)
 stands-receives {asks} {bytes} {taken} {shown} {s} piece h = record {
   goes = λ more ended. ap (λ b. talk asks b ended) (append_assoc bytes piece more) ∙ h.goes (piece ++ more) ended
-      ∙ ap (λ r. sending (taken ++ s.queue) (showing shown (later_by s.stage (requests_of asks) (cut Control r) ended))) (sym (append_assoc s.framer.rest piece more));
+      ∙ ap (λ r. talk_sending (taken ++ s.queue) (talk_showing shown (later_by s.stage (requests_of asks) (cut Control r) ended))) (sym (append_assoc s.framer.rest piece more));
   request = h.request;
 }
 
 pub stands-took : {asks : Asks} {bytes taken shown : List ℕ} {s : TalkState} (n : ℕ) → TalkRepresents asks bytes taken shown s → TalkRepresents asks bytes (taken ++ take n s.queue) shown (without_sent n s)
 stands-took {asks} {bytes} {taken} {shown} {s} n h = record {
   goes = λ more ended. h.goes more ended
-      ∙ ap (λ q. sending q (showing shown (later s asks more ended)))
+      ∙ ap (λ q. talk_sending q (talk_showing shown (later s asks more ended)))
       (ap (λ q. taken ++ q) (sym (take-append-drop n s.queue)) ∙ sym (append_assoc taken (take n s.queue) (drop n s.queue)));
   request = h.request;
 }
@@ -98,7 +98,7 @@ pub record NextMark (asks : Asks) (marks : List Mark) (shown : List ℕ) (s : Ta
   pub right : TalkWaitsRight asks marks m
   pub opens : WaitOpen asks marks m
   pub no_house : is_of_house m ≡ false
-  pub stands : TalkRepresents asks (bytes_given marks ++ given_at m) (bytes_taken 0 marks ++ taken_at 0 m) shown s
+  pub stands : TalkRepresents asks (bytes_given marks ++ given_at m) (bytes_taken 0 marks ++ accepted_at_mark 0 m) shown s
 
 stands-there : {asks : Asks} {marks : List Mark} {shown : List ℕ} {s : TalkState} {m : Mark} → NextMark asks marks shown s m
     → TalkRepresents asks (bytes_given (marks ++ m ∷ [])) (bytes_taken 0 (marks ++ m ∷ [])) shown s
@@ -117,7 +117,7 @@ journal-next {asks} {marks} {shown} {s} {m} j n = journal-more asks marks m j n.
 
 -- the talk goes on with it
 pub talking-next : {asks : Asks} {start recorded : Option (List Mark)} {held shown : List ℕ} {s : TalkState} (v : Talking asks start recorded held shown s) (held' shown' : List ℕ) (s' : TalkState) (m : Mark)
-    → NextMark asks v.marks shown' s' m → ((talk_has_ended v.marks || talk_ends_at m) ≡ true → place_of s'.stage ≡ None) → held' ≡ held_streams (held_by (is_reply_held v.marks) m)
+    → NextMark asks v.marks shown' s' m → ((talk_has_ended v.marks || talk_ends_at m) ≡ true → awaited_place s'.stage ≡ None) → held' ≡ held_streams (held_by (is_reply_held v.marks) m)
     → Talking asks start (option_map (λ l. l ++ m ∷ []) recorded) held' shown' s'
 talking-next {asks} {start} {recorded} v held' shown' s' m n ended held = record {
   marks = v.marks ++ m ∷ [];
@@ -157,7 +157,7 @@ alone-other (House mark) o = absurd o
 alone-other (Waits waiting want streams shown) o = absurd o
 alone-other m o = refl
 
-pub next-other : {asks : Asks} {marks : List Mark} {shown : List ℕ} {s : TalkState} (m : Mark) → IsOther m → TalkRepresents asks (bytes_given marks ++ given_at m) (bytes_taken 0 marks ++ taken_at 0 m) shown s → NextMark asks marks shown s m
+pub next-other : {asks : Asks} {marks : List Mark} {shown : List ℕ} {s : TalkState} (m : Mark) → IsOther m → TalkRepresents asks (bytes_given marks ++ given_at m) (bytes_taken 0 marks ++ accepted_at_mark 0 m) shown s → NextMark asks marks shown s m
 next-other {asks} {marks} m o h = record { right = right-other asks marks m o; opens = open-other asks marks m o; no_house = alone-other m o; stands = h }
 
 -- nothing came, and nothing was accepted
@@ -229,7 +229,7 @@ talk-failed {asks} {shown = shown} {s = s} v settled =
 
 -- by what the master sent
 answers-at : (asks : Asks) (marks : List Mark) (answer : Talked) (queue shown : List ℕ) (stage : TalkStage) → talk_of asks marks ≡ talk_at (bytes_taken 0 marks ++ queue) shown (talk_outcome_of stage) → IsAnswerAt answer stage queue
-    → Answers answer asks marks × (TalkShows answer shown (talk_of asks marks).out) × (answer ≢ talked.WriteFault) × (answer ≢ talked.Spent)
+    → IsAnswerOfTalk answer asks marks × (TalkShows answer shown (talk_of asks marks).out) × (answer ≢ talked.WriteFault) × (answer ≢ talked.Spent)
 answers-at asks marks talked.Done queue shown stage t a =
     ((ap (λ (k : Talk). k.outcome) t ∙ ap talk_outcome_of a.0, sym (ap (λ (k : Talk). k.sent) t ∙ ap (λ q. bytes_taken 0 marks ++ q) a.1 ∙ append-nil (bytes_taken 0 marks))), sym (ap (λ (k : Talk). k.out) t), (λ z. cc), (λ z. cc))
 answers-at asks marks (talked.Refused id) queue shown stage t a = (ap (λ (k : Talk). k.outcome) t ∙ ap talk_outcome_of a, sym (ap (λ (k : Talk). k.out) t), (λ z. cc), (λ z. cc))
@@ -255,7 +255,7 @@ talk-decided {asks} {shown = shown} {s = s} v settled answer a =
     }
 
 -- with all turns given
-open-at : (asks : Asks) (marks : List Mark) (queue shown : List ℕ) (stage : TalkStage) → talk_of asks marks ≡ talk_at (bytes_taken 0 marks ++ queue) shown (talk_outcome_of stage) → IsGoing stage queue → Answers talked.Spent asks marks
+open-at : (asks : Asks) (marks : List Mark) (queue shown : List ℕ) (stage : TalkStage) → talk_of asks marks ≡ talk_at (bytes_taken 0 marks ++ queue) shown (talk_outcome_of stage) → IsGoing stage queue → IsAnswerOfTalk talked.Spent asks marks
 open-at asks marks queue shown Greets t g = inl (ap (λ (k : Talk). k.outcome) t)
 open-at asks marks queue shown (Asked id at) t g = inl (ap (λ (k : Talk). k.outcome) t)
 open-at asks marks queue shown Granted t g =
@@ -263,7 +263,7 @@ open-at asks marks queue shown Granted t g =
 open-at asks marks queue shown (Refused id) t g = absurd g
 open-at asks marks queue shown (Broken at) t g = absurd g
 
-pub talk-open : {asks : Asks} {start recorded : Option (List Mark)} {held shown : List ℕ} {s : TalkState} (v : Talking asks start recorded held shown s) → IsTalkSettled s → IsGoing s.stage s.queue → Answers talked.Spent asks v.marks
+pub talk-open : {asks : Asks} {start recorded : Option (List Mark)} {held shown : List ℕ} {s : TalkState} (v : Talking asks start recorded held shown s) → IsTalkSettled s → IsGoing s.stage s.queue → IsAnswerOfTalk talked.Spent asks v.marks
 talk-open {asks} {shown = shown} {s = s} v settled going = open-at asks v.marks s.queue shown s.stage (settled-talk v.stands (talk_has_ended v.marks) settled v.ended) going
 
 held-true : (b : Bool) → held_streams b ≡ 0 ∷ [] → b ≡ true
@@ -309,9 +309,9 @@ talk-waits {asks} {held = held} {shown = shown} {s = s} v settled offered going 
     }) (or-none (talk_has_ended v.marks) v.ended) v.held_is
 
 pub talk-gets : {asks : Asks} {start recorded : Option (List Mark)} {held shown : List ℕ} {s : TalkState} → Talking asks start recorded held shown s → (bytes : List ℕ)
-    → Talking asks start (option_map (λ l. l ++ Gets 0 bytes ∷ []) recorded) held shown (heard bytes s)
-talk-gets {asks = asks} {held = held} {shown = shown} {s = s} v bytes = talking-next v held shown (heard bytes s) (Gets 0 bytes)
-    (next-other (Gets 0 bytes) tt (subst (λ t. TalkRepresents asks (bytes_given v.marks ++ bytes) t shown (heard bytes s)) (sym (append-nil (bytes_taken 0 v.marks))) (stands-receives bytes v.stands)))
+    → Talking asks start (option_map (λ l. l ++ Gets 0 bytes ∷ []) recorded) held shown (talk_received bytes s)
+talk-gets {asks = asks} {held = held} {shown = shown} {s = s} v bytes = talking-next v held shown (talk_received bytes s) (Gets 0 bytes)
+    (next-other (Gets 0 bytes) tt (subst (λ t. TalkRepresents asks (bytes_given v.marks ++ bytes) t shown (talk_received bytes s)) (sym (append-nil (bytes_taken 0 v.marks))) (stands-receives bytes v.stands)))
     (or-none (talk_has_ended v.marks) v.ended) v.held_is
 
 pub talk-frees : {asks : Asks} {start recorded : Option (List Mark)} {held shown : List ℕ} {s : TalkState} → Talking asks start recorded held shown s
@@ -324,7 +324,7 @@ talk-fails {held = held} {shown = shown} {s = s} v settled =
     talk-failed (talking-next v held shown s (Fails 0) (next-other (Fails 0) tt (same-stands v.stands)) (or-none (talk_has_ended v.marks) v.ended) v.held_is) settled
 
 -- the master's bytes end, and the last reply came before
-pub talk-ends : {asks : Asks} {start recorded : Option (List Mark)} {held shown : List ℕ} {s : TalkState} → Talking asks start recorded held shown s → place_of s.stage ≡ None
+pub talk-ends : {asks : Asks} {start recorded : Option (List Mark)} {held shown : List ℕ} {s : TalkState} → Talking asks start recorded held shown s → awaited_place s.stage ≡ None
     → Talking asks start (option_map (λ l. l ++ Ends 0 ∷ []) recorded) held shown s
 talk-ends {held = held} {shown = shown} {s = s} v none = talking-next v held shown s (Ends 0) (next-other (Ends 0) tt (same-stands v.stands)) (λ e. none) v.held_is
 
@@ -332,19 +332,19 @@ or-true : (b : Bool) → (b || true) ≡ true
 or-true true = refl
 or-true false = refl
 
-later-broken : (asks : Asks) (stage : TalkStage) (rest : List ℕ) (at : ℕ) → IsSettledAt stage rest → HasRequest asks stage → place_of stage ≡ Some at
-    → later_by stage (requests_of asks) (cut Control (rest ++ [])) true ≡ stops (Some (BrokenAt at))
+later-broken : (asks : Asks) (stage : TalkStage) (rest : List ℕ) (at : ℕ) → IsSettledAt stage rest → HasRequest asks stage → awaited_place stage ≡ Some at
+    → later_by stage (requests_of asks) (cut Control (rest ++ [])) true ≡ talk_stops (Some (BrokenAt at))
 later-broken asks stage rest at settled request place = by_stage stage settled request place
   where
-    by_stage : (stage : TalkStage) → IsSettledAt stage rest → HasRequest asks stage → place_of stage ≡ Some at → later_by stage (requests_of asks) (cut Control (rest ++ [])) true ≡ stops (Some (BrokenAt at))
-    by_stage Greets e h p = ap (λ c. later_by Greets (requests_of asks) c true) (nothing-cut rest e) ∙ ap (λ n. stops (Some (BrokenAt n))) (let z : Some 0 ≡ Some at = p in cc)
-    by_stage (Asked id n) e h p = ap (λ c. later_by (Asked id n) (requests_of asks) c true) (nothing-cut rest e) ∙ replied-none asks id n true h.0 h.1 ∙ ap (λ m. stops (Some (BrokenAt m))) (let z : Some n ≡ Some at = p in cc)
+    by_stage : (stage : TalkStage) → IsSettledAt stage rest → HasRequest asks stage → awaited_place stage ≡ Some at → later_by stage (requests_of asks) (cut Control (rest ++ [])) true ≡ talk_stops (Some (BrokenAt at))
+    by_stage Greets e h p = ap (λ c. later_by Greets (requests_of asks) c true) (nothing-cut rest e) ∙ ap (λ n. talk_stops (Some (BrokenAt n))) (let z : Some 0 ≡ Some at = p in cc)
+    by_stage (Asked id n) e h p = ap (λ c. later_by (Asked id n) (requests_of asks) c true) (nothing-cut rest e) ∙ replied-none asks id n true h.0 h.1 ∙ ap (λ m. talk_stops (Some (BrokenAt m))) (let z : Some n ≡ Some at = p in cc)
     by_stage Granted e h p = absurd (let z : None ≡ Some at = p in cc)
     by_stage (Refused id) e h p = absurd (let z : None ≡ Some at = p in cc)
     by_stage (Broken n) e h p = absurd (let z : None ≡ Some at = p in cc)
 
 -- they end before it
-pub talk-breaks-off : {asks : Asks} {start recorded : Option (List Mark)} {held shown : List ℕ} {s : TalkState} → Talking asks start recorded held shown s → IsTalkSettled s → (at : ℕ) → place_of s.stage ≡ Some at
+pub talk-breaks-off : {asks : Asks} {start recorded : Option (List Mark)} {held shown : List ℕ} {s : TalkState} → Talking asks start recorded held shown s → IsTalkSettled s → (at : ℕ) → awaited_place s.stage ≡ Some at
     → IsTalk asks (talked.BadMaster at) start (option_map (λ l. l ++ Ends 0 ∷ []) recorded) shown shown
 talk-breaks-off {asks} {start} {recorded} {shown = shown} {s = s} v settled at place =
     let m : Mark = Ends 0 in
@@ -353,7 +353,7 @@ talk-breaks-off {asks} {start} {recorded} {shown = shown} {s = s} v settled at p
     let over : talk_has_ended (v.marks ++ m ∷ []) ≡ true = ended-more v.marks m ∙ or-true (talk_has_ended v.marks) in
     let t : talk_of asks (v.marks ++ m ∷ []) ≡ talk_at (bytes_taken 0 (v.marks ++ m ∷ []) ++ s.queue) shown (Some (BrokenAt at)) =
     ap (talk asks (bytes_given (v.marks ++ m ∷ []))) over ∙ talk-now stands true
-    ∙ ap (λ k. sending (bytes_taken 0 (v.marks ++ m ∷ []) ++ s.queue) (showing shown k)) (later-broken asks s.stage s.framer.rest at settled v.stands.request place)
+    ∙ ap (λ k. talk_sending (bytes_taken 0 (v.marks ++ m ∷ []) ++ s.queue) (talk_showing shown k)) (later-broken asks s.stage s.framer.rest at settled v.stands.request place)
     ∙ stopped (bytes_taken 0 (v.marks ++ m ∷ []) ++ s.queue) shown (Some (BrokenAt at)) in record {
       marks = v.marks ++ m ∷ [];
       records = recorded-one start recorded v.marks m v.records;

@@ -15,7 +15,7 @@ use Rattle.mux_outside.specs.declared.turn.Want.TheVariants.{Read}
 use Rattle.mux_client.specs.declared.asks.Asks.{Asks}
 use Rattle.mux_client.specs.declared.talked.Talked.{Talked}
 use Rattle.mux_client.specs.declared.talked.Talked.TheVariants as talked
-use Rattle.mux_client.specs.Client.{TalkState, heard, place_of, IsTalkSettled}
+use Rattle.mux_client.specs.Client.{TalkState, talk_received, awaited_place, IsTalkSettled}
 use Rattle.mux_client.specs.Counted.{StepFaults, WireFaults}
 use Rattle.mux_client.specs.Talking.{IsHeld, IsGoing, IsTalkOffered, IsOfSink, BreaksOff, Talking, IsTalk, TalksOn}
 use Rattle.mux_client.proofs.JournalGrows.{recorded-two, recorded-none}
@@ -56,19 +56,19 @@ module _ {asks : Asks} {start : Option (List Mark)} (seen : Seen) {held shown : 
   waiting : Talking asks start recorded-waiting held shown s
   waiting = talk-waits v settled offered going seen.streams (shown_of seen)
 
-  pub turn-gets : (k : ℕ) (bytes : List ℕ) → k ≡ 0 → now ≡ seen_after_turn (turn.Got k) held Read bytes seen → Talking asks start now.recorded held shown (heard bytes s)
+  pub turn-gets : (k : ℕ) (bytes : List ℕ) → k ≡ 0 → now ≡ seen_after_turn (turn.Got k) held Read bytes seen → Talking asks start now.recorded held shown (talk_received bytes s)
   turn-gets k bytes zero e =
-      subst (λ t. Talking asks start t held shown (heard bytes s))
+      subst (λ t. Talking asks start t held shown (talk_received bytes s))
       (sym (ap (λ (x : Seen). x.recorded) e ∙ recorded-two (Waits held Read seen.streams (shown_of seen)) (Gets k bytes) seen.recorded ∙ ap (λ n. option_map (λ m. m ++ Gets n bytes ∷ []) recorded-waiting) zero))
       (talk-gets waiting bytes)
 
-  pub turn-ends : (k : ℕ) (bytes : List ℕ) → k ≡ 0 → now ≡ seen_after_turn (turn.End k) held Read bytes seen → place_of s.stage ≡ None → Talking asks start now.recorded held shown s
+  pub turn-ends : (k : ℕ) (bytes : List ℕ) → k ≡ 0 → now ≡ seen_after_turn (turn.End k) held Read bytes seen → awaited_place s.stage ≡ None → Talking asks start now.recorded held shown s
   turn-ends k bytes zero e none =
       subst (λ t. Talking asks start t held shown s)
       (sym (ap (λ (x : Seen). x.recorded) e ∙ recorded-two (Waits held Read seen.streams (shown_of seen)) (Ends k) seen.recorded ∙ ap (λ n. option_map (λ m. m ++ Ends n ∷ []) recorded-waiting) zero))
       (talk-ends waiting none)
 
-  pub turn-breaks : (k : ℕ) (bytes : List ℕ) → k ≡ 0 → now ≡ seen_after_turn (turn.End k) held Read bytes seen → (at : ℕ) → place_of s.stage ≡ Some at → IsTalk asks (talked.BadMaster at) start now.recorded shown shown
+  pub turn-breaks : (k : ℕ) (bytes : List ℕ) → k ≡ 0 → now ≡ seen_after_turn (turn.End k) held Read bytes seen → (at : ℕ) → awaited_place s.stage ≡ Some at → IsTalk asks (talked.BadMaster at) start now.recorded shown shown
   turn-breaks k bytes zero e at place =
       subst (λ t. IsTalk asks (talked.BadMaster at) start t shown shown)
       (sym (ap (λ (x : Seen). x.recorded) e ∙ recorded-two (Waits held Read seen.streams (shown_of seen)) (Ends k) seen.recorded ∙ ap (λ n. option_map (λ m. m ++ Ends n ∷ []) recorded-waiting) zero))
@@ -92,7 +92,7 @@ module _ {asks : Asks} {start : Option (List Mark)} (seen : Seen) {held shown : 
 
 -- ---- the end of the master's bytes
 
-pub off-or-on : (s : TalkState) (r : Result (Unit {0}) Talked) (On : Unit {0} → Type 0) (Over : Talked → Type 0) → BreaksOff s r → (place_of s.stage ≡ None → On tt) → ((at : ℕ) → place_of s.stage ≡ Some at → Over (talked.BadMaster at))
+pub off-or-on : (s : TalkState) (r : Result (Unit {0}) Talked) (On : Unit {0} → Type 0) (Over : Talked → Type 0) → BreaksOff s r → (awaited_place s.stage ≡ None → On tt) → ((at : ℕ) → awaited_place s.stage ≡ Some at → Over (talked.BadMaster at))
     → TalksOn r On Over
 off-or-on s (Ok x) On Over b on over = on b
 off-or-on s (Err answer) On Over b on over = subst Over (sym b.2) (over b.0 b.1)

@@ -12,7 +12,7 @@ use Rattle.mux_client.specs.declared.answer.Answer.{Answer as Read}
 use Rattle.mux_client.specs.declared.verdict.ReplyVerdict.{ReplyVerdict as TheVerdict}
 use Rattle.mux_client.specs.Requests.{Request, Checks, Exits, TalkStops, Opens, Closes, forward_of, forward_request, request_at}
 use Rattle.mux_client.specs.Replies.{verdict, verdict_on}
-use Rattle.mux_client.specs.Answers.{GivesAnswer, shown_of}
+use Rattle.mux_client.specs.Answers.{GivesAnswer, read_of_answer}
 use Rattle.mux_client.specs.Verdicts.{meant_by, verdict_by}
 
 -- the requests of what is asked
@@ -47,7 +47,7 @@ is-of (Forwards opening what) id r e =
 
 -- each answer means the same by what is asked and by the request
 abbrev Same : Asks → Request → ℕ → Answer → Type 0
-Same asks r id answer = verdict_by asks id (shown_of answer) ≡ verdict_on r id (Some answer)
+Same asks r id answer = verdict_by asks id (read_of_answer answer) ≡ verdict_on r id (Some answer)
 
 on-check : (id : ℕ) (answer : Answer) → Same Check Checks id answer
 on-check id (Greets version) = refl

@@ -5,19 +5,19 @@ use Rattle.mux_client.specs.declared.answer.Answer.{Answer as Read}
 use Rattle.mux_client.specs.declared.answer.Answer.TheVariants as read
 
 -- the code keeps no reason, and no message that answers nothing
-abbrev pub shown_of : Answer → Read
-shown_of (Okay id) = read.Okay id
-shown_of (PermissionDenied id reason) = read.Refusal id
-shown_of (Failed id reason) = read.Refusal id
-shown_of (Alive id pid) = read.Alive id pid
-shown_of (RemotePort id port) = read.RemotePort id port
-shown_of (Greets version) = read.Other
-shown_of (Proxies id) = read.Other
+abbrev pub read_of_answer : Answer → Read
+read_of_answer (Okay id) = read.Okay id
+read_of_answer (PermissionDenied id reason) = read.Refusal id
+read_of_answer (Failed id reason) = read.Refusal id
+read_of_answer (Alive id pid) = read.Alive id pid
+read_of_answer (RemotePort id port) = read.RemotePort id port
+read_of_answer (Greets version) = read.Other
+read_of_answer (Proxies id) = read.Other
 
 -- what was read is what the body is
 abbrev pub GivesAnswer : Option Read → Option Answer → Type 0
 GivesAnswer None reading = reading ≡ None
-GivesAnswer (Some r) reading = (answer : Answer) × (reading ≡ Some answer) × (r ≡ shown_of answer)
+GivesAnswer (Some r) reading = (answer : Answer) × (reading ≡ Some answer) × (r ≡ read_of_answer answer)
 
 -- the fields that were read, seen by view, are what reading gives
 abbrev pub ReadsAnswer : {X : Type 0} → (X → Answer) → Option X → Option Answer → Type 0

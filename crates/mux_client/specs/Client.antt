@@ -13,7 +13,7 @@ use Rattle.mux_client.specs.declared.verdict.OutLine.{OutLine}
 use Rattle.mux_client.specs.Requests.{Request, requests_of, request_at, frame_due, hello_frame}
 use Rattle.mux_client.specs.Replies.{verdict}
 use Rattle.mux_client.specs.Verdicts.{text_of_some}
-use Rattle.mux_client.specs.Talk.{TalkOutcome, Finished, RefusedAt, BrokenAt, Talk, talk, talk_on, stops, sending, showing, behind, broken_by, tail_outcome, on_reply, greeted}
+use Rattle.mux_client.specs.Talk.{TalkOutcome, Finished, RefusedAt, BrokenAt, Talk, talk, talk_on, talk_stops, talk_sending, talk_showing, place_after_frame, broken_by, tail_outcome, on_reply, talk_from_hello}
 
 -- the master's bytes that aren't read yet, what is still to be sent, and how far the talk is
 pub record TalkState : Type 0 where
@@ -40,12 +40,12 @@ IsFaultless (Refused id) fault = ⊤
 IsFaultless (Broken at) fault = ⊤
 
 -- the place of the reply that is awaited, or of the hello, if one is
-abbrev pub place_of : TalkStage → Option ℕ
-place_of Greets = Some 0
-place_of (Asked id at) = Some at
-place_of Granted = None
-place_of (Refused id) = None
-place_of (Broken at) = None
+abbrev pub awaited_place : TalkStage → Option ℕ
+awaited_place Greets = Some 0
+awaited_place (Asked id at) = Some at
+awaited_place Granted = None
+awaited_place (Refused id) = None
+awaited_place (Broken at) = None
 
 -- ---- what the calls leave
 
@@ -54,8 +54,8 @@ abbrev pub new_talk : TalkState
 new_talk = record { framer = new_framer Control; queue = hello_frame; stage = Greets }
 
 -- with more bytes of the master
-abbrev pub heard : List ℕ → TalkState → TalkState
-heard piece s = record s { framer = pushed piece s.framer }
+abbrev pub talk_received : List ℕ → TalkState → TalkState
+talk_received piece s = record s { framer = pushed piece s.framer }
 
 -- without the first bytes of what is to be sent
 abbrev pub without_sent : ℕ → TalkState → TalkState
@@ -80,8 +80,8 @@ stage_due (Some request) id at = Asked id at
 stage_due None id at = Granted
 
 -- it is sent
-abbrev pub asked : Option Request → ℕ → ℕ → TalkState → TalkState
-asked request id at s = record s {
+abbrev pub request_is_sent : Option Request → ℕ → ℕ → TalkState → TalkState
+request_is_sent request id at s = record s {
   queue = s.queue ++ frame_due id request;
   stage = stage_due request id at;
 }
@@ -89,20 +89,20 @@ asked request id at s = record s {
 -- ---- the talk
 
 -- what follows a request that was sent: the reply, and what comes then
-abbrev pub replied : List Request → ℕ → ℕ → List (List ℕ) → Bool → Talk
-replied [] id at bodies broken = stops (Some Finished)
-replied (request ∷ requests) id at [] broken = stops (tail_outcome broken at)
-replied (request ∷ requests) id at (body ∷ bodies) broken =
+abbrev pub talk_after_request : List Request → ℕ → ℕ → List (List ℕ) → Bool → Talk
+talk_after_request [] id at bodies broken = talk_stops (Some Finished)
+talk_after_request (request ∷ requests) id at [] broken = talk_stops (tail_outcome broken at)
+talk_after_request (request ∷ requests) id at (body ∷ bodies) broken =
     on_reply (verdict request id body) id at
-    (talk_on requests (id + 1) (behind at body) bodies broken)
+    (talk_on requests (id + 1) (place_after_frame at body) bodies broken)
 
 -- what is still to come at a stage, by the frames that aren't read yet
 abbrev pub later_at : TalkStage → List Request → List (List ℕ) → Bool → Talk
-later_at Greets requests bodies broken = greeted requests bodies broken
-later_at (Asked id at) requests bodies broken = replied (drop id requests) id at bodies broken
-later_at Granted requests bodies broken = stops (Some Finished)
-later_at (Refused id) requests bodies broken = stops (Some (RefusedAt id))
-later_at (Broken at) requests bodies broken = stops (Some (BrokenAt at))
+later_at Greets requests bodies broken = talk_from_hello requests bodies broken
+later_at (Asked id at) requests bodies broken = talk_after_request (drop id requests) id at bodies broken
+later_at Granted requests bodies broken = talk_stops (Some Finished)
+later_at (Refused id) requests bodies broken = talk_stops (Some (RefusedAt id))
+later_at (Broken at) requests bodies broken = talk_stops (Some (BrokenAt at))
 
 abbrev pub later_by : TalkStage → List Request → Cut → Bool → Talk
 later_by stage requests c ended = later_at stage requests c.frames (broken_by c.fault ended)
@@ -125,7 +125,7 @@ HasRequest asks (Broken at) = ⊤
 pub record TalkRepresents (asks : Asks) (bytes taken shown : List ℕ) (s : TalkState) : Type 0 where
   pub goes : (more : List ℕ) (ended : Bool)
       → talk asks (bytes ++ more) ended
-      ≡ sending (taken ++ s.queue) (showing shown (later s asks more ended))
+      ≡ talk_sending (taken ++ s.queue) (talk_showing shown (later s asks more ended))
   pub request : HasRequest asks s.stage
 
 -- no frame can be read now
@@ -156,7 +156,7 @@ pub record ReadsNextTo (asks : Asks) (old new : TalkState) (line : Option OutLin
       → TalkRepresents asks bytes taken (shown ++ text_of_some line) new
   pub settled : line ≡ None → IsTalkSettled new
   pub less : IsSome line → length new.framer.rest < length old.framer.rest
-  pub over : place_of old.stage ≡ None → place_of new.stage ≡ None
+  pub over : awaited_place old.stage ≡ None → awaited_place new.stage ≡ None
 
 abbrev pub ReadsNext : Asks → TalkState → TalkState → Result (Option OutLine) OutOfMemory → Type 0
 ReadsNext asks old new (Ok line) = ReadsNextTo asks old new line

@@ -10,7 +10,7 @@ use Rattle.mux_client.specs.declared.talked.Talked.TheVariants.{Done, Refused, B
 -- ---- calls
 
 -- so many calls of `wait` were counted, whose count stays at the end of its type
-pub record Waited (waits old new : ℕ) : Type 0 where
+pub record TalkWaited (waits old new : ℕ) : Type 0 where
   pub most : new ≤ old + waits
   pub least : min (old + waits) (2 ^ 64 - 1) ≤ new
   pub fits : old < 2 ^ 64 → new < 2 ^ 64
@@ -18,8 +18,8 @@ pub record Waited (waits old new : ℕ) : Type 0 where
 -- There were so many calls of `wait`, none that ran out of memory, and none after one that did. The
 -- wire was not opened. The counts of what the master sent and of its end didn't fall, except for
 -- one that was past the end of its type.
-pub record Well (waits : ℕ) (old new : CallCounts) : Type 0 where
-  pub waited : Waited waits old.waits new.waits
+pub record CountsOfWholeTalk (waits : ℕ) (old new : CallCounts) : Type 0 where
+  pub waited : TalkWaited waits old.waits new.waits
   pub wants : new.wants ≡ old.wants
   pub late : old.wants ≡ 0 → new.late ≡ old.late
   pub opens : new.opens ≡ old.opens
@@ -28,8 +28,8 @@ pub record Well (waits : ℕ) (old new : CallCounts) : Type 0 where
 
 -- so many calls of `wait`, and at most one call that ran out of memory, which was the last, and
 -- after which the talk is over, out of memory
-pub record Cut (waits : ℕ) (answer : Talked) (old new : CallCounts) : Type 0 where
-  pub waited : Waited waits old.waits new.waits
+pub record CountsOfCutTalk (waits : ℕ) (answer : Talked) (old new : CallCounts) : Type 0 where
+  pub waited : TalkWaited waits old.waits new.waits
   pub wants : new.wants ≤ old.wants + 1
   pub starved : new.wants ≢ old.wants → answer ≡ OutOfMemory
   pub late : old.wants ≡ 0 → new.late ≡ old.late
@@ -38,9 +38,9 @@ pub record Cut (waits : ℕ) (answer : Talked) (old new : CallCounts) : Type 0 w
   pub server_ends : min old.server_ends (2 ^ 64 - 1) ≤ new.server_ends
 
 -- an answer cuts a call short
-abbrev pub Counts : {A : Type 0} → ℕ → Result A Talked → CallCounts → CallCounts → Type 0
-Counts waits (Ok x) old new = Well waits old new
-Counts waits (Err answer) old new = Cut waits answer old new
+abbrev pub CountsOfTalk : {A : Type 0} → ℕ → Result A Talked → CallCounts → CallCounts → Type 0
+CountsOfTalk waits (Ok x) old new = CountsOfWholeTalk waits old new
+CountsOfTalk waits (Err answer) old new = CountsOfCutTalk waits answer old new
 
 -- Of a whole talk: with its turns spent it made as many calls of `wait` as it has turns, and no
 -- answer of the master, no fault of the sink comes without one. If a call ran out of memory it was
@@ -58,22 +58,22 @@ pub record TalkStops (turns : ℕ) (answer : Talked) (old new : CallCounts) : Ty
 -- ---- what came
 
 -- a count went up, or stands at the end of its type
-abbrev pub WentUp : ℕ → ℕ → Type 0
-WentUp before now = counted before ≤ now
+abbrev pub TalkCountWentUp : ℕ → ℕ → Type 0
+TalkCountWentUp before now = counted before ≤ now
 
 -- a piece of the master came where it granted or refused what was asked, or where a line couldn't be
 -- shown; a piece or its end did where it broke the protocol
 abbrev pub AnsweredBy : Talked → CallCounts → CallCounts → Type 0
-AnsweredBy Done old new = WentUp old.server_pieces new.server_pieces
-AnsweredBy (Refused id) old new = WentUp old.server_pieces new.server_pieces
-AnsweredBy WriteFault old new = WentUp old.server_pieces new.server_pieces
+AnsweredBy Done old new = TalkCountWentUp old.server_pieces new.server_pieces
+AnsweredBy (Refused id) old new = TalkCountWentUp old.server_pieces new.server_pieces
+AnsweredBy WriteFault old new = TalkCountWentUp old.server_pieces new.server_pieces
 AnsweredBy (BadMaster at) old new =
-    WentUp old.server_pieces new.server_pieces ⊎ WentUp old.server_ends new.server_ends
+    TalkCountWentUp old.server_pieces new.server_pieces ⊎ TalkCountWentUp old.server_ends new.server_ends
 AnsweredBy answer old new = Unit {0}
 
 -- the talk stands as it stood, or a piece of the master came
 abbrev pub HasReceived : TalkStage → TalkStage → CallCounts → CallCounts → Type 0
-HasReceived before now old new = (now ≡ before) ⊎ WentUp old.server_pieces new.server_pieces
+HasReceived before now old new = (now ≡ before) ⊎ TalkCountWentUp old.server_pieces new.server_pieces
 
 -- a call goes on, and the talk stands as it stood, or a piece of the master came; or it is over by
 -- what came

@@ -88,17 +88,17 @@ AtEachMark P before (mark ∷ marks) = P before mark × AtEachMark P (before ++ 
 
 -- this answer is that of the talk: the last reply came and all was accepted, a refusal, or a
 -- breach; with any other answer the talk has no outcome, or not all was accepted
-abbrev pub Answers : Talked → Asks → List Mark → Type 0
-Answers Done asks marks = ((talk_of asks marks).outcome ≡ Some Finished) × TookAll asks marks
-Answers (Refused id) asks marks = (talk_of asks marks).outcome ≡ Some (RefusedAt id)
-Answers (BadMaster at) asks marks = (talk_of asks marks).outcome ≡ Some (BrokenAt at)
-Answers Spent asks marks = ((talk_of asks marks).outcome ≡ None)
+abbrev pub IsAnswerOfTalk : Talked → Asks → List Mark → Type 0
+IsAnswerOfTalk Done asks marks = ((talk_of asks marks).outcome ≡ Some Finished) × TookAll asks marks
+IsAnswerOfTalk (Refused id) asks marks = (talk_of asks marks).outcome ≡ Some (RefusedAt id)
+IsAnswerOfTalk (BadMaster at) asks marks = (talk_of asks marks).outcome ≡ Some (BrokenAt at)
+IsAnswerOfTalk Spent asks marks = ((talk_of asks marks).outcome ≡ None)
     ⊎ (((talk_of asks marks).outcome ≡ Some Finished) × (TookAll asks marks → ⊥))
-Answers WriteFault asks marks = Unit {0}
-Answers ServerFailed asks marks = Unit {0}
-Answers OutOfMemory asks marks = Unit {0}
+IsAnswerOfTalk WriteFault asks marks = Unit {0}
+IsAnswerOfTalk ServerFailed asks marks = Unit {0}
+IsAnswerOfTalk OutOfMemory asks marks = Unit {0}
 
--- the streams that take no bytes for now: stream 0, or none
+-- the streams that accept no bytes for now: stream 0, or none
 abbrev pub held_streams : Bool → List ℕ
 held_streams true = 0 ∷ []
 held_streams false = []
@@ -107,7 +107,7 @@ held_streams false = []
 -- talk that is over waits no more, so it has no outcome yet, or not all was accepted
 pub record IsOpenWait (asks : Asks) (before : List Mark) (waiting : List ℕ) (want : Want) : Type 0
   where
-    pub opens : Answers Spent asks before
+    pub opens : IsAnswerOfTalk Spent asks before
     pub reads : want ≡ Read
     pub waits_for : waiting ≡ held_streams (is_reply_held before)
 
@@ -134,7 +134,7 @@ pub record Talks (asks : Asks) (answer : Talked) (old new : List Mark) : Type 0 
   pub opens : AtEachMark (WaitOpen asks) [] marks
   -- it listens nowhere, and connects nowhere else
   pub no_house : HasNoHouse marks
-  pub answers : Answers answer asks marks
+  pub answers : IsAnswerOfTalk answer asks marks
   -- with its turns spent all was accepted that is sent by then, or stream 0 is blocked
   pub offered : answer ≡ Spent → marks ≢ [] → TookAll asks marks ⊎ (is_reply_held marks ≡ true)
 

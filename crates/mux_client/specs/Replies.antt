@@ -45,14 +45,14 @@ abbrev pub for_id : ℕ → ℕ → ReplyVerdict → ReplyVerdict
 for_id id n verdict = elim (nat_eq n id) [ true ↦ verdict | false ↦ Breaks ]
 
 -- what a success means: each request has its own ones
-abbrev pub grants : Request → Answer → ReplyVerdict
-grants Checks (Alive n pid) = Grants (running_line pid)
-grants Exits (Okay n) = Grants exit_line
-grants TalkStops (Okay n) = Grants stop_line
-grants (Opens what) (Okay n) = Grants []
-grants (Opens what) (RemotePort n port) = Grants (port_line port)
-grants (Closes what) (Okay n) = Grants []
-grants _ _ = Breaks
+abbrev pub verdict_of_success : Request → Answer → ReplyVerdict
+verdict_of_success Checks (Alive n pid) = Grants (running_line pid)
+verdict_of_success Exits (Okay n) = Grants exit_line
+verdict_of_success TalkStops (Okay n) = Grants stop_line
+verdict_of_success (Opens what) (Okay n) = Grants []
+verdict_of_success (Opens what) (RemotePort n port) = Grants (port_line port)
+verdict_of_success (Closes what) (Okay n) = Grants []
+verdict_of_success _ _ = Breaks
 
 -- the id of an answer, if it has one
 abbrev pub id_of : Answer → Option ℕ
@@ -67,7 +67,7 @@ id_of _ = None
 abbrev pub meaning : Request → Answer → ReplyVerdict
 meaning request (PermissionDenied n reason) = Refuses
 meaning request (Failed n reason) = Refuses
-meaning request answer = grants request answer
+meaning request answer = verdict_of_success request answer
 
 -- what an answer means to the request with this id
 abbrev pub verdict_on : Request → ℕ → Option Answer → ReplyVerdict

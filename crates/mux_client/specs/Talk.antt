@@ -24,20 +24,20 @@ pub record Talk : Type 0 where
 -- ---- parts
 
 -- it is over, or waits
-abbrev pub stops : Option TalkOutcome → Talk
-stops outcome = record { sent = []; out = []; outcome = outcome }
+abbrev pub talk_stops : Option TalkOutcome → Talk
+talk_stops outcome = record { sent = []; out = []; outcome = outcome }
 
 -- these bytes are sent first
-abbrev pub sending : List ℕ → Talk → Talk
-sending bytes t = record { sent = bytes ++ t.sent; out = t.out; outcome = t.outcome }
+abbrev pub talk_sending : List ℕ → Talk → Talk
+talk_sending bytes t = record { sent = bytes ++ t.sent; out = t.out; outcome = t.outcome }
 
 -- these bytes are shown first
-abbrev pub showing : List ℕ → Talk → Talk
-showing line t = record { sent = t.sent; out = line ++ t.out; outcome = t.outcome }
+abbrev pub talk_showing : List ℕ → Talk → Talk
+talk_showing line t = record { sent = t.sent; out = line ++ t.out; outcome = t.outcome }
 
 -- the place after a frame
-abbrev pub behind : ℕ → List ℕ → ℕ
-behind at body = at + (4 + length body)
+abbrev pub place_after_frame : ℕ → List ℕ → ℕ
+place_after_frame at body = at + (4 + length body)
 
 -- ---- frame by frame
 
@@ -53,35 +53,35 @@ tail_outcome false at = None
 
 -- what follows a reply: the other requests where it grants, and the end where it doesn't
 abbrev pub on_reply : ReplyVerdict → ℕ → ℕ → Talk → Talk
-on_reply (Grants line) id at later = showing line later
-on_reply Refuses id at later = stops (Some (RefusedAt id))
-on_reply Breaks id at later = stops (Some (BrokenAt at))
+on_reply (Grants line) id at later = talk_showing line later
+on_reply Refuses id at later = talk_stops (Some (RefusedAt id))
+on_reply Breaks id at later = talk_stops (Some (BrokenAt at))
 
 -- the requests from this one on, with its id, the place of the next frame, the frames from there
 -- on, and whether the talk is broken after them
 abbrev pub talk_on : List Request → ℕ → ℕ → List (List ℕ) → Bool → Talk
-talk_on [] id at bodies broken = stops (Some Finished)
+talk_on [] id at bodies broken = talk_stops (Some Finished)
 talk_on (request ∷ requests) id at [] broken =
-    sending (request_frame id request) (stops (tail_outcome broken at))
+    talk_sending (request_frame id request) (talk_stops (tail_outcome broken at))
 talk_on (request ∷ requests) id at (body ∷ bodies) broken =
-    sending (request_frame id request)
+    talk_sending (request_frame id request)
     (on_reply (verdict request id body) id at
-    (talk_on requests (id + 1) (behind at body) bodies broken))
+    (talk_on requests (id + 1) (place_after_frame at body) bodies broken))
 
 -- a hello comes first
 abbrev pub on_hello : Bool → Talk → Talk
 on_hello true later = later
-on_hello false later = stops (Some (BrokenAt 0))
+on_hello false later = talk_stops (Some (BrokenAt 0))
 
-abbrev pub greeted : List Request → List (List ℕ) → Bool → Talk
-greeted requests [] broken = stops (tail_outcome broken 0)
-greeted requests (body ∷ bodies) broken =
-    on_hello (is_hello body) (talk_on requests 0 (behind 0 body) bodies broken)
+abbrev pub talk_from_hello : List Request → List (List ℕ) → Bool → Talk
+talk_from_hello requests [] broken = talk_stops (tail_outcome broken 0)
+talk_from_hello requests (body ∷ bodies) broken =
+    on_hello (is_hello body) (talk_on requests 0 (place_after_frame 0 body) bodies broken)
 
 -- by the frames of the bytes
 abbrev pub talk_by : Asks → Cut → Bool → Talk
 talk_by asks c ended =
-    sending hello_frame (greeted (requests_of asks) c.frames (broken_by c.fault ended))
+    talk_sending hello_frame (talk_from_hello (requests_of asks) c.frames (broken_by c.fault ended))
 
 -- by the bytes
 abbrev pub talk : Asks → List ℕ → Bool → Talk

@@ -10,8 +10,8 @@ use Rattle.mux_client.specs.declared.stage.TalkStage.{TalkStage}
 use Rattle.mux_client.specs.declared.stage.TalkStage.TheVariants as stage
 use Rattle.mux_client.specs.declared.talked.Talked.{Talked}
 use Rattle.mux_client.specs.declared.talked.Talked.TheVariants.{Done, Refused, BadMaster, WriteFault, ServerFailed, Spent, OutOfMemory}
-use Rattle.mux_client.specs.Journal.{bytes_given, talk_has_ended, is_reply_held, held_streams, talk_of, TookAll, ThroughoutTalk, WaitOpen, AtEachMark, HasNoHouse, Answers, TalkShows, ShowsFront, ShowsRecorded, TalksRecorded}
-use Rattle.mux_client.specs.Client.{TalkState, IsTalkSettled, TalkRepresents, place_of}
+use Rattle.mux_client.specs.Journal.{bytes_given, talk_has_ended, is_reply_held, held_streams, talk_of, TookAll, ThroughoutTalk, WaitOpen, AtEachMark, HasNoHouse, IsAnswerOfTalk, TalkShows, ShowsFront, ShowsRecorded, TalksRecorded}
+use Rattle.mux_client.specs.Client.{TalkState, IsTalkSettled, TalkRepresents, awaited_place}
 
 -- ---- the wire
 
@@ -30,7 +30,7 @@ pub record AcceptsNone (old new : Seen) : Type 0 where
   pub listeners : new.listeners ≡ old.listeners
   pub own : new.own ≡ old.own
 
--- where stream 0 takes no bytes for now it is one of these, and else none is
+-- where stream 0 accepts no bytes for now it is one of these, and else none is
 abbrev pub IsHeld : List ℕ → Type 0
 IsHeld held = (held ≡ []) ⊎ (held ≡ 0 ∷ [])
 
@@ -77,8 +77,8 @@ IsTalkDecided s (Err answer) = IsAnswerAt answer s.stage s.queue
 
 -- where the master's bytes end a talk breaks off at the place of the reply that is awaited
 abbrev pub BreaksOff : TalkState → Result (Unit {0}) Talked → Type 0
-BreaksOff s (Ok x) = place_of s.stage ≡ None
-BreaksOff s (Err answer) = (at : ℕ) × (place_of s.stage ≡ Some at) × (answer ≡ BadMaster at)
+BreaksOff s (Ok x) = awaited_place s.stage ≡ None
+BreaksOff s (Err answer) = (at : ℕ) × (awaited_place s.stage ≡ Some at) × (answer ≡ BadMaster at)
 
 -- all was accepted that is to be sent, or stream 0 accepts no more for now
 abbrev pub IsTalkOffered : List ℕ → TalkState → Type 0
@@ -127,7 +127,7 @@ pub record Talking (asks : Asks) (start recorded : Option (List Mark)) (held sho
   pub records : TalkRecords start recorded marks
   pub journal : IsJournal asks marks
   pub stands : TalkRepresents asks (bytes_given marks) (bytes_taken 0 marks) shown s
-  pub ended : talk_has_ended marks ≡ true → place_of s.stage ≡ None
+  pub ended : talk_has_ended marks ≡ true → awaited_place s.stage ≡ None
   pub held_is : held ≡ held_streams (is_reply_held marks)
 
 -- a talk that is over: these bytes were shown, and these were to be shown until then; a fault of
@@ -138,7 +138,7 @@ pub record IsTalk (asks : Asks) (answer : Talked) (start recorded : Option (List
   pub marks : List Mark
   pub records : TalkRecords start recorded marks
   pub journal : IsJournal asks marks
-  pub answers : Answers answer asks marks
+  pub answers : IsAnswerOfTalk answer asks marks
   pub shows : TalkShows answer shown (talk_of asks marks).out
   pub due_front : ShowsFront due (talk_of asks marks).out
   pub fault : answer ≡ WriteFault → due ≢ []

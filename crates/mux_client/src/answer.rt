@@ -2,7 +2,7 @@
 ghost use Rattle.std.specs.Prelude.{◌≡◌, ℕ, List, None};
 ghost use Rattle.mux_client.specs.Replies.{is_hello};
 ghost use Rattle.ssh_grammar.specs.Control as grammar;
-ghost use Rattle.ssh_grammar.specs.ReadAnswer.{read_one, read_two, read_reason, forms, read_answer as reading};
+ghost use Rattle.ssh_grammar.specs.ReadAnswer.{read_one, read_two, read_reason, answer_forms, read_answer as reading};
 ghost use Rattle.ssh_grammar.specs.Tables.{by_number};
 ghost use Rattle.mux_client.specs.Answers.{GivesAnswer, ReadsAnswer, ReadsReason};
 
@@ -68,7 +68,7 @@ fn reason(mut fields: Cursor<'_>) -> Option<u32>
 
 // An answer, by its type.
 fn by_kind(kind: u32, fields: Cursor<'_>) -> Option<Answer>
-    ensures { GivesAnswer result (by_number forms kind (λ rest. None) fields.entry) }
+    ensures { GivesAnswer result (by_number answer_forms kind (λ rest. None) fields.entry) }
 {
     match kind {
         HELLO => match one(fields) {

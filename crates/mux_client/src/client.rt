@@ -4,7 +4,7 @@ ghost use Rattle.ssh_grammar.specs.Frames.{first_frame};
 ghost use Rattle.mux_client.specs.declared.asks.Asks.{Asks as TheAsks};
 ghost use Rattle.mux_client.specs.declared.stage.TalkStage.TheVariants.{Greets, Asks as Asked};
 ghost use Rattle.mux_client.specs.Requests.{MayAsk, request_at};
-ghost use Rattle.mux_client.specs.Client.{new_talk, heard, without_sent, place_of, after_cut, asked, TalkRepresents, IsTalkSettled, ReadsNext};
+ghost use Rattle.mux_client.specs.Client.{new_talk, talk_received, without_sent, awaited_place, after_cut, request_is_sent, TalkRepresents, IsTalkSettled, ReadsNext};
 
 use crate::answer::is_hello_of_4;
 use crate::asks::Asks;
@@ -21,7 +21,7 @@ use std::marker::Model;
 pub struct Client {
     alloc: Global,
     framer: Framer,
-    /// What the master didn't take yet.
+    /// What the master didn't accept yet.
     queue: Queue,
     stage: TalkStage,
 }
@@ -85,7 +85,7 @@ impl Client {
 
     /// More bytes of the master.
     pub fn receives(&mut self, piece: &[u8]) -> Result<(), OutOfMemory>
-        ensures exact { OnOk result (self.new ≡ heard piece.now self.old) }
+        ensures exact { OnOk result (self.new ≡ talk_received piece.now self.old) }
         ensures unchanged { OnErr result (self.new ≡ self.old) }
         ensures stands { (asks : TheAsks) (bytes taken shown : List ℕ)
             → TalkRepresents asks bytes taken shown self.old
@@ -97,7 +97,7 @@ impl Client {
     // Cuts the next frame, whose place this is: whether there is one. Where none can be, the master
     // broke the protocol.
     fn cut(&mut self, at: usize) -> bool
-        requires { place_of self.old.stage ≡ Some at }
+        requires { awaited_place self.old.stage ≡ Some at }
         ensures exact { self.new
             ≡ after_cut (first_frame Control self.old.framer.rest) at self.old }
         ensures frame { IsTrue result ↔ IsSome self.new.framer.current }
@@ -117,7 +117,7 @@ impl Client {
         requires may { MayAsk asks.now }
         requires faultless { self.old.framer.fault ≡ None }
         requires placed { at ≤ (id + 1) * 262148 }
-        ensures exact { OnOk result (self.new ≡ asked (request_at asks.now id) id at self.old) }
+        ensures exact { OnOk result (self.new ≡ request_is_sent (request_at asks.now id) id at self.old) }
     {
         let mut frame = Vec::new(self.alloc);
         if put_request(&mut frame, asks, id)? {

@@ -2,7 +2,7 @@ ghost use Rattle.std.specs.Prelude.{◌≡◌, ◌≢◌, ◌++◌, ◌<◌, [],
 ghost use Rattle.std.specs.declared.option.Option.{Option};
 ghost use Rattle.mux_outside.specs.declared.mark.Mark.{Mark as TheMark};
 ghost use Rattle.mux_client.specs.Client.{IsTalkSettled};
-ghost use Rattle.mux_client.specs.Counted.{AnsweredBy, CameTo, Counts, SinkFaults, StepFaults, StepSinkFaults, TalkStops, WireFaults};
+ghost use Rattle.mux_client.specs.Counted.{AnsweredBy, CameTo, CountsOfTalk, SinkFaults, StepFaults, StepSinkFaults, TalkStops, WireFaults};
 ghost use Rattle.mux_client.specs.Requests.{MayAsk};
 ghost use Rattle.mux_client.specs.Talking.{BreaksOff, HasTalked, TransportIsAlone, IsBetween, IsCutLine, IsTalkDecided, IsGoing, IsTransportJoined, IsOfSink, IsOfTransport, IsTalkOffered, IsTalk, SameWire, ShowsLast, ShowsOn, Talking, TalksOn, TalkTookOrOffered, WholeTalk, talked_of};
 ghost use Rattle.mux_client.specs.Verdicts.{text_of_line};
@@ -37,7 +37,7 @@ fn offer_once<W: Wire>(
     ensures offered { IfOk result (λ more. TalkTookOrOffered more held.new client.old client.new) }
     ensures own { IfErr result IsOfTransport }
     ensures stage { OnOk result (client.new.stage ≡ client.old.stage) }
-    ensures calls { Counts 0 result (W.state wire.old).calls (W.state wire.new).calls }
+    ensures calls { CountsOfTalk 0 result (W.state wire.old).calls (W.state wire.new).calls }
     ensures cause { StepFaults result (W.faults wire.old) (W.faults wire.new) }
     ensures wire { SameWire (W.state wire.old) (W.state wire.new) }
 {
@@ -73,7 +73,7 @@ fn offer<W: Wire>(client: &mut Client, wire: &mut W, held: &mut Streams) -> Resu
     ensures offered { OnOk result (IsTalkOffered held.new client.new) }
     ensures own { IfErr result IsOfTransport }
     ensures stage { OnOk result (client.new.stage ≡ client.old.stage) }
-    ensures calls { Counts 0 result (W.state wire.old).calls (W.state wire.new).calls }
+    ensures calls { CountsOfTalk 0 result (W.state wire.old).calls (W.state wire.new).calls }
     ensures cause { StepFaults result (W.faults wire.old) (W.faults wire.new) }
     ensures wire { SameWire (W.state wire.old) (W.state wire.new) }
 {
@@ -203,7 +203,7 @@ fn turn<W: Wire, S: Sink>(
         (shown ++ due))) }
     ensures between { OnOk result (IsBetween client.new held.new (W.state wire.new).seen) }
     ensures unspent { IfErr result (λ answer. answer ≢ SpentTurns) }
-    ensures calls { Counts 1 result (W.state wire.old).calls (W.state wire.new).calls }
+    ensures calls { CountsOfTalk 1 result (W.state wire.old).calls (W.state wire.new).calls }
     ensures came { CameTo result client.old.stage client.new.stage (W.state wire.old).calls
         (W.state wire.new).calls }
     ensures cause { StepFaults result (W.faults wire.old) (W.faults wire.new) }

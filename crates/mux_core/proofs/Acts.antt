@@ -11,7 +11,7 @@ use Rattle.window_ledger.specs.Act.{summary_act_of}
 use Rattle.window_ledger.specs.declared.act.Act as said
 use Rattle.window_ledger.specs.declared.act.Act.TheVariants.{Data, Grant, Eof, Close, Request, Reply}
 use Rattle.window_ledger.specs.declared.ledger.Ledger.{Ledger}
-use Rattle.window_ledger.specs.Stands.{LedgerGoesOn, both_closed, confirmed}
+use Rattle.window_ledger.specs.Stands.{LedgerGoesOn, both_closed, is_open_confirmed}
 use Rattle.window_ledger.specs.Stands as ledger
 use Rattle.channel_table.specs.declared.channel.Channel as table
 use Rattle.channel_table.specs.Entries.{TableEntry}
@@ -26,8 +26,8 @@ use Rattle.channel_table.proofs.EntryFits.{Goes, changed-fit}
 -- what is known of the ledger after it
 pub record ActsOn (way : Side) (a : Act) (old new : Ledger) (over : Bool) : Type 0 where
   pub goes : LedgerGoesOn old new way a
-  pub ends : (x : Channel) → ledger.Stands new x → over ≡ both_closed x
-  pub confirmed : confirmed new ≡ confirmed old
+  pub ends : (x : Channel) → ledger.LedgerRepresents new x → over ≡ both_closed x
+  pub confirmed : is_open_confirmed new ≡ is_open_confirmed old
   pub fine : is_fails a ≡ false
 
 -- a channel that was held is held after an act that is no failure, unless that closes it
@@ -92,12 +92,12 @@ goes-one way a r g e0 l over does acts e x one fits = by_number (e.number == e0.
         never true = refl
         never false = refl
 
-whole-after : (e0 : TableEntry) (l : Ledger) (r : TableEntry → Bool) → confirmed l ≡ confirmed e0.ledger → (e : TableEntry) → Alone r e0 e → is_whole e ≡ true → is_whole (at_number e0.number (with_ledger l) e) ≡ true
+whole-after : (e0 : TableEntry) (l : Ledger) (r : TableEntry → Bool) → is_open_confirmed l ≡ is_open_confirmed e0.ledger → (e : TableEntry) → Alone r e0 e → is_whole e ≡ true → is_whole (at_number e0.number (with_ledger l) e) ≡ true
 whole-after e0 l r same e one whole = by_number (e.number == e0.number) refl
   where
     by_number : (b : Bool) → (e.number == e0.number) ≡ b → is_whole (at_number e0.number (with_ledger l) e) ≡ true
     by_number true h =
-        subst (λ f. is_whole f ≡ true) (sym (at-it e0.number l e h)) (ap (λ c. has_numbers c e.channel.by e.channel.own e.channel.remote) (same ∙ ap (λ (f : TableEntry). confirmed f.ledger) (sym (one.same h))) ∙ whole)
+        subst (λ f. is_whole f ≡ true) (sym (at-it e0.number l e h)) (ap (λ c. has_numbers c e.channel.by e.channel.own e.channel.remote) (same ∙ ap (λ (f : TableEntry). is_open_confirmed f.ledger) (sym (one.same h))) ∙ whole)
     by_number false h = subst (λ f. is_whole f ≡ true) (sym (at-other e0.number l e h)) whole
 
 -- the table goes on by it

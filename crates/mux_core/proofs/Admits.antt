@@ -10,8 +10,8 @@ use Rattle.mux_history.specs.Rows.{Admit, Refused, Row, any_of, is_admit, is_los
 use Rattle.mux_history.specs.Channels.{Channel, after_item, held_of, is_channel_held}
 use Rattle.mux_history.specs.Farewell.{has_open_matters}
 use Rattle.mux_history.specs.Forwardings.{current}
-use Rattle.mux_history.specs.Log.{bare, entered, matters_of, open_matters}
-use Rattle.mux_history.specs.Requests.{Ask, asks, replies, wanted}
+use Rattle.mux_history.specs.Log.{bare_row, admitted_clients, matters_of, open_matters}
+use Rattle.mux_history.specs.Requests.{Ask, wanted_requests, replies, wanted}
 use Rattle.mux_history.specs.Said.{Outcome, records}
 use Rattle.ssh_grammar.specs.declared.numbers.TheConstants.{VERSION}
 use Rattle.ssh_grammar.specs.Control.{Greets}
@@ -22,12 +22,12 @@ use Rattle.mux_history.proofs.Bools.{same-number, self}
 use Rattle.mux_history.proofs.Finds.{filter-no, filter-yes}
 use Rattle.mux_history.proofs.OwnRows.{idle_row, own_row}
 use Rattle.mux_isolation.specs.LogView.{waiting_left_of}
-use Rattle.mux_core.specs.State.{MemberState, CoreState, is_served}
+use Rattle.mux_core.specs.State.{MemberState, CoreState, is_member_served}
 use Rattle.channel_table.specs.Entries.{TableEntry}
 use Rattle.forward_rules.specs.State as kept
 use Rattle.forward_rules.specs.Stands.{AreFit, Places, places_of}
 use Rattle.mux_history.specs.Channels.{with_ups}
-use Rattle.mux_core.specs.Stands.{AreOnce, AsksFit, ClientFits, ClientsFit, Look, OwnRequests, Stands, TableFits, has_matters, is_member_known, look, unreplied_in}
+use Rattle.mux_core.specs.Stands.{AreOnce, AsksFit, ClientFits, ClientsFit, Look, OwnRequests, CoreRepresents, TableFits, has_matters, is_member_known, look, unreplied_in}
 use Rattle.mux_core.proofs.Bare.{held-bare}
 use Rattle.mux_core.proofs.Quiet.{IsQuiet, look-same, own-same}
 use Rattle.mux_core.proofs.Says.{held-held, map-same}
@@ -48,16 +48,16 @@ length-map : (cs : List MemberState) → length (map (λ (c : MemberState). c.nu
 length-map [] = refl
 length-map (c ∷ cs) = ap suc (length-map cs)
 
-pub matters-are : (s : CoreState) (rows : List Row) → Stands s rows → open_matters rows ≡ length s.clients
-matters-are s rows st = count-matters rows (entered rows) ∙ (ap length (sym st.clients.numbers) ∙ length-map s.clients)
+pub matters-are : (s : CoreState) (rows : List Row) → CoreRepresents s rows → open_matters rows ≡ length s.clients
+matters-are s rows st = count-matters rows (admitted_clients rows) ∙ (ap length (sym st.clients.numbers) ∙ length-map s.clients)
 
-pub matters-few : (s : CoreState) (rows : List Row) (n : ℕ) → Stands s rows → (length s.clients < 4294967296 → n ≡ length s.clients) → n ≡ open_matters rows
+pub matters-few : (s : CoreState) (rows : List Row) (n : ℕ) → CoreRepresents s rows → (length s.clients < 4294967296 → n ≡ length s.clients) → n ≡ open_matters rows
 matters-few s rows n st exact = exact (let f = st.clients.few in omega arith) ∙ sym (matters-are s rows st)
 
 -- ---- the rows of a new client
 
 -- a client that was admitted has rows
-in-rows : (j : ℕ) (rows : List Row) → any_of (λ i. i == j) (entered rows) ≡ true → any_of is_admit (rows_of j rows) ≡ true
+in-rows : (j : ℕ) (rows : List Row) → any_of (λ i. i == j) (admitted_clients rows) ≡ true → any_of is_admit (rows_of j rows) ≡ true
 in-rows j [] h = absurd (cc)
 in-rows j (row ∷ rows) h = by_admit (in-rows j rows) (is_admit row) refl (row.client == j) refl
   where
@@ -73,69 +73,69 @@ in-rows j (row ∷ rows) h = by_admit (in-rows j rows) (is_admit row) refl (row.
     none true = refl
     none false = refl
 
-    here : (b : Bool) → is_admit row ≡ b → any_of (λ i. i == j) (entered (row ∷ rows)) ≡ (any_of (λ i. i == j) (entered rows) || any_of (λ i. i == j) (elim b as (λ _. List ℕ) [ true ↦ row.client ∷ [] | false ↦ [] ]))
-    here b e = split (entered rows) (elim (is_admit row) as (λ _. List ℕ) [ true ↦ row.client ∷ [] | false ↦ [] ]) ∙ ap (λ (b : Bool). any_of (λ i. i == j) (entered rows) || any_of (λ i. i == j) (elim b as (λ _. List ℕ) [ true ↦ row.client ∷ [] | false ↦ [] ])) e
+    here : (b : Bool) → is_admit row ≡ b → any_of (λ i. i == j) (admitted_clients (row ∷ rows)) ≡ (any_of (λ i. i == j) (admitted_clients rows) || any_of (λ i. i == j) (elim b as (λ _. List ℕ) [ true ↦ row.client ∷ [] | false ↦ [] ]))
+    here b e = split (admitted_clients rows) (elim (is_admit row) as (λ _. List ℕ) [ true ↦ row.client ∷ [] | false ↦ [] ]) ∙ ap (λ (b : Bool). any_of (λ i. i == j) (admitted_clients rows) || any_of (λ i. i == j) (elim b as (λ _. List ℕ) [ true ↦ row.client ∷ [] | false ↦ [] ])) e
 
-    by_admit : (any_of (λ i. i == j) (entered rows) ≡ true → any_of is_admit (rows_of j rows) ≡ true) → (b : Bool) → is_admit row ≡ b → (c : Bool) → (row.client == j) ≡ c → any_of is_admit (rows_of j (row ∷ rows)) ≡ true
+    by_admit : (any_of (λ i. i == j) (admitted_clients rows) ≡ true → any_of is_admit (rows_of j rows) ≡ true) → (b : Bool) → is_admit row ≡ b → (c : Bool) → (row.client == j) ≡ c → any_of is_admit (rows_of j (row ∷ rows)) ≡ true
     by_admit ih true a true c = ap (any_of is_admit) (own_row j row rows c) ∙ ap (λ b. b || any_of is_admit (rows_of j rows)) a
-    by_admit ih true a false c = ap (any_of is_admit) (idle_row j row rows c) ∙ ih (sym (here true a ∙ (ap (λ b. any_of (λ i. i == j) (entered rows) || (b || false)) c ∙ none (any_of (λ i. i == j) (entered rows)))) ∙ h)
-    by_admit ih false a true c = ap (any_of is_admit) (own_row j row rows c) ∙ (ap (λ b. b || any_of is_admit (rows_of j rows)) a ∙ ih (sym (here false a ∙ none (any_of (λ i. i == j) (entered rows))) ∙ h))
-    by_admit ih false a false c = ap (any_of is_admit) (idle_row j row rows c) ∙ ih (sym (here false a ∙ none (any_of (λ i. i == j) (entered rows))) ∙ h)
+    by_admit ih true a false c = ap (any_of is_admit) (idle_row j row rows c) ∙ ih (sym (here true a ∙ (ap (λ b. any_of (λ i. i == j) (admitted_clients rows) || (b || false)) c ∙ none (any_of (λ i. i == j) (admitted_clients rows)))) ∙ h)
+    by_admit ih false a true c = ap (any_of is_admit) (own_row j row rows c) ∙ (ap (λ b. b || any_of is_admit (rows_of j rows)) a ∙ ih (sym (here false a ∙ none (any_of (λ i. i == j) (admitted_clients rows))) ∙ h))
+    by_admit ih false a false c = ap (any_of is_admit) (idle_row j row rows c) ∙ ih (sym (here false a ∙ none (any_of (λ i. i == j) (admitted_clients rows))) ∙ h)
 
 -- so a new one wasn't
-pub not-in : (k : ℕ) (rows : List Row) → rows_of k rows ≡ [] → any_of (λ i. i == k) (entered rows) ≡ false
-not-in k rows new = by_case (any_of (λ i. i == k) (entered rows)) refl
+pub not-in : (k : ℕ) (rows : List Row) → rows_of k rows ≡ [] → any_of (λ i. i == k) (admitted_clients rows) ≡ false
+not-in k rows new = by_case (any_of (λ i. i == k) (admitted_clients rows)) refl
   where
-    by_case : (b : Bool) → any_of (λ i. i == k) (entered rows) ≡ b → any_of (λ i. i == k) (entered rows) ≡ false
+    by_case : (b : Bool) → any_of (λ i. i == k) (admitted_clients rows) ≡ b → any_of (λ i. i == k) (admitted_clients rows) ≡ false
     by_case true h = absurd (let a : any_of is_admit (rows_of k rows) ≡ true = in-rows k rows h in let b : any_of is_admit (rows_of k rows) ≡ false = ap (any_of is_admit) new in let c = sym a ∙ b in cc)
     by_case false h = h
 
 -- ---- the row
 
 -- one that is refused changes nothing
-pub refused-quiet : (k : ℕ) → IsQuiet (bare (Admit k) k (record { sent = []; recorded = []; ends = Refused }))
+pub refused-quiet : (k : ℕ) → IsQuiet (bare_row (Admit k) k (record { sent = []; recorded = []; ends = Refused }))
 refused-quiet k = record { asks = refl; flags = refl; replies = refl; forwards = λ own fs. refl; keeps = refl; admits = refl }
 
-admit-held : (k : ℕ) (o : Outcome) (rows : List Row) → o.sent ≡ [] → held_of (bare (Admit k) k o ∷ rows) ≡ held_of rows
+admit-held : (k : ℕ) (o : Outcome) (rows : List Row) → o.sent ≡ [] → held_of (bare_row (Admit k) k o ∷ rows) ≡ held_of rows
 admit-held k o rows none =
     held-bare (Admit k) k o rows
-    ∙ (ap (filter is_channel_held) (append-nil (map (after_item (bare (Admit k) k o)) (held_of rows)) ∙ map-same (after_item (bare (Admit k) k o)) (λ x. same x) (held_of rows)) ∙ held-held rows)
+    ∙ (ap (filter is_channel_held) (append-nil (map (after_item (bare_row (Admit k) k o)) (held_of rows)) ∙ map-same (after_item (bare_row (Admit k) k o)) (λ x. same x) (held_of rows)) ∙ held-held rows)
   where
-    same : (x : Channel) → after_item (bare (Admit k) k o) x ≡ x
+    same : (x : Channel) → after_item (bare_row (Admit k) k o) x ≡ x
     same x =
         ap (λ (ups : List (List ℕ)). elim (x.client == k) as (λ _. Channel) [ true ↦ with_ups None ups x | false ↦ x ]) none
         ∙ (elim (x.client == k) as (λ b. (elim b as (λ _. Channel) [ true ↦ x | false ↦ x ]) ≡ x) [ true ↦ refl | false ↦ refl ])
 
 -- the matters of a refused client are closed, as they were
-refused-matters : (k : ℕ) (rows : List Row) → rows_of k rows ≡ [] → (j : ℕ) → has_matters (bare (Admit k) k (record { sent = []; recorded = []; ends = Refused }) ∷ rows) j ≡ has_matters rows j
+refused-matters : (k : ℕ) (rows : List Row) → rows_of k rows ≡ [] → (j : ℕ) → has_matters (bare_row (Admit k) k (record { sent = []; recorded = []; ends = Refused }) ∷ rows) j ≡ has_matters rows j
 refused-matters k rows new j = by_case (k == j) refl
   where
     row : Row
-    row = bare (Admit k) k (record { sent = []; recorded = []; ends = Refused })
+    row = bare_row (Admit k) k (record { sent = []; recorded = []; ends = Refused })
 
-    by_case : (b : Bool) → (k == j) ≡ b → has_matters (bare (Admit k) k (record { sent = []; recorded = []; ends = Refused }) ∷ rows) j ≡ has_matters rows j
-    by_case false e = ap has_open_matters (idle_row j (bare (Admit k) k (record { sent = []; recorded = []; ends = Refused })) rows e)
+    by_case : (b : Bool) → (k == j) ≡ b → has_matters (bare_row (Admit k) k (record { sent = []; recorded = []; ends = Refused }) ∷ rows) j ≡ has_matters rows j
+    by_case false e = ap has_open_matters (idle_row j (bare_row (Admit k) k (record { sent = []; recorded = []; ends = Refused })) rows e)
     by_case true e =
         let none : rows_of j rows ≡ [] = subst (λ i. rows_of i rows ≡ []) (same-number k j e) new in
-        ap has_open_matters (own_row j (bare (Admit k) k (record { sent = []; recorded = []; ends = Refused })) rows e ∙ ap (λ own. bare (Admit k) k (record { sent = []; recorded = []; ends = Refused }) ∷ own) none) ∙ sym (ap has_open_matters none)
+        ap has_open_matters (own_row j (bare_row (Admit k) k (record { sent = []; recorded = []; ends = Refused })) rows e ∙ ap (λ own. bare_row (Admit k) k (record { sent = []; recorded = []; ends = Refused }) ∷ own) none) ∙ sym (ap has_open_matters none)
 
-pub refused-stands : (s : CoreState) (k : ℕ) (rows : List Row) → Stands s rows → rows_of k rows ≡ [] → Stands s (bare (Admit k) k (record { sent = []; recorded = []; ends = Refused }) ∷ rows)
+pub refused-stands : (s : CoreState) (k : ℕ) (rows : List Row) → CoreRepresents s rows → rows_of k rows ≡ [] → CoreRepresents s (bare_row (Admit k) k (record { sent = []; recorded = []; ends = Refused }) ∷ rows)
 refused-stands s k rows st new =
-    let row : Row = bare (Admit k) k (record { sent = []; recorded = []; ends = Refused }) in
-    let after = sym (look-same (bare (Admit k) k (record { sent = []; recorded = []; ends = Refused })) rows (refused-quiet k)) in
-    let matters : has_matters rows ≡ has_matters (bare (Admit k) k (record { sent = []; recorded = []; ends = Refused }) ∷ rows) = λ i j. sym (refused-matters k rows new j) i in
+    let row : Row = bare_row (Admit k) k (record { sent = []; recorded = []; ends = Refused }) in
+    let after = sym (look-same (bare_row (Admit k) k (record { sent = []; recorded = []; ends = Refused })) rows (refused-quiet k)) in
+    let matters : has_matters rows ≡ has_matters (bare_row (Admit k) k (record { sent = []; recorded = []; ends = Refused }) ∷ rows) = λ i j. sym (refused-matters k rows new j) i in
     record {
       channels = subst (TableFits s.channels) (sym (admit-held k (record { sent = []; recorded = []; ends = Refused }) rows refl)) st.channels;
       asks = subst (AsksFit s.asks) after st.asks;
       forwards = subst (λ (l : Look). AreFit s.forwards l.current l.own l.lost) after st.forwards;
-      clients = subst (λ m. ClientsFit s.clients m (look (bare (Admit k) k (record { sent = []; recorded = []; ends = Refused }) ∷ rows))) matters (subst (ClientsFit s.clients (has_matters rows)) after st.clients);
+      clients = subst (λ m. ClientsFit s.clients m (look (bare_row (Admit k) k (record { sent = []; recorded = []; ends = Refused }) ∷ rows))) matters (subst (ClientsFit s.clients (has_matters rows)) after st.clients);
       known = st.known;
     }
 
 -- ---- one that is admitted
 
 abbrev pub admit_row : ℕ → List ℕ → Row
-admit_row k frame = bare (Admit k) k (records frame)
+admit_row k frame = bare_row (Admit k) k (records frame)
 
 abbrev pub new_client : ℕ → MemberState
 new_client k = record { number = k; lost = false; waiting = [] }
@@ -183,11 +183,11 @@ known-append k j (c ∷ cs) h = by_case (known-append k j cs) (c.number == j) h
     by_case ih true h = refl
     by_case ih false h = ih h
 
-served-append : (k j : ℕ) (cs : List MemberState) → is_served cs j ≡ true → is_served (cs ++ new_client k ∷ []) j ≡ true
+served-append : (k j : ℕ) (cs : List MemberState) → is_member_served cs j ≡ true → is_member_served (cs ++ new_client k ∷ []) j ≡ true
 served-append k j [] h = absurd (cc)
 served-append k j (c ∷ cs) h = by_case (served-append k j cs) ((c.number == j) && not c.lost) h
   where
-    by_case : (is_served cs j ≡ true → is_served (cs ++ new_client k ∷ []) j ≡ true) → (b : Bool) → (b || is_served cs j) ≡ true → (b || is_served (cs ++ new_client k ∷ []) j) ≡ true
+    by_case : (is_member_served cs j ≡ true → is_member_served (cs ++ new_client k ∷ []) j ≡ true) → (b : Bool) → (b || is_member_served cs j) ≡ true → (b || is_member_served (cs ++ new_client k ∷ []) j) ≡ true
     by_case ih true h = refl
     by_case ih false h = ih h
 
@@ -229,9 +229,9 @@ comes k frame rows nonzero new =
     }
 
 nothing-asked : (k : ℕ) (frame : List ℕ) (own : List Row) → places_of (admit_row k frame ∷ own) ≡ places_of own
-nothing-asked k frame own = ap (λ (us : List Ask). let x : Places = record { asked = us; replied = length (replies own ++ []) } in x) (append-nil (asks own)) ∙ ap (λ (rs : List (List ℕ)). let x : Places = record { asked = asks own; replied = length rs } in x) (append-nil (replies own))
+nothing-asked k frame own = ap (λ (us : List Ask). let x : Places = record { asked = us; replied = length (replies own ++ []) } in x) (append-nil (wanted_requests own)) ∙ ap (λ (rs : List (List ℕ)). let x : Places = record { asked = wanted_requests own; replied = length rs } in x) (append-nil (replies own))
 
-pub admitted-stands : (s : CoreState) (k : ℕ) (frame : List ℕ) (rows : List Row) → Stands s rows → k ≢ 0 → rows_of k rows ≡ [] → length s.clients < MAX_CLIENTS → Stands (record s { clients = s.clients ++ new_client k ∷ [] }) (admit_row k frame ∷ rows)
+pub admitted-stands : (s : CoreState) (k : ℕ) (frame : List ℕ) (rows : List Row) → CoreRepresents s rows → k ≢ 0 → rows_of k rows ≡ [] → length s.clients < MAX_CLIENTS → CoreRepresents (record s { clients = s.clients ++ new_client k ∷ [] }) (admit_row k frame ∷ rows)
 admitted-stands s k frame rows st nonzero new room =
     let own : (look (admit_row k frame ∷ rows)).own ≡ (look rows).own = λ i j. own-same places_of (admit_row k frame) rows (nothing-asked k frame) j i in
     let lost : (look (admit_row k frame ∷ rows)).lost ≡ (look rows).lost = λ i j. own-same is_lost (admit_row k frame) rows (λ own. refl) j i in
@@ -249,9 +249,9 @@ admitted-stands s k frame rows st nonzero new room =
       clients = record {
         numbers =
             numbers-append k s.clients
-            ∙ (ap (λ ns. ns ++ k ∷ []) (st.clients.numbers ∙ sym (filter-on k (has_matters rows) (has_matters (admit_row k frame ∷ rows)) same (entered rows) (all-others k (entered rows) (not-in k rows new))))
-            ∙ (ap (λ ks. filter (has_matters (admit_row k frame ∷ rows)) (entered rows) ++ ks) (sym (filter-yes (has_matters (admit_row k frame ∷ rows)) k [] here))
-            ∙ sym (filter-append (has_matters (admit_row k frame ∷ rows)) (entered rows) (k ∷ []))));
+            ∙ (ap (λ ns. ns ++ k ∷ []) (st.clients.numbers ∙ sym (filter-on k (has_matters rows) (has_matters (admit_row k frame ∷ rows)) same (admitted_clients rows) (all-others k (admitted_clients rows) (not-in k rows new))))
+            ∙ (ap (λ ks. filter (has_matters (admit_row k frame ∷ rows)) (admitted_clients rows) ++ ks) (sym (filter-yes (has_matters (admit_row k frame ∷ rows)) k [] here))
+            ∙ sym (filter-append (has_matters (admit_row k frame ∷ rows)) (admitted_clients rows) (k ∷ []))));
         each = all-last (ClientFits (look (admit_row k frame ∷ rows))) (new_client k) (comes k frame rows nonzero new) s.clients (old s.clients others st.clients.each);
         once = once-append k s.clients others st.clients.once;
         few = let e = length-append k s.clients in omega arith;
@@ -259,7 +259,7 @@ admitted-stands s k frame rows st nonzero new room =
       known = record {
         channels = all-of (λ (f : TableEntry). is_member_known s.clients f.channel.client ≡ true) (λ (f : TableEntry). is_member_known (s.clients ++ new_client k ∷ []) f.channel.client ≡ true) (λ f h. known-append k f.channel.client s.clients h) s.channels st.known.channels;
         asks = all-of (λ (a : Ask). is_member_known s.clients a.client ≡ true) (λ (a : Ask). is_member_known (s.clients ++ new_client k ∷ []) a.client ≡ true) (λ a h. known-append k a.client s.clients h) s.asks st.known.asks;
-        forwards = all-of (λ (f : kept.Forward). is_served s.clients f.client ≡ true) (λ (f : kept.Forward). is_served (s.clients ++ new_client k ∷ []) f.client ≡ true) (λ f h. served-append k f.client s.clients h) s.forwards st.known.forwards;
+        forwards = all-of (λ (f : kept.Forward). is_member_served s.clients f.client ≡ true) (λ (f : kept.Forward). is_member_served (s.clients ++ new_client k ∷ []) f.client ≡ true) (λ f h. served-append k f.client s.clients h) s.forwards st.known.forwards;
       };
     }
   where
@@ -275,8 +275,8 @@ on-admit s new k true exact after = λ rows st fresh.
     let few : length s.clients < MAX_CLIENTS = below (length s.clients) exact in
     record {
       exact = sym room;
-      stands = subst (λ o. Stands new (bare (Admit k) k o ∷ rows)) (sym (ap (λ (b : Bool). elim b as (λ _. Outcome) [ true ↦ records (frame_answer (Greets VERSION)) | false ↦ record { sent = []; recorded = []; ends = Refused } ]) room))
-          (subst (λ u. Stands u (admit_row k (frame_answer (Greets VERSION)) ∷ rows)) (sym after) (admitted-stands s k (frame_answer (Greets VERSION)) rows st fresh.nonzero fresh.fresh few));
+      stands = subst (λ o. CoreRepresents new (bare_row (Admit k) k o ∷ rows)) (sym (ap (λ (b : Bool). elim b as (λ _. Outcome) [ true ↦ records (frame_answer (Greets VERSION)) | false ↦ record { sent = []; recorded = []; ends = Refused } ]) room))
+          (subst (λ u. CoreRepresents u (admit_row k (frame_answer (Greets VERSION)) ∷ rows)) (sym after) (admitted-stands s k (frame_answer (Greets VERSION)) rows st fresh.nonzero fresh.fresh few));
     }
   where
     below : (n : ℕ) → true ≡ nat_lt n MAX_CLIENTS → n < MAX_CLIENTS
@@ -285,6 +285,6 @@ on-admit s new k false exact after = λ rows st fresh.
     let full : nat_lt (open_matters rows) MAX_CLIENTS ≡ false = ap (λ n. nat_lt n MAX_CLIENTS) (matters-are s rows st) ∙ sym exact in
     record {
       exact = sym full;
-      stands = subst (λ o. Stands new (bare (Admit k) k o ∷ rows)) (sym (ap (λ (b : Bool). elim b as (λ _. Outcome) [ true ↦ records (frame_answer (Greets VERSION)) | false ↦ record { sent = []; recorded = []; ends = Refused } ]) full))
-          (subst (λ u. Stands u (bare (Admit k) k (record { sent = []; recorded = []; ends = Refused }) ∷ rows)) (sym after) (refused-stands s k rows st fresh.fresh));
+      stands = subst (λ o. CoreRepresents new (bare_row (Admit k) k o ∷ rows)) (sym (ap (λ (b : Bool). elim b as (λ _. Outcome) [ true ↦ records (frame_answer (Greets VERSION)) | false ↦ record { sent = []; recorded = []; ends = Refused } ]) full))
+          (subst (λ u. CoreRepresents u (bare_row (Admit k) k (record { sent = []; recorded = []; ends = Refused }) ∷ rows)) (sym after) (refused-stands s k rows st fresh.fresh));
     }

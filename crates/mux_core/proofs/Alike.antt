@@ -8,8 +8,8 @@ use Rattle.mux_history.specs.Rows.{any_of}
 use Rattle.mux_history.specs.Forwardings.{Forwarding}
 use Rattle.mux_history.proofs.Finds.{filter-no, filter-yes}
 use Rattle.forward_rules.specs.State.{Forward}
-use Rattle.forward_rules.specs.Step.{cancels, change_first_forward, forward_count_of, is_leaving, is_of}
-use Rattle.forward_rules.specs.Stands.{AreForwardingsInOrder, AreTwoPlaces, EachTwo, HasAt, InOrder, InOrderWith, IsRanked, is_asked_at, is_leaving_at}
+use Rattle.forward_rules.specs.Step.{unanswered_cancels, change_first_forward, forward_count_of, is_leaving, is_forward_of}
+use Rattle.forward_rules.specs.Stands.{AreForwardingsInOrder, AreTwoPlaces, EachTwo, HasAt, InOrder, InOrderWith, IsRanked, request_waits_at, cancel_waits_at}
 use Rattle.mux_core.proofs.Pairs.{find-any, or-first, or-found, or-second}
 
 -- ---- of the kept ones
@@ -54,13 +54,13 @@ count-alike test same (f ∷ fs) (f' ∷ fs') alike = by_test (count-alike test 
     by_test ih false h = ap length (filter-no test f' fs' (same f f' alike.0 ∙ h)) ∙ (ih ∙ sym (ap length (filter-no test f fs h)))
 
 pub few-alike : (k : ℕ) (fs fs' : List Forward) → AreAlike fs fs' → forward_count_of fs' k ≡ forward_count_of fs k
-few-alike k fs fs' alike = count-alike (is_of k) (λ f f' a. ap (λ i. i == k) a.client) fs fs' alike
+few-alike k fs fs' alike = count-alike (is_forward_of k) (λ f f' a. ap (λ i. i == k) a.client) fs fs' alike
 
-pub cancels-alike : (k : ℕ) (fs fs' : List Forward) → AreAlike fs fs' → cancels k fs' ≡ cancels k fs
+pub cancels-alike : (k : ℕ) (fs fs' : List Forward) → AreAlike fs fs' → unanswered_cancels k fs' ≡ unanswered_cancels k fs
 cancels-alike k fs fs' alike = count-alike (is_leaving k) (λ f f' a. ap (λ i. (i == k) && is_some f'.cancel) a.client ∙ ap (λ o. (f.client == k) && is_some o) a.cancel) fs fs' alike
 
 pub ranked-alike : (fs fs' : List Forward) → AreAlike fs fs' → AllByRecursion (IsRanked fs) fs → AllByRecursion (IsRanked fs') fs'
-ranked-alike fs fs' alike ranked = all-alike (IsRanked fs) (IsRanked fs') (λ f f' a is r e. subst (λ n. r < n) (sym (ap (λ i. cancels i fs') a.client ∙ cancels-alike f.client fs fs' alike)) (is r (sym a.cancel ∙ e))) fs fs' alike ranked
+ranked-alike fs fs' alike ranked = all-alike (IsRanked fs) (IsRanked fs') (λ f f' a is r e. subst (λ n. r < n) (sym (ap (λ i. unanswered_cancels i fs') a.client ∙ cancels-alike f.client fs fs' alike)) (is r (sym a.cancel ∙ e))) fs fs' alike ranked
 
 -- ---- of those of the history, each changed
 
@@ -108,11 +108,11 @@ any-map test change each (g ∷ gs) there = by_test (any-map test change each gs
 
 -- those of a client that wait at a place
 pub record StaysAt (j place : ℕ) (change : Forwarding → Forwarding) (g : Forwarding) : Type 0 where
-  pub asked : ((g.client == j) && is_asked_at place g) ≡ true → (((change g).client == j) && is_asked_at place (change g)) ≡ true
-  pub leaving : ((g.client == j) && is_leaving_at place g) ≡ true → (((change g).client == j) && is_leaving_at place (change g)) ≡ true
+  pub asked : ((g.client == j) && request_waits_at place g) ≡ true → (((change g).client == j) && request_waits_at place (change g)) ≡ true
+  pub leaving : ((g.client == j) && cancel_waits_at place g) ≡ true → (((change g).client == j) && cancel_waits_at place (change g)) ≡ true
 
 pub has-map : (place : ℕ) (what : full.Global) (j : ℕ) (change : Forwarding → Forwarding) (gs : List Forwarding) → ((g : Forwarding) → StaysAt j place change g) → HasAt place what (filter (λ g. g.client == j) gs) → HasAt place what (filter (λ g. g.client == j) (map change gs))
-has-map place (full.Forward key) j change gs each h = find-any (λ (g : Forwarding). g.client == j) (is_asked_at place) (map change gs) ∙ any-map (λ (g : Forwarding). (g.client == j) && is_asked_at place g) change (λ g. (each g).asked) gs (sym (find-any (λ (g : Forwarding). g.client == j) (is_asked_at place) gs) ∙ h)
-has-map place (full.Cancel key) j change gs each h = find-any (λ (g : Forwarding). g.client == j) (is_leaving_at place) (map change gs) ∙ any-map (λ (g : Forwarding). (g.client == j) && is_leaving_at place g) change (λ g. (each g).leaving) gs (sym (find-any (λ (g : Forwarding). g.client == j) (is_leaving_at place) gs) ∙ h)
+has-map place (full.Forward key) j change gs each h = find-any (λ (g : Forwarding). g.client == j) (request_waits_at place) (map change gs) ∙ any-map (λ (g : Forwarding). (g.client == j) && request_waits_at place g) change (λ g. (each g).asked) gs (sym (find-any (λ (g : Forwarding). g.client == j) (request_waits_at place) gs) ∙ h)
+has-map place (full.Cancel key) j change gs each h = find-any (λ (g : Forwarding). g.client == j) (cancel_waits_at place) (map change gs) ∙ any-map (λ (g : Forwarding). (g.client == j) && cancel_waits_at place g) change (λ g. (each g).leaving) gs (sym (find-any (λ (g : Forwarding). g.client == j) (cancel_waits_at place) gs) ∙ h)
 has-map place full.KeepAlive j change gs each h = tt
 has-map place full.OtherName j change gs each h = tt

@@ -9,7 +9,7 @@ use Rattle.mux_history.proofs.Bools.{same-number}
 use Rattle.mux_history.proofs.Finds.{filter-no, filter-yes}
 use Rattle.window_ledger.specs.declared.ledger.Ledger.{Ledger}
 use Rattle.channel_table.specs.Entries.{TableEntry}
-use Rattle.channel_table.specs.Entries.{AreApart, AreTwo, at_number, changed_at, channel_count_of, has_own, has_remote, is_of}
+use Rattle.channel_table.specs.Entries.{AreApart, AreTwo, at_number, changed_at, channel_count_of, has_own, has_remote, is_channel_of}
 use Rattle.channel_table.specs.Stands.{ChannelsFit, EntryFits}
 use Rattle.mux_core.specs.Stands.{HasSmall, TableFits, is_whole}
 use Rattle.mux_core.proofs.Confirms.{confirm_own, confirm_remote}
@@ -37,14 +37,14 @@ all-altered P r h e0 here (e ∷ es) one all = (by_number (e.number == e0.number
 
 count-altered : (f : TableEntry → TableEntry) → ((e : TableEntry) → (f e).channel.client ≡ e.channel.client) → (k : ℕ) (es : List TableEntry) → channel_count_of (map f es) k ≡ channel_count_of es k
 count-altered f keeps k [] = refl
-count-altered f keeps k (e ∷ es) = by_case (count-altered f keeps k es) (is_of k e) refl
+count-altered f keeps k (e ∷ es) = by_case (count-altered f keeps k es) (is_channel_of k e) refl
   where
-    mine : is_of k (f e) ≡ is_of k e
+    mine : is_channel_of k (f e) ≡ is_channel_of k e
     mine = ap (λ i. i == k) (keeps e)
 
-    by_case : channel_count_of (map f es) k ≡ channel_count_of es k → (b : Bool) → is_of k e ≡ b → channel_count_of (map f (e ∷ es)) k ≡ channel_count_of (e ∷ es) k
-    by_case ih true h = ap length (filter-yes (is_of k) (f e) (map f es) (mine ∙ h)) ∙ (ap (λ n. suc n) ih ∙ sym (ap length (filter-yes (is_of k) e es h)))
-    by_case ih false h = ap length (filter-no (is_of k) (f e) (map f es) (mine ∙ h)) ∙ (ih ∙ sym (ap length (filter-no (is_of k) e es h)))
+    by_case : channel_count_of (map f es) k ≡ channel_count_of es k → (b : Bool) → is_channel_of k e ≡ b → channel_count_of (map f (e ∷ es)) k ≡ channel_count_of (e ∷ es) k
+    by_case ih true h = ap length (filter-yes (is_channel_of k) (f e) (map f es) (mine ∙ h)) ∙ (ap (λ n. suc n) ih ∙ sym (ap length (filter-yes (is_channel_of k) e es h)))
+    by_case ih false h = ap length (filter-no (is_channel_of k) (f e) (map f es) (mine ∙ h)) ∙ (ih ∙ sym (ap length (filter-no (is_channel_of k) e es h)))
 
 -- P: what is known of each entry besides
 pub altered-table : (P : TableEntry → Type 0) (r : TableEntry → Bool) (h : TableEntry → TableEntry) (g : Channel → Channel) (e0 : TableEntry) (es : List TableEntry) (xs : List Channel)

@@ -8,7 +8,7 @@ use Rattle.mux_history.proofs.Bools.{self}
 use Rattle.mux_history.proofs.Finds.{filter-no, filter-yes, find-no, find-yes}
 use Rattle.channel_table.specs.declared.channel.Channel.{Channel}
 use Rattle.channel_table.specs.Entries.{TableEntry}
-use Rattle.channel_table.specs.Entries.{AreApart, AreTwo, channel_count_of, is_of}
+use Rattle.channel_table.specs.Entries.{AreApart, AreTwo, channel_count_of, is_channel_of}
 
 -- ---- all of a list
 
@@ -116,21 +116,21 @@ apart-filter keep (e ∷ es) apart = by_case (apart-filter keep es apart.1) (kee
 
 pub count-map : (f : TableEntry → TableEntry) → KeepsNumbers f → (k : ℕ) (es : List TableEntry) → channel_count_of (map f es) k ≡ channel_count_of es k
 count-map f keeps k [] = refl
-count-map f keeps k (e ∷ es) = by_case (count-map f keeps k es) (is_of k e) refl
+count-map f keeps k (e ∷ es) = by_case (count-map f keeps k es) (is_channel_of k e) refl
   where
-    mine : is_of k (f e) ≡ is_of k e
+    mine : is_channel_of k (f e) ≡ is_channel_of k e
     mine = ap (λ (c : Channel). c.client == k) (keeps e).1
 
-    by_case : channel_count_of (map f es) k ≡ channel_count_of es k → (b : Bool) → is_of k e ≡ b → channel_count_of (map f (e ∷ es)) k ≡ channel_count_of (e ∷ es) k
-    by_case ih true h = ap length (filter-yes (is_of k) (f e) (map f es) (mine ∙ h)) ∙ (ap (λ n. suc n) ih ∙ sym (ap length (filter-yes (is_of k) e es h)))
-    by_case ih false h = ap length (filter-no (is_of k) (f e) (map f es) (mine ∙ h)) ∙ (ih ∙ sym (ap length (filter-no (is_of k) e es h)))
+    by_case : channel_count_of (map f es) k ≡ channel_count_of es k → (b : Bool) → is_channel_of k e ≡ b → channel_count_of (map f (e ∷ es)) k ≡ channel_count_of (e ∷ es) k
+    by_case ih true h = ap length (filter-yes (is_channel_of k) (f e) (map f es) (mine ∙ h)) ∙ (ap (λ n. suc n) ih ∙ sym (ap length (filter-yes (is_channel_of k) e es h)))
+    by_case ih false h = ap length (filter-no (is_channel_of k) (f e) (map f es) (mine ∙ h)) ∙ (ih ∙ sym (ap length (filter-no (is_channel_of k) e es h)))
 
 pub count-filter : (keep : TableEntry → Bool) (k : ℕ) (es : List TableEntry) → channel_count_of (filter keep es) k ≤ channel_count_of es k
 count-filter keep k [] = omega arith
-count-filter keep k (e ∷ es) = by_case (count-filter keep k es) (keep e) refl (is_of k e) refl
+count-filter keep k (e ∷ es) = by_case (count-filter keep k es) (keep e) refl (is_channel_of k e) refl
   where
-    by_case : channel_count_of (filter keep es) k ≤ channel_count_of es k → (b : Bool) → keep e ≡ b → (c : Bool) → is_of k e ≡ c → channel_count_of (filter keep (e ∷ es)) k ≤ channel_count_of (e ∷ es) k
-    by_case ih true h true m = rw (filter-yes keep e es h, filter-yes (is_of k) e (filter keep es) m, filter-yes (is_of k) e es m) (omega arith)
-    by_case ih true h false m = rw (filter-yes keep e es h, filter-no (is_of k) e (filter keep es) m, filter-no (is_of k) e es m) (omega arith)
-    by_case ih false h true m = rw (filter-no keep e es h, filter-yes (is_of k) e es m) (omega arith)
-    by_case ih false h false m = rw (filter-no keep e es h, filter-no (is_of k) e es m) (omega arith)
+    by_case : channel_count_of (filter keep es) k ≤ channel_count_of es k → (b : Bool) → keep e ≡ b → (c : Bool) → is_channel_of k e ≡ c → channel_count_of (filter keep (e ∷ es)) k ≤ channel_count_of (e ∷ es) k
+    by_case ih true h true m = rw (filter-yes keep e es h, filter-yes (is_channel_of k) e (filter keep es) m, filter-yes (is_channel_of k) e es m) (omega arith)
+    by_case ih true h false m = rw (filter-yes keep e es h, filter-no (is_channel_of k) e (filter keep es) m, filter-no (is_channel_of k) e es m) (omega arith)
+    by_case ih false h true m = rw (filter-no keep e es h, filter-yes (is_channel_of k) e es m) (omega arith)
+    by_case ih false h false m = rw (filter-no keep e es h, filter-no (is_channel_of k) e es m) (omega arith)

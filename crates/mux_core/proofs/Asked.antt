@@ -16,8 +16,8 @@ use Rattle.mux_history.specs.Forwardings.{Forwarding}
 use Rattle.mux_history.proofs.Bools.{is-of, same-number, self}
 use Rattle.mux_history.proofs.Finds.{filter-no, filter-yes}
 use Rattle.forward_rules.specs.State.{Forward}
-use Rattle.forward_rules.specs.Step.{asked, cancels, forward_count_of, is_leaving, is_of}
-use Rattle.forward_rules.specs.Stands.{AreFit, AreForwardingsInOrder, AreForwardsListed, AreTwoPlaces, EachHas, EachTwo, ForwardingFits, HasAt, InOrderWith, IsAwaited, IsRanked, Places, is_asked_at, is_leaving_at}
+use Rattle.forward_rules.specs.Step.{asked_forward, unanswered_cancels, forward_count_of, is_leaving, is_forward_of}
+use Rattle.forward_rules.specs.Stands.{AreFit, AreForwardingsInOrder, AreForwardsListed, AreTwoPlaces, EachHas, EachTwo, ForwardingFits, HasAt, InOrderWith, IsAwaited, IsRanked, Places, request_waits_at, cancel_waits_at}
 use Rattle.mux_core.proofs.Answering.{asked_more}
 use Rattle.mux_core.proofs.Pairs.{any-append, find-any, or-first, or-second}
 use Rattle.mux_core.proofs.Requested.{all-last, awaited-more}
@@ -81,12 +81,12 @@ count-last test f fs false h = ap length (filter-append test fs (f ∷ []) ∙ (
 
 -- what each place of a client has, with more forwardings after
 has-append : (place : ℕ) (what : full.Global) (k : ℕ) (gs hs : List Forwarding) → HasAt place what (filter (λ g. g.client == k) gs) → HasAt place what (filter (λ g. g.client == k) (gs ++ hs))
-has-append place (full.Forward key) k gs hs h = find-any (λ (g : Forwarding). g.client == k) (is_asked_at place) (gs ++ hs) ∙ (any-append (λ (g : Forwarding). (g.client == k) && is_asked_at place g) gs hs ∙ or-first (any_of (λ (g : Forwarding). (g.client == k) && is_asked_at place g) gs) (any_of (λ (g : Forwarding). (g.client == k) && is_asked_at place g) hs) (sym (find-any (λ (g : Forwarding). g.client == k) (is_asked_at place) gs) ∙ h))
-has-append place (full.Cancel key) k gs hs h = find-any (λ (g : Forwarding). g.client == k) (is_leaving_at place) (gs ++ hs) ∙ (any-append (λ (g : Forwarding). (g.client == k) && is_leaving_at place g) gs hs ∙ or-first (any_of (λ (g : Forwarding). (g.client == k) && is_leaving_at place g) gs) (any_of (λ (g : Forwarding). (g.client == k) && is_leaving_at place g) hs) (sym (find-any (λ (g : Forwarding). g.client == k) (is_leaving_at place) gs) ∙ h))
+has-append place (full.Forward key) k gs hs h = find-any (λ (g : Forwarding). g.client == k) (request_waits_at place) (gs ++ hs) ∙ (any-append (λ (g : Forwarding). (g.client == k) && request_waits_at place g) gs hs ∙ or-first (any_of (λ (g : Forwarding). (g.client == k) && request_waits_at place g) gs) (any_of (λ (g : Forwarding). (g.client == k) && request_waits_at place g) hs) (sym (find-any (λ (g : Forwarding). g.client == k) (request_waits_at place) gs) ∙ h))
+has-append place (full.Cancel key) k gs hs h = find-any (λ (g : Forwarding). g.client == k) (cancel_waits_at place) (gs ++ hs) ∙ (any-append (λ (g : Forwarding). (g.client == k) && cancel_waits_at place g) gs hs ∙ or-first (any_of (λ (g : Forwarding). (g.client == k) && cancel_waits_at place g) gs) (any_of (λ (g : Forwarding). (g.client == k) && cancel_waits_at place g) hs) (sym (find-any (λ (g : Forwarding). g.client == k) (cancel_waits_at place) gs) ∙ h))
 has-append place full.KeepAlive k gs hs h = tt
 has-append place full.OtherName k gs hs h = tt
 
-pub asked-fit : (k : ℕ) (key : Key) (fs : List Forward) (gs : List Forwarding) (own own' : ℕ → Places) (lost : ℕ → Bool) → AreFit fs gs own lost → forward_count_of fs k < MAX_FORWARDINGS → (own k).replied ≤ length (own k).asked → ((j : ℕ) → (k == j) ≡ true → own' j ≡ asked_more (own j) (record { client = k; what = full.Forward key })) → ((j : ℕ) → (k == j) ≡ false → own' j ≡ own j) → AreFit (fs ++ asked k key ∷ []) (gs ++ new_forwarding k key (length (own k).asked) ∷ []) own' lost
+pub asked-fit : (k : ℕ) (key : Key) (fs : List Forward) (gs : List Forwarding) (own own' : ℕ → Places) (lost : ℕ → Bool) → AreFit fs gs own lost → forward_count_of fs k < MAX_FORWARDINGS → (own k).replied ≤ length (own k).asked → ((j : ℕ) → (k == j) ≡ true → own' j ≡ asked_more (own j) (record { client = k; what = full.Forward key })) → ((j : ℕ) → (k == j) ≡ false → own' j ≡ own j) → AreFit (fs ++ asked_forward k key ∷ []) (gs ++ new_forwarding k key (length (own k).asked) ∷ []) own' lost
 asked-fit k key fs gs own own' lost fit room le mine others = record {
   listed = listed-last f new fs gs fit.listed (record { client = refl; key = refl; live = refl; cancel = refl; on = refl });
   in_order = order-last f new refl fs gs fit.listed fit.in_order;
@@ -104,7 +104,7 @@ asked-fit k key fs gs own own' lost fit room le mine others = record {
     a = record { client = k; what = full.Forward key }
 
     f : Forward
-    f = asked k key
+    f = asked_forward k key
 
     new : Forwarding
     new = new_forwarding k key (length (own k).asked)
@@ -126,16 +126,16 @@ asked-fit k key fs gs own own' lost fit room le mine others = record {
       leaving = λ q same p n. absurd (let x : None ≡ Some q = n in cc);
     }
 
-    few : (j : ℕ) (b : Bool) → (k == j) ≡ b → forward_count_of (fs ++ asked k key ∷ []) j ≤ MAX_FORWARDINGS
-    few j true h = subst (λ n. n ≤ MAX_FORWARDINGS) (sym (count-last (is_of j) (asked k key) fs true h)) (let r = subst (λ i. forward_count_of fs i < MAX_FORWARDINGS) (same-number k j h) room in omega arith)
-    few j false h = subst (λ n. n ≤ MAX_FORWARDINGS) (sym (count-last (is_of j) (asked k key) fs false h)) (fit.few j)
+    few : (j : ℕ) (b : Bool) → (k == j) ≡ b → forward_count_of (fs ++ asked_forward k key ∷ []) j ≤ MAX_FORWARDINGS
+    few j true h = subst (λ n. n ≤ MAX_FORWARDINGS) (sym (count-last (is_forward_of j) (asked_forward k key) fs true h)) (let r = subst (λ i. forward_count_of fs i < MAX_FORWARDINGS) (same-number k j h) room in omega arith)
+    few j false h = subst (λ n. n ≤ MAX_FORWARDINGS) (sym (count-last (is_forward_of j) (asked_forward k key) fs false h)) (fit.few j)
 
     never : (b : Bool) → (b && false) ≡ false
     never true = refl
     never false = refl
 
-    same-cancels : (j : ℕ) → cancels j (fs ++ asked k key ∷ []) ≡ cancels j fs
-    same-cancels j = count-last (is_leaving j) (asked k key) fs false (never (k == j))
+    same-cancels : (j : ℕ) → unanswered_cancels j (fs ++ asked_forward k key ∷ []) ≡ unanswered_cancels j fs
+    same-cancels j = count-last (is_leaving j) (asked_forward k key) fs false (never (k == j))
 
     each : (j : ℕ) → lost j ≡ false → (b : Bool) → (k == j) ≡ b → EachHas (own' j) (filter (λ g. g.client == j) (gs ++ new_forwarding k key (length (own k).asked) ∷ []))
     each j lives false h = subst (λ x. EachHas x (filter (λ g. g.client == j) (gs ++ new_forwarding k key (length (own k).asked) ∷ []))) (sym (others j h)) (λ place b past at. has-append place b.what j gs (new_forwarding k key (length (own k).asked) ∷ []) (fit.each j lives place b past at))
@@ -144,9 +144,9 @@ asked-fit k key fs gs own own' lost fit room le mine others = record {
         last : (place : ℕ) → place ≡ length (own j).asked → HasAt place (full.Forward key) (filter (λ g. g.client == j) (gs ++ new_forwarding k key (length (own k).asked) ∷ []))
         last place at =
             let there : (length (own k).asked == place) ≡ true = is-of (length (own k).asked) place (ap (λ i. length (own i).asked) (same-number k j h) ∙ sym at) in
-            find-any (λ (g : Forwarding). g.client == j) (is_asked_at place) (gs ++ new_forwarding k key (length (own k).asked) ∷ [])
-            ∙ (any-append (λ (g : Forwarding). (g.client == j) && is_asked_at place g) gs (new_forwarding k key (length (own k).asked) ∷ [])
-            ∙ or-second (any_of (λ (g : Forwarding). (g.client == j) && is_asked_at place g) gs) _ (ap (λ b. (b && (length (own k).asked == place)) || false) h ∙ ap (λ b. b || false) there))
+            find-any (λ (g : Forwarding). g.client == j) (request_waits_at place) (gs ++ new_forwarding k key (length (own k).asked) ∷ [])
+            ∙ (any-append (λ (g : Forwarding). (g.client == j) && request_waits_at place g) gs (new_forwarding k key (length (own k).asked) ∷ [])
+            ∙ or-second (any_of (λ (g : Forwarding). (g.client == j) && request_waits_at place g) gs) _ (ap (λ b. (b && (length (own k).asked == place)) || false) h ∙ ap (λ b. b || false) there))
 
         by_place : (place : ℕ) (b : Ask) → (own j).replied ≤ place → (slice_get (own j).asked place ≡ Some b) ⊎ ((place ≡ length (own j).asked) × (record { client = k; what = full.Forward key } ≡ b)) → HasAt place b.what (filter (λ g. g.client == j) (gs ++ new_forwarding k key (length (own k).asked) ∷ []))
         by_place place b past (inl old) = has-append place b.what j gs (new_forwarding k key (length (own k).asked) ∷ []) (fit.each j lives place b past old)

@@ -9,11 +9,11 @@ use Rattle.mux_history.specs.Said.{waiting_at}
 use Rattle.mux_history.proofs.Local as local
 use Rattle.mux_history.proofs.Sends.{and-left, and-right}
 use Rattle.window_ledger.specs.declared.ledger.Ledger.{Ledger}
-use Rattle.window_ledger.specs.Stands.{confirmed}
+use Rattle.window_ledger.specs.Stands.{is_open_confirmed}
 use Rattle.channel_table.specs.Entries.{TableEntry}
-use Rattle.channel_table.specs.Entries.{AreApart, has_remote, is_at, is_of, ledger_at}
+use Rattle.channel_table.specs.Entries.{AreApart, has_remote, is_at, is_channel_of, ledger_at}
 use Rattle.channel_table.specs.Stands.{ChannelsFit, EntryFits}
-use Rattle.mux_core.specs.Lookups.{awaits_answer, if_waiting, waiting_for, waiting_under}
+use Rattle.mux_core.specs.Lookups.{awaits_answer, if_waiting, open_waiting_for, waiting_under}
 use Rattle.mux_core.proofs.Apart.{passes}
 use Rattle.channel_table.proofs.EntryFits.{FoundFit, found-fit}
 use Rattle.mux_core.proofs.Found.{at-number, find-filter, find-narrow, find-none, held-local, only_if, remote-sole, stands-confirmed}
@@ -25,7 +25,7 @@ some-same : (a b : ℕ × Ledger) → Some a ≡ Some b → a ≡ b
 some-same a b h = cc
 
 abbrev pub is_waiting_at : ℕ → ℕ → TableEntry → Bool
-is_waiting_at k s e = is_of k e && (has_remote s e && awaits_answer e.channel e.ledger)
+is_waiting_at k s e = is_channel_of k e && (has_remote s e && awaits_answer e.channel e.ledger)
 
 -- the entry that the core finds, where it finds one
 pub record WaitingEntry (es : List TableEntry) (k s n : ℕ) (l : Ledger) : Type 0 where
@@ -33,22 +33,22 @@ pub record WaitingEntry (es : List TableEntry) (k s n : ℕ) (l : Ledger) : Type
   pub number : entry.number ≡ n
   pub ledger : entry.ledger ≡ l
   pub found : find (has_remote s) es ≡ Some entry
-  pub mine : is_of k entry ≡ true
+  pub mine : is_channel_of k entry ≡ true
   pub answered : awaits_answer entry.channel entry.ledger ≡ true
   pub only : find (is_waiting_at k s) es ≡ Some entry
   pub at : find (is_at n) es ≡ Some entry
 
 narrow : (k s : ℕ) (e : TableEntry) → is_waiting_at k s e ≡ true → has_remote s e ≡ true
-narrow k s e h = and-left (has_remote s e) (awaits_answer e.channel e.ledger) (and-right (is_of k e) (has_remote s e && awaits_answer e.channel e.ledger) h)
+narrow k s e h = and-left (has_remote s e) (awaits_answer e.channel e.ledger) (and-right (is_channel_of k e) (has_remote s e && awaits_answer e.channel e.ledger) h)
 
 -- what a core looks up, by the entry that the server's number finds
-looked : (es : List TableEntry) (k s : ℕ) (e0 : TableEntry) → AreApart es → find (has_remote s) es ≡ Some e0 → waiting_for es k s ≡ if_waiting k e0.number (Some e0.channel) (Some e0.ledger)
+looked : (es : List TableEntry) (k s : ℕ) (e0 : TableEntry) → AreApart es → find (has_remote s) es ≡ Some e0 → open_waiting_for es k s ≡ if_waiting k e0.number (Some e0.channel) (Some e0.ledger)
 looked es k s e0 apart h =
     ap (waiting_under es k) (ap (option_map (λ (e : TableEntry). e.number)) h)
     ∙ (ap (λ o. if_waiting k e0.number (option_map (λ (e : TableEntry). e.channel) o) (ledger_at es e0.number)) (at-number (has_remote s) (remote-sole s) e0 es apart h)
     ∙ ap (λ o. if_waiting k e0.number (Some e0.channel) (option_map (λ (e : TableEntry). e.ledger) o)) (at-number (has_remote s) (remote-sole s) e0 es apart h))
 
-pub waiting-entry : (es : List TableEntry) (k s n : ℕ) (l : Ledger) → AreApart es → waiting_for es k s ≡ Some (n, l) → WaitingEntry es k s n l
+pub waiting-entry : (es : List TableEntry) (k s n : ℕ) (l : Ledger) → AreApart es → open_waiting_for es k s ≡ Some (n, l) → WaitingEntry es k s n l
 waiting-entry es k s n l apart h = by_found (find (has_remote s) es) refl
   where
     by_test : (e0 : TableEntry) → find (has_remote s) es ≡ Some e0 → (b : Bool) → ((e0.channel.client == k) && awaits_answer e0.channel e0.ledger) ≡ b → (elim b as (λ _. Option (ℕ × Ledger)) [ true ↦ Some (e0.number, e0.ledger) | false ↦ None ]) ≡ Some (n, l) → WaitingEntry es k s n l
@@ -76,12 +76,12 @@ waiting-entry es k s n l apart h = by_found (find (has_remote s) es) refl
     by_found (Some e0) f = by_test e0 f ((e0.channel.client == k) && awaits_answer e0.channel e0.ledger) refl (sym (looked es k s e0 apart f) ∙ h)
 
 -- where the core finds none, none is there
-pub waiting-none : (es : List TableEntry) (k s : ℕ) → AreApart es → waiting_for es k s ≡ None → find (is_waiting_at k s) es ≡ None
+pub waiting-none : (es : List TableEntry) (k s : ℕ) → AreApart es → open_waiting_for es k s ≡ None → find (is_waiting_at k s) es ≡ None
 waiting-none es k s apart h = by_found (find (has_remote s) es) refl
   where
     by_test : (e0 : TableEntry) → find (has_remote s) es ≡ Some e0 → (b : Bool) → ((e0.channel.client == k) && awaits_answer e0.channel e0.ledger) ≡ b → (elim b as (λ _. Option (ℕ × Ledger)) [ true ↦ Some (e0.number, e0.ledger) | false ↦ None ]) ≡ None → find (is_waiting_at k s) es ≡ None
     by_test e0 f true t g = absurd (cc)
-    by_test e0 f false t g = find-narrow (has_remote s) (is_waiting_at k s) (remote-sole s) (narrow k s) e0 es apart f ∙ ap (λ b. only_if b e0) (ap (λ b. is_of k e0 && (b && awaits_answer e0.channel e0.ledger)) (passes (has_remote s) e0 es f) ∙ t)
+    by_test e0 f false t g = find-narrow (has_remote s) (is_waiting_at k s) (remote-sole s) (narrow k s) e0 es apart f ∙ ap (λ b. only_if b e0) (ap (λ b. is_channel_of k e0 && (b && awaits_answer e0.channel e0.ledger)) (passes (has_remote s) e0 es f) ∙ t)
 
     by_found : (o : Option TableEntry) → find (has_remote s) es ≡ o → find (is_waiting_at k s) es ≡ None
     by_found None f = find-none (has_remote s) (is_waiting_at k s) (narrow k s) es f
@@ -95,7 +95,7 @@ same-test : (k s : ℕ) (e : TableEntry) (x : Channel) → Unit {0} → EntryFit
 same-test k s e x u fits =
     ap (λ i. (i == k) && (has_remote s e && awaits_answer e.channel e.ledger)) fits.client
     ∙ (ap (λ o. (x.client == k) && (is_number o s && awaits_answer e.channel e.ledger)) fits.remote
-    ∙ (ap (λ by. (x.client == k) && (is_number x.remote s && (not (is_up by) && not (confirmed e.ledger)))) fits.by
+    ∙ (ap (λ by. (x.client == k) && (is_number x.remote s && (not (is_up by) && not (is_open_confirmed e.ledger)))) fits.by
     ∙ ap (λ b. (x.client == k) && (is_number x.remote s && (not (is_up x.by) && not b))) (stands-confirmed e.ledger x fits.ledger)))
 
 all-unit : (es : List TableEntry) → AllByRecursion (λ _. Unit {0}) es

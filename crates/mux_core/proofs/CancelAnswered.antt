@@ -5,7 +5,7 @@ use Rattle.std.proofs.lemmas.Bool.Decides.{nat_tests}
 use Rattle.mux_history.specs.Channels.{is_number}
 use Rattle.mux_history.specs.Forwardings.{Forwarding}
 use Rattle.forward_rules.specs.State.{Forward}
-use Rattle.forward_rules.specs.Step.{is_of, moved_up, without_cancel_of}
+use Rattle.forward_rules.specs.Step.{is_forward_of, moved_up, without_cancel_of}
 use Rattle.forward_rules.specs.Stands.{AreForwardingsInOrder, AreForwardsListed, ForwardingFits, InOrder, InOrderWith, Places}
 use Rattle.mux_core.proofs.Ranking.{AllPairs, Known, leaves_at, same-cancelled}
 use Rattle.mux_core.proofs.Replied.{number-is}
@@ -26,7 +26,7 @@ pub data Seen (k place rank : ℕ) (f : Forward) (g : Forwarding) : Type 0 where
 pub released-at : (k place : ℕ) (g : Forwarding) (b : Bool) → leaves_at k place g ≡ b → released k place g ≡ elim b as (λ _. Forwarding) [ true ↦ record g { cancel = None } | false ↦ g ]
 released-at k place g b h = ap (λ (c : Bool). elim c as (λ _. Forwarding) [ true ↦ record g { cancel = None } | false ↦ g ]) h
 
-moved-at : (k rank : ℕ) (f : Forward) (b c : Bool) → is_of k f ≡ b → is_number f.cancel rank ≡ c → without_cancel_of k rank f ≡ elim b as (λ _. Forward) [ true ↦ elim c as (λ _. Forward) [ true ↦ record f { cancel = None } | false ↦ record f { cancel = moved_up rank f.cancel } ] | false ↦ f ]
+moved-at : (k rank : ℕ) (f : Forward) (b c : Bool) → is_forward_of k f ≡ b → is_number f.cancel rank ≡ c → without_cancel_of k rank f ≡ elim b as (λ _. Forward) [ true ↦ elim c as (λ _. Forward) [ true ↦ record f { cancel = None } | false ↦ record f { cancel = moved_up rank f.cancel } ] | false ↦ f ]
 moved-at k rank f b c h g =
     ap (λ (x : Bool). elim x as (λ _. Forward) [ true ↦ elim (is_number f.cancel rank) as (λ _. Forward) [ true ↦ record f { cancel = None } | false ↦ record f { cancel = moved_up rank f.cancel } ] | false ↦ f ]) h
     ∙ ap (λ (x : Bool). elim b as (λ _. Forward) [ true ↦ elim x as (λ _. Forward) [ true ↦ record f { cancel = None } | false ↦ record f { cancel = moved_up rank f.cancel } ] | false ↦ f ]) g
@@ -34,7 +34,7 @@ moved-at k rank f b c h g =
 seen : (k place rank : ℕ) (own : ℕ → Places) (f : Forward) (g : Forwarding) → Known k place rank own f g → Seen k place rank f g
 seen k place rank own f g known = by_client (g.client == k) refl (is_number g.cancel place) refl
   where
-    theirs : is_of k f ≡ (g.client == k)
+    theirs : is_forward_of k f ≡ (g.client == k)
     theirs = ap (λ i. i == k) known.fits.client
 
     cancelled : (g.client == k) ≡ true → is_number f.cancel rank ≡ is_number g.cancel place

@@ -16,8 +16,8 @@ use Rattle.mux_history.proofs.Bools.{is-of, same-number, self}
 use Rattle.mux_history.proofs.Finds.{filter-no, filter-yes}
 use Rattle.mux_history.proofs.Sends.{and-left, and-right}
 use Rattle.forward_rules.specs.State.{Forward}
-use Rattle.forward_rules.specs.Step.{cancelled, cancels, change_first_forward, is_free_at, is_leaving, is_of, some_free}
-use Rattle.forward_rules.specs.Stands.{AreFit, AreForwardsListed, AreTwoPlaces, EachHas, EachTwo, HasAt, IsAwaited, IsRanked, Places, is_asked_at, is_leaving_at}
+use Rattle.forward_rules.specs.Step.{forward_cancelled, unanswered_cancels, change_first_forward, is_free_at, is_leaving, is_forward_of, some_free}
+use Rattle.forward_rules.specs.Stands.{AreFit, AreForwardsListed, AreTwoPlaces, EachHas, EachTwo, HasAt, IsAwaited, IsRanked, Places, request_waits_at, cancel_waits_at}
 use Rattle.mux_core.proofs.Answering.{asked_more}
 use Rattle.mux_core.proofs.CancelOrder.{Before, Earlier, kept-at, listed-changed, order-changed, placed_at, ranked_at, some-is, recorded-at}
 use Rattle.mux_core.proofs.Pairs.{IsFree, any-changed, any-first, find-any, free-is, free-same, or-found, some-same}
@@ -78,7 +78,7 @@ count-same pass test change same (f ∷ fs) = by_case (count-same pass test chan
     by_case ih false h false p = ap (λ xs. length (filter pass xs)) (at false h) ∙ (ap length (filter-no pass f (change_first_forward test change fs) p) ∙ (ih ∙ sym (ap length (filter-no pass f fs p))))
 
 -- no fewer leave, and where one of the client's is changed one more does
-no-fewer : (k : ℕ) (key : Key) (r j : ℕ) (fs : List Forward) → cancels j fs ≤ cancels j (change_first_forward (is_free_at k key) (ranked_at r) fs)
+no-fewer : (k : ℕ) (key : Key) (r j : ℕ) (fs : List Forward) → unanswered_cancels j fs ≤ unanswered_cancels j (change_first_forward (is_free_at k key) (ranked_at r) fs)
 no-fewer k key r j [] = omega arith
 no-fewer k key r j (f ∷ fs) = by_case (no-fewer k key r j fs) (is_free_at k key f) refl (is_leaving j f) refl (f.client == j) refl
   where
@@ -86,18 +86,18 @@ no-fewer k key r j (f ∷ fs) = by_case (no-fewer k key r j fs) (is_free_at k ke
     never true = refl
     never false = refl
 
-    by_case : cancels j fs ≤ cancels j (change_first_forward (is_free_at k key) (ranked_at r) fs) → (b : Bool) → is_free_at k key f ≡ b → (p : Bool) → is_leaving j f ≡ p → (m : Bool) → (f.client == j) ≡ m → cancels j (f ∷ fs) ≤ cancels j (change_first_forward (is_free_at k key) (ranked_at r) (f ∷ fs))
-    by_case ih true h p e true m = subst (λ xs. cancels j (f ∷ fs) ≤ cancels j xs) (sym (kept-at k key r f fs true h)) (subst (λ n. cancels j (f ∷ fs) ≤ n) (sym (ap length (filter-yes (is_leaving j) (ranked_at r f) fs (ap (λ b. b && true) m)))) (at-most p e))
+    by_case : unanswered_cancels j fs ≤ unanswered_cancels j (change_first_forward (is_free_at k key) (ranked_at r) fs) → (b : Bool) → is_free_at k key f ≡ b → (p : Bool) → is_leaving j f ≡ p → (m : Bool) → (f.client == j) ≡ m → unanswered_cancels j (f ∷ fs) ≤ unanswered_cancels j (change_first_forward (is_free_at k key) (ranked_at r) (f ∷ fs))
+    by_case ih true h p e true m = subst (λ xs. unanswered_cancels j (f ∷ fs) ≤ unanswered_cancels j xs) (sym (kept-at k key r f fs true h)) (subst (λ n. unanswered_cancels j (f ∷ fs) ≤ n) (sym (ap length (filter-yes (is_leaving j) (ranked_at r f) fs (ap (λ b. b && true) m)))) (at-most p e))
       where
-        at-most : (p : Bool) → is_leaving j f ≡ p → cancels j (f ∷ fs) ≤ suc (cancels j fs)
-        at-most true e = subst (λ n. n ≤ suc (cancels j fs)) (sym (ap length (filter-yes (is_leaving j) f fs e))) (omega arith)
-        at-most false e = subst (λ n. n ≤ suc (cancels j fs)) (sym (ap length (filter-no (is_leaving j) f fs e))) (omega arith)
-    by_case ih true h p e false m = subst (λ xs. cancels j (f ∷ fs) ≤ cancels j xs) (sym (kept-at k key r f fs true h)) (subst (λ n. cancels j (f ∷ fs) ≤ n) (sym (ap length (filter-no (is_leaving j) (ranked_at r f) fs (ap (λ b. b && true) m)))) (subst (λ n. n ≤ cancels j fs) (sym (ap length (filter-no (is_leaving j) f fs (ap (λ b. b && is_some f.cancel) m)))) (omega arith)))
-    by_case ih false h true e b m = subst (λ xs. cancels j (f ∷ fs) ≤ cancels j xs) (sym (kept-at k key r f fs false h)) (subst (λ n. cancels j (f ∷ fs) ≤ n) (sym (ap length (filter-yes (is_leaving j) f (change_first_forward (is_free_at k key) (ranked_at r) fs) e))) (subst (λ n. n ≤ suc (cancels j (change_first_forward (is_free_at k key) (ranked_at r) fs))) (sym (ap length (filter-yes (is_leaving j) f fs e))) (omega arith)))
-    by_case ih false h false e b m = subst (λ xs. cancels j (f ∷ fs) ≤ cancels j xs) (sym (kept-at k key r f fs false h)) (subst (λ n. cancels j (f ∷ fs) ≤ n) (sym (ap length (filter-no (is_leaving j) f (change_first_forward (is_free_at k key) (ranked_at r) fs) e))) (subst (λ n. n ≤ cancels j (change_first_forward (is_free_at k key) (ranked_at r) fs)) (sym (ap length (filter-no (is_leaving j) f fs e))) ih))
+        at-most : (p : Bool) → is_leaving j f ≡ p → unanswered_cancels j (f ∷ fs) ≤ suc (unanswered_cancels j fs)
+        at-most true e = subst (λ n. n ≤ suc (unanswered_cancels j fs)) (sym (ap length (filter-yes (is_leaving j) f fs e))) (omega arith)
+        at-most false e = subst (λ n. n ≤ suc (unanswered_cancels j fs)) (sym (ap length (filter-no (is_leaving j) f fs e))) (omega arith)
+    by_case ih true h p e false m = subst (λ xs. unanswered_cancels j (f ∷ fs) ≤ unanswered_cancels j xs) (sym (kept-at k key r f fs true h)) (subst (λ n. unanswered_cancels j (f ∷ fs) ≤ n) (sym (ap length (filter-no (is_leaving j) (ranked_at r f) fs (ap (λ b. b && true) m)))) (subst (λ n. n ≤ unanswered_cancels j fs) (sym (ap length (filter-no (is_leaving j) f fs (ap (λ b. b && is_some f.cancel) m)))) (omega arith)))
+    by_case ih false h true e b m = subst (λ xs. unanswered_cancels j (f ∷ fs) ≤ unanswered_cancels j xs) (sym (kept-at k key r f fs false h)) (subst (λ n. unanswered_cancels j (f ∷ fs) ≤ n) (sym (ap length (filter-yes (is_leaving j) f (change_first_forward (is_free_at k key) (ranked_at r) fs) e))) (subst (λ n. n ≤ suc (unanswered_cancels j (change_first_forward (is_free_at k key) (ranked_at r) fs))) (sym (ap length (filter-yes (is_leaving j) f fs e))) (omega arith)))
+    by_case ih false h false e b m = subst (λ xs. unanswered_cancels j (f ∷ fs) ≤ unanswered_cancels j xs) (sym (kept-at k key r f fs false h)) (subst (λ n. unanswered_cancels j (f ∷ fs) ≤ n) (sym (ap length (filter-no (is_leaving j) f (change_first_forward (is_free_at k key) (ranked_at r) fs) e))) (subst (λ n. n ≤ unanswered_cancels j (change_first_forward (is_free_at k key) (ranked_at r) fs)) (sym (ap length (filter-no (is_leaving j) f fs e))) ih))
 
 -- where one is free one more leaves
-one-more : (k : ℕ) (key : Key) (r : ℕ) (fs : List Forward) (gs : List Forwarding) → AreForwardsListed fs gs → any_of (history.is_forwarding_free_at k key) gs ≡ true → cancels k (change_first_forward (is_free_at k key) (ranked_at r) fs) ≡ suc (cancels k fs)
+one-more : (k : ℕ) (key : Key) (r : ℕ) (fs : List Forward) (gs : List Forwarding) → AreForwardsListed fs gs → any_of (history.is_forwarding_free_at k key) gs ≡ true → unanswered_cancels k (change_first_forward (is_free_at k key) (ranked_at r) fs) ≡ suc (unanswered_cancels k fs)
 one-more k key r [] [] listed there = cc
 one-more k key r [] (g ∷ gs) listed there = absurd listed
 one-more k key r (f ∷ fs) [] listed there = absurd listed
@@ -113,17 +113,17 @@ one-more k key r (f ∷ fs) (g ∷ gs) listed there = by_case (one-more k key r 
         never true = refl
         never false = refl
 
-    by_case : (any_of (history.is_forwarding_free_at k key) gs ≡ true → cancels k (change_first_forward (is_free_at k key) (ranked_at r) fs) ≡ suc (cancels k fs)) → (b : Bool) → is_free_at k key f ≡ b → (p : Bool) → is_leaving k f ≡ p → cancels k (change_first_forward (is_free_at k key) (ranked_at r) (f ∷ fs)) ≡ suc (cancels k (f ∷ fs))
+    by_case : (any_of (history.is_forwarding_free_at k key) gs ≡ true → unanswered_cancels k (change_first_forward (is_free_at k key) (ranked_at r) fs) ≡ suc (unanswered_cancels k fs)) → (b : Bool) → is_free_at k key f ≡ b → (p : Bool) → is_leaving k f ≡ p → unanswered_cancels k (change_first_forward (is_free_at k key) (ranked_at r) (f ∷ fs)) ≡ suc (unanswered_cancels k (f ∷ fs))
     by_case ih true h p e =
-        ap (cancels k) (kept-at k key r f fs true h)
+        ap (unanswered_cancels k) (kept-at k key r f fs true h)
         ∙ (ap length (filter-yes (is_leaving k) (ranked_at r f) fs (ap (λ b. b && true) (is-of f.client k (listed.0.client ∙ (free-is k key g (sym same ∙ h)).client))))
         ∙ ap suc (sym (ap length (filter-no (is_leaving k) f fs (idle (sym same ∙ h))))))
     by_case ih false h true e =
-        ap (cancels k) (kept-at k key r f fs false h)
+        ap (unanswered_cancels k) (kept-at k key r f fs false h)
         ∙ (ap length (filter-yes (is_leaving k) f (change_first_forward (is_free_at k key) (ranked_at r) fs) e)
         ∙ (ap suc (ih (or-found (history.is_forwarding_free_at k key g) (any_of (history.is_forwarding_free_at k key) gs) there (sym same ∙ h))) ∙ ap suc (sym (ap length (filter-yes (is_leaving k) f fs e)))))
     by_case ih false h false e =
-        ap (cancels k) (kept-at k key r f fs false h)
+        ap (unanswered_cancels k) (kept-at k key r f fs false h)
         ∙ (ap length (filter-no (is_leaving k) f (change_first_forward (is_free_at k key) (ranked_at r) fs) e)
         ∙ (ih (or-found (history.is_forwarding_free_at k key g) (any_of (history.is_forwarding_free_at k key) gs) there (sym same ∙ h)) ∙ ap suc (sym (ap length (filter-no (is_leaving k) f fs e)))))
 
@@ -137,19 +137,19 @@ all-kept P Q test change stay now (f ∷ fs) all = by_case (all-kept P Q test ch
 
 -- ---- all of it
 
-pub cancelled-fit : (k : ℕ) (key : Key) (fs : List Forward) (gs : List Forwarding) (own own' : ℕ → Places) (lost : ℕ → Bool) → AreFit fs gs own lost → some_free k key fs ≡ true → (own k).replied ≤ length (own k).asked → ((j : ℕ) → (k == j) ≡ true → own' j ≡ asked_more (own j) (record { client = k; what = full.Cancel key })) → ((j : ℕ) → (k == j) ≡ false → own' j ≡ own j) → AreFit (cancelled k key true fs) (history.change_first (history.is_forwarding_free_at k key) (stopped true (length (own k).asked)) gs) own' lost
+pub cancelled-fit : (k : ℕ) (key : Key) (fs : List Forward) (gs : List Forwarding) (own own' : ℕ → Places) (lost : ℕ → Bool) → AreFit fs gs own lost → some_free k key fs ≡ true → (own k).replied ≤ length (own k).asked → ((j : ℕ) → (k == j) ≡ true → own' j ≡ asked_more (own j) (record { client = k; what = full.Cancel key })) → ((j : ℕ) → (k == j) ≡ false → own' j ≡ own j) → AreFit (forward_cancelled k key true fs) (history.change_first (history.is_forwarding_free_at k key) (stopped true (length (own k).asked)) gs) own' lost
 cancelled-fit k key fs gs own own' lost fit free le mine others = record {
   listed = listed-changed k key r place fs gs fit.listed;
   in_order = order-changed k key r place fs gs fit.listed before earlier fit.in_order;
   awaited = all-changed (λ g. IsAwaited (own g.client) g) (λ g. IsAwaited (own' g.client) g) (history.is_forwarding_free_at k key) (placed_at place) (λ g w. one g w (k == g.client) refl) (λ g h w. meant g (free-is k key g h)) gs fit.awaited;
   two = two-changed k key place gs earlier fit.two;
-  few = λ j. subst (λ n. n ≤ MAX_FORWARDINGS) (sym (count-same (is_of j) (is_free_at k key) (ranked_at (cancels k fs)) (λ f. refl) fs)) (fit.few j);
+  few = λ j. subst (λ n. n ≤ MAX_FORWARDINGS) (sym (count-same (is_forward_of j) (is_free_at k key) (ranked_at (unanswered_cancels k fs)) (λ f. refl) fs)) (fit.few j);
   each = λ j lives. each j lives (k == j) refl;
-  ranked = all-kept (IsRanked fs) (IsRanked (change_first_forward (is_free_at k key) (ranked_at (cancels k fs)) fs)) (is_free_at k key) (ranked_at (cancels k fs)) (λ f is q e. let a = is q e in let b = no-fewer k key (cancels k fs) f.client fs in omega arith) (λ f h is q e. newest f h q e) fs fit.ranked;
+  ranked = all-kept (IsRanked fs) (IsRanked (change_first_forward (is_free_at k key) (ranked_at (unanswered_cancels k fs)) fs)) (is_free_at k key) (ranked_at (unanswered_cancels k fs)) (λ f is q e. let a = is q e in let b = no-fewer k key (unanswered_cancels k fs) f.client fs in omega arith) (λ f h is q e. newest f h q e) fs fit.ranked;
 }
   where
     r : ℕ
-    r = cancels k fs
+    r = unanswered_cancels k fs
 
     place : ℕ
     place = length (own k).asked
@@ -157,8 +157,8 @@ cancelled-fit k key fs gs own own' lost fit free le mine others = record {
     any : any_of (history.is_forwarding_free_at k key) gs ≡ true
     any = sym (some-same k key fs gs fit.listed) ∙ free
 
-    before : AllByRecursion (Before k (cancels k fs)) fs
-    before = all-map (IsRanked fs) (Before k (cancels k fs)) (λ f is of q e. subst (λ i. q < cancels i fs) of (is q e)) fs fit.ranked
+    before : AllByRecursion (Before k (unanswered_cancels k fs)) fs
+    before = all-map (IsRanked fs) (Before k (unanswered_cancels k fs)) (λ f is of q e. subst (λ i. q < unanswered_cancels i fs) of (is q e)) fs fit.ranked
 
     earlier : AllByRecursion (Earlier k (length (own k).asked)) gs
     earlier = all-map (λ g. IsAwaited (own g.client) g) (Earlier k (length (own k).asked)) (λ g w of q e. subst (λ i. q < length (own i).asked) of (slice_get_within (own g.client).asked q _ (w.leaving q e).1)) gs fit.awaited
@@ -174,17 +174,17 @@ cancelled-fit k key fs gs own own' lost fit free le mine others = record {
       either = λ none. absurd (let x : None ≡ Some key = sym none ∙ is.live in cc);
     }))
 
-    newest : (f : Forward) → is_free_at k key f ≡ true → (q : ℕ) → (let x : Option ℕ = Some (cancels k fs) in x) ≡ Some q → q < cancels f.client (change_first_forward (is_free_at k key) (ranked_at (cancels k fs)) fs)
+    newest : (f : Forward) → is_free_at k key f ≡ true → (q : ℕ) → (let x : Option ℕ = Some (unanswered_cancels k fs) in x) ≡ Some q → q < unanswered_cancels f.client (change_first_forward (is_free_at k key) (ranked_at (unanswered_cancels k fs)) fs)
     newest f h q e =
         let of : f.client ≡ k = same-number f.client k (and-left (f.client == k) _ h) in
-        subst (λ i. q < cancels i (change_first_forward (is_free_at k key) (ranked_at (cancels k fs)) fs)) (sym of) (let a = one-more k key (cancels k fs) fs gs fit.listed any in let b = some-is (cancels k fs) q e in omega arith)
+        subst (λ i. q < unanswered_cancels i (change_first_forward (is_free_at k key) (ranked_at (unanswered_cancels k fs)) fs)) (sym of) (let a = one-more k key (unanswered_cancels k fs) fs gs fit.listed any in let b = some-is (unanswered_cancels k fs) q e in omega arith)
 
     absent : (o : Option ℕ) (n : ℕ) → o ≡ None → is_number o n ≡ true → ⊥
     absent o n none h = let x : is_number None n ≡ true = ap (λ p. is_number p n) (sym none) ∙ h in cc
 
     goes_on : (at : ℕ) (what : full.Global) (j : ℕ) → HasAt at what (filter (λ g. g.client == j) gs) → HasAt at what (filter (λ g. g.client == j) (history.change_first (history.is_forwarding_free_at k key) (placed_at (length (own k).asked)) gs))
-    goes_on at (full.Forward q) j h = find-any (λ (g : Forwarding). g.client == j) (is_asked_at at) _ ∙ any-changed (λ (g : Forwarding). (g.client == j) && is_asked_at at g) (history.is_forwarding_free_at k key) (placed_at (length (own k).asked)) (λ g t p. p) gs (sym (find-any (λ (g : Forwarding). g.client == j) (is_asked_at at) gs) ∙ h)
-    goes_on at (full.Cancel q) j h = find-any (λ (g : Forwarding). g.client == j) (is_leaving_at at) _ ∙ any-changed (λ (g : Forwarding). (g.client == j) && is_leaving_at at g) (history.is_forwarding_free_at k key) (placed_at (length (own k).asked)) (λ g t p. absurd (absent g.cancel at (free-is k key g t).cancel (and-right (g.client == j) _ p))) gs (sym (find-any (λ (g : Forwarding). g.client == j) (is_leaving_at at) gs) ∙ h)
+    goes_on at (full.Forward q) j h = find-any (λ (g : Forwarding). g.client == j) (request_waits_at at) _ ∙ any-changed (λ (g : Forwarding). (g.client == j) && request_waits_at at g) (history.is_forwarding_free_at k key) (placed_at (length (own k).asked)) (λ g t p. p) gs (sym (find-any (λ (g : Forwarding). g.client == j) (request_waits_at at) gs) ∙ h)
+    goes_on at (full.Cancel q) j h = find-any (λ (g : Forwarding). g.client == j) (cancel_waits_at at) _ ∙ any-changed (λ (g : Forwarding). (g.client == j) && cancel_waits_at at g) (history.is_forwarding_free_at k key) (placed_at (length (own k).asked)) (λ g t p. absurd (absent g.cancel at (free-is k key g t).cancel (and-right (g.client == j) _ p))) gs (sym (find-any (λ (g : Forwarding). g.client == j) (cancel_waits_at at) gs) ∙ h)
     goes_on at full.KeepAlive j h = tt
     goes_on at full.OtherName j h = tt
 
@@ -195,8 +195,8 @@ cancelled-fit k key fs gs own own' lost fit free le mine others = record {
         last : (at : ℕ) → at ≡ length (own j).asked → HasAt at (full.Cancel key) (filter (λ g. g.client == j) (history.change_first (history.is_forwarding_free_at k key) (placed_at (length (own k).asked)) gs))
         last at is =
             let there : (length (own k).asked == at) ≡ true = is-of (length (own k).asked) at (ap (λ i. length (own i).asked) (same-number k j h) ∙ sym is) in
-            find-any (λ (g : Forwarding). g.client == j) (is_leaving_at at) _
-            ∙ any-first (λ (g : Forwarding). (g.client == j) && is_leaving_at at g) (history.is_forwarding_free_at k key) (placed_at (length (own k).asked)) (λ g t. ap (λ b. b && (length (own k).asked == at)) (is-of g.client j ((free-is k key g t).client ∙ same-number k j h)) ∙ there) gs any
+            find-any (λ (g : Forwarding). g.client == j) (cancel_waits_at at) _
+            ∙ any-first (λ (g : Forwarding). (g.client == j) && cancel_waits_at at g) (history.is_forwarding_free_at k key) (placed_at (length (own k).asked)) (λ g t. ap (λ b. b && (length (own k).asked == at)) (is-of g.client j ((free-is k key g t).client ∙ same-number k j h)) ∙ there) gs any
 
         by_place : (at : ℕ) (b : Ask) → (own j).replied ≤ at → (slice_get (own j).asked at ≡ Some b) ⊎ ((at ≡ length (own j).asked) × (record { client = k; what = full.Cancel key } ≡ b)) → HasAt at b.what (filter (λ g. g.client == j) (history.change_first (history.is_forwarding_free_at k key) (placed_at (length (own k).asked)) gs))
         by_place at b past (inl old) = goes_on at b.what j (fit.each j lives at b past old)

@@ -7,11 +7,11 @@ use Rattle.ssh_grammar.specs.declared.side.Side.TheVariants.{Down}
 use Rattle.mux_history.specs.Summary.{Act, Within, read_summary, reading}
 use Rattle.mux_history.specs.Rows.{Fate, Goes, Heard, Row, is_admit, loses, rows_of}
 use Rattle.mux_history.specs.Channels.{Channel, after_item, held_of, holder, is_channel_held, is_number, opened_down}
-use Rattle.mux_history.specs.Forwardings.{Forwarding, of_client, replied}
+use Rattle.mux_history.specs.Forwardings.{Forwarding, of_client, forwarding_after_reply}
 use Rattle.mux_history.specs.Laws.{with_act}
 use Rattle.mux_history.specs.Requests.{asks_of, is_reply, is_sent, replies}
 use Rattle.mux_history.specs.Said.{Outcome}
-use Rattle.mux_history.specs.Treat.{bare}
+use Rattle.mux_history.specs.Treat.{bare_row}
 use Rattle.mux_history.proofs.Bools.{is-of, same-number, self}
 use Rattle.mux_history.proofs.Finds.{find-no, find-yes}
 use Rattle.mux_history.proofs.Local as local
@@ -20,10 +20,10 @@ use Rattle.mux_history.proofs.Sends.{and-left, and-right}
 use Rattle.window_ledger.specs.declared.ledger.Ledger.{Ledger}
 use Rattle.channel_table.specs.declared.channel.Channel as table
 use Rattle.channel_table.specs.Entries.{TableEntry}
-use Rattle.channel_table.specs.Entries.{AreApart, at_number, changed_at, is_at, is_of, is_shown, ledger_at, shown_at, with_ledger}
+use Rattle.channel_table.specs.Entries.{AreApart, at_number, changed_at, is_at, is_channel_of, is_shown, ledger_at, shown_at, with_ledger}
 use Rattle.channel_table.specs.Stands.{EntryFits, shown_number}
 use Rattle.mux_core.specs.State.{CoreState}
-use Rattle.mux_core.specs.Stands.{Stands, TableFits, is_member_known}
+use Rattle.mux_core.specs.Stands.{CoreRepresents, TableFits, is_member_known}
 use Rattle.mux_core.specs.Lookups.{acted, both, channel_for, entry_stays_in}
 use Rattle.mux_core.proofs.Acts.{ActsOn, DoesAct, acts-on}
 use Rattle.mux_core.proofs.Apart.{Sole, all-filter, all-map, alone, passes}
@@ -50,7 +50,7 @@ shown-number n e = by_shown (is_shown e.channel)
         left true = refl
         left false = refl
 
-pub holder-fit : (s : CoreState) (n : ℕ) (rows : List Row) → Stands s rows → FoundFit (find (shown_at n) s.channels) (holder rows n)
+pub holder-fit : (s : CoreState) (n : ℕ) (rows : List Row) → CoreRepresents s rows → FoundFit (find (shown_at n) s.channels) (holder rows n)
 holder-fit s n rows st = found-fit (λ _. Unit {0}) (shown_at n) (λ x. is_number x.number n) (λ e x u fits. shown-number n e ∙ ap (λ o. is_number o n) fits.number) s.channels (held_of rows) (all-unit s.channels) st.channels.fit
 
 -- it is its client's own
@@ -75,12 +75,12 @@ own-holder k n x rows h mine =
 -- ---- the row
 
 -- a message that neither replies nor asks, and opens nothing
-pub quiet-heard : (k n : ℕ) (a : Act) (p : List ℕ) (o : Outcome) → read_summary p ≡ Ok (Within n a) → o.ends ≡ Goes → IsQuiet (bare (Heard p) k o)
+pub quiet-heard : (k n : ℕ) (a : Act) (p : List ℕ) (o : Outcome) → read_summary p ≡ Ok (Within n a) → o.ends ≡ Goes → IsQuiet (bare_row (Heard p) k o)
 quiet-heard k n a p o e ends = record {
-  asks = none (is_sent (bare (Heard p) k o));
+  asks = none (is_sent (bare_row (Heard p) k o));
   flags = refl;
   replies = ap (λ (b : Bool). elim b as (λ _. List (List ℕ)) [ true ↦ p ∷ [] | false ↦ [] ]) (reading-ok p (Within n a) is_reply false e);
-  forwards = λ own fs. reading-ok p (Within n a) (λ m. map (of_client k (replied (length (replies own)) m)) fs) fs e ∙ stay (length (replies own)) fs;
+  forwards = λ own fs. reading-ok p (Within n a) (λ m. map (of_client k (forwarding_after_reply (length (replies own)) m)) fs) fs e ∙ stay (length (replies own)) fs;
   keeps = ap (λ (f : Fate). loses (record { item = Heard p; client = k; up = o.sent; farewell = []; down = o.recorded; fate = f })) ends;
   admits = ap (λ (f : Fate). is_admit (record { item = Heard p; client = k; up = o.sent; farewell = []; down = o.recorded; fate = f })) ends;
 }
@@ -89,14 +89,14 @@ quiet-heard k n a p o e ends = record {
     none true = refl
     none false = refl
 
-    stay : (place : ℕ) (fs : List Forwarding) → map (of_client k (replied place (Within n a))) fs ≡ fs
+    stay : (place : ℕ) (fs : List Forwarding) → map (of_client k (forwarding_after_reply place (Within n a))) fs ≡ fs
     stay place [] = refl
-    stay place (f ∷ fs) = ap (λ g. g ∷ map (of_client k (replied place (Within n a))) fs) (elim (f.client == k) as (λ b. (elim b as (λ _. Forwarding) [ true ↦ f | false ↦ f ]) ≡ f) [ true ↦ refl | false ↦ refl ]) ∙ ap (λ gs. f ∷ gs) (stay place fs)
+    stay place (f ∷ fs) = ap (λ g. g ∷ map (of_client k (forwarding_after_reply place (Within n a))) fs) (elim (f.client == k) as (λ b. (elim b as (λ _. Forwarding) [ true ↦ f | false ↦ f ]) ≡ f) [ true ↦ refl | false ↦ refl ]) ∙ ap (λ gs. f ∷ gs) (stay place fs)
 
-pub heard-channels : (k n : ℕ) (a : Act) (p : List ℕ) (o : Outcome) (rows : List Row) → read_summary p ≡ Ok (Within n a) → o.sent ≡ [] → held_of (bare (Heard p) k o ∷ rows) ≡ filter is_channel_held (map (down_act k n a) (held_of rows))
+pub heard-channels : (k n : ℕ) (a : Act) (p : List ℕ) (o : Outcome) (rows : List Row) → read_summary p ≡ Ok (Within n a) → o.sent ≡ [] → held_of (bare_row (Heard p) k o ∷ rows) ≡ filter is_channel_held (map (down_act k n a) (held_of rows))
 heard-channels k n a p o rows e none =
     held-bare (Heard p) k o rows
-    ∙ ap (filter is_channel_held) (ap (λ ys. map (after_item (bare (Heard p) k o)) (held_of rows) ++ ys) begun ∙ (append-nil (map (after_item (bare (Heard p) k o)) (held_of rows)) ∙ ap (λ (g : Channel → Channel). map g (held_of rows)) (λ i x. after-heard k n a p o x none e i)))
+    ∙ ap (filter is_channel_held) (ap (λ ys. map (after_item (bare_row (Heard p) k o)) (held_of rows) ++ ys) begun ∙ (append-nil (map (after_item (bare_row (Heard p) k o)) (held_of rows)) ∙ ap (λ (g : Channel → Channel). map g (held_of rows)) (λ i x. after-heard k n a p o x none e i)))
   where
     begun : (elim (k == 0) as (λ _. List Channel) [ true ↦ [] | false ↦ reading p (opened_down k o.sent) [] ]) ≡ []
     begun = elim (k == 0) as (λ b. (elim b as (λ _. List Channel) [ true ↦ [] | false ↦ reading p (opened_down k o.sent) [] ]) ≡ []) [
@@ -105,7 +105,7 @@ heard-channels k n a p o rows e none =
     ]
 
 abbrev pub is_theirs : ℕ → ℕ → TableEntry → Bool
-is_theirs k n e = is_of k e && shown_at n e
+is_theirs k n e = is_channel_of k e && shown_at n e
 
 pub does : (k n : ℕ) (a : Act) → DoesAct Down a (is_theirs k n) (down_act k n a)
 does k n a = record {
@@ -121,8 +121,8 @@ does k n a = record {
 
     it : (e : TableEntry) (x : Channel) → EntryFits e x → is_theirs k n e ≡ true → down_act k n a x ≡ with_act Down a x
     it e x fits h =
-        let mine : (x.client == k) ≡ true = ap (λ i. i == k) (sym fits.client) ∙ and-left (is_of k e) (shown_at n e) h in
-        let there : (is_number x.number n && is_channel_held x) ≡ true = ap (λ b. b && is_channel_held x) (sym (same e x fits) ∙ and-right (is_of k e) (shown_at n e) h) ∙ fits.held in
+        let mine : (x.client == k) ≡ true = ap (λ i. i == k) (sym fits.client) ∙ and-left (is_channel_of k e) (shown_at n e) h in
+        let there : (is_number x.number n && is_channel_held x) ≡ true = ap (λ b. b && is_channel_held x) (sym (same e x fits) ∙ and-right (is_channel_of k e) (shown_at n e) h) ∙ fits.held in
         named x true true mine there
 
     by_other : (e : TableEntry) (x : Channel) → EntryFits e x → is_theirs k n e ≡ false → (b : Bool) → (x.client == k) ≡ b → down_act k n a x ≡ x
@@ -142,15 +142,15 @@ shown-sole n e f two h = by_number (f.number == n) refl
         absurd (let z : (e.number == f.number) ≡ true = is-of e.number f.number (a ∙ sym b) in let y = sym z ∙ two.number in cc)
 
 pub sole : (k n : ℕ) → Sole (is_theirs k n)
-sole k n e f two h = by_mine (is_of k f) refl
+sole k n e f two h = by_mine (is_channel_of k f) refl
   where
-    by_mine : (b : Bool) → is_of k f ≡ b → is_theirs k n f ≡ false
-    by_mine true m = ap (λ b. b && shown_at n f) m ∙ shown-sole n e f two (and-right (is_of k e) (shown_at n e) h)
+    by_mine : (b : Bool) → is_channel_of k f ≡ b → is_theirs k n f ≡ false
+    by_mine true m = ap (λ b. b && shown_at n f) m ∙ shown-sole n e f two (and-right (is_channel_of k e) (shown_at n e) h)
     by_mine false m = ap (λ b. b && shown_at n f) m
 
-pub theirs-found : (s : CoreState) (n : ℕ) (e0 : TableEntry) (rows : List Row) → Stands s rows → find (shown_at n) s.channels ≡ Some e0 → find (is_theirs e0.channel.client n) s.channels ≡ Some e0
+pub theirs-found : (s : CoreState) (n : ℕ) (e0 : TableEntry) (rows : List Row) → CoreRepresents s rows → find (shown_at n) s.channels ≡ Some e0 → find (is_theirs e0.channel.client n) s.channels ≡ Some e0
 theirs-found s n e0 rows st h =
-    find-narrow (shown_at n) (is_theirs e0.channel.client n) (shown-sole n) (λ e t. right (is_of e0.channel.client e) (shown_at n e) t) e0 s.channels st.channels.apart h
+    find-narrow (shown_at n) (is_theirs e0.channel.client n) (shown-sole n) (λ e t. right (is_channel_of e0.channel.client e) (shown_at n e) t) e0 s.channels st.channels.apart h
     ∙ ap (λ b. only_if b e0) (ap (λ b. b && shown_at n e0) (self e0.channel.client) ∙ passes (shown_at n) e0 s.channels h)
   where
     right : (b d : Bool) → (b && d) ≡ true → d ≡ true
@@ -158,7 +158,7 @@ theirs-found s n e0 rows st h =
     right false d h = cc
 
 -- the table after it
-pub heard-table : (s : CoreState) (n : ℕ) (a : Act) (p : List ℕ) (e0 : TableEntry) (l : Ledger) (over : Bool) (o : Outcome) (rows : List Row) → Stands s rows → find (shown_at n) s.channels ≡ Some e0 → ActsOn Down a e0.ledger l over → o.sent ≡ [] → read_summary p ≡ Ok (Within n a) → TableFits (acted e0.number l over s.channels) (held_of (bare (Heard p) e0.channel.client o ∷ rows))
+pub heard-table : (s : CoreState) (n : ℕ) (a : Act) (p : List ℕ) (e0 : TableEntry) (l : Ledger) (over : Bool) (o : Outcome) (rows : List Row) → CoreRepresents s rows → find (shown_at n) s.channels ≡ Some e0 → ActsOn Down a e0.ledger l over → o.sent ≡ [] → read_summary p ≡ Ok (Within n a) → TableFits (acted e0.number l over s.channels) (held_of (bare_row (Heard p) e0.channel.client o ∷ rows))
 heard-table s n a p e0 l over o rows st h acts none e =
     subst (TableFits (acted e0.number l over s.channels)) (sym (heard-channels e0.channel.client n a p o rows e none))
     (acts-on Down a (is_theirs e0.channel.client n) (down_act e0.channel.client n a) e0 l over s.channels (held_of rows) (does e0.channel.client n a) acts (alone (is_theirs e0.channel.client n) (sole e0.channel.client n) e0 s.channels st.channels.apart (theirs-found s n e0 rows st h)) st.channels)

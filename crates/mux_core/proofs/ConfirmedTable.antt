@@ -8,20 +8,20 @@ use Rattle.ssh_grammar.specs.declared.side.Side.TheVariants.{Down, Up}
 use Rattle.ssh_grammar.specs.SpellMessage.{close}
 use Rattle.mux_history.specs.Summary.{Closes, Confirmation, Confirms, Within, read_summary, reading}
 use Rattle.mux_history.specs.Rows.{Fate, Goes, Heard, Row, is_admit, loses}
-use Rattle.mux_history.specs.Channels.{Channel, after_item, any_by, held_of, received_by, is_closes, is_channel_held, is_number, is_up, opened_down, with_down, with_up, with_ups}
-use Rattle.mux_history.specs.Forwardings.{Forwarding, of_client, replied}
+use Rattle.mux_history.specs.Channels.{Channel, after_item, any_by, held_of, channel_after_item, is_closes, is_channel_held, is_number, is_up, opened_down, with_down, with_up, with_ups}
+use Rattle.mux_history.specs.Forwardings.{Forwarding, of_client, forwarding_after_reply}
 use Rattle.mux_history.specs.Laws.{with_act}
 use Rattle.mux_history.specs.Ledger.{other_side}
 use Rattle.mux_history.specs.Requests.{asks_of, is_reply, is_sent, replies}
 use Rattle.mux_history.specs.Said.{Outcome}
-use Rattle.mux_history.specs.Treat.{bare}
+use Rattle.mux_history.specs.Treat.{bare_row}
 use Rattle.mux_history.proofs.Bools.{self}
 use Rattle.mux_history.proofs.Readings.{reading-ok}
 use Rattle.mux_history.proofs.Sends.{and-left, and-right}
 use Rattle.window_ledger.specs.declared.ledger.Ledger.{Ledger}
 use Rattle.window_ledger.specs.declared.ledger.State.{State}
 use Rattle.window_ledger.specs.declared.ledger.State.TheVariants.{Opened, Confirmed}
-use Rattle.window_ledger.specs.Stands.{IsConfirmed, IsStateOf, confirmed, is_answered}
+use Rattle.window_ledger.specs.Stands.{IsConfirmed, IsStateOf, is_open_confirmed, is_answered}
 use Rattle.window_ledger.specs.Stands as ledger
 use Rattle.window_ledger.specs.Leaving as account
 use Rattle.window_ledger.proofs.Leaves.{left-now}
@@ -31,7 +31,7 @@ use Rattle.channel_table.specs.Entries.{changed_at, has_remote, shown_at}
 use Rattle.mux_core.proofs.Confirms.{confirm_remote}
 use Rattle.channel_table.specs.Stands.{EntryFits}
 use Rattle.mux_core.specs.State.{CoreState}
-use Rattle.mux_core.specs.Stands.{Stands, TableFits, has_numbers, is_member_known, is_whole}
+use Rattle.mux_core.specs.Stands.{CoreRepresents, TableFits, has_numbers, is_member_known, is_whole}
 use Rattle.mux_core.specs.Lookups.{waits}
 use Rattle.mux_core.proofs.Acts.{held-after}
 use Rattle.mux_core.proofs.Altered.{altered-table, apart-remote}
@@ -43,12 +43,12 @@ use Rattle.mux_core.proofs.Quiet.{IsQuiet}
 
 -- ---- the row
 
-pub quiet-confirmed : (k n s w m : ℕ) (p : List ℕ) (o : Outcome) → read_summary p ≡ Ok (Confirmation n s w m) → o.ends ≡ Goes → IsQuiet (bare (Heard p) k o)
+pub quiet-confirmed : (k n s w m : ℕ) (p : List ℕ) (o : Outcome) → read_summary p ≡ Ok (Confirmation n s w m) → o.ends ≡ Goes → IsQuiet (bare_row (Heard p) k o)
 quiet-confirmed k n s w m p o e ends = record {
-  asks = none (is_sent (bare (Heard p) k o));
+  asks = none (is_sent (bare_row (Heard p) k o));
   flags = refl;
   replies = ap (λ (b : Bool). elim b as (λ _. List (List ℕ)) [ true ↦ p ∷ [] | false ↦ [] ]) (reading-ok p (Confirmation n s w m) is_reply false e);
-  forwards = λ own fs. reading-ok p (Confirmation n s w m) (λ g. map (of_client k (replied (length (replies own)) g)) fs) fs e ∙ stay (length (replies own)) fs;
+  forwards = λ own fs. reading-ok p (Confirmation n s w m) (λ g. map (of_client k (forwarding_after_reply (length (replies own)) g)) fs) fs e ∙ stay (length (replies own)) fs;
   keeps = ap (λ (f : Fate). loses (record { item = Heard p; client = k; up = o.sent; farewell = []; down = o.recorded; fate = f })) ends;
   admits = ap (λ (f : Fate). is_admit (record { item = Heard p; client = k; up = o.sent; farewell = []; down = o.recorded; fate = f })) ends;
 }
@@ -57,9 +57,9 @@ quiet-confirmed k n s w m p o e ends = record {
     none true = refl
     none false = refl
 
-    stay : (place : ℕ) (fs : List Forwarding) → map (of_client k (replied place (Confirmation n s w m))) fs ≡ fs
+    stay : (place : ℕ) (fs : List Forwarding) → map (of_client k (forwarding_after_reply place (Confirmation n s w m))) fs ≡ fs
     stay place [] = refl
-    stay place (f ∷ fs) = ap (λ g. g ∷ map (of_client k (replied place (Confirmation n s w m))) fs) (elim (f.client == k) as (λ b. (elim b as (λ _. Forwarding) [ true ↦ f | false ↦ f ]) ≡ f) [ true ↦ refl | false ↦ refl ]) ∙ ap (λ gs. f ∷ gs) (stay place fs)
+    stay place (f ∷ fs) = ap (λ g. g ∷ map (of_client k (forwarding_after_reply place (Confirmation n s w m))) fs) (elim (f.client == k) as (λ b. (elim b as (λ _. Forwarding) [ true ↦ f | false ↦ f ]) ≡ f) [ true ↦ refl | false ↦ refl ]) ∙ ap (λ gs. f ∷ gs) (stay place fs)
 
 -- what it does to a channel of the client, and CLOSE after it
 abbrev given : ℕ → ℕ → ℕ → Channel → Channel
@@ -87,24 +87,24 @@ no-begun k n s w m p ups e = elim (k == 0) as (λ b. (elim b as (λ _. List Chan
     by_ups [] = refl
     by_ups (u ∷ us) = refl
 
-pub confirmed-channels : (k n s w m : ℕ) (p : List ℕ) (o : Outcome) (rows : List Row) → read_summary p ≡ Ok (Confirmation n s w m) → o.sent ≡ [] → held_of (bare (Heard p) k o ∷ rows) ≡ filter is_channel_held (map (confirm plain k n s w m) (held_of rows))
+pub confirmed-channels : (k n s w m : ℕ) (p : List ℕ) (o : Outcome) (rows : List Row) → read_summary p ≡ Ok (Confirmation n s w m) → o.sent ≡ [] → held_of (bare_row (Heard p) k o ∷ rows) ≡ filter is_channel_held (map (confirm plain k n s w m) (held_of rows))
 confirmed-channels k n s w m p o rows e none =
     held-bare (Heard p) k o rows
-    ∙ ap (filter is_channel_held) (ap (λ ys. map (after_item (bare (Heard p) k o)) (held_of rows) ++ ys) (no-begun k n s w m p o.sent e) ∙ (append-nil (map (after_item (bare (Heard p) k o)) (held_of rows)) ∙ ap (λ (g : Channel → Channel). map g (held_of rows)) (λ i x. one x i)))
+    ∙ ap (filter is_channel_held) (ap (λ ys. map (after_item (bare_row (Heard p) k o)) (held_of rows) ++ ys) (no-begun k n s w m p o.sent e) ∙ (append-nil (map (after_item (bare_row (Heard p) k o)) (held_of rows)) ∙ ap (λ (g : Channel → Channel). map g (held_of rows)) (λ i x. one x i)))
   where
-    one : (x : Channel) → after_item (bare (Heard p) k o) x ≡ confirm plain k n s w m x
+    one : (x : Channel) → after_item (bare_row (Heard p) k o) x ≡ confirm plain k n s w m x
     one x =
-        ap (λ ups. elim (x.client == k) as (λ _. Channel) [ true ↦ with_ups None ups (received_by (Heard p) x) | false ↦ x ]) none
+        ap (λ ups. elim (x.client == k) as (λ _. Channel) [ true ↦ with_ups None ups (channel_after_item (Heard p) x) | false ↦ x ]) none
         ∙ ap (λ y. elim (x.client == k) as (λ _. Channel) [ true ↦ y | false ↦ x ]) (reading-ok p (Confirmation n s w m) (λ g. with_down g x) x e)
 
-pub closed-channels : (k n s w m : ℕ) (p : List ℕ) (o : Outcome) (rows : List Row) → read_summary p ≡ Ok (Confirmation n s w m) → s < 4294967296 → o.sent ≡ close s ∷ [] → held_of (bare (Heard p) k o ∷ rows) ≡ filter is_channel_held (map (confirm (closes s) k n s w m) (held_of rows))
+pub closed-channels : (k n s w m : ℕ) (p : List ℕ) (o : Outcome) (rows : List Row) → read_summary p ≡ Ok (Confirmation n s w m) → s < 4294967296 → o.sent ≡ close s ∷ [] → held_of (bare_row (Heard p) k o ∷ rows) ≡ filter is_channel_held (map (confirm (closes s) k n s w m) (held_of rows))
 closed-channels k n s w m p o rows e small sent =
     held-bare (Heard p) k o rows
-    ∙ ap (filter is_channel_held) (ap (λ ys. map (after_item (bare (Heard p) k o)) (held_of rows) ++ ys) (no-begun k n s w m p o.sent e) ∙ (append-nil (map (after_item (bare (Heard p) k o)) (held_of rows)) ∙ ap (λ (g : Channel → Channel). map g (held_of rows)) (λ i x. one x i)))
+    ∙ ap (filter is_channel_held) (ap (λ ys. map (after_item (bare_row (Heard p) k o)) (held_of rows) ++ ys) (no-begun k n s w m p o.sent e) ∙ (append-nil (map (after_item (bare_row (Heard p) k o)) (held_of rows)) ∙ ap (λ (g : Channel → Channel). map g (held_of rows)) (λ i x. one x i)))
   where
-    one : (x : Channel) → after_item (bare (Heard p) k o) x ≡ confirm (closes s) k n s w m x
+    one : (x : Channel) → after_item (bare_row (Heard p) k o) x ≡ confirm (closes s) k n s w m x
     one x =
-        ap (λ ups. elim (x.client == k) as (λ _. Channel) [ true ↦ with_ups None ups (received_by (Heard p) x) | false ↦ x ]) sent
+        ap (λ ups. elim (x.client == k) as (λ _. Channel) [ true ↦ with_ups None ups (channel_after_item (Heard p) x) | false ↦ x ]) sent
         ∙ (ap (λ y. elim (x.client == k) as (λ _. Channel) [ true ↦ with_ups None (close s ∷ []) y | false ↦ x ]) (reading-ok p (Confirmation n s w m) (λ g. with_down g x) x e)
         ∙ ap (λ y. elim (x.client == k) as (λ _. Channel) [ true ↦ y | false ↦ x ]) (reading-ok (close s) (Within s Closes) (λ g. with_up None g (with_down (Confirmation n s w m) x)) (with_down (Confirmation n s w m) x) (reads-close s small)))
 
@@ -131,15 +131,15 @@ given-fits e0 s w m l x pend confirms fits = record {
   own = fits.own;
   number = fits.number;
   remote = refl;
-  ledger = stands-named x.own x.number (Some s) l (with_act Down (Confirms w m) x) (subst (λ (d : Side). ledger.Stands l (with_act d (Confirms w m) x)) (ap other_side (up-is x.by (ap is_up (sym fits.by) ∙ and-left (is_up e0.channel.by) (not (confirmed e0.ledger)) pend))) (confirms x fits.ledger));
+  ledger = stands-named x.own x.number (Some s) l (with_act Down (Confirms w m) x) (subst (λ (d : Side). ledger.LedgerRepresents l (with_act d (Confirms w m) x)) (ap other_side (up-is x.by (ap is_up (sym fits.by) ∙ and-left (is_up e0.channel.by) (not (is_open_confirmed e0.ledger)) pend))) (confirms x fits.ledger));
   held = fits.held;
 }
 
 -- and closed by the master
-pub closed-fits : (e0 : TableEntry) (s w m : ℕ) (l : Ledger) (x : Channel) → waits e0.channel e0.ledger ≡ true → IsConfirmed e0.ledger l w m → confirmed l ≡ true → EntryFits e0 x → EntryFits (confirm_remote s (account.left l) e0) (with_act Up Closes (given s w m x))
+pub closed-fits : (e0 : TableEntry) (s w m : ℕ) (l : Ledger) (x : Channel) → waits e0.channel e0.ledger ≡ true → IsConfirmed e0.ledger l w m → is_open_confirmed l ≡ true → EntryFits e0 x → EntryFits (confirm_remote s (account.ledger_after_close l) e0) (with_act Up Closes (given s w m x))
 closed-fits e0 s w m l x pend confirms so fits =
     let first = given-fits e0 s w m l x pend confirms fits in
-    let none : x.acts ≡ [] = fresh-acts e0.ledger.state x fits.ledger (not-false (confirmed e0.ledger) (and-right (is_up e0.channel.by) (not (confirmed e0.ledger)) pend)) in
+    let none : x.acts ≡ [] = fresh-acts e0.ledger.state x fits.ledger (not-false (is_open_confirmed e0.ledger) (and-right (is_up e0.channel.by) (not (is_open_confirmed e0.ledger)) pend)) in
     record {
       client = fits.client;
       by = fits.by;
@@ -150,9 +150,9 @@ closed-fits e0 s w m l x pend confirms so fits =
       held = held-after Up Closes (given s w m x) refl fits.held ∙ ap (λ b. not b) (ap (λ acts. any_by Down is_closes acts) none);
     }
 
-whole-given : (e0 : TableEntry) (s : ℕ) (l : Ledger) → waits e0.channel e0.ledger ≡ true → confirmed l ≡ true → is_whole e0 ≡ true → is_whole (confirm_remote s l e0) ≡ true
+whole-given : (e0 : TableEntry) (s : ℕ) (l : Ledger) → waits e0.channel e0.ledger ≡ true → is_open_confirmed l ≡ true → is_whole e0 ≡ true → is_whole (confirm_remote s l e0) ≡ true
 whole-given e0 s l pend so whole =
-    ap (λ b. has_numbers b e0.channel.by e0.channel.own (Some s)) so ∙ (plain-and (is_some e0.channel.own) ∙ by_opener (confirmed e0.ledger) e0.channel.by (not-false (confirmed e0.ledger) (and-right (is_up e0.channel.by) (not (confirmed e0.ledger)) pend)) (and-left (is_up e0.channel.by) (not (confirmed e0.ledger)) pend) whole)
+    ap (λ b. has_numbers b e0.channel.by e0.channel.own (Some s)) so ∙ (plain-and (is_some e0.channel.own) ∙ by_opener (is_open_confirmed e0.ledger) e0.channel.by (not-false (is_open_confirmed e0.ledger) (and-right (is_up e0.channel.by) (not (is_open_confirmed e0.ledger)) pend)) (and-left (is_up e0.channel.by) (not (is_open_confirmed e0.ledger)) pend) whole)
   where
     plain-and : (b : Bool) → (b && true) ≡ b
     plain-and true = refl
@@ -191,7 +191,7 @@ confirm-it after k n s w m e x fits h =
     ap (λ (b : Bool). elim b as (λ _. Channel) [ true ↦ after (elim (is_number x.number n && is_channel_held x) as (λ _. Channel) [ true ↦ given s w m x | false ↦ x ]) | false ↦ x ]) mine
     ∙ ap (λ (b : Bool). after (elim b as (λ _. Channel) [ true ↦ given s w m x | false ↦ x ])) there
 
-pub confirmed-table : (after : Channel → Channel) (s : CoreState) (n r w m : ℕ) (l : Ledger) (e0 : TableEntry) (rows : List Row) → Stands s rows → find (shown_at n) s.channels ≡ Some e0 → find (has_remote r) s.channels ≡ None → r < 4294967296 → waits e0.channel e0.ledger ≡ true → confirmed l ≡ true
+pub confirmed-table : (after : Channel → Channel) (s : CoreState) (n r w m : ℕ) (l : Ledger) (e0 : TableEntry) (rows : List Row) → CoreRepresents s rows → find (shown_at n) s.channels ≡ Some e0 → find (has_remote r) s.channels ≡ None → r < 4294967296 → waits e0.channel e0.ledger ≡ true → is_open_confirmed l ≡ true
     → ((x : Channel) → EntryFits e0 x → EntryFits (confirm_remote r l e0) (after (given r w m x))) → ((x : Channel) → is_number x.remote r ≡ false → after x ≡ x)
     → TableFits (changed_at e0.number (confirm_remote r l) s.channels) (filter is_channel_held (map (confirm after e0.channel.client n r w m) (held_of rows)))
 confirmed-table after s n r w m l e0 rows st found none small pend so it stays =

@@ -18,8 +18,8 @@ use Rattle.mux_history.specs.Rows.{Row, rows_of}
 use Rattle.mux_history.specs.Said.{Outcome, drops, sent_summary, sent_payload, silent}
 use Rattle.mux_core.specs.declared.verdict.Verdict.{Verdict}
 use Rattle.mux_core.specs.declared.verdict.Verdict.TheVariants as verdict
-use Rattle.mux_core.specs.State.{CoreState, is_served}
-use Rattle.mux_core.specs.Stands.{Stands, TableFits, look}
+use Rattle.mux_core.specs.State.{CoreState, is_member_served}
+use Rattle.mux_core.specs.Stands.{CoreRepresents, TableFits, look}
 use Rattle.mux_core.specs.Opening.{open_verdict}
 use Rattle.mux_core.specs.Calls.{SendsAs, CoreSendsIn, CoreSendsOn, SendsRow, SendsSome, StartsOn}
 use Rattle.mux_history.specs.Channels.{held_of}
@@ -63,7 +63,7 @@ on-other s k n p up other e = record { pick = 0; goes = one }
     nothing : AsksNothing (Transport n)
     nothing = record { wants = refl; requests = λ k place fs. refl }
 
-    one : (rows : List Row) → Stands s rows → is_served s.clients k ≡ true → CoreSendsIn s s k p 0 up up verdict.Silent rows
+    one : (rows : List Row) → CoreRepresents s rows → is_member_served s.clients k ≡ true → CoreSendsIn s s k p 0 up up verdict.Silent rows
     one rows st serves =
         let q = quiet-says k p (Transport n) silent e nothing refl in
         let does : sent_payload s.policy k (rows_of k rows) 0 p ≡ silent = said-ok s.policy k 0 (rows_of k rows) p (Transport n) e ∙ ap (λ (b : Bool). elim b as (λ _. Outcome) [ true ↦ drops why.Disconnected | false ↦ silent ]) other in

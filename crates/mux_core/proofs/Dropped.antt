@@ -7,8 +7,8 @@ use Rattle.mux_history.specs.Rows.{any_of}
 use Rattle.mux_history.specs.Forwardings.{Forwarding}
 use Rattle.mux_history.proofs.Finds.{filter-no, filter-yes}
 use Rattle.forward_rules.specs.State.{Forward}
-use Rattle.forward_rules.specs.Step.{cancels, is_leaving, is_of}
-use Rattle.forward_rules.specs.Stands.{AreFit, AreForwardsListed, EachHas, HasAt, IsAwaited, IsRanked, Places, is_asked_at, is_leaving_at}
+use Rattle.forward_rules.specs.Step.{unanswered_cancels, is_leaving, is_forward_of}
+use Rattle.forward_rules.specs.Stands.{AreFit, AreForwardsListed, EachHas, HasAt, IsAwaited, IsRanked, Places, request_waits_at, cancel_waits_at}
 use Rattle.mux_core.proofs.Asked.{all-map}
 use Rattle.mux_core.proofs.Pairs.{find-any, or-first, or-found, or-second}
 use Rattle.mux_core.proofs.Removed.{all-by, count-by, kept_by, listed-by, order-by, two-by}
@@ -27,13 +27,13 @@ drops-map P Q each (true ∷ bs) (g ∷ gs) all = drops-map P Q each bs gs all
 drops-map P Q each (false ∷ bs) (g ∷ gs) all = (each g all.0, drops-map P Q each bs gs all.1)
 
 -- no cancel goes along
-cancels-kept : (j : ℕ) (bs : List Bool) (fs : List Forward) (gs : List Forwarding) → AreForwardsListed fs gs → Drops (λ g. g.cancel ≡ None) bs gs → cancels j (kept_by bs fs) ≡ cancels j fs
+cancels-kept : (j : ℕ) (bs : List Bool) (fs : List Forward) (gs : List Forwarding) → AreForwardsListed fs gs → Drops (λ g. g.cancel ≡ None) bs gs → unanswered_cancels j (kept_by bs fs) ≡ unanswered_cancels j fs
 cancels-kept j [] fs gs listed idle = refl
 cancels-kept j (b ∷ bs) [] gs listed idle = refl
 cancels-kept j (b ∷ bs) (f ∷ fs) [] listed idle = absurd listed
 cancels-kept j (true ∷ bs) (f ∷ fs) (g ∷ gs) listed idle = by_test (cancels-kept j bs fs gs listed.1 idle) (is_leaving j f) refl
   where
-    by_test : cancels j (kept_by bs fs) ≡ cancels j fs → (t : Bool) → is_leaving j f ≡ t → cancels j (f ∷ kept_by bs fs) ≡ cancels j (f ∷ fs)
+    by_test : unanswered_cancels j (kept_by bs fs) ≡ unanswered_cancels j fs → (t : Bool) → is_leaving j f ≡ t → unanswered_cancels j (f ∷ kept_by bs fs) ≡ unanswered_cancels j (f ∷ fs)
     by_test ih true h = ap length (filter-yes (is_leaving j) f (kept_by bs fs) h) ∙ (ap suc ih ∙ sym (ap length (filter-yes (is_leaving j) f fs h)))
     by_test ih false h = ap length (filter-no (is_leaving j) f (kept_by bs fs) h) ∙ (ih ∙ sym (ap length (filter-no (is_leaving j) f fs h)))
 cancels-kept j (false ∷ bs) (f ∷ fs) (g ∷ gs) listed idle =
@@ -58,12 +58,12 @@ any-kept pass (false ∷ bs) (g ∷ gs) drops there = any-kept pass bs gs drops.
 
 -- it waits neither for an answer nor for its end at a place of a client
 pub record WaitsNot (j place : ℕ) (g : Forwarding) : Type 0 where
-  pub asked : ((g.client == j) && is_asked_at place g) ≡ false
-  pub leaving : ((g.client == j) && is_leaving_at place g) ≡ false
+  pub asked : ((g.client == j) && request_waits_at place g) ≡ false
+  pub leaving : ((g.client == j) && cancel_waits_at place g) ≡ false
 
 pub has-kept : (place : ℕ) (what : full.Global) (j : ℕ) (bs : List Bool) (gs : List Forwarding) → Drops (WaitsNot j place) bs gs → HasAt place what (filter (λ g. g.client == j) gs) → HasAt place what (filter (λ g. g.client == j) (kept_by bs gs))
-has-kept place (full.Forward key) j bs gs drops h = find-any (λ (g : Forwarding). g.client == j) (is_asked_at place) (kept_by bs gs) ∙ any-kept (λ (g : Forwarding). (g.client == j) && is_asked_at place g) bs gs (drops-map (WaitsNot j place) (λ g. ((g.client == j) && is_asked_at place g) ≡ false) (λ g w. w.asked) bs gs drops) (sym (find-any (λ (g : Forwarding). g.client == j) (is_asked_at place) gs) ∙ h)
-has-kept place (full.Cancel key) j bs gs drops h = find-any (λ (g : Forwarding). g.client == j) (is_leaving_at place) (kept_by bs gs) ∙ any-kept (λ (g : Forwarding). (g.client == j) && is_leaving_at place g) bs gs (drops-map (WaitsNot j place) (λ g. ((g.client == j) && is_leaving_at place g) ≡ false) (λ g w. w.leaving) bs gs drops) (sym (find-any (λ (g : Forwarding). g.client == j) (is_leaving_at place) gs) ∙ h)
+has-kept place (full.Forward key) j bs gs drops h = find-any (λ (g : Forwarding). g.client == j) (request_waits_at place) (kept_by bs gs) ∙ any-kept (λ (g : Forwarding). (g.client == j) && request_waits_at place g) bs gs (drops-map (WaitsNot j place) (λ g. ((g.client == j) && request_waits_at place g) ≡ false) (λ g w. w.asked) bs gs drops) (sym (find-any (λ (g : Forwarding). g.client == j) (request_waits_at place) gs) ∙ h)
+has-kept place (full.Cancel key) j bs gs drops h = find-any (λ (g : Forwarding). g.client == j) (cancel_waits_at place) (kept_by bs gs) ∙ any-kept (λ (g : Forwarding). (g.client == j) && cancel_waits_at place g) bs gs (drops-map (WaitsNot j place) (λ g. ((g.client == j) && cancel_waits_at place g) ≡ false) (λ g w. w.leaving) bs gs drops) (sym (find-any (λ (g : Forwarding). g.client == j) (cancel_waits_at place) gs) ∙ h)
 has-kept place full.KeepAlive j bs gs drops h = tt
 has-kept place full.OtherName j bs gs drops h = tt
 
@@ -75,7 +75,7 @@ kept-fit bs fs gs own own' lost fit idle waits each = record {
   in_order = order-by bs fs gs fit.listed fit.in_order;
   awaited = waits;
   two = two-by bs gs fit.two;
-  few = λ j. let a = count-by (is_of j) bs fs in let b = fit.few j in omega arith;
+  few = λ j. let a = count-by (is_forward_of j) bs fs in let b = fit.few j in omega arith;
   each = each;
   ranked = all-by (IsRanked (kept_by bs fs)) bs fs (all-map (IsRanked fs) (IsRanked (kept_by bs fs)) (λ f is r e. subst (λ n. r < n) (sym (cancels-kept f.client bs fs gs fit.listed idle)) (is r e)) fs fit.ranked);
 }

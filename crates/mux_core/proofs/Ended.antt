@@ -12,7 +12,7 @@ use Rattle.mux_history.proofs.CurrentSteps.{is_on}
 use Rattle.mux_history.proofs.Finds.{filter-no, filter-yes}
 use Rattle.mux_history.proofs.Sends.{and-right}
 use Rattle.forward_rules.specs.State.{Forward}
-use Rattle.forward_rules.specs.Step.{cancel_answered, is_cancelled_at, settled, forward_settled_at, without_cancel_of}
+use Rattle.forward_rules.specs.Step.{cancel_answered, is_cancelled_at, cancel_settled, forward_settled_at, without_cancel_of}
 use Rattle.forward_rules.specs.Stands.{AreFit, IsAwaited, Places}
 use Rattle.mux_core.specs.Replying.{after_failure, after_success}
 use Rattle.mux_core.proofs.Dropped.{Drops, WaitsNot, drops-map, has-kept, kept-fit}
@@ -50,7 +50,7 @@ on-released k place (g ∷ gs) all = (elim (leaves_at k place g) as (λ b. is_on
 pub record Meant (k : ℕ) (key : Key) (own : ℕ → Places) (fs : List Forward) (gs : List Forwarding) : Type 0 where
   pub rank : ℕ
   pub known : AllPairs (Known k (own k).replied rank own) fs gs
-  pub answered : (done : Bool) → cancel_answered k key done fs ≡ settled k rank done fs
+  pub answered : (done : Bool) → cancel_answered k key done fs ≡ cancel_settled k rank done fs
 
 meant : (k : ℕ) (key : Key) (fs : List Forward) (gs : List Forwarding) (own : ℕ → Places) (lost : ℕ → Bool) → AreFit fs gs own lost → lost k ≡ false → slice_get (own k).asked (own k).replied ≡ Some (record { client = k; what = full.Cancel key }) → Meant k key own fs gs
 meant k key fs gs own lost fit here asked =

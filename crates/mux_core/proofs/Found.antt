@@ -11,10 +11,10 @@ use Rattle.mux_history.proofs.Sends.{and-left, and-right}
 use Rattle.window_ledger.specs.declared.ledger.Ledger.{Ledger}
 use Rattle.window_ledger.specs.declared.ledger.State.{State}
 use Rattle.window_ledger.specs.declared.ledger.State.TheVariants.{Opened, Confirmed}
-use Rattle.window_ledger.specs.Stands.{IsStateOf, confirmed, is_answered}
+use Rattle.window_ledger.specs.Stands.{IsStateOf, is_open_confirmed, is_answered}
 use Rattle.window_ledger.specs.Stands as ledger
 use Rattle.channel_table.specs.Entries.{TableEntry}
-use Rattle.channel_table.specs.Entries.{AreApart, AreTwo, has_remote, is_at, is_of, ledger_at}
+use Rattle.channel_table.specs.Entries.{AreApart, AreTwo, has_remote, is_at, is_channel_of, ledger_at}
 use Rattle.channel_table.specs.Stands.{ChannelsFit, EntryFits}
 use Rattle.mux_core.specs.Lookups.{confirmed_for, confirmed_under, if_confirmed}
 use Rattle.mux_core.proofs.Apart.{Alone, Sole, all-of, alone, passes}
@@ -102,7 +102,7 @@ remote-sole s e f two h = two.remote s h
 
 -- ---- a confirmed channel of a client
 
-pub stands-confirmed : (l : Ledger) (x : Channel) → ledger.Stands l x → confirmed l ≡ is_confirmed x
+pub stands-confirmed : (l : Ledger) (x : Channel) → ledger.LedgerRepresents l x → is_open_confirmed l ≡ is_confirmed x
 stands-confirmed l x stands = by_state l.state stands
   where
     by_state : (st : State) → IsStateOf st x → is_answered st ≡ is_confirmed x
@@ -110,7 +110,7 @@ stands-confirmed l x stands = by_state l.state stands
     by_state (Confirmed up down) accounts = sym accounts.answered
 
 abbrev pub is_confirmed_at : ℕ → ℕ → TableEntry → Bool
-is_confirmed_at k s e = is_of k e && (has_remote s e && confirmed e.ledger)
+is_confirmed_at k s e = is_channel_of k e && (has_remote s e && is_open_confirmed e.ledger)
 
 -- the entry that the core finds, where it finds one
 pub record ConfirmedEntry (es : List TableEntry) (k s n : ℕ) (l : Ledger) : Type 0 where
@@ -118,8 +118,8 @@ pub record ConfirmedEntry (es : List TableEntry) (k s n : ℕ) (l : Ledger) : Ty
   pub number : entry.number ≡ n
   pub ledger : entry.ledger ≡ l
   pub found : find (has_remote s) es ≡ Some entry
-  pub mine : is_of k entry ≡ true
-  pub answered : confirmed entry.ledger ≡ true
+  pub mine : is_channel_of k entry ≡ true
+  pub answered : is_open_confirmed entry.ledger ≡ true
   pub only : find (is_confirmed_at k s) es ≡ Some entry
   pub at : find (is_at n) es ≡ Some entry
 
@@ -127,7 +127,7 @@ some-same : (a b : ℕ × Ledger) → Some a ≡ Some b → a ≡ b
 some-same a b h = cc
 
 narrow : (k s : ℕ) (e : TableEntry) → is_confirmed_at k s e ≡ true → has_remote s e ≡ true
-narrow k s e h = and-left (has_remote s e) (confirmed e.ledger) (and-right (is_of k e) (has_remote s e && confirmed e.ledger) h)
+narrow k s e h = and-left (has_remote s e) (is_open_confirmed e.ledger) (and-right (is_channel_of k e) (has_remote s e && is_open_confirmed e.ledger) h)
 
 -- what a core looks up, by the entry that the server's number finds
 looked : (es : List TableEntry) (k s : ℕ) (e0 : TableEntry) → AreApart es → find (has_remote s) es ≡ Some e0 → confirmed_for es k s ≡ if_confirmed k e0.number (Some e0.channel) (Some e0.ledger)
@@ -139,14 +139,14 @@ looked es k s e0 apart h =
 pub confirmed-entry : (es : List TableEntry) (k s n : ℕ) (l : Ledger) → AreApart es → confirmed_for es k s ≡ Some (n, l) → ConfirmedEntry es k s n l
 confirmed-entry es k s n l apart h = by_found (find (has_remote s) es) refl
   where
-    by_test : (e0 : TableEntry) → find (has_remote s) es ≡ Some e0 → (b : Bool) → ((e0.channel.client == k) && confirmed e0.ledger) ≡ b → (elim b as (λ _. Option (ℕ × Ledger)) [ true ↦ Some (e0.number, e0.ledger) | false ↦ None ]) ≡ Some (n, l) → ConfirmedEntry es k s n l
+    by_test : (e0 : TableEntry) → find (has_remote s) es ≡ Some e0 → (b : Bool) → ((e0.channel.client == k) && is_open_confirmed e0.ledger) ≡ b → (elim b as (λ _. Option (ℕ × Ledger)) [ true ↦ Some (e0.number, e0.ledger) | false ↦ None ]) ≡ Some (n, l) → ConfirmedEntry es k s n l
     by_test e0 f true t g =
         let pairs = some-same (e0.number, e0.ledger) (n, l) g in
         let number : e0.number ≡ n = ap (λ (q : ℕ × Ledger). q.0) pairs in
         let same : e0.ledger ≡ l = ap (λ (q : ℕ × Ledger). q.1) pairs in
-        let mine = and-left (e0.channel.client == k) (confirmed e0.ledger) t in
-        let answered = and-right (e0.channel.client == k) (confirmed e0.ledger) t in
-        let passes_ : is_confirmed_at k s e0 ≡ true = ap (λ b. b && (has_remote s e0 && confirmed e0.ledger)) mine ∙ (ap (λ b. b && confirmed e0.ledger) (passes (has_remote s) e0 es f) ∙ answered) in
+        let mine = and-left (e0.channel.client == k) (is_open_confirmed e0.ledger) t in
+        let answered = and-right (e0.channel.client == k) (is_open_confirmed e0.ledger) t in
+        let passes_ : is_confirmed_at k s e0 ≡ true = ap (λ b. b && (has_remote s e0 && is_open_confirmed e0.ledger)) mine ∙ (ap (λ b. b && is_open_confirmed e0.ledger) (passes (has_remote s) e0 es f) ∙ answered) in
         record {
           entry = e0;
           number = number;
@@ -161,19 +161,19 @@ confirmed-entry es k s n l apart h = by_found (find (has_remote s) es) refl
 
     by_found : (o : Option TableEntry) → find (has_remote s) es ≡ o → ConfirmedEntry es k s n l
     by_found None f = absurd (let g : None ≡ Some (n, l) = sym (ap (confirmed_under es k) (ap (option_map (λ (e : TableEntry). e.number)) f)) ∙ h in cc)
-    by_found (Some e0) f = by_test e0 f ((e0.channel.client == k) && confirmed e0.ledger) refl (sym (looked es k s e0 apart f) ∙ h)
+    by_found (Some e0) f = by_test e0 f ((e0.channel.client == k) && is_open_confirmed e0.ledger) refl (sym (looked es k s e0 apart f) ∙ h)
 
 -- where the core finds none, none is there
 pub confirmed-none : (es : List TableEntry) (k s : ℕ) → AreApart es → confirmed_for es k s ≡ None → find (is_confirmed_at k s) es ≡ None
 confirmed-none es k s apart h = by_found (find (has_remote s) es) refl
   where
-    by_test : (e0 : TableEntry) → find (has_remote s) es ≡ Some e0 → (b : Bool) → ((e0.channel.client == k) && confirmed e0.ledger) ≡ b → (elim b as (λ _. Option (ℕ × Ledger)) [ true ↦ Some (e0.number, e0.ledger) | false ↦ None ]) ≡ None → find (is_confirmed_at k s) es ≡ None
+    by_test : (e0 : TableEntry) → find (has_remote s) es ≡ Some e0 → (b : Bool) → ((e0.channel.client == k) && is_open_confirmed e0.ledger) ≡ b → (elim b as (λ _. Option (ℕ × Ledger)) [ true ↦ Some (e0.number, e0.ledger) | false ↦ None ]) ≡ None → find (is_confirmed_at k s) es ≡ None
     by_test e0 f true t g = absurd (cc)
-    by_test e0 f false t g = find-narrow (has_remote s) (is_confirmed_at k s) (remote-sole s) (narrow k s) e0 es apart f ∙ ap (λ b. only_if b e0) (ap (λ b. is_of k e0 && (b && confirmed e0.ledger)) (passes (has_remote s) e0 es f) ∙ t)
+    by_test e0 f false t g = find-narrow (has_remote s) (is_confirmed_at k s) (remote-sole s) (narrow k s) e0 es apart f ∙ ap (λ b. only_if b e0) (ap (λ b. is_channel_of k e0 && (b && is_open_confirmed e0.ledger)) (passes (has_remote s) e0 es f) ∙ t)
 
     by_found : (o : Option TableEntry) → find (has_remote s) es ≡ o → find (is_confirmed_at k s) es ≡ None
     by_found None f = find-none (has_remote s) (is_confirmed_at k s) (narrow k s) es f
-    by_found (Some e0) f = by_test e0 f ((e0.channel.client == k) && confirmed e0.ledger) refl (sym (looked es k s e0 apart f) ∙ h)
+    by_found (Some e0) f = by_test e0 f ((e0.channel.client == k) && is_open_confirmed e0.ledger) refl (sym (looked es k s e0 apart f) ∙ h)
 
 -- the history finds what the core finds
 abbrev is_theirs : ℕ → ℕ → Channel → Bool
@@ -181,8 +181,8 @@ is_theirs k s x = local.is_of k x && (is_number x.remote s && is_confirmed x)
 
 same-test : (k s : ℕ) (e : TableEntry) (x : Channel) → Unit {0} → EntryFits e x → is_confirmed_at k s e ≡ is_theirs k s x
 same-test k s e x u fits =
-    ap (λ i. (i == k) && (has_remote s e && confirmed e.ledger)) fits.client
-    ∙ (ap (λ o. (x.client == k) && (is_number o s && confirmed e.ledger)) fits.remote
+    ap (λ i. (i == k) && (has_remote s e && is_open_confirmed e.ledger)) fits.client
+    ∙ (ap (λ o. (x.client == k) && (is_number o s && is_open_confirmed e.ledger)) fits.remote
     ∙ ap (λ b. (x.client == k) && (is_number x.remote s && b)) (stands-confirmed e.ledger x fits.ledger))
 
 all-unit : (es : List TableEntry) → AllByRecursion (λ _. Unit {0}) es

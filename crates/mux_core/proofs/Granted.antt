@@ -13,9 +13,9 @@ use Rattle.mux_history.specs.Requests.{Ask}
 use Rattle.mux_history.proofs.Bools.{same-number}
 use Rattle.mux_history.proofs.SameKeys.{is-key}
 use Rattle.mux_history.proofs.Finds.{find-no}
-use Rattle.conn_messages.specs.Keys.{with_port}
+use Rattle.conn_messages.specs.Keys.{key_with_port}
 use Rattle.forward_rules.specs.State.{Forward}
-use Rattle.forward_rules.specs.Step.{change_first_forward, is_asked_at}
+use Rattle.forward_rules.specs.Step.{change_first_forward, is_asked_with_key}
 use Rattle.forward_rules.specs.Stands.{AreForwardsListed, AreTwoPlaces, EachTwo, ForwardingFits, IsAwaited, Places}
 
 -- the one that was asked at this place by this client
@@ -27,10 +27,10 @@ abbrev pub granted : ℕ → ℕ → List ℕ → Forwarding → Forwarding
 granted k place rest g = elim (asks_at k place g) [ true ↦ record g { live = Some (bound g.key rest) } | false ↦ g ]
 
 abbrev pub is_granted : ℕ → Forward → Forward
-is_granted port f = record f { live = true; key = with_port port f.key }
+is_granted port f = record f { live = true; key = key_with_port port f.key }
 
 -- the key is the same
-pub same-bound : (key : Key) (rest : List ℕ) → with_port (u32_at 0 rest) key ≡ bound key rest
+pub same-bound : (key : Key) (rest : List ℕ) → key_with_port (u32_at 0 rest) key ≡ bound key rest
 same-bound (Tcp address port) rest = refl
 same-bound (Path path) rest = refl
 
@@ -46,7 +46,7 @@ none-is None h = refl
 none-is (Some n) h = absurd (cc)
 
 -- the key of the one that is granted is that of the request
-pub asked-key : (k place : ℕ) (key : Key) (own : Places) (f : Forward) (g : Forwarding) → ForwardingFits f g → IsAwaited own g → slice_get own.asked place ≡ Some (record { client = k; what = full.Forward key }) → (g.client == k) ≡ true → is_none g.live ≡ true → (g.request == place) ≡ true → is_asked_at k key f ≡ true
+pub asked-key : (k place : ℕ) (key : Key) (own : Places) (f : Forward) (g : Forwarding) → ForwardingFits f g → IsAwaited own g → slice_get own.asked place ≡ Some (record { client = k; what = full.Forward key }) → (g.client == k) ≡ true → is_none g.live ≡ true → (g.request == place) ≡ true → is_asked_with_key k key f ≡ true
 asked-key k place key own f g fits waits asked mine idle at =
     let none = none-is g.live idle in
     let here : slice_get own.asked place ≡ Some (record { client = g.client; what = full.Forward g.key }) = subst (λ i. slice_get own.asked i ≡ Some (record { client = g.client; what = full.Forward g.key })) (same-number g.request place at) (waits.asked none).1 in
@@ -99,7 +99,7 @@ before k place g (h ∷ hs) mine idle le two there = by_case (before k place g h
         late g.request place le h.request (right (is_none h.live) (h.request == place) rest) (two.0.asked (same-number g.client k mine ∙ sym (same-number h.client k client)) (none-is g.live idle) (none-is h.live (left (is_none h.live) (h.request == place) rest)))
     by_case ih false t = ih (sym (ap is_some (find-no (asks_at k place) h hs t)) ∙ there)
 
-pub granted-listed : (k place : ℕ) (rest : List ℕ) (key : Key) (own : Places) (fs : List Forward) (gs : List Forwarding) → AreForwardsListed fs gs → AllByRecursion (Waiting k own) gs → EachTwo gs → own.replied ≡ place → slice_get own.asked place ≡ Some (record { client = k; what = full.Forward key }) → is_some (find (asks_at k place) gs) ≡ true → AreForwardsListed (change_first_forward (is_asked_at k key) (is_granted (u32_at 0 rest)) fs) (map (granted k place rest) gs)
+pub granted-listed : (k place : ℕ) (rest : List ℕ) (key : Key) (own : Places) (fs : List Forward) (gs : List Forwarding) → AreForwardsListed fs gs → AllByRecursion (Waiting k own) gs → EachTwo gs → own.replied ≡ place → slice_get own.asked place ≡ Some (record { client = k; what = full.Forward key }) → is_some (find (asks_at k place) gs) ≡ true → AreForwardsListed (change_first_forward (is_asked_with_key k key) (is_granted (u32_at 0 rest)) fs) (map (granted k place rest) gs)
 granted-listed k place rest key own [] [] listed waits two at asked there = tt
 granted-listed k place rest key own [] (g ∷ gs) listed waits two at asked there = absurd listed
 granted-listed k place rest key own (f ∷ fs) [] listed waits two at asked there = absurd listed
@@ -108,16 +108,16 @@ granted-listed k place rest key own (f ∷ fs) (g ∷ gs) listed waits two at as
     passes : (b c d : Bool) → (g.client == k) ≡ b → is_none g.live ≡ c → (g.request == place) ≡ d → asks_at k place g ≡ (b && (c && d))
     passes b c d p q r = ap (λ x. x && (is_none g.live && (g.request == place))) p ∙ (ap (λ x. b && (x && (g.request == place))) q ∙ ap (λ x. b && (c && x)) r)
 
-    not-first : is_asked_at k key f ≡ false → asks_at k place g ≡ false → AreForwardsListed (change_first_forward (is_asked_at k key) (is_granted (u32_at 0 rest)) fs) (map (granted k place rest) gs) → AreForwardsListed (change_first_forward (is_asked_at k key) (is_granted (u32_at 0 rest)) (f ∷ fs)) (map (granted k place rest) (g ∷ gs))
+    not-first : is_asked_with_key k key f ≡ false → asks_at k place g ≡ false → AreForwardsListed (change_first_forward (is_asked_with_key k key) (is_granted (u32_at 0 rest)) fs) (map (granted k place rest) gs) → AreForwardsListed (change_first_forward (is_asked_with_key k key) (is_granted (u32_at 0 rest)) (f ∷ fs)) (map (granted k place rest) (g ∷ gs))
     not-first unasked miss tail =
-        subst (λ xs. AreForwardsListed xs (map (granted k place rest) (g ∷ gs))) (sym (ap (λ (b : Bool). elim b as (λ _. List Forward) [ true ↦ is_granted (u32_at 0 rest) f ∷ fs | false ↦ f ∷ change_first_forward (is_asked_at k key) (is_granted (u32_at 0 rest)) fs ]) unasked))
-        (subst (λ x. AreForwardsListed (f ∷ change_first_forward (is_asked_at k key) (is_granted (u32_at 0 rest)) fs) (x ∷ map (granted k place rest) gs)) (sym (ap (λ (b : Bool). elim b as (λ _. Forwarding) [ true ↦ record g { live = Some (bound g.key rest) } | false ↦ g ]) miss)) (listed.0, tail))
+        subst (λ xs. AreForwardsListed xs (map (granted k place rest) (g ∷ gs))) (sym (ap (λ (b : Bool). elim b as (λ _. List Forward) [ true ↦ is_granted (u32_at 0 rest) f ∷ fs | false ↦ f ∷ change_first_forward (is_asked_with_key k key) (is_granted (u32_at 0 rest)) fs ]) unasked))
+        (subst (λ x. AreForwardsListed (f ∷ change_first_forward (is_asked_with_key k key) (is_granted (u32_at 0 rest)) fs) (x ∷ map (granted k place rest) gs)) (sym (ap (λ (b : Bool). elim b as (λ _. Forwarding) [ true ↦ record g { live = Some (bound g.key rest) } | false ↦ g ]) miss)) (listed.0, tail))
 
-    by_case : (is_some (find (asks_at k place) gs) ≡ true → AreForwardsListed (change_first_forward (is_asked_at k key) (is_granted (u32_at 0 rest)) fs) (map (granted k place rest) gs)) → (b : Bool) → (g.client == k) ≡ b → (c : Bool) → is_none g.live ≡ c → (d : Bool) → (g.request == place) ≡ d → AreForwardsListed (change_first_forward (is_asked_at k key) (is_granted (u32_at 0 rest)) (f ∷ fs)) (map (granted k place rest) (g ∷ gs))
+    by_case : (is_some (find (asks_at k place) gs) ≡ true → AreForwardsListed (change_first_forward (is_asked_with_key k key) (is_granted (u32_at 0 rest)) fs) (map (granted k place rest) gs)) → (b : Bool) → (g.client == k) ≡ b → (c : Bool) → is_none g.live ≡ c → (d : Bool) → (g.request == place) ≡ d → AreForwardsListed (change_first_forward (is_asked_with_key k key) (is_granted (u32_at 0 rest)) (f ∷ fs)) (map (granted k place rest) (g ∷ gs))
     by_case ih true p true q true r =
-        subst (λ xs. AreForwardsListed xs (map (granted k place rest) (g ∷ gs))) (sym (ap (λ (b : Bool). elim b as (λ _. List Forward) [ true ↦ is_granted (u32_at 0 rest) f ∷ fs | false ↦ f ∷ change_first_forward (is_asked_at k key) (is_granted (u32_at 0 rest)) fs ]) (asked-key k place key own f g listed.0 (waits.0 p) asked p q r)))
+        subst (λ xs. AreForwardsListed xs (map (granted k place rest) (g ∷ gs))) (sym (ap (λ (b : Bool). elim b as (λ _. List Forward) [ true ↦ is_granted (u32_at 0 rest) f ∷ fs | false ↦ f ∷ change_first_forward (is_asked_with_key k key) (is_granted (u32_at 0 rest)) fs ]) (asked-key k place key own f g listed.0 (waits.0 p) asked p q r)))
         (subst (λ x. AreForwardsListed (is_granted (u32_at 0 rest) f ∷ fs) (x ∷ map (granted k place rest) gs)) (sym (ap (λ (b : Bool). elim b as (λ _. Forwarding) [ true ↦ record g { live = Some (bound g.key rest) } | false ↦ g ]) (passes true true true p q r)))
-        (record { client = listed.0.client; key = ap (with_port (u32_at 0 rest)) (listed.0.key ∙ ap (λ o. unwrap_or o g.key) (none-is g.live q)) ∙ same-bound g.key rest; live = refl; cancel = listed.0.cancel; on = listed.0.on }, subst (AreForwardsListed fs) (sym (later-none k place rest g gs p q r two.0)) listed.1))
+        (record { client = listed.0.client; key = ap (key_with_port (u32_at 0 rest)) (listed.0.key ∙ ap (λ o. unwrap_or o g.key) (none-is g.live q)) ∙ same-bound g.key rest; live = refl; cancel = listed.0.cancel; on = listed.0.on }, subst (AreForwardsListed fs) (sym (later-none k place rest g gs p q r two.0)) listed.1))
     by_case ih true p true q false r =
         let tail : is_some (find (asks_at k place) gs) ≡ true = sym (ap is_some (find-no (asks_at k place) g gs (passes true true false p q r))) ∙ there in
         absurd (before k place g gs p q (subst (λ n. n ≤ g.request) at ((waits.0 p).asked (none-is g.live q)).0) two.0 tail)

@@ -17,7 +17,7 @@ use Rattle.mux_history.proofs.Finds.{find-no, find-yes}
 use Rattle.mux_history.proofs.CurrentSteps.{is_on}
 use Rattle.mux_history.proofs.Sends.{and-left, and-right}
 use Rattle.forward_rules.specs.State.{Forward}
-use Rattle.forward_rules.specs.Step.{answered, change_first_forward, is_asked_at}
+use Rattle.forward_rules.specs.Step.{forward_answered, change_first_forward, is_asked_with_key}
 use Rattle.forward_rules.specs.Stands.{AreFit, AreTwoPlaces, HasAt, IsAwaited, Places}
 use Rattle.forward_rules.specs.Stands as stands
 use Rattle.mux_core.proofs.Alike.{AreAlike, StaysAt, alike-first, few-alike, has-map, order-alike, ranked-alike, two-map}
@@ -136,15 +136,15 @@ stays-at k j place later rest g past = record {
     joined : (a : ℕ) → (a == k) ≡ true → (a == j) ≡ true → (k == j) ≡ true
     joined a p q = grind (arith, nat_tests)
 
-    by_case : ((g.client == j) && stands.is_asked_at later g) ≡ true → (b : Bool) → asks_at k place g ≡ b → (((granted k place rest g).client == j) && stands.is_asked_at later (granted k place rest g)) ≡ true
+    by_case : ((g.client == j) && stands.request_waits_at later g) ≡ true → (b : Bool) → asks_at k place g ≡ b → (((granted k place rest g).client == j) && stands.request_waits_at later (granted k place rest g)) ≡ true
     by_case h true a =
         let client = joined g.client (and-left (g.client == k) _ a) (and-left (g.client == j) _ h) in
         let at = and-right (is_none g.live) (g.request == place) (and-right (g.client == k) _ a) in
         let then_ = and-right (is_none g.live) (g.request == later) (and-right (g.client == j) _ h) in
         absurd (clash g.request place later at then_ (past client))
-    by_case h false a = ap (λ (x : Forwarding). (x.client == j) && stands.is_asked_at later x) (granted-at k place rest g false a) ∙ h
+    by_case h false a = ap (λ (x : Forwarding). (x.client == j) && stands.request_waits_at later x) (granted-at k place rest g false a) ∙ h
 
-    by_leaving : ((g.client == j) && stands.is_leaving_at later g) ≡ true → (b : Bool) → (let x : Forwarding = elim b as (λ _. Forwarding) [ true ↦ record g { live = Some (bound g.key rest) } | false ↦ g ] in ((x.client == j) && stands.is_leaving_at later x) ≡ true)
+    by_leaving : ((g.client == j) && stands.cancel_waits_at later g) ≡ true → (b : Bool) → (let x : Forwarding = elim b as (λ _. Forwarding) [ true ↦ record g { live = Some (bound g.key rest) } | false ↦ g ] in ((x.client == j) && stands.cancel_waits_at later x) ≡ true)
     by_leaving h true = h
     by_leaving h false = h
 
@@ -165,7 +165,7 @@ waits-for k own (g ∷ gs) all = ((λ mine. own-of k own g mine all.0), waits-fo
 
 -- a forwarding was asked at the place of the reply
 pub asked-there : (k : ℕ) (key : Key) (fs : List Forward) (gs : List Forwarding) (own : ℕ → Places) (lost : ℕ → Bool) → AreFit fs gs own lost → lost k ≡ false → slice_get (own k).asked (own k).replied ≡ Some (record { client = k; what = full.Forward key }) → is_some (find (asks_at k (own k).replied) gs) ≡ true
-asked-there k key fs gs own lost fit here asked = find-passes (asks_at k (own k).replied) gs ∙ (sym (find-any (λ (g : Forwarding). g.client == k) (stands.is_asked_at (own k).replied) gs) ∙ fit.each k here (own k).replied (record { client = k; what = full.Forward key }) (omega arith) asked)
+asked-there k key fs gs own lost fit here asked = find-passes (asks_at k (own k).replied) gs ∙ (sym (find-any (λ (g : Forwarding). g.client == k) (stands.request_waits_at (own k).replied) gs) ∙ fit.each k here (own k).replied (record { client = k; what = full.Forward key }) (omega arith) asked)
 
 -- what has no reply afterwards had none before
 pub replied-sooner : (k j : ℕ) (own own' : ℕ → Places) → Replies k own own' → (k == j) ≡ true → (at : ℕ) → (own' j).replied ≤ at → (own k).replied < at
@@ -176,7 +176,7 @@ replied-sooner k j own own' next same at late =
 
 -- ---- all of it
 
-pub granted-fit : (k : ℕ) (rest : List ℕ) (key : Key) (fs : List Forward) (gs : List Forwarding) (own own' : ℕ → Places) (lost : ℕ → Bool) → AreFit fs gs own lost → Replies k own own' → lost k ≡ false → slice_get (own k).asked (own k).replied ≡ Some (record { client = k; what = full.Forward key }) → AreFit (answered k key (Some (u32_at 0 rest)) fs) (filter is_on (map (after k (own k).replied (Succeeds rest)) gs)) own' lost
+pub granted-fit : (k : ℕ) (rest : List ℕ) (key : Key) (fs : List Forward) (gs : List Forwarding) (own own' : ℕ → Places) (lost : ℕ → Bool) → AreFit fs gs own lost → Replies k own own' → lost k ≡ false → slice_get (own k).asked (own k).replied ≡ Some (record { client = k; what = full.Forward key }) → AreFit (forward_answered k key (Some (u32_at 0 rest)) fs) (filter is_on (map (after k (own k).replied (Succeeds rest)) gs)) own' lost
 granted-fit k rest key fs gs own own' lost fit next here asked =
     subst (λ hs. AreFit fs' hs own' lost) (sym (ap (filter is_on) (granted-all k place rest key own gs fit.awaited asked) ∙ on-all (map (granted k place rest) gs) (on-granted k place rest gs (on-listed fs gs fit.listed)))) (record {
       listed = granted-listed k place rest key (own k) fs gs fit.listed (waits-for k own gs fit.awaited) fit.two refl asked (asked-there k key fs gs own lost fit here asked);
@@ -192,7 +192,7 @@ granted-fit k rest key fs gs own own' lost fit next here asked =
     place = (own k).replied
 
     fs' : List Forward
-    fs' = change_first_forward (is_asked_at k key) (is_granted (u32_at 0 rest)) fs
+    fs' = change_first_forward (is_asked_with_key k key) (is_granted (u32_at 0 rest)) fs
 
-    alike : AreAlike fs (change_first_forward (is_asked_at k key) (is_granted (u32_at 0 rest)) fs)
-    alike = alike-first (is_asked_at k key) (is_granted (u32_at 0 rest)) (λ f. record { client = refl; cancel = refl }) fs
+    alike : AreAlike fs (change_first_forward (is_asked_with_key k key) (is_granted (u32_at 0 rest)) fs)
+    alike = alike-first (is_asked_with_key k key) (is_granted (u32_at 0 rest)) (λ f. record { client = refl; cancel = refl }) fs

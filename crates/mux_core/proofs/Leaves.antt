@@ -17,7 +17,7 @@ use Rattle.mux_history.specs.Forwardings.{Forwarding}
 use Rattle.mux_history.specs.Laws.{with_act}
 use Rattle.mux_history.proofs.Bools.{self}
 use Rattle.mux_history.proofs.Readings.{cancel-always, summary-always, summary-ok, reading-ok}
-use Rattle.client_teardown.specs.Laws.{left}
+use Rattle.client_teardown.specs.Laws.{channel_after_farewell}
 
 -- ---- a list of payloads
 
@@ -73,7 +73,7 @@ no-act s a x h = rw (ap (λ b. b && is_channel_held x) h, with_up) refl
 named : (x : Channel) (s : ℕ) → x.remote ≡ Some s → is_number x.remote s ≡ true
 named x s h = ap (λ o. is_number o s) h ∙ self s
 
-pub leave-own : (x : Channel) → HasSmall x → is_channel_held x ≡ true → (is_confirmed x ≡ true → is_none x.remote ≡ false) → (is_up x.by ≡ false → is_none x.remote ≡ false) → with_ups None (leave_channel x) x ≡ left x
+pub leave-own : (x : Channel) → HasSmall x → is_channel_held x ≡ true → (is_confirmed x ≡ true → is_none x.remote ≡ false) → (is_up x.by ≡ false → is_none x.remote ≡ false) → with_ups None (leave_channel x) x ≡ channel_after_farewell x
 leave-own x small held both open_ = by_confirmed (is_confirmed x) refl (any_by Up is_closes x.acts) (is_up x.by) refl x.remote refl
   where
     one : (s : ℕ) (a : Act) (p : List ℕ) → x.remote ≡ Some s → read_summary p ≡ Ok (Within s a) → with_ups None (p ∷ []) x ≡ with_act Up a x
@@ -121,7 +121,7 @@ none-of-them : (ys : List Channel) (x : Channel) → AllByRecursion Leaving ys �
 none-of-them [] x known differ = refl
 none-of-them (y ∷ ys) x known differ = ups-append (leave_channel y) (flat_map leave_channel ys) x ∙ (ap (with_ups None (flat_map leave_channel ys)) (leave-other y x known.0.small differ.0) ∙ none-of-them ys x known.1 differ.1)
 
-left-remote : (x : Channel) → (left x).remote ≡ x.remote
+left-remote : (x : Channel) → (channel_after_farewell x).remote ≡ x.remote
 left-remote x = by_confirmed (is_confirmed x) (any_by Up is_closes x.acts) (is_up x.by)
   where
     by_confirmed : (b c d : Bool) → (elim b as (λ _. Channel) [ true ↦ elim c as (λ _. Channel) [ true ↦ x | false ↦ with_act Up Closes x ] | false ↦ elim d as (λ _. Channel) [ true ↦ x | false ↦ with_act Up Fails x ] ]).remote ≡ x.remote
@@ -139,19 +139,19 @@ both-all P Q R each [] a b = tt
 both-all P Q R each (x ∷ xs) a b = (each x a.0 b.0, both-all P Q R each xs a.1 b.1)
 
 -- each of them is left by its own payload alone
-pub each-left : (ys : List Channel) → AllByRecursion Leaving ys → AllDiffer ys → AllByRecursion (λ x. with_ups None (flat_map leave_channel ys) x ≡ left x) ys
+pub each-left : (ys : List Channel) → AllByRecursion Leaving ys → AllDiffer ys → AllByRecursion (λ x. with_ups None (flat_map leave_channel ys) x ≡ channel_after_farewell x) ys
 each-left [] known differ = tt
-each-left (y ∷ ys) known differ = (first, both-all (λ x. Differ y x × Differ x y) (λ x. with_ups None (flat_map leave_channel ys) x ≡ left x) (λ x. with_ups None (flat_map leave_channel (y ∷ ys)) x ≡ left x) later ys differ.0 (each-left ys known.1 differ.1))
+each-left (y ∷ ys) known differ = (first, both-all (λ x. Differ y x × Differ x y) (λ x. with_ups None (flat_map leave_channel ys) x ≡ channel_after_farewell x) (λ x. with_ups None (flat_map leave_channel (y ∷ ys)) x ≡ channel_after_farewell x) later ys differ.0 (each-left ys known.1 differ.1))
   where
-    first : with_ups None (flat_map leave_channel (y ∷ ys)) y ≡ left y
+    first : with_ups None (flat_map leave_channel (y ∷ ys)) y ≡ channel_after_farewell y
     first =
         ups-append (leave_channel y) (flat_map leave_channel ys) y
         ∙ (ap (with_ups None (flat_map leave_channel ys)) (leave-own y known.0.small known.0.held known.0.both known.0.opened)
-        ∙ none-of-them ys (left y) known.1 (all-same (λ x. Differ y x × Differ x y) (λ x. Differ x (left y)) (λ x d s h. ap (λ o. is_number o s) (left-remote y) ∙ d.1 s h) ys differ.0))
+        ∙ none-of-them ys (channel_after_farewell y) known.1 (all-same (λ x. Differ y x × Differ x y) (λ x. Differ x (channel_after_farewell y)) (λ x d s h. ap (λ o. is_number o s) (left-remote y) ∙ d.1 s h) ys differ.0))
 
-    later : (x : Channel) → Differ y x × Differ x y → with_ups None (flat_map leave_channel ys) x ≡ left x → with_ups None (flat_map leave_channel (y ∷ ys)) x ≡ left x
+    later : (x : Channel) → Differ y x × Differ x y → with_ups None (flat_map leave_channel ys) x ≡ channel_after_farewell x → with_ups None (flat_map leave_channel (y ∷ ys)) x ≡ channel_after_farewell x
     later x d ih = ups-append (leave_channel y) (flat_map leave_channel ys) x ∙ (ap (with_ups None (flat_map leave_channel ys)) (leave-other y x known.0.small d.0) ∙ ih)
 
 -- with the cancels after
-pub all-left : (ys : List Channel) (gs : List Forwarding) → AllByRecursion Leaving ys → AllDiffer ys → AllByRecursion (λ x. with_ups None (flat_map leave_channel ys ++ flat_map leave_forwarding gs) x ≡ left x) ys
-all-left ys gs known differ = all-same (λ x. with_ups None (flat_map leave_channel ys) x ≡ left x) (λ x. with_ups None (flat_map leave_channel ys ++ flat_map leave_forwarding gs) x ≡ left x) (λ x h. ups-append (flat_map leave_channel ys) (flat_map leave_forwarding gs) x ∙ (cancels-none gs (with_ups None (flat_map leave_channel ys) x) ∙ h)) ys (each-left ys known differ)
+pub all-left : (ys : List Channel) (gs : List Forwarding) → AllByRecursion Leaving ys → AllDiffer ys → AllByRecursion (λ x. with_ups None (flat_map leave_channel ys ++ flat_map leave_forwarding gs) x ≡ channel_after_farewell x) ys
+all-left ys gs known differ = all-same (λ x. with_ups None (flat_map leave_channel ys) x ≡ channel_after_farewell x) (λ x. with_ups None (flat_map leave_channel ys ++ flat_map leave_forwarding gs) x ≡ channel_after_farewell x) (λ x h. ups-append (flat_map leave_channel ys) (flat_map leave_forwarding gs) x ∙ (cancels-none gs (with_ups None (flat_map leave_channel ys) x) ∙ h)) ys (each-left ys known differ)

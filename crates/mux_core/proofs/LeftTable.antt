@@ -6,8 +6,8 @@ use Rattle.ssh_grammar.specs.declared.side.Side.{Side}
 use Rattle.ssh_grammar.specs.declared.side.Side.TheVariants.{Up, Down}
 use Rattle.mux_history.specs.declared.limits.TheConstants.{NUMBERS_END}
 use Rattle.mux_history.specs.Channels.{Channel, is_number, is_up}
-use Rattle.window_ledger.specs.Stands.{confirmed}
-use Rattle.window_ledger.specs.Leaving.{is_account_over, sent_close}
+use Rattle.window_ledger.specs.Stands.{is_open_confirmed}
+use Rattle.window_ledger.specs.Leaving.{is_account_over, has_sent_close}
 use Rattle.window_ledger.specs.Leaving as account
 use Rattle.window_ledger.proofs.Leaves.{left-answered}
 use Rattle.channel_table.specs.declared.channel.Channel as table
@@ -26,7 +26,7 @@ use Rattle.mux_core.proofs.Leaves.{AllDiffer, Differ, Leaving}
 
 -- the entry with CLOSE sent, where it may be
 abbrev closing : TableEntry → TableEntry
-closing e = record e { ledger = account.left e.ledger }
+closing e = record e { ledger = account.ledger_after_close e.ledger }
 
 keeps-left : (k : ℕ) → KeepsNumbers (left_entry k)
 keeps-left k e = elim (e.channel.client == k) as (λ b. ((elim b as (λ _. TableEntry) [ true ↦ closing e | false ↦ e ]).number ≡ e.number) × ((elim b as (λ _. TableEntry) [ true ↦ closing e | false ↦ e ]).channel ≡ e.channel)) [ true ↦ (refl, refl) | false ↦ (refl, refl) ]
@@ -64,8 +64,8 @@ leaving-one : (e : TableEntry) (x : Channel) → EntryFits e x → is_whole e �
 leaving-one e x fits whole small = record {
   small = λ s h. small s (fits.remote ∙ h);
   held = fits.held;
-  both = λ h. ap is_none (sym fits.remote) ∙ some-number e.channel.remote (by_answered (confirmed e.ledger) e.channel.by (stands-confirmed e.ledger x fits.ledger ∙ h) whole);
-  opened = λ h. ap is_none (sym fits.remote) ∙ some-number e.channel.remote (by_opener (confirmed e.ledger) e.channel.by (ap is_up fits.by ∙ h) whole);
+  both = λ h. ap is_none (sym fits.remote) ∙ some-number e.channel.remote (by_answered (is_open_confirmed e.ledger) e.channel.by (stands-confirmed e.ledger x fits.ledger ∙ h) whole);
+  opened = λ h. ap is_none (sym fits.remote) ∙ some-number e.channel.remote (by_opener (is_open_confirmed e.ledger) e.channel.by (ap is_up fits.by ∙ h) whole);
 }
   where
     right : (a b : Bool) → (a && b) ≡ true → b ≡ true

@@ -11,13 +11,13 @@ use Rattle.mux_history.proofs.Bools.{same-number}
 use Rattle.mux_history.proofs.Finds.{filter-no, filter-yes}
 use Rattle.channel_table.specs.Entries.{TableEntry}
 use Rattle.forward_rules.specs.State.{Forward}
-use Rattle.forward_rules.specs.Step.{cancels, forward_count_of, is_leaving, is_of, forwards_without_client}
+use Rattle.forward_rules.specs.Step.{unanswered_cancels, forward_count_of, is_leaving, is_forward_of, forwards_without_client}
 use Rattle.forward_rules.specs.Stands.{AreFit, AreForwardingsInOrder, AreForwardsListed, AreTwoPlaces, EachHas, EachTwo, InOrderWith, IsAwaited, IsRanked, Places}
 use Rattle.client_teardown.specs.Leaving.{left_entries}
 use Rattle.client_teardown.specs.Laws.{left_channels}
-use Rattle.mux_core.specs.State.{MemberState, CoreState, is_served}
-use Rattle.mux_core.specs.Stands.{AreKnown, AreOnce, AsksFit, ClientFits, OwnRequests, Stands, TableFits, has_matters, is_member_known, look, unreplied_in}
-use Rattle.mux_core.specs.Settling.{has_left, settled}
+use Rattle.mux_core.specs.State.{MemberState, CoreState, is_member_served}
+use Rattle.mux_core.specs.Stands.{AreKnown, AreOnce, AsksFit, ClientFits, OwnRequests, CoreRepresents, TableFits, has_matters, is_member_known, look, unreplied_in}
+use Rattle.mux_core.specs.Settling.{has_left, client_settled}
 use Rattle.mux_core.specs.Losing.{lose, lost_clients, lost_core}
 use Rattle.mux_core.proofs.LeftTable.{all-left-in, client-left, left-table}
 use Rattle.mux_core.proofs.Served.{IsServed, open-by, served}
@@ -45,7 +45,7 @@ abbrev other : ℕ → Forwarding → Bool
 other k g = not (g.client == k)
 
 abbrev other_kept : ℕ → Forward → Bool
-other_kept k f = not (is_of k f)
+other_kept k f = not (is_forward_of k f)
 
 same-client : (k : ℕ) (f : Forward) (g : Forwarding) → f.client ≡ g.client → other_kept k f ≡ other k g
 same-client k f g h = ap (λ i. not (i == k)) h
@@ -102,13 +102,13 @@ two-without keep (g ∷ gs) two = by_case (two-without keep gs two.1) (keep g) r
 
 fewer : (j : ℕ) (keep : Forward → Bool) (fs : List Forward) → forward_count_of (filter keep fs) j ≤ forward_count_of fs j
 fewer j keep [] = omega arith
-fewer j keep (f ∷ fs) = by_case (fewer j keep fs) (keep f) refl (is_of j f) refl
+fewer j keep (f ∷ fs) = by_case (fewer j keep fs) (keep f) refl (is_forward_of j f) refl
   where
-    by_case : forward_count_of (filter keep fs) j ≤ forward_count_of fs j → (b : Bool) → keep f ≡ b → (c : Bool) → is_of j f ≡ c → forward_count_of (filter keep (f ∷ fs)) j ≤ forward_count_of (f ∷ fs) j
-    by_case ih true h true m = rw (filter-yes keep f fs h, filter-yes (is_of j) f (filter keep fs) m, filter-yes (is_of j) f fs m) (omega arith)
-    by_case ih true h false m = rw (filter-yes keep f fs h, filter-no (is_of j) f (filter keep fs) m, filter-no (is_of j) f fs m) (omega arith)
-    by_case ih false h true m = rw (filter-no keep f fs h, filter-yes (is_of j) f fs m) (omega arith)
-    by_case ih false h false m = rw (filter-no keep f fs h, filter-no (is_of j) f fs m) (omega arith)
+    by_case : forward_count_of (filter keep fs) j ≤ forward_count_of fs j → (b : Bool) → keep f ≡ b → (c : Bool) → is_forward_of j f ≡ c → forward_count_of (filter keep (f ∷ fs)) j ≤ forward_count_of (f ∷ fs) j
+    by_case ih true h true m = rw (filter-yes keep f fs h, filter-yes (is_forward_of j) f (filter keep fs) m, filter-yes (is_forward_of j) f fs m) (omega arith)
+    by_case ih true h false m = rw (filter-yes keep f fs h, filter-no (is_forward_of j) f (filter keep fs) m, filter-no (is_forward_of j) f fs m) (omega arith)
+    by_case ih false h true m = rw (filter-no keep f fs h, filter-yes (is_forward_of j) f fs m) (omega arith)
+    by_case ih false h false m = rw (filter-no keep f fs h, filter-no (is_forward_of j) f fs m) (omega arith)
 
 -- another client's are as they were
 others-stay : (k j : ℕ) → (k == j) ≡ false → (gs : List Forwarding) → filter (λ g. g.client == j) (filter (λ g. not (g.client == k)) gs) ≡ filter (λ g. g.client == j) gs
@@ -125,7 +125,7 @@ others-stay k j apart (g ∷ gs) = by_case (others-stay k j apart gs) (g.client 
     by_case ih false p false q = ap (filter (λ (h : Forwarding). h.client == j)) (filter-yes (other k) g gs (ap not q)) ∙ (filter-no (λ (h : Forwarding). h.client == j) g (filter (other k) gs) p ∙ (ih ∙ sym (filter-no (λ (h : Forwarding). h.client == j) g gs p)))
 
 -- no cancel of another client goes along
-same-cancels : (k j : ℕ) → (j == k) ≡ false → (fs : List Forward) → cancels j (forwards_without_client k fs) ≡ cancels j fs
+same-cancels : (k j : ℕ) → (j == k) ≡ false → (fs : List Forward) → unanswered_cancels j (forwards_without_client k fs) ≡ unanswered_cancels j fs
 same-cancels k j apart [] = refl
 same-cancels k j apart (f ∷ fs) = by_case (same-cancels k j apart fs) (f.client == k) refl (is_leaving j f) refl
   where
@@ -136,11 +136,11 @@ same-cancels k j apart (f ∷ fs) = by_case (same-cancels k j apart fs) (f.clien
     left true b e = refl
     left false b e = cc
 
-    by_case : cancels j (forwards_without_client k fs) ≡ cancels j fs → (b : Bool) → (f.client == k) ≡ b → (c : Bool) → is_leaving j f ≡ c → cancels j (forwards_without_client k (f ∷ fs)) ≡ cancels j (f ∷ fs)
+    by_case : unanswered_cancels j (forwards_without_client k fs) ≡ unanswered_cancels j fs → (b : Bool) → (f.client == k) ≡ b → (c : Bool) → is_leaving j f ≡ c → unanswered_cancels j (forwards_without_client k (f ∷ fs)) ≡ unanswered_cancels j (f ∷ fs)
     by_case ih true p true q = absurd (clash f.client (left (f.client == j) (is_some f.cancel) q) p apart)
-    by_case ih true p false q = ap (cancels j) (filter-no (other_kept k) f fs (ap not p)) ∙ (ih ∙ sym (ap length (filter-no (is_leaving j) f fs q)))
-    by_case ih false p true q = ap (cancels j) (filter-yes (other_kept k) f fs (ap not p)) ∙ (ap length (filter-yes (is_leaving j) f (forwards_without_client k fs) q) ∙ (ap suc ih ∙ sym (ap length (filter-yes (is_leaving j) f fs q))))
-    by_case ih false p false q = ap (cancels j) (filter-yes (other_kept k) f fs (ap not p)) ∙ (ap length (filter-no (is_leaving j) f (forwards_without_client k fs) q) ∙ (ih ∙ sym (ap length (filter-no (is_leaving j) f fs q))))
+    by_case ih true p false q = ap (unanswered_cancels j) (filter-no (other_kept k) f fs (ap not p)) ∙ (ih ∙ sym (ap length (filter-no (is_leaving j) f fs q)))
+    by_case ih false p true q = ap (unanswered_cancels j) (filter-yes (other_kept k) f fs (ap not p)) ∙ (ap length (filter-yes (is_leaving j) f (forwards_without_client k fs) q) ∙ (ap suc ih ∙ sym (ap length (filter-yes (is_leaving j) f fs q))))
+    by_case ih false p false q = ap (unanswered_cancels j) (filter-yes (other_kept k) f fs (ap not p)) ∙ (ap length (filter-no (is_leaving j) f (forwards_without_client k fs) q) ∙ (ih ∙ sym (ap length (filter-no (is_leaving j) f fs q))))
 
 ranked-without : (k : ℕ) (all fs : List Forward) → AllByRecursion (IsRanked all) fs → AllByRecursion (IsRanked (forwards_without_client k all)) (forwards_without_client k fs)
 ranked-without k all [] ranked = tt
@@ -156,7 +156,7 @@ forwards-lost k fs gs own own' lost lost' same gone others fit = record {
   in_order = order-without k fs gs fit.listed fit.in_order;
   awaited = all-filter (λ g. IsAwaited (own' g.client) g) (λ g. not (g.client == k)) gs (all-of (λ g. IsAwaited (own g.client) g) (λ g. IsAwaited (own' g.client) g) (λ g w. subst (λ p. IsAwaited p g) (sym (same g.client)) w) gs fit.awaited);
   two = two-without (λ g. not (g.client == k)) gs fit.two;
-  few = λ j. let a = fewer j (λ f. not (is_of k f)) fs in let b = fit.few j in omega arith;
+  few = λ j. let a = fewer j (λ f. not (is_forward_of k f)) fs in let b = fit.few j in omega arith;
   each = λ j here. by_mine j here (k == j) refl;
   ranked = ranked-without k fs fs fit.ranked;
 }
@@ -171,9 +171,9 @@ known-lost : (k j : ℕ) (cs : List MemberState) → is_member_known (lost_clien
 known-lost k j [] = refl
 known-lost k j (c ∷ cs) = ap (λ b. (c.number == j) || b) (known-lost k j cs)
 
-served-lost : (k j : ℕ) (cs : List MemberState) → (k == j) ≡ false → is_served (lost_clients k cs) j ≡ is_served cs j
+served-lost : (k j : ℕ) (cs : List MemberState) → (k == j) ≡ false → is_member_served (lost_clients k cs) j ≡ is_member_served cs j
 served-lost k j [] apart = refl
-served-lost k j (c ∷ cs) apart = ap (λ b. ((c.number == j) && not (c.lost || (c.number == k))) || b) (served-lost k j cs apart) ∙ ap (λ b. b || is_served cs j) (by_case (c.number == j) refl (c.number == k) refl)
+served-lost k j (c ∷ cs) apart = ap (λ b. ((c.number == j) && not (c.lost || (c.number == k))) || b) (served-lost k j cs apart) ∙ ap (λ b. b || is_member_served cs j) (by_case (c.number == j) refl (c.number == k) refl)
   where
     clash : (a : ℕ) → (a == j) ≡ true → (a == k) ≡ true → (k == j) ≡ false → ⊥
     clash a p q r = grind (arith, nat_tests)
@@ -241,13 +241,13 @@ loss-known s k known = record {
   forwards = each s.forwards known.forwards;
 }
   where
-    each : (fs : List Forward) → AllByRecursion (λ f. is_served s.clients f.client ≡ true) fs → AllByRecursion (λ f. is_served (lost_clients k s.clients) f.client ≡ true) (forwards_without_client k fs)
+    each : (fs : List Forward) → AllByRecursion (λ f. is_member_served s.clients f.client ≡ true) fs → AllByRecursion (λ f. is_member_served (lost_clients k s.clients) f.client ≡ true) (forwards_without_client k fs)
     each [] all = tt
     each (f ∷ fs) all = by_case (each fs all.1) (f.client == k) refl
       where
-        by_case : AllByRecursion (λ f. is_served (lost_clients k s.clients) f.client ≡ true) (forwards_without_client k fs) → (b : Bool) → (f.client == k) ≡ b → AllByRecursion (λ f. is_served (lost_clients k s.clients) f.client ≡ true) (forwards_without_client k (f ∷ fs))
-        by_case ih true h = subst (AllByRecursion (λ (f : Forward). is_served (lost_clients k s.clients) f.client ≡ true)) (sym (filter-no (other_kept k) f fs (ap not h))) ih
-        by_case ih false h = subst (AllByRecursion (λ (f : Forward). is_served (lost_clients k s.clients) f.client ≡ true)) (sym (filter-yes (other_kept k) f fs (ap not h))) (served-lost k f.client s.clients (turned f.client k h) ∙ all.0, ih)
+        by_case : AllByRecursion (λ f. is_member_served (lost_clients k s.clients) f.client ≡ true) (forwards_without_client k fs) → (b : Bool) → (f.client == k) ≡ b → AllByRecursion (λ f. is_member_served (lost_clients k s.clients) f.client ≡ true) (forwards_without_client k (f ∷ fs))
+        by_case ih true h = subst (AllByRecursion (λ (f : Forward). is_member_served (lost_clients k s.clients) f.client ≡ true)) (sym (filter-no (other_kept k) f fs (ap not h))) ih
+        by_case ih false h = subst (AllByRecursion (λ (f : Forward). is_member_served (lost_clients k s.clients) f.client ≡ true)) (sym (filter-yes (other_kept k) f fs (ap not h))) (served-lost k f.client s.clients (turned f.client k h) ∙ all.0, ih)
 
 elsewhere : (k : ℕ) (fs : List Forward) → AllByRecursion (λ f. (f.client == k) ≡ false) (forwards_without_client k fs)
 elsewhere k [] = tt
@@ -257,7 +257,7 @@ elsewhere k (f ∷ fs) = by_case (elsewhere k fs) (f.client == k) refl
     by_case ih true h = subst (AllByRecursion (λ (f : Forward). (f.client == k) ≡ false)) (sym (filter-no (other_kept k) f fs (ap not h))) ih
     by_case ih false h = subst (AllByRecursion (λ (f : Forward). (f.client == k) ≡ false)) (sym (filter-yes (other_kept k) f fs (ap not h))) (h, ih)
 
-pub loss-stands : (s : CoreState) (k : ℕ) (old new : List Row) → Stands s old → is_served s.clients k ≡ true → IsLoss k old new → Stands (settled (lost_core s k) k) new
+pub loss-stands : (s : CoreState) (k : ℕ) (old new : List Row) → CoreRepresents s old → is_member_served s.clients k ≡ true → IsLoss k old new → CoreRepresents (client_settled (lost_core s k) k) new
 loss-stands s k old new st serves loss =
     let channels = subst (TableFits (left_entries k s.channels)) (sym loss.held) (left-table k s.channels (held_of old) st.channels) in
     let asks : AsksFit s.asks (look new) = record {

@@ -8,7 +8,7 @@ use Rattle.mux_history.proofs.Sends.{and-left}
 use Rattle.channel_table.specs.declared.channel.Channel.{Channel}
 use Rattle.channel_table.specs.Entries.{TableEntry, admitted_at, changed_at, ledger_at, number_of_own, number_of_remote, with_ledger, entry_with_own, with_remote}
 use Rattle.mux_core.specs.State.{CoreState}
-use Rattle.mux_core.specs.Lookups.{awaits_answer, changed_if, if_waiting, own_is_used, uses_own, waiting_for, waiting_under}
+use Rattle.mux_core.specs.Lookups.{awaits_answer, changed_if, if_waiting, own_is_used, uses_own, open_waiting_for, waiting_under}
 use Rattle.mux_core.proofs.Confirms.{confirm_own, confirm_remote, own-then, remote-then}
 
 not-false : (b : Bool) → false ≡ not b → b ≡ true
@@ -29,7 +29,7 @@ same-pair : (x y : ℕ × Ledger) → Some x ≡ Some y → x ≡ y
 same-pair x y h = cc
 
 -- the client of an open that waits for it is the one that answers
-pub own-used : (es : List TableEntry) (k r n own : ℕ) (l : Ledger) → waiting_for es k r ≡ Some (n, l) → uses_own es n own ≡ is_some (number_of_own es k own)
+pub own-used : (es : List TableEntry) (k r n own : ℕ) (l : Ledger) → open_waiting_for es k r ≡ Some (n, l) → uses_own es n own ≡ is_some (number_of_own es k own)
 own-used es k r n own l found = by_number (number_of_remote es r) found
   where
     by_number : (o : Option ℕ) → waiting_under es k o ≡ Some (n, l) → uses_own es n own ≡ is_some (number_of_own es k own)

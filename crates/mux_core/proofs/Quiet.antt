@@ -2,9 +2,9 @@
 use Rattle.std.proofs.Common.{◌≡◌, ℕ, List, [], ◌∷◌, ◌++◌, length, true, false, Bool, refl, ◌∙◌, ap, append-nil}
 use Rattle.std.specs.Prelude.{◌==◌, ◌||◌, filter, not}
 use Rattle.mux_history.specs.Rows.{Row, rows_of, any_of, is_admit, is_lost, loses}
-use Rattle.mux_history.specs.Requests.{asks, asks_of, is_sent, replies, reply_in, sent_flags, wanted, wanted_by}
+use Rattle.mux_history.specs.Requests.{wanted_requests, asks_of, is_sent, replies, reply_in, sent_flags, wanted, wanted_by}
 use Rattle.mux_history.specs.Forwardings.{Forwarding, current, dropped, forwarded, forwardings_of}
-use Rattle.mux_history.specs.Log.{entered}
+use Rattle.mux_history.specs.Log.{admitted_clients}
 use Rattle.mux_isolation.specs.LogView.{waiting_left_of}
 use Rattle.mux_history.proofs.OwnRows.{idle_row, own_row}
 use Rattle.forward_rules.specs.Stands.{places_of}
@@ -39,7 +39,7 @@ own-same {A} f row rows same j = by_case (row.client == j) refl
     by_case false e = ap f (idle_row j row rows e)
 
 pub places-steady : (row : Row) → IsSteady row → (own : List Row) → places_of (row ∷ own) ≡ places_of own
-places-steady row q own = ap (λ us. record { asked = us; replied = length (replies own ++ reply_in row.item) }) (ap (λ us. asks own ++ us) q.asks ∙ append-nil (asks own)) ∙ ap (λ (rs : List (List ℕ)). record { asked = asks own; replied = length rs }) (ap (λ rs. replies own ++ rs) q.replies ∙ append-nil (replies own))
+places-steady row q own = ap (λ us. record { asked = us; replied = length (replies own ++ reply_in row.item) }) (ap (λ us. wanted_requests own ++ us) q.asks ∙ append-nil (wanted_requests own)) ∙ ap (λ (rs : List (List ℕ)). record { asked = wanted_requests own; replied = length rs }) (ap (λ rs. replies own ++ rs) q.replies ∙ append-nil (replies own))
 
 pub places-same : (row : Row) → IsQuiet row → (own : List Row) → places_of (row ∷ own) ≡ places_of own
 places-same row q own = places-steady row (steady row q) own
@@ -68,10 +68,10 @@ kept row fs e = rw (e, dropped) refl
 forwardings-same : (row : Row) (rows : List Row) → IsQuiet row → forwardings_of (row ∷ rows) ≡ forwardings_of rows
 forwardings-same row rows q = kept row (forwarded row (rows_of row.client rows) (forwardings_of rows)) q.keeps ∙ q.forwards (rows_of row.client rows) (forwardings_of rows)
 
-pub entered-steady : (row : Row) (rows : List Row) → IsSteady row → entered (row ∷ rows) ≡ entered rows
-entered-steady row rows q = ap (λ b. entered rows ++ elim b as (λ _. List ℕ) [ true ↦ row.client ∷ [] | false ↦ [] ]) q.admits ∙ append-nil (entered rows)
+pub entered-steady : (row : Row) (rows : List Row) → IsSteady row → admitted_clients (row ∷ rows) ≡ admitted_clients rows
+entered-steady row rows q = ap (λ b. admitted_clients rows ++ elim b as (λ _. List ℕ) [ true ↦ row.client ∷ [] | false ↦ [] ]) q.admits ∙ append-nil (admitted_clients rows)
 
-entered-same : (row : Row) (rows : List Row) → IsQuiet row → entered (row ∷ rows) ≡ entered rows
+entered-same : (row : Row) (rows : List Row) → IsQuiet row → admitted_clients (row ∷ rows) ≡ admitted_clients rows
 entered-same row rows q = entered-steady row rows (steady row q)
 
 -- what is looked up besides the channels stays

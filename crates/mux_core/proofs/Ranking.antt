@@ -14,7 +14,7 @@ use Rattle.mux_history.proofs.Bools.{same-number}
 use Rattle.mux_history.proofs.SameKeys.{is-key}
 use Rattle.mux_history.proofs.Sends.{and-left, and-right}
 use Rattle.forward_rules.specs.State.{Forward}
-use Rattle.forward_rules.specs.Step.{earlier, first_cancel, is_cancelled_at, is_leaving_at}
+use Rattle.forward_rules.specs.Step.{smaller_place, first_cancel, is_cancelled_at, is_leaving_with_key}
 use Rattle.forward_rules.specs.Stands.{AreForwardingsInOrder, AreForwardsListed, AreTwoPlaces, EachTwo, ForwardingFits, InOrderWith, IsAwaited, Places}
 use Rattle.mux_core.proofs.Pairs.{or-found}
 use Rattle.mux_core.proofs.Replied.{cancel-is, number-is, own-of}
@@ -162,7 +162,7 @@ AtLeast n None = Unit {0}
 AtLeast n (Some m) = n ≤ m
 
 -- the one that is meant is live with the key
-meant-key : (k place rank : ℕ) (key : Key) (own : ℕ → Places) (f : Forward) (g : Forwarding) → slice_get (own k).asked place ≡ Some (record { client = k; what = full.Cancel key }) → Known k place rank own f g → leaves_at k place g ≡ true → is_leaving_at k key f ≡ true
+meant-key : (k place rank : ℕ) (key : Key) (own : ℕ → Places) (f : Forward) (g : Forwarding) → slice_get (own k).asked place ≡ Some (record { client = k; what = full.Cancel key }) → Known k place rank own f g → leaves_at k place g ≡ true → is_leaving_with_key k key f ≡ true
 meant-key k place rank key own f g asked known at =
     ap (λ b. b && (is_some f.cancel && (f.live && is_key f.key key))) (ap (λ i. i == k) known.fits.client ∙ mine)
     ∙ (ap (λ o. is_some o && (f.live && is_key f.key key)) (known.sits.meets at)
@@ -186,7 +186,7 @@ lt-no a b c d h le = by_test (nat_lt c d) refl
     by_test true e = absurd (grind (arith, nat_tests))
     by_test false e = let u : nat_lt a b ≡ false = h ∙ e in grind (arith, nat_tests)
 
-not-lower : (k place rank : ℕ) (key : Key) (own : ℕ → Places) (f : Forward) (g : Forwarding) → (own k).replied ≡ place → Known k place rank own f g → is_leaving_at k key f ≡ true → AtLeast rank f.cancel
+not-lower : (k place rank : ℕ) (key : Key) (own : ℕ → Places) (f : Forward) (g : Forwarding) → (own k).replied ≡ place → Known k place rank own f g → is_leaving_with_key k key f ≡ true → AtLeast rank f.cancel
 not-lower k place rank key own f g at known leaves = by_cancel f.cancel refl g.cancel refl
   where
     mine : (g.client == k) ≡ true
@@ -199,50 +199,50 @@ not-lower k place rank key own f g at known leaves = by_cancel f.cancel refl g.c
         let late : place ≤ q = subst (λ n. n ≤ q) (ap (λ i. (own i).replied) (same-number g.client k mine) ∙ at) (known.waits.leaving q b).0 in
         lt-no r rank q place (known.sits.order r q (same-number g.client k mine) a b).0 late
 
-at-least : (n : ℕ) (a b : Option ℕ) → AtLeast n a → AtLeast n b → AtLeast n (earlier a b)
+at-least : (n : ℕ) (a b : Option ℕ) → AtLeast n a → AtLeast n b → AtLeast n (smaller_place a b)
 at-least n None b x y = y
 at-least n (Some a) None x y = x
 at-least n (Some a) (Some b) x y = grind arith
 
-first-at : (test : Forward → Bool) (f : Forward) (fs : List Forward) (b : Bool) → test f ≡ b → first_cancel test (f ∷ fs) ≡ elim b as (λ _. Option ℕ) [ true ↦ earlier f.cancel (first_cancel test fs) | false ↦ first_cancel test fs ]
-first-at test f fs b h = ap (λ (c : Bool). elim c as (λ _. Option ℕ) [ true ↦ earlier f.cancel (first_cancel test fs) | false ↦ first_cancel test fs ]) h
+first-at : (test : Forward → Bool) (f : Forward) (fs : List Forward) (b : Bool) → test f ≡ b → first_cancel test (f ∷ fs) ≡ elim b as (λ _. Option ℕ) [ true ↦ smaller_place f.cancel (first_cancel test fs) | false ↦ first_cancel test fs ]
+first-at test f fs b h = ap (λ (c : Bool). elim c as (λ _. Option ℕ) [ true ↦ smaller_place f.cancel (first_cancel test fs) | false ↦ first_cancel test fs ]) h
 
-none-lower : (k place rank : ℕ) (key : Key) (own : ℕ → Places) (fs : List Forward) (gs : List Forwarding) → (own k).replied ≡ place → AllPairs (Known k place rank own) fs gs → AtLeast rank (first_cancel (is_leaving_at k key) fs)
+none-lower : (k place rank : ℕ) (key : Key) (own : ℕ → Places) (fs : List Forward) (gs : List Forwarding) → (own k).replied ≡ place → AllPairs (Known k place rank own) fs gs → AtLeast rank (first_cancel (is_leaving_with_key k key) fs)
 none-lower k place rank key own [] gs at known = tt
 none-lower k place rank key own (f ∷ fs) [] at known = absurd known
-none-lower k place rank key own (f ∷ fs) (g ∷ gs) at known = by_test (none-lower k place rank key own fs gs at known.1) (is_leaving_at k key f) refl
+none-lower k place rank key own (f ∷ fs) (g ∷ gs) at known = by_test (none-lower k place rank key own fs gs at known.1) (is_leaving_with_key k key f) refl
   where
-    by_test : AtLeast rank (first_cancel (is_leaving_at k key) fs) → (b : Bool) → is_leaving_at k key f ≡ b → AtLeast rank (first_cancel (is_leaving_at k key) (f ∷ fs))
-    by_test ih true h = subst (AtLeast rank) (sym (first-at (is_leaving_at k key) f fs true h)) (at-least rank f.cancel (first_cancel (is_leaving_at k key) fs) (not-lower k place rank key own f g at known.0 h) ih)
-    by_test ih false h = subst (AtLeast rank) (sym (first-at (is_leaving_at k key) f fs false h)) ih
+    by_test : AtLeast rank (first_cancel (is_leaving_with_key k key) fs) → (b : Bool) → is_leaving_with_key k key f ≡ b → AtLeast rank (first_cancel (is_leaving_with_key k key) (f ∷ fs))
+    by_test ih true h = subst (AtLeast rank) (sym (first-at (is_leaving_with_key k key) f fs true h)) (at-least rank f.cancel (first_cancel (is_leaving_with_key k key) fs) (not-lower k place rank key own f g at known.0 h) ih)
+    by_test ih false h = subst (AtLeast rank) (sym (first-at (is_leaving_with_key k key) f fs false h)) ih
 
-first-is-low : (n : ℕ) (o : Option ℕ) → AtLeast n o → earlier (Some n) o ≡ Some n
+first-is-low : (n : ℕ) (o : Option ℕ) → AtLeast n o → smaller_place (Some n) o ≡ Some n
 first-is-low n None h = refl
 first-is-low n (Some m) h = ap (λ i. Some i) (low n m h)
   where
     low : (a b : ℕ) → a ≤ b → min a b ≡ a
     low a b h = grind arith
 
-second-is-low : (n : ℕ) (o : Option ℕ) → AtLeast n o → earlier o (Some n) ≡ Some n
+second-is-low : (n : ℕ) (o : Option ℕ) → AtLeast n o → smaller_place o (Some n) ≡ Some n
 second-is-low n None h = refl
 second-is-low n (Some m) h = ap (λ i. Some i) (low m n h)
   where
     low : (a b : ℕ) → b ≤ a → min a b ≡ b
     low a b h = grind arith
 
-pub first-is : (k place rank : ℕ) (key : Key) (own : ℕ → Places) (fs : List Forward) (gs : List Forwarding) → (own k).replied ≡ place → slice_get (own k).asked place ≡ Some (record { client = k; what = full.Cancel key }) → AllPairs (Known k place rank own) fs gs → any_of (leaves_at k place) gs ≡ true → first_cancel (is_leaving_at k key) fs ≡ Some rank
+pub first-is : (k place rank : ℕ) (key : Key) (own : ℕ → Places) (fs : List Forward) (gs : List Forwarding) → (own k).replied ≡ place → slice_get (own k).asked place ≡ Some (record { client = k; what = full.Cancel key }) → AllPairs (Known k place rank own) fs gs → any_of (leaves_at k place) gs ≡ true → first_cancel (is_leaving_with_key k key) fs ≡ Some rank
 first-is k place rank key own [] [] at asked known there = absurd (cc)
 first-is k place rank key own [] (g ∷ gs) at asked known there = absurd known
 first-is k place rank key own (f ∷ fs) [] at asked known there = absurd known
-first-is k place rank key own (f ∷ fs) (g ∷ gs) at asked known there = by_test (first-is k place rank key own fs gs at asked known.1) (leaves_at k place g) refl (is_leaving_at k key f) refl
+first-is k place rank key own (f ∷ fs) (g ∷ gs) at asked known there = by_test (first-is k place rank key own fs gs at asked known.1) (leaves_at k place g) refl (is_leaving_with_key k key f) refl
   where
-    by_test : (any_of (leaves_at k place) gs ≡ true → first_cancel (is_leaving_at k key) fs ≡ Some rank) → (b : Bool) → leaves_at k place g ≡ b → (t : Bool) → is_leaving_at k key f ≡ t → first_cancel (is_leaving_at k key) (f ∷ fs) ≡ Some rank
+    by_test : (any_of (leaves_at k place) gs ≡ true → first_cancel (is_leaving_with_key k key) fs ≡ Some rank) → (b : Bool) → leaves_at k place g ≡ b → (t : Bool) → is_leaving_with_key k key f ≡ t → first_cancel (is_leaving_with_key k key) (f ∷ fs) ≡ Some rank
     by_test ih true h t e =
-        first-at (is_leaving_at k key) f fs true (meant-key k place rank key own f g asked known.0 h)
-        ∙ (ap (λ o. earlier o (first_cancel (is_leaving_at k key) fs)) (known.0.sits.meets h)
-        ∙ first-is-low rank (first_cancel (is_leaving_at k key) fs) (none-lower k place rank key own fs gs at known.1))
+        first-at (is_leaving_with_key k key) f fs true (meant-key k place rank key own f g asked known.0 h)
+        ∙ (ap (λ o. smaller_place o (first_cancel (is_leaving_with_key k key) fs)) (known.0.sits.meets h)
+        ∙ first-is-low rank (first_cancel (is_leaving_with_key k key) fs) (none-lower k place rank key own fs gs at known.1))
     by_test ih false h true e =
-        first-at (is_leaving_at k key) f fs true e
-        ∙ (ap (earlier f.cancel) (ih (or-found (leaves_at k place g) (any_of (leaves_at k place) gs) there h))
+        first-at (is_leaving_with_key k key) f fs true e
+        ∙ (ap (smaller_place f.cancel) (ih (or-found (leaves_at k place g) (any_of (leaves_at k place) gs) there h))
         ∙ second-is-low rank f.cancel (not-lower k place rank key own f g at known.0 e))
-    by_test ih false h false e = first-at (is_leaving_at k key) f fs false e ∙ ih (or-found (leaves_at k place g) (any_of (leaves_at k place) gs) there h)
+    by_test ih false h false e = first-at (is_leaving_with_key k key) f fs false e ∙ ih (or-found (leaves_at k place g) (any_of (leaves_at k place) gs) there h)

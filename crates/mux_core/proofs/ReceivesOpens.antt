@@ -20,12 +20,12 @@ use Rattle.mux_history.specs.Rows.{Heard, Row, rows_of}
 use Rattle.mux_history.specs.Channels.{Channel, after_item, held_of, is_channel_held, is_number, opened_down, with_down}
 use Rattle.mux_history.specs.Heard.{dest, for_client, for_lost, received_for, received_master}
 use Rattle.mux_history.specs.Pending.{joined}
-use Rattle.mux_history.specs.Said.{Outcome, sends, records}
-use Rattle.mux_history.specs.Treat.{all_recorded, bare}
+use Rattle.mux_history.specs.Said.{Outcome, sends_payload, records}
+use Rattle.mux_history.specs.Treat.{all_recorded, bare_row}
 use Rattle.mux_history.proofs.Bools.{same-number}
 use Rattle.mux_history.proofs.Readings.{summary-ok, reading-ok}
 use Rattle.window_ledger.specs.declared.ledger.Ledger.{Ledger}
-use Rattle.window_ledger.specs.Stands.{IsSideBegun, confirmed}
+use Rattle.window_ledger.specs.Stands.{IsSideBegun, is_open_confirmed}
 use Rattle.window_ledger.specs.Stands as ledger
 use Rattle.channel_table.specs.Entries.{TableEntry}
 use Rattle.channel_table.specs.Entries.{AreTwo, IsNumberFree, channel_count_of, full_refusal, has_remote, is_at, number_of_remote, remote_entry, remote_refusal, unless, unless_held}
@@ -33,7 +33,7 @@ use Rattle.channel_table.specs.declared.channel.Refused.TheVariants as refused
 use Rattle.channel_table.specs.Stands.{ChannelsFit, EntryFits}
 use Rattle.mux_core.specs.declared.heard.Delivery.TheVariants as heard
 use Rattle.mux_core.specs.State.{CoreState}
-use Rattle.mux_core.specs.Stands.{HasSmall, Stands, has_numbers, is_member_known, is_whole, look}
+use Rattle.mux_core.specs.Stands.{HasSmall, CoreRepresents, has_numbers, is_member_known, is_whole, look}
 use Rattle.mux_core.specs.Opening.{owner_for}
 use Rattle.mux_core.specs.Calls.{ReceivesAs, ReceivesClient, ReceivesMaster}
 use Rattle.mux_core.proofs.Apart.{none-pass}
@@ -50,7 +50,7 @@ use Rattle.mux_core.proofs.Silent.{records-nothing}
 
 -- ---- the number is in use
 
-pub open-used : (s new : CoreState) (r w m : ℕ) (what : Opens) (p p' : List ℕ) (up : QueueState) (rows : List Row) → Stands s rows → is_some (number_of_remote s.channels r) ≡ true → read_summary p ≡ Ok (Open what r w m) → ReceivesAs new p p' up up (heard.Broke (broke.NumberInUse r)) rows (dest rows p)
+pub open-used : (s new : CoreState) (r w m : ℕ) (what : Opens) (p p' : List ℕ) (up : QueueState) (rows : List Row) → CoreRepresents s rows → is_some (number_of_remote s.channels r) ≡ true → read_summary p ≡ Ok (Open what r w m) → ReceivesAs new p p' up up (heard.Broke (broke.NumberInUse r)) rows (dest rows p)
 open-used s new r w m what p p' up rows st used e = by_live (is-live s r rows st used)
   where
     by_live : IsLive rows r → ReceivesAs new p p' up up (heard.Broke (broke.NumberInUse r)) rows (dest rows p)
@@ -58,33 +58,33 @@ open-used s new r w m what p p' up rows st used e = by_live (is-live s r rows st
 
 -- ---- for no client: the master answers
 
-pub open-refused : (s : CoreState) (r w m : ℕ) (what : Opens) (p p' : List ℕ) (up up' : QueueState) (rows : List Row) → Stands s rows → is_some (number_of_remote s.channels r) ≡ false → owner_for what s.forwards ≡ None → read_summary p ≡ Ok (Open what r w m) → read_summary (open_failure r ADMINISTRATIVELY_PROHIBITED not_permitted) ≡ Ok (Within r Fails) → up'.waiting ≡ up.waiting ++ frame_payload (open_failure r ADMINISTRATIVELY_PROHIBITED not_permitted) → ReceivesAs s p p' up up' heard.Master rows (dest rows p)
+pub open-refused : (s : CoreState) (r w m : ℕ) (what : Opens) (p p' : List ℕ) (up up' : QueueState) (rows : List Row) → CoreRepresents s rows → is_some (number_of_remote s.channels r) ≡ false → owner_for what s.forwards ≡ None → read_summary p ≡ Ok (Open what r w m) → read_summary (open_failure r ADMINISTRATIVELY_PROHIBITED not_permitted) ≡ Ok (Within r Fails) → up'.waiting ≡ up.waiting ++ frame_payload (open_failure r ADMINISTRATIVELY_PROHIBITED not_permitted) → ReceivesAs s p p' up up' heard.Master rows (dest rows p)
 open-refused s r w m what p p' up up' rows st free nobody e f sent =
     let none = is-free s.channels r free in
     let q : List ℕ = open_failure r ADMINISTRATIVELY_PROHIBITED not_permitted in
-    let outcome : received_master p ≡ sends (open_failure r ADMINISTRATIVELY_PROHIBITED not_permitted) = rw (e, received_master) refl in
-    let stands : Stands s (bare (Heard p) 0 (sends (open_failure r ADMINISTRATIVELY_PROHIBITED not_permitted)) ∷ rows) = unchanged-stands s (bare (Heard p) 0 (sends (open_failure r ADMINISTRATIVELY_PROHIBITED not_permitted))) rows st (quiet-opened 0 r w m what p (sends (open_failure r ADMINISTRATIVELY_PROHIBITED not_permitted)) e refl) (failed-held s 0 r w m what p (open_failure r ADMINISTRATIVELY_PROHIBITED not_permitted) rows st none e f) in
+    let outcome : received_master p ≡ sends_payload (open_failure r ADMINISTRATIVELY_PROHIBITED not_permitted) = rw (e, received_master) refl in
+    let stands : CoreRepresents s (bare_row (Heard p) 0 (sends_payload (open_failure r ADMINISTRATIVELY_PROHIBITED not_permitted)) ∷ rows) = unchanged-stands s (bare_row (Heard p) 0 (sends_payload (open_failure r ADMINISTRATIVELY_PROHIBITED not_permitted))) rows st (quiet-opened 0 r w m what p (sends_payload (open_failure r ADMINISTRATIVELY_PROHIBITED not_permitted)) e refl) (failed-held s 0 r w m what p (open_failure r ADMINISTRATIVELY_PROHIBITED not_permitted) rows st none e f) in
     let master : ReceivesMaster s p up up' heard.Master rows = record {
       sent = sent ∙ (ap (λ ys. up.waiting ++ ys) (sym (append-nil (frame_payload (open_failure r ADMINISTRATIVELY_PROHIBITED not_permitted)))) ∙ sym (ap (λ (o : Outcome). up.waiting ++ joined (map frame_payload o.sent)) outcome));
       to = refl;
-      stands = subst (λ o. Stands s (bare (Heard p) 0 o ∷ rows)) (sym outcome) stands;
+      stands = subst (λ o. CoreRepresents s (bare_row (Heard p) 0 o ∷ rows)) (sym outcome) stands;
     } in
     subst (ReceivesAs s p p' up up' heard.Master rows) (sym (dest-opened s r w m what p rows st e (none-live s r rows st none) ∙ ap to nobody)) master
 
 -- ---- 256 channels are there
 
-pub open-full : (s : CoreState) (k r w m : ℕ) (what : Opens) (p p' : List ℕ) (up up' : QueueState) (rows : List Row) → Stands s rows → is_some (number_of_remote s.channels r) ≡ false → owner_for what s.forwards ≡ Some k → nat_lt (channel_count_of s.channels k) MAX_CHANNELS ≡ false → read_summary p ≡ Ok (Open what r w m) → read_summary (open_failure r RESOURCE_SHORTAGE too_many_channels) ≡ Ok (Within r Fails) → up'.waiting ≡ up.waiting ++ frame_payload (open_failure r RESOURCE_SHORTAGE too_many_channels) → ReceivesAs s p p' up up' heard.Master rows (dest rows p)
+pub open-full : (s : CoreState) (k r w m : ℕ) (what : Opens) (p p' : List ℕ) (up up' : QueueState) (rows : List Row) → CoreRepresents s rows → is_some (number_of_remote s.channels r) ≡ false → owner_for what s.forwards ≡ Some k → nat_lt (channel_count_of s.channels k) MAX_CHANNELS ≡ false → read_summary p ≡ Ok (Open what r w m) → read_summary (open_failure r RESOURCE_SHORTAGE too_many_channels) ≡ Ok (Within r Fails) → up'.waiting ≡ up.waiting ++ frame_payload (open_failure r RESOURCE_SHORTAGE too_many_channels) → ReceivesAs s p p' up up' heard.Master rows (dest rows p)
 open-full s k r w m what p p' up up' rows st free owner full e f sent =
     let none = is-free s.channels r free in
     let is : IsServed k (look rows) = served (look rows) k s.clients st.clients.each (owned s k what rows st owner) in
-    let outcome : received_for (rows_of k rows) p ≡ sends (open_failure r RESOURCE_SHORTAGE too_many_channels) = rw (e, received_for) (ap (λ (b : Bool). elim b as (λ _. Outcome) [ true ↦ for_lost (rows_of k rows) (Open what r w m) | false ↦ for_client (rows_of k rows) p (Open what r w m) ]) is.here ∙ ap (λ (b : Bool). elim b as (λ _. Outcome) [ true ↦ records (frame_payload p) | false ↦ sends (open_failure r RESOURCE_SHORTAGE too_many_channels) ]) (ap (λ n. nat_lt n MAX_CHANNELS) (own-count s k rows st) ∙ full)) in
-    let quiet = quiet-opened k r w m what p (sends (open_failure r RESOURCE_SHORTAGE too_many_channels)) e refl in
-    let stands : Stands s (bare (Heard p) k (sends (open_failure r RESOURCE_SHORTAGE too_many_channels)) ∷ rows) = unchanged-stands s (bare (Heard p) k (sends (open_failure r RESOURCE_SHORTAGE too_many_channels))) rows st quiet (failed-held s k r w m what p (open_failure r RESOURCE_SHORTAGE too_many_channels) rows st none e f) in
+    let outcome : received_for (rows_of k rows) p ≡ sends_payload (open_failure r RESOURCE_SHORTAGE too_many_channels) = rw (e, received_for) (ap (λ (b : Bool). elim b as (λ _. Outcome) [ true ↦ for_lost (rows_of k rows) (Open what r w m) | false ↦ for_client (rows_of k rows) p (Open what r w m) ]) is.here ∙ ap (λ (b : Bool). elim b as (λ _. Outcome) [ true ↦ records (frame_payload p) | false ↦ sends_payload (open_failure r RESOURCE_SHORTAGE too_many_channels) ]) (ap (λ n. nat_lt n MAX_CHANNELS) (own-count s k rows st) ∙ full)) in
+    let quiet = quiet-opened k r w m what p (sends_payload (open_failure r RESOURCE_SHORTAGE too_many_channels)) e refl in
+    let stands : CoreRepresents s (bare_row (Heard p) k (sends_payload (open_failure r RESOURCE_SHORTAGE too_many_channels)) ∷ rows) = unchanged-stands s (bare_row (Heard p) k (sends_payload (open_failure r RESOURCE_SHORTAGE too_many_channels))) rows st quiet (failed-held s k r w m what p (open_failure r RESOURCE_SHORTAGE too_many_channels) rows st none e f) in
     let recorded : ReceivesClient s k p p' up up' heard.Master rows = record {
       sent = sent ∙ (ap (λ ys. up.waiting ++ ys) (sym (append-nil (frame_payload (open_failure r RESOURCE_SHORTAGE too_many_channels)))) ∙ sym (ap (λ (o : Outcome). up.waiting ++ joined (map frame_payload o.sent)) outcome));
       to = is.here;
-      recorded = ap (λ (o : Outcome). all_recorded (bare (Heard p) k o) (rows_of k rows)) outcome ∙ records-nothing (bare (Heard p) k (sends (open_failure r RESOURCE_SHORTAGE too_many_channels))) quiet refl (rows_of k rows);
-      stands = subst (λ o. Stands s (bare (Heard p) k o ∷ rows)) (sym outcome) stands;
+      recorded = ap (λ (o : Outcome). all_recorded (bare_row (Heard p) k o) (rows_of k rows)) outcome ∙ records-nothing (bare_row (Heard p) k (sends_payload (open_failure r RESOURCE_SHORTAGE too_many_channels))) quiet refl (rows_of k rows);
+      stands = subst (λ o. CoreRepresents s (bare_row (Heard p) k o ∷ rows)) (sym outcome) stands;
     } in
     subst (ReceivesAs s p p' up up' heard.Master rows) (sym (dest-opened s r w m what p rows st e (none-live s r rows st none) ∙ ap to owner)) recorded
 
@@ -120,7 +120,7 @@ opened-held k r w m what p rows nonzero e =
         ap (λ y. elim (x.client == k) as (λ _. Channel) [ true ↦ y | false ↦ x ]) (reading-ok p (Open what r w m) (λ g. with_down g x) x e)
         ∙ (elim (x.client == k) as (λ b. (elim b as (λ _. Channel) [ true ↦ x | false ↦ x ]) ≡ x) [ true ↦ refl | false ↦ refl ])
 
-pub open-given : (s new : CoreState) (k n r w m : ℕ) (what : Opens) (p : List ℕ) (l : Ledger) (up : QueueState) (rows : List Row) → Stands s rows → is_some (number_of_remote s.channels r) ≡ false → owner_for what s.forwards ≡ Some k → nat_lt (channel_count_of s.channels k) MAX_CHANNELS ≡ true → r < 4294967296 → IsNumberFree s.channels n → confirmed l ≡ false → ((x : Channel) → IsSideBegun Down w m x → ledger.Stands l x) → new ≡ record s { channels = s.channels ++ remote_entry n k r l ∷ [] } → read_summary p ≡ Ok (Open what r w m) → ReceivesAs new p p up up (heard.Client k 0) rows (dest rows p)
+pub open-given : (s new : CoreState) (k n r w m : ℕ) (what : Opens) (p : List ℕ) (l : Ledger) (up : QueueState) (rows : List Row) → CoreRepresents s rows → is_some (number_of_remote s.channels r) ≡ false → owner_for what s.forwards ≡ Some k → nat_lt (channel_count_of s.channels k) MAX_CHANNELS ≡ true → r < 4294967296 → IsNumberFree s.channels n → is_open_confirmed l ≡ false → ((x : Channel) → IsSideBegun Down w m x → ledger.LedgerRepresents l x) → new ≡ record s { channels = s.channels ++ remote_entry n k r l ∷ [] } → read_summary p ≡ Ok (Open what r w m) → ReceivesAs new p p up up (heard.Client k 0) rows (dest rows p)
 open-given s new k n r w m what p l up rows st free owner room small fresh waits begins after e =
     let none = is-free s.channels r free in
     let serves = owned s k what rows st owner in
@@ -129,7 +129,7 @@ open-given s new k n r w m what p l up rows st free owner room small fresh waits
     let fits : EntryFits (remote_entry n k r l) (record { client = k; by = Down; own = None; number = None; remote = Some r; window = w; maximum = m; acts = [] }) = record { client = refl; by = refl; own = refl; number = refl; remote = refl; ledger = begins _ (record { opener = refl; first = refl; longest = refl; fresh = refl }); held = refl } in
     delivers-row s new k p p (Open what r w m) (s.channels ++ remote_entry n k r l ∷ []) up rows st serves e (quiet-opened k r w m what p (records (frame_payload p)) e refl)
     (dest-opened s r w m what p rows st e (none-live s r rows st none) ∙ ap to owner)
-    (ap (λ (b : Bool). elim b as (λ _. Outcome) [ true ↦ records (frame_payload p) | false ↦ sends (open_failure r RESOURCE_SHORTAGE too_many_channels) ]) (ap (λ i. nat_lt i MAX_CHANNELS) (own-count s k rows st) ∙ room))
+    (ap (λ (b : Bool). elim b as (λ _. Outcome) [ true ↦ records (frame_payload p) | false ↦ sends_payload (open_failure r RESOURCE_SHORTAGE too_many_channels) ]) (ap (λ i. nat_lt i MAX_CHANNELS) (own-count s k rows st) ∙ room))
     (record {
       fit = subst (ChannelsFit (s.channels ++ remote_entry n k r l ∷ [])) (sym (opened-held k r w m what p rows (not-zero k is.nonzero) e)) (more-fit (remote_entry n k r l) _ fits s.channels (held_of rows) st.channels.fit);
       apart = apart-append (remote_entry n k r l) s.channels st.channels.apart (two-remote s.channels n k r l (none-pass (is_at n) s.channels fresh.unused) (none-pass (has_remote r) s.channels none));

@@ -10,8 +10,8 @@ use Rattle.mux_history.specs.Rows.{Heard, Row, any_of, is_admit, is_lost, rows_o
 use Rattle.mux_history.specs.Channels.{Channel, held_of, is_channel_held, with_ups}
 use Rattle.mux_history.specs.Farewell.{has_open_matters}
 use Rattle.mux_history.specs.Forwardings.{Forwarding, current}
-use Rattle.mux_history.specs.Log.{entered}
-use Rattle.mux_history.specs.Requests.{Ask, asks, replies, reply_in, wanted}
+use Rattle.mux_history.specs.Log.{admitted_clients}
+use Rattle.mux_history.specs.Requests.{Ask, wanted_requests, replies, reply_in, wanted}
 use Rattle.mux_history.proofs.Bools.{same-number}
 use Rattle.mux_history.proofs.CurrentSteps.{is_on}
 use Rattle.mux_history.proofs.OwnRows.{idle_row, own_row}
@@ -20,9 +20,9 @@ use Rattle.global_replies.specs.Replies.{after_reply}
 use Rattle.forward_rules.specs.State as kept
 use Rattle.forward_rules.specs.Stands.{AreFit, AreForwardsListed}
 use Rattle.channel_table.specs.Entries.{TableEntry}
-use Rattle.mux_core.specs.State.{MemberState, CoreState, is_served}
-use Rattle.mux_core.specs.Stands.{AsksFit, ClientFits, Stands, TableFits, has_matters, is_member_known, look}
-use Rattle.mux_core.specs.Settling.{has_left, is_lost_in, settled}
+use Rattle.mux_core.specs.State.{MemberState, CoreState, is_member_served}
+use Rattle.mux_core.specs.Stands.{AsksFit, ClientFits, CoreRepresents, TableFits, has_matters, is_member_known, look}
+use Rattle.mux_core.specs.Settling.{has_left, is_lost_in, client_settled}
 use Rattle.mux_core.proofs.Answering.{Waits, asks-replied, replied-waits}
 use Rattle.mux_core.proofs.Quiet.{own-same}
 use Rattle.mux_core.proofs.Refused.{known-same, length-same, numbers-same, once-same, served-same}
@@ -36,14 +36,14 @@ use Rattle.mux_core.proofs.Waiting.{changes, changes-at}
 
 -- ---- to a client that is served
 
-waits-next : (k : ℕ) (p : List ℕ) (m : Summary) (sent : List (List ℕ)) (own : List Row) (w : List Bool) → IsReply p m → Waits (wanted own) (replies own) w → length (replies own) < length (asks own) → Waits (wanted (reply_row k p sent ∷ own)) (replies (reply_row k p sent ∷ own)) (after_reply w)
+waits-next : (k : ℕ) (p : List ℕ) (m : Summary) (sent : List (List ℕ)) (own : List Row) (w : List Bool) → IsReply p m → Waits (wanted own) (replies own) w → length (replies own) < length (wanted_requests own) → Waits (wanted (reply_row k p sent ∷ own)) (replies (reply_row k p sent ∷ own)) (after_reply w)
 waits-next k p m sent own w is h lt =
     let s = waits-start own w h lt in
     subst (λ v. Waits (wanted (reply_row k p sent ∷ own)) (replies (reply_row k p sent ∷ own)) (after_reply v)) (sym s.is)
     (ap (λ fs. waiting_left_of fs (replies own ++ reply_in (Heard p))) (append-nil (wanted own))
     ∙ (ap (λ rs. waiting_left_of (wanted own) (replies own ++ rs)) (came p m is) ∙ replied-waits (wanted own) (replies own) s.later p (subst (Waits (wanted own) (replies own)) s.is h)))
 
-client-next : (k : ℕ) (p : List ℕ) (m : Summary) (sent : List (List ℕ)) (rows : List Row) (c : MemberState) → IsReply p m → length (replies (rows_of k rows)) < length (asks (rows_of k rows)) → ClientFits (look rows) c → ClientFits (look (reply_row k p sent ∷ rows)) (changes k after_reply c)
+client-next : (k : ℕ) (p : List ℕ) (m : Summary) (sent : List (List ℕ)) (rows : List Row) (c : MemberState) → IsReply p m → length (replies (rows_of k rows)) < length (wanted_requests (rows_of k rows)) → ClientFits (look rows) c → ClientFits (look (reply_row k p sent ∷ rows)) (changes k after_reply c)
 client-next k p m sent rows c is lt fits = by_number (c.number == k) refl (k == c.number) refl
   where
     after-own : (j : ℕ) → (k == j) ≡ true → rows_of j (reply_row k p sent ∷ rows) ≡ reply_row k p sent ∷ rows_of j rows
@@ -57,7 +57,7 @@ client-next k p m sent rows c is lt fits = by_number (c.number == k) refl (k == 
       nonzero = fits.nonzero;
       admitted = ap (any_of is_admit) (after-own c.number g) ∙ fits.admitted;
       lost = fits.lost ∙ sym (ap is_lost (after-own c.number g));
-      answers = λ here. ap (λ own. waiting_left_of (wanted own) (replies own)) (after-own c.number g) ∙ waits-next k p m sent (rows_of c.number rows) c.waiting is (fits.answers here) (subst (λ i. length (replies (rows_of i rows)) < length (asks (rows_of i rows))) (same-number k c.number g) lt);
+      answers = λ here. ap (λ own. waiting_left_of (wanted own) (replies own)) (after-own c.number g) ∙ waits-next k p m sent (rows_of c.number rows) c.waiting is (fits.answers here) (subst (λ i. length (replies (rows_of i rows)) < length (wanted_requests (rows_of i rows))) (same-number k c.number g) lt);
     })
     by_number false h false g = subst (ClientFits (look (reply_row k p sent ∷ rows))) (sym (changes-at k after_reply c false h)) (record {
       nonzero = fits.nonzero;
@@ -68,7 +68,7 @@ client-next k p m sent rows c is lt fits = by_number (c.number == k) refl (k == 
     by_number true h false g = absurd (clash c.number k h g)
     by_number false h true g = absurd (clash k c.number g h)
 
-clients-next : (k : ℕ) (p : List ℕ) (m : Summary) (sent : List (List ℕ)) (rows : List Row) (cs : List MemberState) → IsReply p m → length (replies (rows_of k rows)) < length (asks (rows_of k rows)) → AllByRecursion (ClientFits (look rows)) cs → AllByRecursion (ClientFits (look (reply_row k p sent ∷ rows))) (map (changes k after_reply) cs)
+clients-next : (k : ℕ) (p : List ℕ) (m : Summary) (sent : List (List ℕ)) (rows : List Row) (cs : List MemberState) → IsReply p m → length (replies (rows_of k rows)) < length (wanted_requests (rows_of k rows)) → AllByRecursion (ClientFits (look rows)) cs → AllByRecursion (ClientFits (look (reply_row k p sent ∷ rows))) (map (changes k after_reply) cs)
 clients-next k p m sent rows [] is lt all = tt
 clients-next k p m sent rows (c ∷ cs) is lt all = (client-next k p m sent rows c is lt all.0, clients-next k p m sent rows cs is lt all.1)
 
@@ -83,9 +83,9 @@ matters-next k p sent rows s j = by_case (k == j) refl
         let here : is_lost (rows_of j rows) ≡ false = subst (λ i. (look rows).lost i ≡ false) same s.here in
         ap has_open_matters (own_row j (reply_row k p sent) rows e) ∙ (open-by (reply_row k p sent ∷ rows_of j rows) admitted here ∙ sym (open-by (rows_of j rows) admitted here))
 
-pub served-stands : (s : CoreState) (p : List ℕ) (m : Summary) (sent : List (List ℕ)) (a : Ask) (queue : List Ask) (fs : List kept.Forward) (rows : List Row) → Stands s rows → is_served s.clients a.client ≡ true → IsReply p m → s.asks ≡ a ∷ queue → ((x : Channel) → with_ups None sent x ≡ x)
-    → AreFit fs (filter is_on (map (after a.client ((look rows).own a.client).replied m) (current rows))) (look (reply_row a.client p sent ∷ rows)).own (look rows).lost → AllByRecursion (λ f. is_served s.clients f.client ≡ true) fs
-    → Stands (record s { asks = queue; forwards = fs; clients = map (changes a.client after_reply) s.clients }) (reply_row a.client p sent ∷ rows)
+pub served-stands : (s : CoreState) (p : List ℕ) (m : Summary) (sent : List (List ℕ)) (a : Ask) (queue : List Ask) (fs : List kept.Forward) (rows : List Row) → CoreRepresents s rows → is_member_served s.clients a.client ≡ true → IsReply p m → s.asks ≡ a ∷ queue → ((x : Channel) → with_ups None sent x ≡ x)
+    → AreFit fs (filter is_on (map (after a.client ((look rows).own a.client).replied m) (current rows))) (look (reply_row a.client p sent ∷ rows)).own (look rows).lost → AllByRecursion (λ f. is_member_served s.clients f.client ≡ true) fs
+    → CoreRepresents (record s { asks = queue; forwards = fs; clients = map (changes a.client after_reply) s.clients }) (reply_row a.client p sent ∷ rows)
 served-stands s p m sent a queue fs rows st serves is first ups fit theirs =
     let k : ℕ = a.client in
     let row : Row = reply_row a.client p sent in
@@ -99,7 +99,7 @@ served-stands s p m sent a queue fs rows st serves is first ups fit theirs =
       asks = asks-replied a queue (look rows) (look (reply_row a.client p sent ∷ rows)) (subst (λ us. AsksFit us (look rows)) first st.asks) (all-next a.client p m sent rows is) next.mine next.others;
       forwards = subst (λ (gs : List Forwarding). AreFit fs gs (look (reply_row a.client p sent ∷ rows)).own (look (reply_row a.client p sent ∷ rows)).lost) (sym (current-next a.client p m sent rows is)) (subst (λ (l : ℕ → Bool). AreFit fs (filter is_on (map (after a.client ((look rows).own a.client).replied m) (current rows))) (look (reply_row a.client p sent ∷ rows)).own l) lost fit);
       clients = record {
-        numbers = numbers-same a.client after_reply s.clients ∙ (st.clients.numbers ∙ (ap (λ m. filter m (entered rows)) matters ∙ ap (filter (has_matters (reply_row a.client p sent ∷ rows))) (sym (append-nil (entered rows)))));
+        numbers = numbers-same a.client after_reply s.clients ∙ (st.clients.numbers ∙ (ap (λ m. filter m (admitted_clients rows)) matters ∙ ap (filter (has_matters (reply_row a.client p sent ∷ rows))) (sym (append-nil (admitted_clients rows)))));
         each = clients-next a.client p m sent rows s.clients is asked.waits st.clients.each;
         once = once-same a.client after_reply s.clients st.clients.once;
         few = subst (λ n. n ≤ MAX_CLIENTS) (sym (length-same a.client after_reply s.clients)) st.clients.few;
@@ -130,8 +130,8 @@ lost-clients k p m sent rows [] gone all = tt
 lost-clients k p m sent rows (c ∷ cs) gone all = (lost-client k p m sent rows c gone all.0, lost-clients k p m sent rows cs gone all.1)
 
 -- a request without reply leaves its client's matters open
-open-asked : (own : List Row) → length (replies own) < length (asks own) → has_open_matters own ≡ true
-open-asked own lt = end (any_of is_admit own && not (is_lost own)) (any_of is_channel_held (held_of own)) (nat_lt (length (replies own)) (length (asks own))) (yes-lt (length (replies own)) (length (asks own)) lt)
+open-asked : (own : List Row) → length (replies own) < length (wanted_requests own) → has_open_matters own ≡ true
+open-asked own lt = end (any_of is_admit own && not (is_lost own)) (any_of is_channel_held (held_of own)) (nat_lt (length (replies own)) (length (wanted_requests own))) (yes-lt (length (replies own)) (length (wanted_requests own)) lt)
   where
     yes-lt : (a b : ℕ) → a < b → nat_lt a b ≡ true
     yes-lt a b h = grind (arith, nat_tests)
@@ -142,7 +142,7 @@ open-asked own lt = end (any_of is_admit own && not (is_lost own)) (any_of is_ch
     end false false c h = h
 
 -- none of the forwardings is its
-none-theirs : (s : CoreState) (rows : List Row) (k : ℕ) → Stands s rows → AllByRecursion (λ f. (f.client == k) ≡ false) s.forwards → AllByRecursion (λ (g : Forwarding). (g.client == k) ≡ false) (current rows)
+none-theirs : (s : CoreState) (rows : List Row) (k : ℕ) → CoreRepresents s rows → AllByRecursion (λ f. (f.client == k) ≡ false) s.forwards → AllByRecursion (λ (g : Forwarding). (g.client == k) ≡ false) (current rows)
 none-theirs s rows k st all = pairs s.forwards (current rows) st.forwards.listed all
   where
     pairs : (fs : List kept.Forward) (gs : List Forwarding) → AreForwardsListed fs gs → AllByRecursion (λ f. (f.client == k) ≡ false) fs → AllByRecursion (λ (g : Forwarding). (g.client == k) ≡ false) gs
@@ -155,8 +155,8 @@ all-idle : (k place : ℕ) (gs : List Forwarding) → AllByRecursion (λ (g : Fo
 all-idle k place [] all = tt
 all-idle k place (g ∷ gs) all = ((λ mine. absurd (let x : true ≡ false = sym mine ∙ all.0 in cc)), all-idle k place gs all.1)
 
-pub lost-reply-stands : (s : CoreState) (p : List ℕ) (m : Summary) (sent : List (List ℕ)) (a : Ask) (queue : List Ask) (rows : List Row) → Stands s rows → is_lost_in s.clients a.client ≡ true → IsReply p m → s.asks ≡ a ∷ queue → ((x : Channel) → with_ups None sent x ≡ x)
-    → Stands (settled (record s { asks = queue }) a.client) (reply_row a.client p sent ∷ rows)
+pub lost-reply-stands : (s : CoreState) (p : List ℕ) (m : Summary) (sent : List (List ℕ)) (a : Ask) (queue : List Ask) (rows : List Row) → CoreRepresents s rows → is_lost_in s.clients a.client ≡ true → IsReply p m → s.asks ≡ a ∷ queue → ((x : Channel) → with_ups None sent x ≡ x)
+    → CoreRepresents (client_settled (record s { asks = queue }) a.client) (reply_row a.client p sent ∷ rows)
 lost-reply-stands s p m sent a queue rows st lost is first ups =
     let asked = asked-first s rows a queue st first in
     let gone : is_lost (rows_of a.client rows) ≡ true = lost-there (look rows) a.client s.clients st.clients.each lost in
@@ -175,7 +175,7 @@ lost-reply-stands s p m sent a queue rows st lost is first ups =
           (nobody-fit a.client s.forwards (current rows) (look rows).own (look (reply_row a.client p sent ∷ rows)).own (look (reply_row a.client p sent ∷ rows)).lost (subst (λ (l : ℕ → Bool). AreFit s.forwards (current rows) (look rows).own l) lost_same st.forwards) next idle);
       clients = clients-settle a.client (has_left (record s { asks = queue }) a.client) s.clients (has_matters rows) (has_matters (reply_row a.client p sent ∷ rows)) (look (reply_row a.client p sent ∷ rows))
           (record {
-            numbers = st.clients.numbers ∙ ap (filter (has_matters rows)) (sym (append-nil (entered rows)));
+            numbers = st.clients.numbers ∙ ap (filter (has_matters rows)) (sym (append-nil (admitted_clients rows)));
             each = lost-clients a.client p m sent rows s.clients gone st.clients.each;
             once = st.clients.once;
             few = st.clients.few;

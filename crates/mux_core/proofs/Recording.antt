@@ -14,7 +14,7 @@ use Rattle.mux_history.specs.Summary.{Act, Asks, Answers, Carries, Closes, Confi
 use Rattle.mux_history.specs.Rows.{Row}
 use Rattle.mux_history.specs.Channels.{Channel, holder, live_in}
 use Rattle.mux_history.specs.Forwardings.{Forwarding, current, live_at}
-use Rattle.mux_history.specs.Heard.{Breaks, Dest, Disconnects, ToClient, ToMaster, dest, dest_asker, dest_confirmation, dest_summary, dest_open, dest_success, dest_within, is_pending, pending_open}
+use Rattle.mux_history.specs.Heard.{Breaks, Dest, Disconnects, ToClient, ToMaster, dest, dest_asker, dest_confirmation, dest_summary, dest_open, dest_success, dest_within, is_open_pending, pending_open}
 use Rattle.mux_history.specs.Keys.{learns_port}
 use Rattle.mux_history.specs.Ledger.{breach}
 use Rattle.mux_history.specs.Requests.{Ask, asker}
@@ -24,7 +24,7 @@ use Rattle.channel_table.specs.Stands.{EntryFits}
 use Rattle.mux_core.specs.declared.heard.Delivery as recorded
 use Rattle.mux_core.specs.declared.heard.Delivery.TheVariants as heard
 use Rattle.mux_core.specs.State.{CoreState}
-use Rattle.mux_core.specs.Stands.{Stands, is_member_known}
+use Rattle.mux_core.specs.Stands.{CoreRepresents, is_member_known}
 use Rattle.mux_core.specs.Calls.{ReceivesAs, ReceivesSummary, CoreReceivesOn, ReceivesWith, IsLetIn}
 use Rattle.channel_table.proofs.EntryFits.{FoundFit}
 use Rattle.mux_core.proofs.OpenedRow.{list-find, owner-served}
@@ -37,7 +37,7 @@ to-is : (j k : ℕ) → ToClient j ≡ ToClient k → j ≡ k
 to-is j k h = cc
 
 -- the channel that a number names is one of a client that was admitted
-holder-known : (s : CoreState) (n : ℕ) (rows : List Row) (x : Channel) → Stands s rows → holder rows n ≡ Some x → is_member_known s.clients x.client ≡ true
+holder-known : (s : CoreState) (n : ℕ) (rows : List Row) (x : Channel) → CoreRepresents s rows → holder rows n ≡ Some x → is_member_known s.clients x.client ≡ true
 holder-known s n rows x st found = by_entry (find (shown_at n) s.channels) refl (subst (FoundFit (find (shown_at n) s.channels)) found (holder-fit s n rows st))
   where
     by_entry : (o : Option TableEntry) → find (shown_at n) s.channels ≡ o → FoundFit (find (shown_at n) s.channels) (Some x) → is_member_known s.clients x.client ≡ true
@@ -47,7 +47,7 @@ holder-known s n rows x st found = by_entry (find (shown_at n) s.channels) refl 
         ap (is_member_known s.clients) (sym one.client) ∙ entry-known s n f st.known.channels e
 
 -- a request that waits is one of such a client
-asker-known : (s : CoreState) (rows : List Row) (a : Ask) → Stands s rows → asker rows ≡ Some a → is_member_known s.clients a.client ≡ true
+asker-known : (s : CoreState) (rows : List Row) (a : Ask) → CoreRepresents s rows → asker rows ≡ Some a → is_member_known s.clients a.client ≡ true
 asker-known s rows a st is = by_asks s.asks refl
   where
     by_asks : (us : List Ask) → s.asks ≡ us → is_member_known s.clients a.client ≡ true
@@ -77,14 +77,14 @@ success-known s k rest a known h = ap (is_member_known s.clients) (sym (by_what 
     by_what full.KeepAlive h = to-is a.client k h
     by_what full.OtherName h = to-is a.client k h
 
-reply-known : (s : CoreState) (k : ℕ) (rows : List Row) (f : Ask → Dest) → Stands s rows → ((a : Ask) → is_member_known s.clients a.client ≡ true → f a ≡ ToClient k → is_member_known s.clients k ≡ true) → dest_asker (asker rows) f ≡ ToClient k → is_member_known s.clients k ≡ true
+reply-known : (s : CoreState) (k : ℕ) (rows : List Row) (f : Ask → Dest) → CoreRepresents s rows → ((a : Ask) → is_member_known s.clients a.client ≡ true → f a ≡ ToClient k → is_member_known s.clients k ≡ true) → dest_asker (asker rows) f ≡ ToClient k → is_member_known s.clients k ≡ true
 reply-known s k rows f st each h = by_asker (asker rows) refl h
   where
     by_asker : (o : Option Ask) → asker rows ≡ o → dest_asker o f ≡ ToClient k → is_member_known s.clients k ≡ true
     by_asker None e h = absurd (cc)
     by_asker (Some a) e h = each a (asker-known s rows a st e) h
 
-open-known : (s : CoreState) (k r : ℕ) (what : Opens) (rows : List Row) → Stands s rows → dest_open rows r what ≡ ToClient k → is_member_known s.clients k ≡ true
+open-known : (s : CoreState) (k r : ℕ) (what : Opens) (rows : List Row) → CoreRepresents s rows → dest_open rows r what ≡ ToClient k → is_member_known s.clients k ≡ true
 open-known s k r (Forwarded key) rows st h = by_live (live_in rows r) (live_at rows key) refl h
   where
     client-is : (g : Forwarding) → live_at rows key ≡ Some g → g.client ≡ k → is_member_known s.clients k ≡ true
@@ -111,7 +111,7 @@ open-known s k r OtherType rows st h = absurd (nowhere (live_in rows r) h)
     nowhere None h = cc
 
 -- an open that waits is held
-pending-known : (s : CoreState) (n : ℕ) (rows : List Row) (x : Channel) → Stands s rows → pending_open rows n ≡ Some x → is_member_known s.clients x.client ≡ true
+pending-known : (s : CoreState) (n : ℕ) (rows : List Row) (x : Channel) → CoreRepresents s rows → pending_open rows n ≡ Some x → is_member_known s.clients x.client ≡ true
 pending-known s n rows x st h = by_holder (holder rows n) refl h
   where
     some-is : (y z : Channel) → Some y ≡ Some z → y ≡ z
@@ -121,11 +121,11 @@ pending-known s n rows x st h = by_holder (holder rows n) refl h
     by_pending y e true h = subst (λ (z : Channel). is_member_known s.clients z.client ≡ true) (some-is y x h) (holder-known s n rows y st e)
     by_pending y e false h = absurd (cc)
 
-    by_holder : (o : Option Channel) → holder rows n ≡ o → (elim o as (λ _. Option Channel) [ None ↦ None | Some y ↦ elim (is_pending y) as (λ _. Option Channel) [ true ↦ Some y | false ↦ None ] ]) ≡ Some x → is_member_known s.clients x.client ≡ true
+    by_holder : (o : Option Channel) → holder rows n ≡ o → (elim o as (λ _. Option Channel) [ None ↦ None | Some y ↦ elim (is_open_pending y) as (λ _. Option Channel) [ true ↦ Some y | false ↦ None ] ]) ≡ Some x → is_member_known s.clients x.client ≡ true
     by_holder None e h = absurd (cc)
-    by_holder (Some y) e h = by_pending y e (is_pending y) h
+    by_holder (Some y) e h = by_pending y e (is_open_pending y) h
 
-confirmation-known : (s : CoreState) (k n r : ℕ) (rows : List Row) → Stands s rows → dest_confirmation rows n r ≡ ToClient k → is_member_known s.clients k ≡ true
+confirmation-known : (s : CoreState) (k n r : ℕ) (rows : List Row) → CoreRepresents s rows → dest_confirmation rows n r ≡ ToClient k → is_member_known s.clients k ≡ true
 confirmation-known s k n r rows st h = by_pending (pending_open rows n) refl (live_in rows r) h
   where
     by_pending : (o : Option Channel) → pending_open rows n ≡ o → (u : Option Channel) → (elim o as (λ _. Dest) [ None ↦ Breaks (broke.NotPending n) | Some x ↦ elim u as (λ _. Dest) [ Some y ↦ Breaks (broke.NumberInUse r) | None ↦ ToClient x.client ] ]) ≡ ToClient k → is_member_known s.clients k ≡ true
@@ -133,7 +133,7 @@ confirmation-known s k n r rows st h = by_pending (pending_open rows n) refl (li
     by_pending (Some x) e (Some y) h = absurd (cc)
     by_pending (Some x) e None h = ap (is_member_known s.clients) (sym (to-is x.client k h)) ∙ pending-known s n rows x st e
 
-in-channel : (s : CoreState) (k n : ℕ) (act : Act) (rows : List Row) → Stands s rows → (elim (holder rows n) as (λ _. Dest) [ None ↦ Breaks (broke.NoChannel n) | Some x ↦ elim (breach Down act x) as (λ _. Dest) [ Some b ↦ Breaks (broke.Channel n b) | None ↦ ToClient x.client ] ]) ≡ ToClient k → is_member_known s.clients k ≡ true
+in-channel : (s : CoreState) (k n : ℕ) (act : Act) (rows : List Row) → CoreRepresents s rows → (elim (holder rows n) as (λ _. Dest) [ None ↦ Breaks (broke.NoChannel n) | Some x ↦ elim (breach Down act x) as (λ _. Dest) [ Some b ↦ Breaks (broke.Channel n b) | None ↦ ToClient x.client ] ]) ≡ ToClient k → is_member_known s.clients k ≡ true
 in-channel s k n act rows st h = by_holder (holder rows n) refl h
   where
     by_breach : (x : Channel) → holder rows n ≡ Some x → (o : Option Breach) → (elim o as (λ _. Dest) [ Some b ↦ Breaks (broke.Channel n b) | None ↦ ToClient x.client ]) ≡ ToClient k → is_member_known s.clients k ≡ true
@@ -144,7 +144,7 @@ in-channel s k n act rows st h = by_holder (holder rows n) refl h
     by_holder None e h = absurd (cc)
     by_holder (Some x) e h = by_breach x e (breach Down act x) h
 
-within-known : (s : CoreState) (k n : ℕ) (act : Act) (rows : List Row) → Stands s rows → dest_within rows n act ≡ ToClient k → is_member_known s.clients k ≡ true
+within-known : (s : CoreState) (k n : ℕ) (act : Act) (rows : List Row) → CoreRepresents s rows → dest_within rows n act ≡ ToClient k → is_member_known s.clients k ≡ true
 within-known s k n Fails rows st h = by_pending (pending_open rows n) refl h
   where
     by_pending : (o : Option Channel) → pending_open rows n ≡ o → (elim o as (λ _. Dest) [ None ↦ Breaks (broke.NotPending n) | Some x ↦ ToClient x.client ]) ≡ ToClient k → is_member_known s.clients k ≡ true
@@ -158,7 +158,7 @@ within-known s k n Closes rows st h = in-channel s k n Closes rows st h
 within-known s k n (Asks want) rows st h = in-channel s k n (Asks want) rows st h
 within-known s k n Answers rows st h = in-channel s k n Answers rows st h
 
-dest-known : (s : CoreState) (k : ℕ) (p : List ℕ) (rows : List Row) → Stands s rows → dest rows p ≡ ToClient k → is_member_known s.clients k ≡ true
+dest-known : (s : CoreState) (k : ℕ) (p : List ℕ) (rows : List Row) → CoreRepresents s rows → dest rows p ≡ ToClient k → is_member_known s.clients k ≡ true
 dest-known s k p rows st h = by_read (read_summary p) refl
   where
     by_disconnect : (b : Bool) → (elim b as (λ _. Dest) [ true ↦ Disconnects | false ↦ ToMaster ]) ≡ ToClient k → ⊥
@@ -180,7 +180,7 @@ dest-known s k p rows st h = by_read (read_summary p) refl
 
 -- ---- a client for which something is recorded was admitted
 
-recorded-known : (s new : CoreState) (p p' : List ℕ) (up up' : QueueState) (h : recorded.Delivery) (rows : List Row) → Stands s rows → ReceivesAs new p p' up up' h rows (dest rows p) → IsLetIn s h
+recorded-known : (s new : CoreState) (p p' : List ℕ) (up up' : QueueState) (h : recorded.Delivery) (rows : List Row) → CoreRepresents s rows → ReceivesAs new p p' up up' h rows (dest rows p) → IsLetIn s h
 recorded-known s new p p' up up' (heard.Client k refusals) rows st receives = by_dest (dest rows p) refl receives
   where
     by_dest : (d : Dest) → dest rows p ≡ d → ReceivesAs new p p' up up' (heard.Client k refusals) rows d → is_member_known s.clients k ≡ true

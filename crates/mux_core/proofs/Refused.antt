@@ -13,8 +13,8 @@ use Rattle.mux_history.specs.declared.limits.TheConstants.{MAX_CLIENTS}
 use Rattle.mux_history.specs.Farewell.{has_open_matters}
 use Rattle.mux_history.specs.Summary.{Requests, read_summary}
 use Rattle.mux_history.specs.Rows.{Row, any_of, is_admit, is_lost, rows_of}
-use Rattle.mux_history.specs.Log.{entered}
-use Rattle.mux_history.specs.Requests.{answers, answers_to, asks, asks_of, replies, sent_flags, wanted, wanted_by, wanted_in}
+use Rattle.mux_history.specs.Log.{admitted_clients}
+use Rattle.mux_history.specs.Requests.{answers, answers_to, wanted_requests, asks_of, replies, sent_flags, wanted, wanted_by, wanted_in}
 use Rattle.mux_history.specs.Said.{sent_request, silent}
 use Rattle.mux_history.specs.Treat.{all_recorded, new_answers}
 use Rattle.mux_history.proofs.Bools.{same-number}
@@ -25,10 +25,10 @@ use Rattle.forward_rules.specs.Stands.{AreFit, Places, places_of}
 use Rattle.channel_table.specs.Entries.{TableEntry}
 use Rattle.mux_history.specs.Requests.{Ask}
 use Rattle.mux_core.specs.declared.verdict.Verdict.{Verdict}
-use Rattle.mux_core.specs.State.{MemberState, CoreState, is_served}
-use Rattle.mux_core.specs.Stands.{AreOnce, AsksFit, ClientFits, Stands, TableFits, has_matters, is_member_known, look}
+use Rattle.mux_core.specs.State.{MemberState, CoreState, is_member_served}
+use Rattle.mux_core.specs.Stands.{AreOnce, AsksFit, ClientFits, CoreRepresents, TableFits, has_matters, is_member_known, look}
 use Rattle.mux_core.specs.Calls.{CoreSendsIn, SendsRow, VerdictShows}
-use Rattle.mux_core.specs.Requesting.{SendsRoomy, after_refusal, refusal, refusal_now, member_waiting_of}
+use Rattle.mux_core.specs.Requesting.{SendsRoomy, after_refusal, refusal_verdict, refusal_now, member_waiting_of}
 use Rattle.mux_core.proofs.Answering.{Waits, if_none, refused-answers, refused-waits}
 use Rattle.mux_core.proofs.Waiting.{changes, changes-at, waits-are, with-map}
 use Rattle.mux_core.proofs.Quiet.{own-same}
@@ -56,9 +56,9 @@ pub known-same : (k j : ℕ) (h : List Bool → List Bool) (cs : List MemberStat
 known-same k j h [] = refl
 known-same k j h (c ∷ cs) = ap (λ n. (n == j) || is_member_known (map (changes k h) cs) j) (number-same k h c) ∙ ap (λ b. (c.number == j) || b) (known-same k j h cs)
 
-pub served-same : (k j : ℕ) (h : List Bool → List Bool) (cs : List MemberState) → is_served (map (changes k h) cs) j ≡ is_served cs j
+pub served-same : (k j : ℕ) (h : List Bool → List Bool) (cs : List MemberState) → is_member_served (map (changes k h) cs) j ≡ is_member_served cs j
 served-same k j h [] = refl
-served-same k j h (c ∷ cs) = ap (λ n. ((n == j) && not (changes k h c).lost) || is_served (map (changes k h) cs) j) (number-same k h c) ∙ (ap (λ b. ((c.number == j) && not b) || is_served (map (changes k h) cs) j) (lost-same k h c) ∙ ap (λ b. ((c.number == j) && not c.lost) || b) (served-same k j h cs))
+served-same k j h (c ∷ cs) = ap (λ n. ((n == j) && not (changes k h c).lost) || is_member_served (map (changes k h) cs) j) (number-same k h c) ∙ (ap (λ b. ((c.number == j) && not b) || is_member_served (map (changes k h) cs) j) (lost-same k h c) ∙ ap (λ b. ((c.number == j) && not c.lost) || b) (served-same k j h cs))
 
 pub once-same : (k : ℕ) (h : List Bool → List Bool) (cs : List MemberState) → AreOnce cs → AreOnce (map (changes k h) cs)
 once-same k h [] once = tt
@@ -79,9 +79,9 @@ flag k p what e = ap (sent_flags false) (reading-ok p (Requests what true) wante
 
 places-same : (k : ℕ) (p : List ℕ) (what : Global) (own : List Row) → read_summary p ≡ Ok (Requests what true) → places_of (refused_row k p ∷ own) ≡ places_of own
 places-same k p what own e =
-    ap (λ (us : List Ask). let x : Places = record { asked = asks own ++ us; replied = length (replies own ++ []) } in x) (ap (asks_of k false) (reading-ok p (Requests what true) wanted_in None e))
-    ∙ (ap (λ (us : List Ask). let x : Places = record { asked = us; replied = length (replies own ++ []) } in x) (append-nil (asks own))
-    ∙ ap (λ (rs : List (List ℕ)). let x : Places = record { asked = asks own; replied = length rs } in x) (append-nil (replies own)))
+    ap (λ (us : List Ask). let x : Places = record { asked = wanted_requests own ++ us; replied = length (replies own ++ []) } in x) (ap (asks_of k false) (reading-ok p (Requests what true) wanted_in None e))
+    ∙ (ap (λ (us : List Ask). let x : Places = record { asked = us; replied = length (replies own ++ []) } in x) (append-nil (wanted_requests own))
+    ∙ ap (λ (rs : List (List ℕ)). let x : Places = record { asked = wanted_requests own; replied = length rs } in x) (append-nil (replies own)))
 
 waits-then : (k : ℕ) (p : List ℕ) (what : Global) (own : List Row) (w : List Bool) → read_summary p ≡ Ok (Requests what true) → Waits (wanted own) (replies own) w → Waits (wanted (refused_row k p ∷ own)) (replies (refused_row k p ∷ own)) (or_behind w)
 waits-then k p what own w e h =
@@ -128,7 +128,7 @@ matters-then k p rows s j = by_case (k == j) refl
         let here : is_lost (rows_of j rows) ≡ false = subst (λ i. (look rows).lost i ≡ false) same s.here in
         ap has_open_matters (own_row j (refused_row k p) rows e) ∙ (open-by (refused_row k p ∷ rows_of j rows) admitted here ∙ sym (open-by (rows_of j rows) admitted here))
 
-refused-stands : (s : CoreState) (k : ℕ) (p : List ℕ) (what : Global) (rows : List Row) → Stands s rows → is_served s.clients k ≡ true → read_summary p ≡ Ok (Requests what true) → Stands (record s { clients = map (changes k or_behind) s.clients }) (refused_row k p ∷ rows)
+refused-stands : (s : CoreState) (k : ℕ) (p : List ℕ) (what : Global) (rows : List Row) → CoreRepresents s rows → is_member_served s.clients k ≡ true → read_summary p ≡ Ok (Requests what true) → CoreRepresents (record s { clients = map (changes k or_behind) s.clients }) (refused_row k p ∷ rows)
 refused-stands s k p what rows st serves e =
     let is : IsServed k (look rows) = served (look rows) k s.clients st.clients.each serves in
     let all : places_of (refused_row k p ∷ rows) ≡ places_of rows = places-same k p what rows e in
@@ -140,7 +140,7 @@ refused-stands s k p what rows st serves e =
       asks = subst (λ (a : Places). AsksFit s.asks (record (look (refused_row k p ∷ rows)) { all = a })) (sym all) (subst (λ (o : ℕ → Places). AsksFit s.asks (record (look (refused_row k p ∷ rows)) { all = places_of rows; own = o })) own (record { waiting = st.asks.waiting; awaited = st.asks.awaited; each = st.asks.each }));
       forwards = subst (λ (o : ℕ → Places). AreFit s.forwards (look rows).current o (look (refused_row k p ∷ rows)).lost) own (subst (λ (l : ℕ → Bool). AreFit s.forwards (look rows).current (look rows).own l) lost st.forwards);
       clients = record {
-        numbers = numbers-same k or_behind s.clients ∙ (st.clients.numbers ∙ (ap (λ m. filter m (entered rows)) matters ∙ ap (filter (has_matters (refused_row k p ∷ rows))) (sym (append-nil (entered rows)))));
+        numbers = numbers-same k or_behind s.clients ∙ (st.clients.numbers ∙ (ap (λ m. filter m (admitted_clients rows)) matters ∙ ap (filter (has_matters (refused_row k p ∷ rows))) (sym (append-nil (admitted_clients rows)))));
         each = clients-then k p what rows s.clients e st.clients.each;
         once = once-same k or_behind s.clients st.clients.once;
         few = subst (λ n. n ≤ MAX_CLIENTS) (sym (length-same k or_behind s.clients)) st.clients.few;
@@ -166,11 +166,11 @@ shows-refusal : (k : ℕ) (p : List ℕ) (what : Global) (own : List Row) (w : L
 shows-refusal k p what own [] e recorded = (refl, refl, recorded)
 shows-refusal k p what own (b ∷ bs) e recorded = (refl, refl, recorded, ap is_some (reading-ok p (Requests what true) wanted_in None e))
 
-by-left : (s new : CoreState) (k : ℕ) (p : List ℕ) (up : QueueState) (rows : List Row) (b : Bool) → VerdictShows (refused_row k p) (rows_of k rows) (refusal_now b) → Stands new (refused_row k p ∷ rows) → SendsRow s new (refused_row k p) 0 up up (refusal_now b) rows
+by-left : (s new : CoreState) (k : ℕ) (p : List ℕ) (up : QueueState) (rows : List Row) (b : Bool) → VerdictShows (refused_row k p) (rows_of k rows) (refusal_now b) → CoreRepresents new (refused_row k p ∷ rows) → SendsRow s new (refused_row k p) 0 up up (refusal_now b) rows
 by-left s new k p up rows true shows st = record { sent = same-queue up; shows = shows; fresh = λ h. absurd (let d = sym h ∙ takes-unsent k p silent refl in cc); stands = st }
 by-left s new k p up rows false shows st = record { sent = same-queue up; shows = shows; fresh = λ h. absurd (let d = sym h ∙ takes-unsent k p silent refl in cc); stands = st }
 
-pub refused : (s new : CoreState) (k : ℕ) (p : List ℕ) (what : Global) (want : Bool) (v : Verdict) (up : QueueState) → v ≡ refusal want (member_waiting_of k s.clients) → new ≡ record s { clients = after_refusal want k s.clients } → ((rows : List Row) → Stands s rows → sent_request s.policy k (rows_of k rows) p what want ≡ silent) → SendsRoomy s new k p what want up up v
+pub refused : (s new : CoreState) (k : ℕ) (p : List ℕ) (what : Global) (want : Bool) (v : Verdict) (up : QueueState) → v ≡ refusal_verdict want (member_waiting_of k s.clients) → new ≡ record s { clients = after_refusal want k s.clients } → ((rows : List Row) → CoreRepresents s rows → sent_request s.policy k (rows_of k rows) p what want ≡ silent) → SendsRoomy s new k p what want up up v
 refused s new k p what false v up is after does = λ room rows st serves e. refused-silent s new k p what v up rows st serves e (does rows st) is after
 refused s new k p what true v up is after does = λ room rows st serves e.
     subst (λ x. CoreSendsIn s new k p 0 up up x rows) (sym is) (subst (λ x. CoreSendsIn s x k p 0 up up (refusal_now (is_none_left (member_waiting_of k s.clients))) rows) (sym (after ∙ ap (λ (cs : List MemberState). record s { clients = cs }) (with-map k or_behind s.clients st.clients.once)))

@@ -14,7 +14,7 @@ use Rattle.mux_history.proofs.CurrentSteps.{is_on}
 use Rattle.mux_history.proofs.Finds.{filter-no, filter-yes, find-no}
 use Rattle.mux_history.proofs.Sends.{and-left, and-right}
 use Rattle.forward_rules.specs.State.{Forward}
-use Rattle.forward_rules.specs.Step.{answered, is_asked_at, without_first_forward}
+use Rattle.forward_rules.specs.Step.{forward_answered, is_asked_with_key, without_first_forward}
 use Rattle.forward_rules.specs.Stands.{AreFit, AreForwardsListed, AreTwoPlaces, EachHas, EachTwo, IsAwaited, Places}
 use Rattle.forward_rules.specs.Stands as stands
 use Rattle.mux_core.proofs.Dropped.{Drops, WaitsNot, drops-map, has-kept, kept-fit}
@@ -43,7 +43,7 @@ out-at test f fs b h = ap (λ (c : Bool). elim c as (λ _. List Bool) [ true ↦
 first-at : (test : Forwarding → Bool) (g : Forwarding) (gs : List Forwarding) (b : Bool) → test g ≡ b → first_out test (g ∷ gs) ≡ elim b as (λ _. List Bool) [ true ↦ false ∷ [] | false ↦ true ∷ first_out test gs ]
 first-at test g gs b h = ap (λ (c : Bool). elim c as (λ _. List Bool) [ true ↦ false ∷ [] | false ↦ true ∷ first_out test gs ]) h
 
-asked-out : (k place : ℕ) (key : Key) (own : Places) (fs : List Forward) (gs : List Forwarding) → AreForwardsListed fs gs → AllByRecursion (Waiting k own) gs → EachTwo gs → own.replied ≡ place → slice_get own.asked place ≡ Some (record { client = k; what = full.Forward key }) → is_some (find (asks_at k place) gs) ≡ true → out_of (is_asked_at k key) fs ≡ first_out (asks_at k place) gs
+asked-out : (k place : ℕ) (key : Key) (own : Places) (fs : List Forward) (gs : List Forwarding) → AreForwardsListed fs gs → AllByRecursion (Waiting k own) gs → EachTwo gs → own.replied ≡ place → slice_get own.asked place ≡ Some (record { client = k; what = full.Forward key }) → is_some (find (asks_at k place) gs) ≡ true → out_of (is_asked_with_key k key) fs ≡ first_out (asks_at k place) gs
 asked-out k place key own [] [] listed waits two at asked there = refl
 asked-out k place key own [] (g ∷ gs) listed waits two at asked there = absurd listed
 asked-out k place key own (f ∷ fs) [] listed waits two at asked there = absurd listed
@@ -52,8 +52,8 @@ asked-out k place key own (f ∷ fs) (g ∷ gs) listed waits two at asked there 
     passes : (b c d : Bool) → (g.client == k) ≡ b → is_none g.live ≡ c → (g.request == place) ≡ d → asks_at k place g ≡ (b && (c && d))
     passes b c d p q r = ap (λ x. x && (is_none g.live && (g.request == place))) p ∙ (ap (λ x. b && (x && (g.request == place))) q ∙ ap (λ x. b && (c && x)) r)
 
-    not-first : is_asked_at k key f ≡ false → asks_at k place g ≡ false → out_of (is_asked_at k key) fs ≡ first_out (asks_at k place) gs → out_of (is_asked_at k key) (f ∷ fs) ≡ first_out (asks_at k place) (g ∷ gs)
-    not-first unasked miss tail = out-at (is_asked_at k key) f fs false unasked ∙ (ap (λ bs. true ∷ bs) tail ∙ sym (first-at (asks_at k place) g gs false miss))
+    not-first : is_asked_with_key k key f ≡ false → asks_at k place g ≡ false → out_of (is_asked_with_key k key) fs ≡ first_out (asks_at k place) gs → out_of (is_asked_with_key k key) (f ∷ fs) ≡ first_out (asks_at k place) (g ∷ gs)
+    not-first unasked miss tail = out-at (is_asked_with_key k key) f fs false unasked ∙ (ap (λ bs. true ∷ bs) tail ∙ sym (first-at (asks_at k place) g gs false miss))
 
     none-first : (b : Bool) → (b && false) ≡ false
     none-first true = refl
@@ -63,8 +63,8 @@ asked-out k place key own (f ∷ fs) (g ∷ gs) listed waits two at asked there 
     some-of None h = absurd (cc)
     some-of (Some q) h = refl
 
-    by_case : (is_some (find (asks_at k place) gs) ≡ true → out_of (is_asked_at k key) fs ≡ first_out (asks_at k place) gs) → (b : Bool) → (g.client == k) ≡ b → (c : Bool) → is_none g.live ≡ c → (d : Bool) → (g.request == place) ≡ d → out_of (is_asked_at k key) (f ∷ fs) ≡ first_out (asks_at k place) (g ∷ gs)
-    by_case ih true p true q true r = out-at (is_asked_at k key) f fs true (asked-key k place key own f g listed.0 (waits.0 p) asked p q r) ∙ sym (first-at (asks_at k place) g gs true (passes true true true p q r))
+    by_case : (is_some (find (asks_at k place) gs) ≡ true → out_of (is_asked_with_key k key) fs ≡ first_out (asks_at k place) gs) → (b : Bool) → (g.client == k) ≡ b → (c : Bool) → is_none g.live ≡ c → (d : Bool) → (g.request == place) ≡ d → out_of (is_asked_with_key k key) (f ∷ fs) ≡ first_out (asks_at k place) (g ∷ gs)
+    by_case ih true p true q true r = out-at (is_asked_with_key k key) f fs true (asked-key k place key own f g listed.0 (waits.0 p) asked p q r) ∙ sym (first-at (asks_at k place) g gs true (passes true true true p q r))
     by_case ih true p true q false r =
         let tail : is_some (find (asks_at k place) gs) ≡ true = sym (ap is_some (find-no (asks_at k place) g gs (passes true true false p q r))) ∙ there in
         absurd (before k place g gs p q (subst (λ n. n ≤ g.request) at ((waits.0 p).asked (none-is g.live q)).0) two.0 tail)
@@ -140,7 +140,7 @@ idle-cancel k place g own h w = w.either (none-is g.live (and-left (is_none g.li
 
 waits-not : (k j place later : ℕ) (own : Places) (g : Forwarding) → ((k == j) ≡ true → place < later) → asks_at k place g ≡ true → IsAwaited own g → WaitsNot j later g
 waits-not k j place later own g past h w = record {
-  asked = never ((g.client == j) && stands.is_asked_at later g) (λ t.
+  asked = never ((g.client == j) && stands.request_waits_at later g) (λ t.
       clash g.request place later (and-right (is_none g.live) (g.request == place) (and-right (g.client == k) _ h)) (and-right (is_none g.live) (g.request == later) (and-right (g.client == j) _ t)) (past (joined g.client (and-left (g.client == k) _ h) (and-left (g.client == j) _ t))));
   leaving = ap (λ o. (g.client == j) && is_number o later) (idle-cancel k place g own h w) ∙ no-one (g.client == j);
 }
@@ -157,10 +157,10 @@ waits-not k j place later own g past h w = record {
 
 -- ---- all of it
 
-pub refused-fit : (k : ℕ) (key : Key) (fs : List Forward) (gs : List Forwarding) (own own' : ℕ → Places) (lost : ℕ → Bool) → AreFit fs gs own lost → Replies k own own' → lost k ≡ false → slice_get (own k).asked (own k).replied ≡ Some (record { client = k; what = full.Forward key }) → AreFit (answered k key None fs) (filter is_on (map (after k (own k).replied Refuses) gs)) own' lost
+pub refused-fit : (k : ℕ) (key : Key) (fs : List Forward) (gs : List Forwarding) (own own' : ℕ → Places) (lost : ℕ → Bool) → AreFit fs gs own lost → Replies k own own' → lost k ≡ false → slice_get (own k).asked (own k).replied ≡ Some (record { client = k; what = full.Forward key }) → AreFit (forward_answered k key None fs) (filter is_on (map (after k (own k).replied Refuses) gs)) own' lost
 refused-fit k key fs gs own own' lost fit next here asked =
-    subst (λ hs. AreFit (without_first_forward (is_asked_at k key) fs) hs own' lost) (sym (refused-out k place key own gs asked fit.two fit.awaited (on-listed fs gs fit.listed)))
-    (subst (λ es. AreFit es (kept_by bs gs) own' lost) (sym (without-kept (is_asked_at k key) fs ∙ ap (λ cs. kept_by cs fs) (asked-out k place key (own k) fs gs fit.listed (waits-for k own gs fit.awaited) fit.two refl asked (asked-there k key fs gs own lost fit here asked))))
+    subst (λ hs. AreFit (without_first_forward (is_asked_with_key k key) fs) hs own' lost) (sym (refused-out k place key own gs asked fit.two fit.awaited (on-listed fs gs fit.listed)))
+    (subst (λ es. AreFit es (kept_by bs gs) own' lost) (sym (without-kept (is_asked_with_key k key) fs ∙ ap (λ cs. kept_by cs fs) (asked-out k place key (own k) fs gs fit.listed (waits-for k own gs fit.awaited) fit.two refl asked (asked-there k key fs gs own lost fit here asked))))
     (kept-fit bs fs gs own own' lost fit
     (drops-map (λ g. (asks_at k place g ≡ true) × IsAwaited (own g.client) g) (λ g. g.cancel ≡ None) (λ g h. idle-cancel k place g (own g.client) h.0 h.1) bs gs out)
     (awaited-all k own own' (kept_by bs gs) next (all-by (λ g. IsAwaited (own g.client) g) bs gs fit.awaited) (kept-idle k place key own gs asked fit.two fit.awaited))

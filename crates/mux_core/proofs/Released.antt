@@ -55,7 +55,7 @@ two-after k place a b two = by_tests (leaves_at k place a) (leaves_at k place b)
 
 stays-after : (k j place later : ℕ) (g : Forwarding) → ((k == j) ≡ true → place < later) → StaysAt j later (released k place) g
 stays-after k j place later g past = record {
-  asked = λ h. elim (leaves_at k place g) as (λ b. (let x : Forwarding = elim b as (λ _. Forwarding) [ true ↦ record g { cancel = None } | false ↦ g ] in ((x.client == j) && stands.is_asked_at later x) ≡ true)) [ true ↦ h | false ↦ h ];
+  asked = λ h. elim (leaves_at k place g) as (λ b. (let x : Forwarding = elim b as (λ _. Forwarding) [ true ↦ record g { cancel = None } | false ↦ g ] in ((x.client == j) && stands.request_waits_at later x) ≡ true)) [ true ↦ h | false ↦ h ];
   leaving = λ h. by_test h (leaves_at k place g) refl;
 }
   where
@@ -66,14 +66,14 @@ stays-after k j place later g past = record {
     joined : (a : ℕ) → (a == k) ≡ true → (a == j) ≡ true → (k == j) ≡ true
     joined a p q = grind (arith, nat_tests)
 
-    by_test : ((g.client == j) && stands.is_leaving_at later g) ≡ true → (b : Bool) → leaves_at k place g ≡ b → (((released k place g).client == j) && stands.is_leaving_at later (released k place g)) ≡ true
+    by_test : ((g.client == j) && stands.cancel_waits_at later g) ≡ true → (b : Bool) → leaves_at k place g ≡ b → (((released k place g).client == j) && stands.cancel_waits_at later (released k place g)) ≡ true
     by_test h true a = absurd (clash g.cancel (and-right (g.client == k) (is_number g.cancel place) a) (and-right (g.client == j) (is_number g.cancel later) h) (past (joined g.client (and-left (g.client == k) (is_number g.cancel place) a) (and-left (g.client == j) (is_number g.cancel later) h))))
-    by_test h false a = ap (λ (x : Forwarding). (x.client == j) && stands.is_leaving_at later x) (released-at k place g false a) ∙ h
+    by_test h false a = ap (λ (x : Forwarding). (x.client == j) && stands.cancel_waits_at later x) (released-at k place g false a) ∙ h
 
 -- ---- all of it
 
 pub there-is : (k : ℕ) (key : Key) (fs : List Forward) (gs : List Forwarding) (own : ℕ → Places) (lost : ℕ → Bool) → AreFit fs gs own lost → lost k ≡ false → slice_get (own k).asked (own k).replied ≡ Some (record { client = k; what = full.Cancel key }) → any_of (leaves_at k (own k).replied) gs ≡ true
-there-is k key fs gs own lost fit here asked = sym (find-any (λ (g : Forwarding). g.client == k) (stands.is_leaving_at (own k).replied) gs) ∙ fit.each k here (own k).replied (record { client = k; what = full.Cancel key }) (omega arith) asked
+there-is k key fs gs own lost fit here asked = sym (find-any (λ (g : Forwarding). g.client == k) (stands.cancel_waits_at (own k).replied) gs) ∙ fit.each k here (own k).replied (record { client = k; what = full.Cancel key }) (omega arith) asked
 
 pub sooner : (k : ℕ) (own own' : ℕ → Places) → Replies k own own' → (j : ℕ) → (k == j) ≡ true → (at : ℕ) → (own' j).replied ≤ at → (own k).replied < at
 sooner k own own' next j same at late =

@@ -12,8 +12,8 @@ use Rattle.mux_history.proofs.CurrentSteps.{is_on}
 use Rattle.mux_history.proofs.Finds.{filter-no, filter-yes}
 use Rattle.mux_history.proofs.Sends.{and-left, and-right}
 use Rattle.forward_rules.specs.State.{Forward}
-use Rattle.forward_rules.specs.Step.{cancelled, cancels, is_free_at, is_leaving, is_of, without_first_forward}
-use Rattle.forward_rules.specs.Stands.{AreFit, AreForwardingsInOrder, AreForwardsListed, AreTwoPlaces, EachTwo, HasAt, InOrderWith, IsAwaited, IsRanked, Places, is_asked_at, is_leaving_at}
+use Rattle.forward_rules.specs.Step.{forward_cancelled, unanswered_cancels, is_free_at, is_leaving, is_forward_of, without_first_forward}
+use Rattle.forward_rules.specs.Stands.{AreFit, AreForwardingsInOrder, AreForwardsListed, AreTwoPlaces, EachTwo, HasAt, InOrderWith, IsAwaited, IsRanked, Places, request_waits_at, cancel_waits_at}
 use Rattle.mux_core.proofs.Pairs.{find-any, free-is, free-same, or-first, or-found, or-second}
 use Rattle.mux_core.proofs.Asked.{all-map}
 
@@ -137,7 +137,7 @@ kept-out k key (f ∷ fs) (g ∷ gs) listed = by_case (kept-out k key fs gs list
         ∙ (ap (λ es. f ∷ es) ih ∙ sym (ap (λ bs. kept_by bs (f ∷ fs)) (out-at (history.is_forwarding_free_at k key) g gs false (sym same ∙ h))))
 
 -- no cancel goes along
-no-cancel : (k : ℕ) (key : Key) (j : ℕ) (fs : List Forward) (gs : List Forwarding) → AreForwardsListed fs gs → cancels j (kept_by (first_out (history.is_forwarding_free_at k key) gs) fs) ≡ cancels j fs
+no-cancel : (k : ℕ) (key : Key) (j : ℕ) (fs : List Forward) (gs : List Forwarding) → AreForwardsListed fs gs → unanswered_cancels j (kept_by (first_out (history.is_forwarding_free_at k key) gs) fs) ≡ unanswered_cancels j fs
 no-cancel k key j [] [] listed = refl
 no-cancel k key j [] (g ∷ gs) listed = absurd listed
 no-cancel k key j (f ∷ fs) [] listed = absurd listed
@@ -150,12 +150,12 @@ no-cancel k key j (f ∷ fs) (g ∷ gs) listed = by_case (no-cancel k key j fs g
     idle : history.is_forwarding_free_at k key g ≡ true → is_leaving j f ≡ false
     idle h = ap (λ b. (f.client == j) && b) (listed.0.cancel ∙ ap is_some (free-is k key g h).cancel) ∙ never (f.client == j)
 
-    by_case : cancels j (kept_by (first_out (history.is_forwarding_free_at k key) gs) fs) ≡ cancels j fs → (b : Bool) → history.is_forwarding_free_at k key g ≡ b → (p : Bool) → is_leaving j f ≡ p → cancels j (kept_by (first_out (history.is_forwarding_free_at k key) (g ∷ gs)) (f ∷ fs)) ≡ cancels j (f ∷ fs)
-    by_case ih true h p e = ap (λ bs. cancels j (kept_by bs (f ∷ fs))) (out-at (history.is_forwarding_free_at k key) g gs true h) ∙ sym (ap length (filter-no (is_leaving j) f fs (idle h)))
-    by_case ih false h true e = ap (λ bs. cancels j (kept_by bs (f ∷ fs))) (out-at (history.is_forwarding_free_at k key) g gs false h) ∙ (ap length (filter-yes (is_leaving j) f (kept_by (first_out (history.is_forwarding_free_at k key) gs) fs) e) ∙ (ap suc ih ∙ sym (ap length (filter-yes (is_leaving j) f fs e))))
-    by_case ih false h false e = ap (λ bs. cancels j (kept_by bs (f ∷ fs))) (out-at (history.is_forwarding_free_at k key) g gs false h) ∙ (ap length (filter-no (is_leaving j) f (kept_by (first_out (history.is_forwarding_free_at k key) gs) fs) e) ∙ (ih ∙ sym (ap length (filter-no (is_leaving j) f fs e))))
+    by_case : unanswered_cancels j (kept_by (first_out (history.is_forwarding_free_at k key) gs) fs) ≡ unanswered_cancels j fs → (b : Bool) → history.is_forwarding_free_at k key g ≡ b → (p : Bool) → is_leaving j f ≡ p → unanswered_cancels j (kept_by (first_out (history.is_forwarding_free_at k key) (g ∷ gs)) (f ∷ fs)) ≡ unanswered_cancels j (f ∷ fs)
+    by_case ih true h p e = ap (λ bs. unanswered_cancels j (kept_by bs (f ∷ fs))) (out-at (history.is_forwarding_free_at k key) g gs true h) ∙ sym (ap length (filter-no (is_leaving j) f fs (idle h)))
+    by_case ih false h true e = ap (λ bs. unanswered_cancels j (kept_by bs (f ∷ fs))) (out-at (history.is_forwarding_free_at k key) g gs false h) ∙ (ap length (filter-yes (is_leaving j) f (kept_by (first_out (history.is_forwarding_free_at k key) gs) fs) e) ∙ (ap suc ih ∙ sym (ap length (filter-yes (is_leaving j) f fs e))))
+    by_case ih false h false e = ap (λ bs. unanswered_cancels j (kept_by bs (f ∷ fs))) (out-at (history.is_forwarding_free_at k key) g gs false h) ∙ (ap length (filter-no (is_leaving j) f (kept_by (first_out (history.is_forwarding_free_at k key) gs) fs) e) ∙ (ih ∙ sym (ap length (filter-no (is_leaving j) f fs e))))
 
-pub stopped-fit : (k : ℕ) (key : Key) (place : ℕ) (fs : List Forward) (gs : List Forwarding) (own : ℕ → Places) (lost : ℕ → Bool) → AreFit fs gs own lost → AreFit (cancelled k key false fs) (filter is_on (history.change_first (history.is_forwarding_free_at k key) (stopped false place) gs)) own lost
+pub stopped-fit : (k : ℕ) (key : Key) (place : ℕ) (fs : List Forward) (gs : List Forwarding) (own : ℕ → Places) (lost : ℕ → Bool) → AreFit fs gs own lost → AreFit (forward_cancelled k key false fs) (filter is_on (history.change_first (history.is_forwarding_free_at k key) (stopped false place) gs)) own lost
 stopped-fit k key place fs gs own lost fit =
     subst (λ xs. AreFit xs (filter is_on (history.change_first (history.is_forwarding_free_at k key) (stopped false place) gs)) own lost) (sym (kept-out k key fs gs fit.listed))
     (subst (λ ys. AreFit (kept_by (first_out (history.is_forwarding_free_at k key) gs) fs) ys own lost) (sym (stopped-out (history.is_forwarding_free_at k key) place gs (on-listed fs gs fit.listed))) (record {
@@ -163,7 +163,7 @@ stopped-fit k key place fs gs own lost fit =
       in_order = order-by (first_out (history.is_forwarding_free_at k key) gs) fs gs fit.listed fit.in_order;
       awaited = all-by (λ g. IsAwaited (own g.client) g) (first_out (history.is_forwarding_free_at k key) gs) gs fit.awaited;
       two = two-by (first_out (history.is_forwarding_free_at k key) gs) gs fit.two;
-      few = λ j. let a = count-by (is_of j) (first_out (history.is_forwarding_free_at k key) gs) fs in let b = fit.few j in omega arith;
+      few = λ j. let a = count-by (is_forward_of j) (first_out (history.is_forwarding_free_at k key) gs) fs in let b = fit.few j in omega arith;
       each = λ j lives at a past got. goes_on at a.what j (fit.each j lives at a past got);
       ranked = all-by (IsRanked (kept_by (first_out (history.is_forwarding_free_at k key) gs) fs)) (first_out (history.is_forwarding_free_at k key) gs) fs (all-map (IsRanked fs) (IsRanked (kept_by (first_out (history.is_forwarding_free_at k key) gs) fs)) (λ f is q e. subst (λ n. q < n) (sym (no-cancel k key f.client fs gs fit.listed)) (is q e)) fs fit.ranked);
     }))
@@ -175,7 +175,7 @@ stopped-fit k key place fs gs own lost fit =
     present o n some h = let x : is_none (let y : Option Key = Some n in y) ≡ true = ap is_none (sym some) ∙ h in cc
 
     goes_on : (at : ℕ) (what : full.Global) (j : ℕ) → HasAt at what (filter (λ g. g.client == j) gs) → HasAt at what (filter (λ g. g.client == j) (kept_by (first_out (history.is_forwarding_free_at k key) gs) gs))
-    goes_on at (full.Forward q) j h = find-any (λ (g : Forwarding). g.client == j) (is_asked_at at) _ ∙ any-out (λ (g : Forwarding). (g.client == j) && is_asked_at at g) (history.is_forwarding_free_at k key) (λ g t p. present g.live key (free-is k key g t).live (and-left (is_none g.live) _ (and-right (g.client == j) _ p))) gs (sym (find-any (λ (g : Forwarding). g.client == j) (is_asked_at at) gs) ∙ h)
-    goes_on at (full.Cancel q) j h = find-any (λ (g : Forwarding). g.client == j) (is_leaving_at at) _ ∙ any-out (λ (g : Forwarding). (g.client == j) && is_leaving_at at g) (history.is_forwarding_free_at k key) (λ g t p. absent g.cancel at (free-is k key g t).cancel (and-right (g.client == j) _ p)) gs (sym (find-any (λ (g : Forwarding). g.client == j) (is_leaving_at at) gs) ∙ h)
+    goes_on at (full.Forward q) j h = find-any (λ (g : Forwarding). g.client == j) (request_waits_at at) _ ∙ any-out (λ (g : Forwarding). (g.client == j) && request_waits_at at g) (history.is_forwarding_free_at k key) (λ g t p. present g.live key (free-is k key g t).live (and-left (is_none g.live) _ (and-right (g.client == j) _ p))) gs (sym (find-any (λ (g : Forwarding). g.client == j) (request_waits_at at) gs) ∙ h)
+    goes_on at (full.Cancel q) j h = find-any (λ (g : Forwarding). g.client == j) (cancel_waits_at at) _ ∙ any-out (λ (g : Forwarding). (g.client == j) && cancel_waits_at at g) (history.is_forwarding_free_at k key) (λ g t p. absent g.cancel at (free-is k key g t).cancel (and-right (g.client == j) _ p)) gs (sym (find-any (λ (g : Forwarding). g.client == j) (cancel_waits_at at) gs) ∙ h)
     goes_on at full.KeepAlive j h = tt
     goes_on at full.OtherName j h = tt

@@ -9,7 +9,7 @@ use Rattle.mux_history.specs.Channels.{is_number}
 use Rattle.mux_history.specs.Summary.{Summary, Refuses, Succeeds}
 use Rattle.mux_history.specs.Keys.{bound}
 use Rattle.mux_history.specs.Requests.{Ask}
-use Rattle.mux_history.specs.Forwardings.{Forwarding, is_request, of_client, replied}
+use Rattle.mux_history.specs.Forwardings.{Forwarding, is_request, of_client, forwarding_after_reply}
 use Rattle.mux_history.proofs.Bools.{same-number}
 use Rattle.mux_history.proofs.Sends.{and-left, and-right}
 use Rattle.forward_rules.specs.State.{Forward}
@@ -18,7 +18,7 @@ use Rattle.mux_core.proofs.Answering.{replied_more}
 
 -- a reply to a client's request at a place
 abbrev pub after : ℕ → ℕ → Summary → Forwarding → Forwarding
-after k place m = of_client k (replied place m)
+after k place m = of_client k (forwarding_after_reply place m)
 
 -- ---- what waits at a place
 
@@ -50,7 +50,7 @@ cancel-is own k place what g w asked h =
 abbrev pub IsBystander : ℕ → ℕ → Forwarding → Type 0
 IsBystander k place g = (g.client == k) ≡ true → (is_request g place ≡ false) × (is_number g.cancel place ≡ false)
 
-replied-idle : (place : ℕ) (m : Summary) (g : Forwarding) → is_request g place ≡ false → is_number g.cancel place ≡ false → replied place m g ≡ g
+replied-idle : (place : ℕ) (m : Summary) (g : Forwarding) → is_request g place ≡ false → is_number g.cancel place ≡ false → forwarding_after_reply place m g ≡ g
 replied-idle place (Succeeds rest) g a b =
     ap (λ (x : Bool). elim x as (λ _. Forwarding) [ true ↦ record g { live = Some (bound g.key rest) } | false ↦ elim (is_number g.cancel place) as (λ _. Forwarding) [ true ↦ record g { over = true } | false ↦ g ] ]) a
     ∙ ap (λ (x : Bool). elim x as (λ _. Forwarding) [ true ↦ record g { over = true } | false ↦ g ]) b
@@ -63,8 +63,8 @@ pub idle-after : (k place : ℕ) (m : Summary) (g : Forwarding) → IsBystander 
 idle-after k place m g idle = by_client (g.client == k) refl
   where
     by_client : (b : Bool) → (g.client == k) ≡ b → after k place m g ≡ g
-    by_client true h = ap (λ (x : Bool). elim x as (λ _. Forwarding) [ true ↦ replied place m g | false ↦ g ]) h ∙ replied-idle place m g (idle h).0 (idle h).1
-    by_client false h = ap (λ (x : Bool). elim x as (λ _. Forwarding) [ true ↦ replied place m g | false ↦ g ]) h
+    by_client true h = ap (λ (x : Bool). elim x as (λ _. Forwarding) [ true ↦ forwarding_after_reply place m g | false ↦ g ]) h ∙ replied-idle place m g (idle h).0 (idle h).1
+    by_client false h = ap (λ (x : Bool). elim x as (λ _. Forwarding) [ true ↦ forwarding_after_reply place m g | false ↦ g ]) h
 
 pub idle-all : (k place : ℕ) (m : Summary) (gs : List Forwarding) → AllByRecursion (IsBystander k place) gs → map (after k place m) gs ≡ gs
 idle-all k place m [] all = refl

@@ -6,9 +6,9 @@ use Rattle.ssh_grammar.specs.Messages as full
 use Rattle.mux_history.specs.Summary.{Summary, Refuses, Succeeds, read_summary, reading}
 use Rattle.mux_history.specs.Rows.{Goes, Heard, Row, rows_of}
 use Rattle.mux_history.specs.Channels.{Channel, after_item, begun_by, held_of, is_channel_held, opened_down, with_down, with_ups}
-use Rattle.mux_history.specs.Forwardings.{current, forwardings_of, of_client, replied}
-use Rattle.mux_history.specs.Requests.{Ask, asker, asks, asks_of, is_reply, is_sent, replies, reply_in, sent_flags, wanted, wanted_by}
-use Rattle.mux_history.specs.Treat.{bare}
+use Rattle.mux_history.specs.Forwardings.{current, forwardings_of, of_client, forwarding_after_reply}
+use Rattle.mux_history.specs.Requests.{Ask, asker, wanted_requests, asks_of, is_reply, is_sent, replies, reply_in, sent_flags, wanted, wanted_by}
+use Rattle.mux_history.specs.Treat.{bare_row}
 use Rattle.mux_history.proofs.Bools.{self}
 use Rattle.mux_history.proofs.CurrentSteps.{is_on, on-forwarded}
 use Rattle.mux_history.proofs.Finds.{filter-yes}
@@ -17,7 +17,7 @@ use Rattle.mux_history.proofs.Readings.{reading-ok}
 use Rattle.mux_isolation.specs.LogView.{Waiting}
 use Rattle.forward_rules.specs.Stands.{Places, places_of}
 use Rattle.mux_core.specs.State.{CoreState}
-use Rattle.mux_core.specs.Stands.{Stands, look}
+use Rattle.mux_core.specs.Stands.{CoreRepresents, look}
 use Rattle.mux_core.proofs.Answering.{Waits, replied_more}
 use Rattle.mux_core.proofs.Bare.{held-bare}
 use Rattle.mux_core.proofs.Replied.{Replies, after}
@@ -26,7 +26,7 @@ use Rattle.mux_core.proofs.Says.{held-held, map-same}
 -- ---- its row, with what it sends
 
 abbrev pub reply_row : ℕ → List ℕ → List (List ℕ) → Row
-reply_row k p sent = bare (Heard p) k (record { sent = sent; recorded = []; ends = Goes })
+reply_row k p sent = bare_row (Heard p) k (record { sent = sent; recorded = []; ends = Goes })
 
 -- what a reply is
 pub record IsReply (p : List ℕ) (m : Summary) : Type 0 where
@@ -46,9 +46,9 @@ length-more (y ∷ ys) x = let i = length-more ys x in omega arith
 
 places-next : (k : ℕ) (p : List ℕ) (m : Summary) (sent : List (List ℕ)) (own : List Row) → IsReply p m → places_of (reply_row k p sent ∷ own) ≡ replied_more (places_of own)
 places-next k p m sent own is =
-    ap (λ (us : List Ask). let x : Places = record { asked = asks own ++ us; replied = length (replies own ++ reply_in (Heard p)) } in x) (no-ask k (is_sent (reply_row k p sent)))
-    ∙ (ap (λ (us : List Ask). let x : Places = record { asked = us; replied = length (replies own ++ reply_in (Heard p)) } in x) (append-nil (asks own))
-    ∙ ap (λ (n : ℕ). let x : Places = record { asked = asks own; replied = n } in x) (ap (λ (rs : List (List ℕ)). length (replies own ++ rs)) (came p m is) ∙ length-more (replies own) p))
+    ap (λ (us : List Ask). let x : Places = record { asked = wanted_requests own ++ us; replied = length (replies own ++ reply_in (Heard p)) } in x) (no-ask k (is_sent (reply_row k p sent)))
+    ∙ (ap (λ (us : List Ask). let x : Places = record { asked = us; replied = length (replies own ++ reply_in (Heard p)) } in x) (append-nil (wanted_requests own))
+    ∙ ap (λ (n : ℕ). let x : Places = record { asked = wanted_requests own; replied = n } in x) (ap (λ (rs : List (List ℕ)). length (replies own ++ rs)) (came p m is) ∙ length-more (replies own) p))
 
 pub all-next : (k : ℕ) (p : List ℕ) (m : Summary) (sent : List (List ℕ)) (rows : List Row) → IsReply p m → (look (reply_row k p sent ∷ rows)).all ≡ replied_more (look rows).all
 all-next k p m sent rows is = places-next k p m sent rows is
@@ -61,8 +61,8 @@ own-next k p m sent rows is = record {
 
 pub current-next : (k : ℕ) (p : List ℕ) (m : Summary) (sent : List (List ℕ)) (rows : List Row) → IsReply p m → current (reply_row k p sent ∷ rows) ≡ filter is_on (map (after k ((look rows).own k).replied m) (current rows))
 current-next k p m sent rows is =
-    on-forwarded (reply_row k p sent) (length (asks (rows_of k rows))) (length (replies (rows_of k rows))) (forwardings_of rows)
-    ∙ ap (filter is_on) (reading-ok p m (λ g. map (of_client k (replied (length (replies (rows_of k rows))) g)) (current rows)) (current rows) is.reads)
+    on-forwarded (reply_row k p sent) (length (wanted_requests (rows_of k rows))) (length (replies (rows_of k rows))) (forwardings_of rows)
+    ∙ ap (filter is_on) (reading-ok p m (λ g. map (of_client k (forwarding_after_reply (length (replies (rows_of k rows))) g)) (current rows)) (current rows) is.reads)
 
 -- no channel is changed by a reply, nor by what it sends
 pub same-held : (k : ℕ) (p : List ℕ) (m : Summary) (sent : List (List ℕ)) (rows : List Row) → IsReply p m → ((x : Channel) → with_ups None sent x ≡ x) → held_of (reply_row k p sent ∷ rows) ≡ held_of rows
@@ -121,22 +121,22 @@ pub record Asked (s : CoreState) (rows : List Row) (a : Ask) (queue : List Ask) 
   pub all : asker rows ≡ Some a
   pub own : asker (rows_of a.client rows) ≡ Some a
   pub place : slice_get ((look rows).own a.client).asked ((look rows).own a.client).replied ≡ Some a
-  pub waits : length (replies (rows_of a.client rows)) < length (asks (rows_of a.client rows))
+  pub waits : length (replies (rows_of a.client rows)) < length (wanted_requests (rows_of a.client rows))
 
-pub asked-first : (s : CoreState) (rows : List Row) (a : Ask) (queue : List Ask) → Stands s rows → s.asks ≡ a ∷ queue → Asked s rows a queue
+pub asked-first : (s : CoreState) (rows : List Row) (a : Ask) (queue : List Ask) → CoreRepresents s rows → s.asks ≡ a ∷ queue → Asked s rows a queue
 asked-first s rows a queue st first =
-    let all : drop (length (replies rows)) (asks rows) ≡ a ∷ queue = sym st.asks.waiting ∙ first in
-    let own : drop (length (replies (rows_of a.client rows))) (asks (rows_of a.client rows)) ≡ a ∷ filter (λ (b : Ask). b.client == a.client) queue =
+    let all : drop (length (replies rows)) (wanted_requests rows) ≡ a ∷ queue = sym st.asks.waiting ∙ first in
+    let own : drop (length (replies (rows_of a.client rows))) (wanted_requests (rows_of a.client rows)) ≡ a ∷ filter (λ (b : Ask). b.client == a.client) queue =
     (st.asks.each a.client).waiting ∙ (ap (filter (λ (b : Ask). b.client == a.client)) all ∙ filter-yes (λ (b : Ask). b.client == a.client) a queue (self a.client)) in
     record {
-      all = get-drop (length (replies rows)) (asks rows) a queue all;
-      own = get-drop (length (replies (rows_of a.client rows))) (asks (rows_of a.client rows)) a _ own;
-      place = get-drop (length (replies (rows_of a.client rows))) (asks (rows_of a.client rows)) a _ own;
-      waits = drop-some (length (replies (rows_of a.client rows))) (asks (rows_of a.client rows)) a _ own;
+      all = get-drop (length (replies rows)) (wanted_requests rows) a queue all;
+      own = get-drop (length (replies (rows_of a.client rows))) (wanted_requests (rows_of a.client rows)) a _ own;
+      place = get-drop (length (replies (rows_of a.client rows))) (wanted_requests (rows_of a.client rows)) a _ own;
+      waits = drop-some (length (replies (rows_of a.client rows))) (wanted_requests (rows_of a.client rows)) a _ own;
     }
 
-pub nobody-asked : (s : CoreState) (rows : List Row) → Stands s rows → s.asks ≡ [] → asker rows ≡ None
-nobody-asked s rows st none = get-end (length (replies rows)) (asks rows) (sym st.asks.waiting ∙ none)
+pub nobody-asked : (s : CoreState) (rows : List Row) → CoreRepresents s rows → s.asks ≡ [] → asker rows ≡ None
+nobody-asked s rows st none = get-end (length (replies rows)) (wanted_requests rows) (sym st.asks.waiting ∙ none)
 
 -- ---- what its client waits for begins with that request
 
@@ -160,13 +160,13 @@ length-append : {X : Type 0} (xs ys : List X) → length (xs ++ ys) ≡ length x
 length-append [] ys = omega arith
 length-append (x ∷ xs) ys = let i = length-append xs ys in omega arith
 
-sent-asks : (own : List Row) → sent_in (wanted own) ≡ length (asks own)
+sent-asks : (own : List Row) → sent_in (wanted own) ≡ length (wanted_requests own)
 sent-asks [] = refl
 sent-asks (row ∷ own) =
     let i = sent-asks own in
     let a = sent-append (wanted own) (sent_flags (is_sent row) (wanted_by row)) in
     let b = sent-flags row.client (is_sent row) (wanted_by row) in
-    let c = length-append (asks own) (asks_of row.client (is_sent row) (wanted_by row)) in
+    let c = length-append (wanted_requests own) (asks_of row.client (is_sent row) (wanted_by row)) in
     omega arith
 
 pub record Starts (w : List Bool) : Type 0 where
@@ -179,5 +179,5 @@ starts (false ∷ flags) heard w h lt = starts flags heard w h lt
 starts (true ∷ flags) [] w h lt = record { later = flags; is = sym (ap (λ (x : Waiting). x.requests) h) }
 starts (true ∷ flags) (p ∷ heard) w h lt = starts flags heard w h (omega arith)
 
-pub waits-start : (own : List Row) (w : List Bool) → Waits (wanted own) (replies own) w → length (replies own) < length (asks own) → Starts w
+pub waits-start : (own : List Row) (w : List Bool) → Waits (wanted own) (replies own) w → length (replies own) < length (wanted_requests own) → Starts w
 waits-start own w h lt = starts (wanted own) (replies own) w h (subst (λ n. length (replies own) < n) (sym (sent-asks own)) lt)

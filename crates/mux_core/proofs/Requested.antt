@@ -9,9 +9,9 @@ use Rattle.ssh_grammar.specs.Messages.{Global, KeepAlive, OtherName, Forward, Ca
 use Rattle.ssh_grammar.specs.Said.{Payload}
 use Rattle.mux_history.specs.Summary.{Requests, read_summary, reading}
 use Rattle.mux_history.specs.Rows.{Row, Says, any_of, is_admit, is_lost, rows_of}
-use Rattle.mux_history.specs.Forwardings.{Forwarding, current, forwardings_of, requested}
-use Rattle.mux_history.specs.Requests.{Ask, asks, asks_of, replies, sent_flags, wanted, wanted_in}
-use Rattle.mux_history.specs.Said.{sends}
+use Rattle.mux_history.specs.Forwardings.{Forwarding, current, forwardings_of, forwardings_after_request}
+use Rattle.mux_history.specs.Requests.{Ask, wanted_requests, asks_of, replies, sent_flags, wanted, wanted_in}
+use Rattle.mux_history.specs.Said.{sends_payload}
 use Rattle.mux_history.proofs.Bools.{same-number}
 use Rattle.mux_history.proofs.OwnRows.{idle_row, own_row}
 use Rattle.mux_history.proofs.Readings.{reading-ok}
@@ -22,10 +22,10 @@ use Rattle.mux_history.specs.declared.limits.TheConstants.{MAX_CLIENTS}
 use Rattle.mux_history.specs.Summary.{summary_sender_of}
 use Rattle.mux_history.specs.Channels.{Channel, after_item, held_of, is_channel_held, opened_up, with_up}
 use Rattle.mux_history.specs.Farewell.{has_open_matters}
-use Rattle.mux_history.specs.Log.{entered}
+use Rattle.mux_history.specs.Log.{admitted_clients}
 use Rattle.channel_table.specs.Entries.{TableEntry}
-use Rattle.mux_core.specs.State.{MemberState, CoreState, is_served}
-use Rattle.mux_core.specs.Stands.{AreOnce, ClientFits, Stands, TableFits, has_matters, is_member_known, look}
+use Rattle.mux_core.specs.State.{MemberState, CoreState, is_member_served}
+use Rattle.mux_core.specs.Stands.{AreOnce, ClientFits, CoreRepresents, TableFits, has_matters, is_member_known, look}
 use Rattle.mux_core.proofs.Bare.{held-bare}
 use Rattle.mux_core.proofs.OpensSent.{served-known}
 use Rattle.mux_core.proofs.Quiet.{own-same}
@@ -37,15 +37,15 @@ use Rattle.mux_core.proofs.Says.{held-held, map-same, sent_as}
 
 -- the row of one
 abbrev pub request_row : ℕ → List ℕ → Row
-request_row k p = sent_as k p (sends p)
+request_row k p = sent_as k p (sends_payload p)
 
 abbrev pub ask_of : ℕ → Global → Ask
 ask_of k what = record { client = k; what = what }
 
 places-more : (k : ℕ) (p : List ℕ) (what : Global) (own : List Row) → read_summary p ≡ Ok (Requests what true) → places_of (request_row k p ∷ own) ≡ asked_more (places_of own) (ask_of k what)
 places-more k p what own e =
-    ap (λ (us : List Ask). let x : Places = record { asked = asks own ++ us; replied = length (replies own ++ []) } in x) (ap (asks_of k true) (reading-ok p (Requests what true) wanted_in None e))
-    ∙ ap (λ (rs : List (List ℕ)). let x : Places = record { asked = asks own ++ ask_of k what ∷ []; replied = length rs } in x) (append-nil (replies own))
+    ap (λ (us : List Ask). let x : Places = record { asked = wanted_requests own ++ us; replied = length (replies own ++ []) } in x) (ap (asks_of k true) (reading-ok p (Requests what true) wanted_in None e))
+    ∙ ap (λ (rs : List (List ℕ)). let x : Places = record { asked = wanted_requests own ++ ask_of k what ∷ []; replied = length rs } in x) (append-nil (replies own))
 
 pub all-more : (k : ℕ) (p : List ℕ) (what : Global) (rows : List Row) → read_summary p ≡ Ok (Requests what true) → (look (request_row k p ∷ rows)).all ≡ asked_more (look rows).all (ask_of k what)
 all-more k p what rows e = places-more k p what rows e
@@ -162,8 +162,8 @@ request-lost : (k : ℕ) (p : List ℕ) (own : List Row) → is_lost (request_ro
 request-lost k p own = refl
 
 -- a request that changes no forwarding
-same-forwardings : (k : ℕ) (p : List ℕ) (what : Global) (rows : List Row) → read_summary p ≡ Ok (Requests what true) → ((place : ℕ) (fs : List Forwarding) → requested k place (Requests what true) fs ≡ fs) → current (request_row k p ∷ rows) ≡ current rows
-same-forwardings k p what rows e none = ap (filter (λ (f : Forwarding). not f.over)) (reading-ok p (Requests what true) (λ m. requested k (length (asks (rows_of k rows))) m (forwardings_of rows)) (forwardings_of rows) e ∙ none (length (asks (rows_of k rows))) (forwardings_of rows))
+same-forwardings : (k : ℕ) (p : List ℕ) (what : Global) (rows : List Row) → read_summary p ≡ Ok (Requests what true) → ((place : ℕ) (fs : List Forwarding) → forwardings_after_request k place (Requests what true) fs ≡ fs) → current (request_row k p ∷ rows) ≡ current rows
+same-forwardings k p what rows e none = ap (filter (λ (f : Forwarding). not f.over)) (reading-ok p (Requests what true) (λ m. forwardings_after_request k (length (wanted_requests (rows_of k rows))) m (forwardings_of rows)) (forwardings_of rows) e ∙ none (length (wanted_requests (rows_of k rows))) (forwardings_of rows))
 
 no-change : (k : ℕ) (p : List ℕ) (what : Global) (want : Bool) (x : Channel) → read_summary p ≡ Ok (Requests what want) → after_item (request_row k p) x ≡ x
 no-change k p what want x e =
@@ -172,7 +172,7 @@ no-change k p what want x e =
 
 pub same-channels : (k : ℕ) (p : List ℕ) (what : Global) (want : Bool) (rows : List Row) → read_summary p ≡ Ok (Requests what want) → held_of (request_row k p ∷ rows) ≡ held_of rows
 same-channels k p what want rows e =
-    held-bare (Says k (Payload p) None) k (sends p) rows
+    held-bare (Says k (Payload p) None) k (sends_payload p) rows
     ∙ (ap (filter is_channel_held) (ap (λ ys. map (after_item (request_row k p)) (held_of rows) ++ ys) (reading-ok p (Requests what want) (opened_up k (p ∷ [])) [] e) ∙ (append-nil (map (after_item (request_row k p)) (held_of rows)) ∙ map-same (after_item (request_row k p)) (λ x. no-change k p what want x e) (held_of rows)))
     ∙ held-held rows)
 
@@ -187,9 +187,9 @@ known-same : (k j : ℕ) (cs : List MemberState) → is_member_known (map (await
 known-same k j [] = refl
 known-same k j (c ∷ cs) = ap (λ n. (n == j) || is_member_known (map (awaits k) cs) j) (number-same k c) ∙ ap (λ b. (c.number == j) || b) (known-same k j cs)
 
-served-same : (k j : ℕ) (cs : List MemberState) → is_served (map (awaits k) cs) j ≡ is_served cs j
+served-same : (k j : ℕ) (cs : List MemberState) → is_member_served (map (awaits k) cs) j ≡ is_member_served cs j
 served-same k j [] = refl
-served-same k j (c ∷ cs) = ap (λ n. ((n == j) && not (awaits k c).lost) || is_served (map (awaits k) cs) j) (number-same k c) ∙ (ap (λ b. ((c.number == j) && not b) || is_served (map (awaits k) cs) j) (lost-same k c) ∙ ap (λ b. ((c.number == j) && not c.lost) || b) (served-same k j cs))
+served-same k j (c ∷ cs) = ap (λ n. ((n == j) && not (awaits k c).lost) || is_member_served (map (awaits k) cs) j) (number-same k c) ∙ (ap (λ b. ((c.number == j) && not b) || is_member_served (map (awaits k) cs) j) (lost-same k c) ∙ ap (λ b. ((c.number == j) && not c.lost) || b) (served-same k j cs))
 
 once-same : (k : ℕ) (cs : List MemberState) → AreOnce cs → AreOnce (map (awaits k) cs)
 once-same k [] once = tt
@@ -223,7 +223,7 @@ pub all-known : {X : Type 0} (client : X → ℕ) (cs cs' : List MemberState) �
 all-known client cs cs' same [] all = tt
 all-known client cs cs' same (x ∷ xs) all = (same (client x) ∙ all.0, all-known client cs cs' same xs all.1)
 
-pub all-served : (cs cs' : List MemberState) → ((j : ℕ) → is_served cs' j ≡ is_served cs j) → (fs : List kept.Forward) → AllByRecursion (λ f. is_served cs f.client ≡ true) fs → AllByRecursion (λ f. is_served cs' f.client ≡ true) fs
+pub all-served : (cs cs' : List MemberState) → ((j : ℕ) → is_member_served cs' j ≡ is_member_served cs j) → (fs : List kept.Forward) → AllByRecursion (λ f. is_member_served cs f.client ≡ true) fs → AllByRecursion (λ f. is_member_served cs' f.client ≡ true) fs
 all-served cs cs' same [] all = tt
 all-served cs cs' same (f ∷ fs) all = (same f.client ∙ all.0, all-served cs cs' same fs all.1)
 
@@ -232,7 +232,7 @@ all-last P x one [] all = (one, tt)
 all-last P x one (y ∷ ys) all = (all.0, all-last P x one ys all.1)
 
 -- whatever forwardings are kept then
-pub wanted-stands : (s : CoreState) (k : ℕ) (p : List ℕ) (what : Global) (rows : List Row) (fs : List kept.Forward) → Stands s rows → is_served s.clients k ≡ true → read_summary p ≡ Ok (Requests what true) → AreFit fs (current (request_row k p ∷ rows)) (look (request_row k p ∷ rows)).own (look rows).lost → AllByRecursion (λ f. is_served s.clients f.client ≡ true) fs → Stands (record s { asks = s.asks ++ ask_of k what ∷ []; clients = map (awaits k) s.clients; forwards = fs }) (request_row k p ∷ rows)
+pub wanted-stands : (s : CoreState) (k : ℕ) (p : List ℕ) (what : Global) (rows : List Row) (fs : List kept.Forward) → CoreRepresents s rows → is_member_served s.clients k ≡ true → read_summary p ≡ Ok (Requests what true) → AreFit fs (current (request_row k p ∷ rows)) (look (request_row k p ∷ rows)).own (look rows).lost → AllByRecursion (λ f. is_member_served s.clients f.client ≡ true) fs → CoreRepresents (record s { asks = s.asks ++ ask_of k what ∷ []; clients = map (awaits k) s.clients; forwards = fs }) (request_row k p ∷ rows)
 wanted-stands s k p what rows fs st serves e fit theirs =
     let is : IsServed k (look rows) = served (look rows) k s.clients st.clients.each serves in
     let lost : (look (request_row k p ∷ rows)).lost ≡ (look rows).lost = λ i j. own-same is_lost (request_row k p) rows (request-lost k p) j i in
@@ -242,7 +242,7 @@ wanted-stands s k p what rows fs st serves e fit theirs =
       asks = asks-sent s.asks (ask_of k what) (look rows) (look (request_row k p ∷ rows)) st.asks (all-more k p what rows e) (own-more k p what rows e) (others-stay k p rows);
       forwards = subst (AreFit fs (current (request_row k p ∷ rows)) (look (request_row k p ∷ rows)).own) (sym lost) fit;
       clients = record {
-        numbers = numbers-same k s.clients ∙ (st.clients.numbers ∙ (ap (λ m. filter m (entered rows)) matters ∙ ap (filter (has_matters (request_row k p ∷ rows))) (sym (append-nil (entered rows)))));
+        numbers = numbers-same k s.clients ∙ (st.clients.numbers ∙ (ap (λ m. filter m (admitted_clients rows)) matters ∙ ap (filter (has_matters (request_row k p ∷ rows))) (sym (append-nil (admitted_clients rows)))));
         each = clients-more k p what rows s.clients e st.clients.each;
         once = once-same k s.clients st.clients.once;
         few = subst (λ n. n ≤ MAX_CLIENTS) (sym (length-same k s.clients)) st.clients.few;
@@ -254,7 +254,7 @@ wanted-stands s k p what rows fs st serves e fit theirs =
       };
     }
 
-pub request-stands : (s : CoreState) (k : ℕ) (p : List ℕ) (what : Global) (rows : List Row) → Stands s rows → is_served s.clients k ≡ true → read_summary p ≡ Ok (Requests what true) → is_plain what ≡ true → ((place : ℕ) (fs : List Forwarding) → requested k place (Requests what true) fs ≡ fs) → Stands (record s { asks = s.asks ++ ask_of k what ∷ []; clients = map (awaits k) s.clients }) (request_row k p ∷ rows)
+pub request-stands : (s : CoreState) (k : ℕ) (p : List ℕ) (what : Global) (rows : List Row) → CoreRepresents s rows → is_member_served s.clients k ≡ true → read_summary p ≡ Ok (Requests what true) → is_plain what ≡ true → ((place : ℕ) (fs : List Forwarding) → forwardings_after_request k place (Requests what true) fs ≡ fs) → CoreRepresents (record s { asks = s.asks ++ ask_of k what ∷ []; clients = map (awaits k) s.clients }) (request_row k p ∷ rows)
 request-stands s k p what rows st serves e plain none =
     wanted-stands s k p what rows s.forwards st serves e
     (subst (λ gs. AreFit s.forwards gs (look (request_row k p ∷ rows)).own (look rows).lost) (sym (same-forwardings k p what rows e none)) (forwards-more s.forwards (current rows) (look rows).own (look (request_row k p ∷ rows)).own (look rows).lost (ask_of k what) plain st.forwards (own-more k p what rows e) (others-stay k p rows)))

@@ -16,23 +16,23 @@ use Rattle.mux_history.specs.Choices.{takes_number}
 use Rattle.mux_history.specs.Summary.{Requests, read_summary, summary_sender_of}
 use Rattle.mux_history.specs.Rows.{Row, any_of, is_lost, rows_of}
 use Rattle.mux_history.specs.Requests.{Ask, answers, answers_to, asks_of, replies, sent_flags, wanted, wanted_in}
-use Rattle.mux_history.specs.Said.{Outcome, drops, is_full_of_asks, sent_payload, sent_request, sends, sends_if, silent}
+use Rattle.mux_history.specs.Said.{Outcome, drops, is_full_of_asks, sent_payload, sent_request, sends_payload, sends_if, silent}
 use Rattle.mux_history.specs.Treat.{all_recorded, goes, new_answers}
 use Rattle.mux_history.specs.Forwardings.{Forwarding, current, forwardings_of}
 use Rattle.mux_history.specs.Forwardings as history
 use Rattle.mux_history.proofs.CurrentSteps.{is_on}
 use Rattle.mux_history.proofs.ForwardsLocal.{forwardings-local}
 use Rattle.mux_history.proofs.Finds.{filter-no, filter-yes}
-use Rattle.forward_rules.specs.Step.{asked, cancelled, forward_count_of, is_of, some_free}
+use Rattle.forward_rules.specs.Step.{asked_forward, forward_cancelled, forward_count_of, is_forward_of, some_free}
 use Rattle.mux_history.proofs.Readings.{reading-ok}
 use Rattle.forward_rules.specs.State as kept
 use Rattle.forward_rules.specs.Stands.{AreForwardsListed}
 use Rattle.mux_core.specs.declared.verdict.Verdict.{Verdict}
 use Rattle.mux_core.specs.declared.verdict.Verdict.TheVariants as verdict
-use Rattle.mux_core.specs.State.{MemberState, CoreState, is_served}
-use Rattle.mux_core.specs.Stands.{Stands, TableFits, look}
+use Rattle.mux_core.specs.State.{MemberState, CoreState, is_member_served}
+use Rattle.mux_core.specs.Stands.{CoreRepresents, TableFits, look}
 use Rattle.mux_core.specs.Calls.{SendsAs, CoreSendsIn, SendsRow}
-use Rattle.mux_core.specs.Requesting.{SendsRoomy, is_full, more_awaited, member_waiting_of, with_waiting}
+use Rattle.mux_core.specs.Requesting.{SendsRoomy, is_one_too_many, more_awaited, member_waiting_of, with_waiting}
 use Rattle.mux_core.proofs.Answering.{Waits, sent-answers}
 use Rattle.mux_core.proofs.Waiting.{how-many, waits-are, with-map}
 use Rattle.mux_core.proofs.Quiet.{IsQuiet}
@@ -45,15 +45,15 @@ use Rattle.mux_core.proofs.Pairs.{some-same}
 
 -- ---- one too many, or not
 
-full-same : (s : CoreState) (k : ℕ) (want : Bool) (rows : List Row) → Stands s rows → is_served s.clients k ≡ true → is_full_of_asks want (rows_of k rows) ≡ is_full want (member_waiting_of k s.clients)
+full-same : (s : CoreState) (k : ℕ) (want : Bool) (rows : List Row) → CoreRepresents s rows → is_member_served s.clients k ≡ true → is_full_of_asks want (rows_of k rows) ≡ is_one_too_many want (member_waiting_of k s.clients)
 full-same s k want rows st serves = ap (λ n. want && nat_le MAX_GLOBAL_REQUESTS n) (how-many (rows_of k rows) (member_waiting_of k s.clients) (waits-are rows k s.clients st.clients.each st.clients.once serves))
 
-pub by-full : (s : CoreState) (k : ℕ) (p : List ℕ) (what : Global) (want b : Bool) (rows : List Row) → Stands s rows → is_served s.clients k ≡ true → read_summary p ≡ Ok (Requests what want) → is_full want (member_waiting_of k s.clients) ≡ b → sent_payload s.policy k (rows_of k rows) 0 p ≡ elim b as (λ _. Outcome) [ true ↦ drops (why.TooManyAsks MAX_GLOBAL_REQUESTS) | false ↦ sent_request s.policy k (rows_of k rows) p what want ]
+pub by-full : (s : CoreState) (k : ℕ) (p : List ℕ) (what : Global) (want b : Bool) (rows : List Row) → CoreRepresents s rows → is_member_served s.clients k ≡ true → read_summary p ≡ Ok (Requests what want) → is_one_too_many want (member_waiting_of k s.clients) ≡ b → sent_payload s.policy k (rows_of k rows) 0 p ≡ elim b as (λ _. Outcome) [ true ↦ drops (why.TooManyAsks MAX_GLOBAL_REQUESTS) | false ↦ sent_request s.policy k (rows_of k rows) p what want ]
 by-full s k p what want b rows st serves e h =
     said-ok s.policy k 0 (rows_of k rows) p (Requests what want) e
     ∙ ap (λ (c : Bool). elim c as (λ _. Outcome) [ true ↦ drops (why.TooManyAsks MAX_GLOBAL_REQUESTS) | false ↦ sent_request s.policy k (rows_of k rows) p what want ]) (full-same s k want rows st serves ∙ h)
 
-pub too-many : (s : CoreState) (k : ℕ) (p : List ℕ) (what : Global) (want : Bool) (up : QueueState) → is_full want (member_waiting_of k s.clients) ≡ true → SendsAs s s k p (Requests what want) 0 up up (verdict.Drop (why.TooManyAsks MAX_GLOBAL_REQUESTS))
+pub too-many : (s : CoreState) (k : ℕ) (p : List ℕ) (what : Global) (want : Bool) (up : QueueState) → is_one_too_many want (member_waiting_of k s.clients) ≡ true → SendsAs s s k p (Requests what want) 0 up up (verdict.Drop (why.TooManyAsks MAX_GLOBAL_REQUESTS))
 too-many s k p what want up full = λ rows st serves e. dropped-row s k 0 p up (why.TooManyAsks MAX_GLOBAL_REQUESTS) rows (by-full s k p what want true rows st serves e full)
 
 -- ---- one that is sent
@@ -75,7 +75,7 @@ sent-same : (k : ℕ) (p : List ℕ) (what : Global) (want : Bool) (own : List R
 sent-same k p what true own w e waits = ap (λ fs. answers_to (wanted own ++ fs) (replies own ++ [])) (ap (sent_flags true) (reading-ok p (Requests what true) wanted_in None e)) ∙ (ap (answers_to (wanted own ++ true ∷ [])) (append-nil (replies own)) ∙ sent-answers (wanted own) (replies own) w waits)
 sent-same k p what false own w e waits = ap (λ fs. answers_to (wanted own ++ fs) (replies own ++ [])) (ap (sent_flags true) (reading-ok p (Requests what false) wanted_in None e)) ∙ (ap (λ fs. answers_to fs (replies own ++ [])) (append-nil (wanted own)) ∙ ap (answers_to (wanted own)) (append-nil (replies own)))
 
-pub goes-up : (s new : CoreState) (k : ℕ) (p : List ℕ) (what : Global) (want : Bool) (up : QueueState) (rows : List Row) → Stands s rows → is_served s.clients k ≡ true → read_summary p ≡ Ok (Requests what want) → is_full want (member_waiting_of k s.clients) ≡ false → sent_request s.policy k (rows_of k rows) p what want ≡ sends p → Stands new (request_row k p ∷ rows) → CoreSendsIn s new k p 0 up (with_bytes (frame_payload p) up) verdict.Sent rows
+pub goes-up : (s new : CoreState) (k : ℕ) (p : List ℕ) (what : Global) (want : Bool) (up : QueueState) (rows : List Row) → CoreRepresents s rows → is_member_served s.clients k ≡ true → read_summary p ≡ Ok (Requests what want) → is_one_too_many want (member_waiting_of k s.clients) ≡ false → sent_request s.policy k (rows_of k rows) p what want ≡ sends_payload p → CoreRepresents new (request_row k p ∷ rows) → CoreSendsIn s new k p 0 up (with_bytes (frame_payload p) up) verdict.Sent rows
 goes-up s new k p what want up rows st serves e room does stands =
     subst (λ o. SendsRow s new (sent_as k p o) 0 up (with_bytes (frame_payload p) up) verdict.Sent rows) (sym (by-full s k p what want false rows st serves e room ∙ does)) (record {
       sent = ap (λ (bs : List ℕ). let q : QueueState = record up { waiting = up.waiting ++ bs } in q) (sym (append-nil (frame_payload p)));
@@ -96,7 +96,7 @@ silent-quiet k p what e = record {
   admits = refl;
 }
 
-pub refused-silent : (s new : CoreState) (k : ℕ) (p : List ℕ) (what : Global) (v : Verdict) (up : QueueState) (rows : List Row) → Stands s rows → is_served s.clients k ≡ true → read_summary p ≡ Ok (Requests what false) → sent_request s.policy k (rows_of k rows) p what false ≡ silent → v ≡ verdict.Silent → new ≡ s → CoreSendsIn s new k p 0 up up v rows
+pub refused-silent : (s new : CoreState) (k : ℕ) (p : List ℕ) (what : Global) (v : Verdict) (up : QueueState) (rows : List Row) → CoreRepresents s rows → is_member_served s.clients k ≡ true → read_summary p ≡ Ok (Requests what false) → sent_request s.policy k (rows_of k rows) p what false ≡ silent → v ≡ verdict.Silent → new ≡ s → CoreSendsIn s new k p 0 up up v rows
 refused-silent s new k p what v up rows st serves e does is after =
     subst (λ x. CoreSendsIn s new k p 0 up up x rows) (sym is) (subst (λ x. CoreSendsIn s x k p 0 up up verdict.Silent rows) (sym after)
     (subst (λ o. SendsRow s s (sent_as k p o) 0 up up verdict.Silent rows) (sym (by-full s k p what false false rows st serves e refl ∙ does)) (record {
@@ -128,8 +128,8 @@ count-same k (f ∷ fs) [] all = absurd all
 count-same k (f ∷ fs) (g ∷ gs) all = by_case (count-same k fs gs all.1) (g.client == k) refl
   where
     by_case : length (filter (λ g. g.client == k) gs) ≡ forward_count_of fs k → (b : Bool) → (g.client == k) ≡ b → length (filter (λ g. g.client == k) (g ∷ gs)) ≡ forward_count_of (f ∷ fs) k
-    by_case ih true h = ap length (filter-yes (λ (g : Forwarding). g.client == k) g gs h) ∙ (ap suc ih ∙ sym (ap length (filter-yes (is_of k) f fs (ap (λ i. i == k) all.0.client ∙ h))))
-    by_case ih false h = ap length (filter-no (λ (g : Forwarding). g.client == k) g gs h) ∙ (ih ∙ sym (ap length (filter-no (is_of k) f fs (ap (λ i. i == k) all.0.client ∙ h))))
+    by_case ih true h = ap length (filter-yes (λ (g : Forwarding). g.client == k) g gs h) ∙ (ap suc ih ∙ sym (ap length (filter-yes (is_forward_of k) f fs (ap (λ i. i == k) all.0.client ∙ h))))
+    by_case ih false h = ap length (filter-no (λ (g : Forwarding). g.client == k) g gs h) ∙ (ih ∙ sym (ap length (filter-no (is_forward_of k) f fs (ap (λ i. i == k) all.0.client ∙ h))))
 
 any-own : (k : ℕ) (key : Key) (gs : List Forwarding) → any_of (history.is_forwarding_free_at k key) (filter (λ g. g.client == k) gs) ≡ any_of (history.is_forwarding_free_at k key) gs
 any-own k key [] = refl
@@ -139,28 +139,28 @@ any-own k key (g ∷ gs) = by_case (any-own k key gs) (g.client == k) refl
     by_case ih true h = ap (any_of (history.is_forwarding_free_at k key)) (filter-yes (λ (g : Forwarding). g.client == k) g gs h) ∙ ap (λ b. history.is_forwarding_free_at k key g || b) ih
     by_case ih false h = ap (any_of (history.is_forwarding_free_at k key)) (filter-no (λ (g : Forwarding). g.client == k) g gs h) ∙ (ih ∙ sym (ap (λ b. (b && (not g.over && (is_none g.cancel && has_key g.live key))) || any_of (history.is_forwarding_free_at k key) gs) h))
 
-pub forward-does : (s : CoreState) (k : ℕ) (p : List ℕ) (key : Key) (want : Bool) (rows : List Row) → Stands s rows → sent_request s.policy k (rows_of k rows) p (Forward key) want ≡ sends_if (want && (is_askable key && (permits s.policy.listens key && nat_lt (forward_count_of s.forwards k) MAX_FORWARDINGS))) p
+pub forward-does : (s : CoreState) (k : ℕ) (p : List ℕ) (key : Key) (want : Bool) (rows : List Row) → CoreRepresents s rows → sent_request s.policy k (rows_of k rows) p (Forward key) want ≡ sends_if (want && (is_askable key && (permits s.policy.listens key && nat_lt (forward_count_of s.forwards k) MAX_FORWARDINGS))) p
 forward-does s k p key want rows st = ap (λ n. sends_if (want && (is_askable key && (permits s.policy.listens key && nat_lt n MAX_FORWARDINGS))) p) (ap length (own-current k rows) ∙ count-same k s.forwards (current rows) st.forwards.listed)
 
-pub cancel-does : (s : CoreState) (k : ℕ) (p : List ℕ) (key : Key) (want : Bool) (rows : List Row) → Stands s rows → sent_request s.policy k (rows_of k rows) p (Cancel key) want ≡ sends_if (some_free k key s.forwards) p
+pub cancel-does : (s : CoreState) (k : ℕ) (p : List ℕ) (key : Key) (want : Bool) (rows : List Row) → CoreRepresents s rows → sent_request s.policy k (rows_of k rows) p (Cancel key) want ≡ sends_if (some_free k key s.forwards) p
 cancel-does s k p key want rows st = ap (λ b. sends_if b p) (ap (any_of (history.is_forwarding_free_at k key)) (own-current k rows) ∙ (any-own k key (current rows) ∙ sym (some-same k key s.forwards (current rows) st.forwards.listed)))
 
 -- ---- the state after one that is sent and wants a reply
 
-awaits-all : (s : CoreState) (k : ℕ) (a : Ask) (fs : List kept.Forward) (rows : List Row) → Stands s rows → (let u : CoreState = record s { asks = s.asks ++ a ∷ []; clients = with_waiting k more_awaited s.clients; forwards = fs } in u) ≡ record s { asks = s.asks ++ a ∷ []; clients = map (awaits k) s.clients; forwards = fs }
+awaits-all : (s : CoreState) (k : ℕ) (a : Ask) (fs : List kept.Forward) (rows : List Row) → CoreRepresents s rows → (let u : CoreState = record s { asks = s.asks ++ a ∷ []; clients = with_waiting k more_awaited s.clients; forwards = fs } in u) ≡ record s { asks = s.asks ++ a ∷ []; clients = map (awaits k) s.clients; forwards = fs }
 awaits-all s k a fs rows st = ap (λ (cs : List MemberState). let u : CoreState = record s { asks = s.asks ++ a ∷ []; clients = cs; forwards = fs } in u) (with-map k more_awaited s.clients st.clients.once)
 
 pub alive-wanted : (s new : CoreState) (k : ℕ) (p : List ℕ) (up : QueueState) → new ≡ record s { asks = s.asks ++ ask_of k KeepAlive ∷ []; clients = with_waiting k more_awaited s.clients } → SendsRoomy s new k p KeepAlive true up (with_bytes (frame_payload p) up) verdict.Sent
-alive-wanted s new k p up after = λ room rows st serves e. goes-up s new k p KeepAlive true up rows st serves e room refl (subst (λ u. Stands u (request_row k p ∷ rows)) (sym (after ∙ awaits-all s k (ask_of k KeepAlive) s.forwards rows st)) (request-stands s k p KeepAlive rows st serves e refl (λ place fs. refl)))
+alive-wanted s new k p up after = λ room rows st serves e. goes-up s new k p KeepAlive true up rows st serves e room refl (subst (λ u. CoreRepresents u (request_row k p ∷ rows)) (sym (after ∙ awaits-all s k (ask_of k KeepAlive) s.forwards rows st)) (request-stands s k p KeepAlive rows st serves e refl (λ place fs. refl)))
 
 pub alive-unwanted : (s : CoreState) (k : ℕ) (p : List ℕ) (up : QueueState) → SendsRoomy s s k p KeepAlive false up (with_bytes (frame_payload p) up) verdict.Sent
 alive-unwanted s k p up = λ room rows st serves e. goes-up s s k p KeepAlive false up rows st serves e room refl (alive-stands s k p rows st serves e)
 
-pub forward-sent : (s new : CoreState) (k : ℕ) (p : List ℕ) (key : Key) (up : QueueState) → is_askable key ≡ true → permits s.policy.listens key ≡ true → forward_count_of s.forwards k < MAX_FORWARDINGS → new ≡ record s { asks = s.asks ++ ask_of k (Forward key) ∷ []; clients = with_waiting k more_awaited s.clients; forwards = s.forwards ++ asked k key ∷ [] } → SendsRoomy s new k p (Forward key) true up (with_bytes (frame_payload p) up) verdict.Sent
+pub forward-sent : (s new : CoreState) (k : ℕ) (p : List ℕ) (key : Key) (up : QueueState) → is_askable key ≡ true → permits s.policy.listens key ≡ true → forward_count_of s.forwards k < MAX_FORWARDINGS → new ≡ record s { asks = s.asks ++ ask_of k (Forward key) ∷ []; clients = with_waiting k more_awaited s.clients; forwards = s.forwards ++ asked_forward k key ∷ [] } → SendsRoomy s new k p (Forward key) true up (with_bytes (frame_payload p) up) verdict.Sent
 forward-sent s new k p key up short may few after = λ room rows st serves e.
     goes-up s new k p (Forward key) true up rows st serves e room
     (forward-does s k p key true rows st ∙ ap (λ b. sends_if b p) (all (is_askable key) (permits s.policy.listens key) (nat_lt (forward_count_of s.forwards k) MAX_FORWARDINGS) short may (lt-yes (forward_count_of s.forwards k) MAX_FORWARDINGS few)))
-    (subst (λ u. Stands u (request_row k p ∷ rows)) (sym (after ∙ awaits-all s k (ask_of k (Forward key)) (s.forwards ++ asked k key ∷ []) rows st)) (forward-stands s k p key rows st serves e few))
+    (subst (λ u. CoreRepresents u (request_row k p ∷ rows)) (sym (after ∙ awaits-all s k (ask_of k (Forward key)) (s.forwards ++ asked_forward k key ∷ []) rows st)) (forward-stands s k p key rows st serves e few))
   where
     all : (a b c : Bool) → a ≡ true → b ≡ true → c ≡ true → (true && (a && (b && c))) ≡ true
     all true true true x y z = refl
@@ -171,14 +171,14 @@ forward-sent s new k p key up short may few after = λ room rows st serves e.
     lt-yes : (a b : ℕ) → a < b → nat_lt a b ≡ true
     lt-yes a b h = grind (arith, nat_tests)
 
-pub cancel-wanted : (s new : CoreState) (k : ℕ) (p : List ℕ) (key : Key) (up : QueueState) → some_free k key s.forwards ≡ true → new ≡ record s { asks = s.asks ++ ask_of k (Cancel key) ∷ []; clients = with_waiting k more_awaited s.clients; forwards = cancelled k key true s.forwards } → SendsRoomy s new k p (Cancel key) true up (with_bytes (frame_payload p) up) verdict.Sent
+pub cancel-wanted : (s new : CoreState) (k : ℕ) (p : List ℕ) (key : Key) (up : QueueState) → some_free k key s.forwards ≡ true → new ≡ record s { asks = s.asks ++ ask_of k (Cancel key) ∷ []; clients = with_waiting k more_awaited s.clients; forwards = forward_cancelled k key true s.forwards } → SendsRoomy s new k p (Cancel key) true up (with_bytes (frame_payload p) up) verdict.Sent
 cancel-wanted s new k p key up free after = λ room rows st serves e.
     goes-up s new k p (Cancel key) true up rows st serves e room
     (cancel-does s k p key true rows st ∙ ap (λ b. sends_if b p) free)
-    (subst (λ u. Stands u (request_row k p ∷ rows)) (sym (after ∙ awaits-all s k (ask_of k (Cancel key)) (cancelled k key true s.forwards) rows st)) (cancel-stands s k p key rows st serves e free))
+    (subst (λ u. CoreRepresents u (request_row k p ∷ rows)) (sym (after ∙ awaits-all s k (ask_of k (Cancel key)) (forward_cancelled k key true s.forwards) rows st)) (cancel-stands s k p key rows st serves e free))
 
-pub cancel-unwanted : (s new : CoreState) (k : ℕ) (p : List ℕ) (key : Key) (up : QueueState) → some_free k key s.forwards ≡ true → new ≡ record s { forwards = cancelled k key false s.forwards } → SendsRoomy s new k p (Cancel key) false up (with_bytes (frame_payload p) up) verdict.Sent
+pub cancel-unwanted : (s new : CoreState) (k : ℕ) (p : List ℕ) (key : Key) (up : QueueState) → some_free k key s.forwards ≡ true → new ≡ record s { forwards = forward_cancelled k key false s.forwards } → SendsRoomy s new k p (Cancel key) false up (with_bytes (frame_payload p) up) verdict.Sent
 cancel-unwanted s new k p key up free after = λ room rows st serves e.
     goes-up s new k p (Cancel key) false up rows st serves e room
     (cancel-does s k p key false rows st ∙ ap (λ b. sends_if b p) free)
-    (subst (λ u. Stands u (request_row k p ∷ rows)) (sym after) (stop-stands s k p key rows st serves e))
+    (subst (λ u. CoreRepresents u (request_row k p ∷ rows)) (sym after) (stop-stands s k p key rows st serves e))

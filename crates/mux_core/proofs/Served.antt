@@ -4,15 +4,15 @@ use Rattle.std.specs.Prelude.{not, ◌==◌, ◌&&◌, ◌||◌}
 use Rattle.std.specs.List.{AllByRecursion}
 use Rattle.mux_history.specs.Rows.{Row, rows_of, any_of, is_admit, is_lost}
 use Rattle.mux_history.specs.Channels.{held_of, is_channel_held}
-use Rattle.mux_history.specs.Requests.{asks, replies}
+use Rattle.mux_history.specs.Requests.{wanted_requests, replies}
 use Rattle.mux_history.specs.Farewell.{has_open_matters}
 use Rattle.std.specs.Prelude.{length, nat_lt}
 use Rattle.mux_history.proofs.Bools.{same-number}
 use Rattle.mux_history.proofs.OwnRows.{idle_row}
 use Rattle.channel_table.specs.Entries.{TableEntry}
 use Rattle.forward_rules.specs.Stands.{AreFit}
-use Rattle.mux_core.specs.State.{MemberState, CoreState, is_served}
-use Rattle.mux_core.specs.Stands.{AsksFit, ClientFits, ClientsFit, Look, Stands, TableFits, has_matters, is_member_known, look}
+use Rattle.mux_core.specs.State.{MemberState, CoreState, is_member_served}
+use Rattle.mux_core.specs.Stands.{AsksFit, ClientFits, ClientsFit, Look, CoreRepresents, TableFits, has_matters, is_member_known, look}
 use Rattle.mux_core.proofs.Quiet.{IsQuiet, look-same}
 
 -- what is known of it
@@ -25,11 +25,11 @@ either : (a b : Bool) → (a || b) ≡ true → (a ≡ false → b ≡ true)
 either true b h n = absurd (cc)
 either false b h n = h
 
-pub served : (l : Look) (k : ℕ) (cs : List MemberState) → AllByRecursion (ClientFits l) cs → is_served cs k ≡ true → IsServed k l
+pub served : (l : Look) (k : ℕ) (cs : List MemberState) → AllByRecursion (ClientFits l) cs → is_member_served cs k ≡ true → IsServed k l
 served l k [] all h = absurd (cc)
 served l k (c ∷ cs) all h = by_case (served l k cs all.1) (c.number == k) refl c.lost refl
   where
-    by_case : (is_served cs k ≡ true → IsServed k l) → (b : Bool) → (c.number == k) ≡ b → (d : Bool) → c.lost ≡ d → IsServed k l
+    by_case : (is_member_served cs k ≡ true → IsServed k l) → (b : Bool) → (c.number == k) ≡ b → (d : Bool) → c.lost ≡ d → IsServed k l
     by_case ih true n false d =
         let same : c.number ≡ k = same-number c.number k n in
         let fits = all.0 in
@@ -38,14 +38,14 @@ served l k (c ∷ cs) all h = by_case (served l k cs all.1) (c.number == k) refl
           admitted = subst (λ j. l.admitted j ≡ true) same fits.admitted;
           here = subst (λ j. l.lost j ≡ false) same (sym fits.lost ∙ d);
         }
-    by_case ih true n true d = ih (either ((c.number == k) && not c.lost) (is_served cs k) h (ap (λ b. b && not c.lost) n ∙ ap not d))
-    by_case ih false n d e = ih (either ((c.number == k) && not c.lost) (is_served cs k) h (ap (λ b. b && not c.lost) n))
+    by_case ih true n true d = ih (either ((c.number == k) && not c.lost) (is_member_served cs k) h (ap (λ b. b && not c.lost) n ∙ ap not d))
+    by_case ih false n d e = ih (either ((c.number == k) && not c.lost) (is_member_served cs k) h (ap (λ b. b && not c.lost) n))
 
 -- its matters are open, whatever else there is of it
 pub open-by : (own : List Row) → any_of is_admit own ≡ true → is_lost own ≡ false → has_open_matters own ≡ true
 open-by own a l =
-    ap (λ b. (b && not (is_lost own)) || (any_of is_channel_held (held_of own) || nat_lt (length (replies own)) (length (asks own)))) a
-    ∙ ap (λ b. not b || (any_of is_channel_held (held_of own) || nat_lt (length (replies own)) (length (asks own)))) l
+    ap (λ b. (b && not (is_lost own)) || (any_of is_channel_held (held_of own) || nat_lt (length (replies own)) (length (wanted_requests own)))) a
+    ∙ ap (λ b. not b || (any_of is_channel_held (held_of own) || nat_lt (length (replies own)) (length (wanted_requests own)))) l
 
 -- a quiet row of it opens and closes no matters
 pub matters-same : (row : Row) (rows : List Row) → IsQuiet row → IsServed row.client (look rows) → (j : ℕ) → has_matters (row ∷ rows) j ≡ has_matters rows j
@@ -62,7 +62,7 @@ matters-same row rows q s j = by_case (row.client == j) refl
         ∙ sym (open-by (rows_of j rows) (subst (λ i. (look rows).admitted i ≡ true) same s.admitted) (subst (λ i. (look rows).lost i ≡ false) same s.here))
 
 -- so all but the channels goes on
-pub quiet-stands : (s : CoreState) (es : List TableEntry) (row : Row) (rows : List Row) → Stands s rows → IsQuiet row → IsServed row.client (look rows) → TableFits es (held_of (row ∷ rows)) → AllByRecursion (λ e. is_member_known s.clients e.channel.client ≡ true) es → Stands (record s { channels = es }) (row ∷ rows)
+pub quiet-stands : (s : CoreState) (es : List TableEntry) (row : Row) (rows : List Row) → CoreRepresents s rows → IsQuiet row → IsServed row.client (look rows) → TableFits es (held_of (row ∷ rows)) → AllByRecursion (λ e. is_member_known s.clients e.channel.client ≡ true) es → CoreRepresents (record s { channels = es }) (row ∷ rows)
 quiet-stands s es row rows st q served channels known =
     let after = sym (look-same row rows q) in
     let matters : has_matters rows ≡ has_matters (row ∷ rows) = λ i j. sym (matters-same row rows q served j) i in

@@ -6,17 +6,17 @@ use Rattle.std.proofs.lemmas.List.{length-drop}
 use Rattle.std.proofs.lemmas.Bool.Decides.{nat_tests}
 use Rattle.mux_history.specs.Rows.{Row, rows_of, any_of, is_admit}
 use Rattle.mux_history.specs.Channels.{Channel, channels_of, held_of, is_channel_held}
-use Rattle.mux_history.specs.Requests.{Ask, asks, replies}
+use Rattle.mux_history.specs.Requests.{Ask, wanted_requests, replies}
 use Rattle.mux_history.specs.Farewell.{has_open_matters}
 use Rattle.mux_history.proofs.Bools.{same-number}
 use Rattle.mux_history.proofs.Finds.{filter-no, filter-yes}
 use Rattle.channel_table.specs.Entries.{TableEntry}
-use Rattle.channel_table.specs.Entries.{channel_count_of, is_of}
+use Rattle.channel_table.specs.Entries.{channel_count_of, is_channel_of}
 use Rattle.forward_rules.specs.State.{Forward}
 use Rattle.global_replies.specs.Replies as answers
-use Rattle.mux_core.specs.State.{MemberState, CoreState, is_served}
-use Rattle.mux_core.specs.Stands.{AreKnown, AreOnce, AsksFit, ClientFits, ClientsFit, Look, Stands, TableFits, has_matters, is_member_known, look}
-use Rattle.mux_core.specs.Settling.{has_left, is_lost_in, is_other, kept, settled}
+use Rattle.mux_core.specs.State.{MemberState, CoreState, is_member_served}
+use Rattle.mux_core.specs.Stands.{AreKnown, AreOnce, AsksFit, ClientFits, ClientsFit, Look, CoreRepresents, TableFits, has_matters, is_member_known, look}
+use Rattle.mux_core.specs.Settling.{has_left, is_lost_in, is_other, clients_kept, client_settled}
 use Rattle.mux_core.proofs.Found.{held-local}
 use Rattle.mux_core.proofs.OpensJudged.{count-fit}
 use Rattle.mux_history.proofs.OwnRows.{idle_row}
@@ -74,7 +74,7 @@ filter-but k m m' same none (j ∷ js) = by_case (filter-but k m m' same none js
 
 -- ---- the clients
 
-pub clients-settle : (k : ℕ) (b : Bool) (cs : List MemberState) (m m' : ℕ → Bool) (l : Look) → ClientsFit cs m l → ((j : ℕ) → (j == k) ≡ false → m' j ≡ m j) → m' k ≡ b → m k ≡ true → ClientsFit (kept k b cs) m' l
+pub clients-settle : (k : ℕ) (b : Bool) (cs : List MemberState) (m m' : ℕ → Bool) (l : Look) → ClientsFit cs m l → ((j : ℕ) → (j == k) ≡ false → m' j ≡ m j) → m' k ≡ b → m k ≡ true → ClientsFit (clients_kept k b cs) m' l
 clients-settle k true cs m m' l fit same here there = subst (λ n. ClientsFit cs n l) (λ i j. pointwise j i) fit
   where
     pointwise : (j : ℕ) → m j ≡ m' j
@@ -111,9 +111,9 @@ below r a d h e = grind (arith, nat_tests)
 
 pub lost-matters : (s : CoreState) (k : ℕ) (rows : List Row) → TableFits s.channels (held_of rows) → AsksFit s.asks (look rows) → (look rows).lost k ≡ true → has_matters rows k ≡ has_left s k
 lost-matters s k rows table fit lost =
-    ap (λ (b : Bool). (any_of is_admit (rows_of k rows) && not b) || (any_of is_channel_held (held_of (rows_of k rows)) || nat_lt (length (replies (rows_of k rows))) (length (asks (rows_of k rows))))) lost
-    ∙ (ap (λ b. b || (any_of is_channel_held (held_of (rows_of k rows)) || nat_lt (length (replies (rows_of k rows))) (length (asks (rows_of k rows))))) (never (any_of is_admit (rows_of k rows)))
-    ∙ (ap (λ b. b || nat_lt (length (replies (rows_of k rows))) (length (asks (rows_of k rows)))) channels ∙ ap (λ b. not (channel_count_of s.channels k == 0) || b) requests))
+    ap (λ (b : Bool). (any_of is_admit (rows_of k rows) && not b) || (any_of is_channel_held (held_of (rows_of k rows)) || nat_lt (length (replies (rows_of k rows))) (length (wanted_requests (rows_of k rows))))) lost
+    ∙ (ap (λ b. b || (any_of is_channel_held (held_of (rows_of k rows)) || nat_lt (length (replies (rows_of k rows))) (length (wanted_requests (rows_of k rows))))) (never (any_of is_admit (rows_of k rows)))
+    ∙ (ap (λ b. b || nat_lt (length (replies (rows_of k rows))) (length (wanted_requests (rows_of k rows)))) channels ∙ ap (λ b. not (channel_count_of s.channels k == 0) || b) requests))
   where
     never : (b : Bool) → (b && false) ≡ false
     never true = refl
@@ -122,10 +122,10 @@ lost-matters s k rows table fit lost =
     channels : any_of is_channel_held (held_of (rows_of k rows)) ≡ not (channel_count_of s.channels k == 0)
     channels = any-held (channels_of (rows_of k rows)) ∙ ap (λ n. not (n == 0)) (ap length (sym (held-local k rows)) ∙ count-fit k s.channels (held_of rows) table.fit)
 
-    requests : nat_lt (length (replies (rows_of k rows))) (length (asks (rows_of k rows))) ≡ not (length (filter (answers.is_of k) s.asks) == 0)
+    requests : nat_lt (length (replies (rows_of k rows))) (length (wanted_requests (rows_of k rows))) ≡ not (length (filter (answers.is_request_of k) s.asks) == 0)
     requests =
-        below (length (replies (rows_of k rows))) (length (asks (rows_of k rows))) (length (filter (answers.is_of k) s.asks)) (fit.each k).awaited
-        (ap (λ q. length (filter (answers.is_of k) q)) fit.waiting ∙ (ap length (sym (fit.each k).waiting) ∙ length-drop (length (replies (rows_of k rows))) (asks (rows_of k rows))))
+        below (length (replies (rows_of k rows))) (length (wanted_requests (rows_of k rows))) (length (filter (answers.is_request_of k) s.asks)) (fit.each k).awaited
+        (ap (λ q. length (filter (answers.is_request_of k) q)) fit.waiting ∙ (ap length (sym (fit.each k).waiting) ∙ length-drop (length (replies (rows_of k rows))) (wanted_requests (rows_of k rows))))
 
 -- ---- who is known
 
@@ -143,7 +143,7 @@ other-test i j k a b = grind (arith, nat_tests)
 known-without : (k j : ℕ) (cs : List MemberState) → (j == k) ≡ false → is_member_known cs j ≡ true → is_member_known (filter (is_other k) cs) j ≡ true
 known-without k j cs other known = without k (λ c. c.number == j) cs (λ c h. other-test c.number j k other h) ∙ known
 
-served-without : (k j : ℕ) (cs : List MemberState) → (j == k) ≡ false → is_served cs j ≡ true → is_served (filter (is_other k) cs) j ≡ true
+served-without : (k j : ℕ) (cs : List MemberState) → (j == k) ≡ false → is_member_served cs j ≡ true → is_member_served (filter (is_other k) cs) j ≡ true
 served-without k j cs other known = without k (λ c. (c.number == j) && not c.lost) cs (λ c h. ap (λ b. b && not c.lost) (other-test c.number j k other h)) ∙ known
 
 none-of : {X : Type 0} (test : X → Bool) (xs : List X) → not (length (filter test xs) == 0) ≡ false → AllByRecursion (λ x. test x ≡ false) xs
@@ -162,17 +162,17 @@ neither : (a b : Bool) → (a || b) ≡ false → (a ≡ false) × (b ≡ false)
 neither true b h = absurd (cc)
 neither false b h = (refl, h)
 
-pub known-settle : (s : CoreState) (k : ℕ) → AreKnown s → AllByRecursion (λ f. (f.client == k) ≡ false) s.forwards → AreKnown (settled s k)
+pub known-settle : (s : CoreState) (k : ℕ) → AreKnown s → AllByRecursion (λ f. (f.client == k) ≡ false) s.forwards → AreKnown (client_settled s k)
 known-settle s k known elsewhere = by_left (has_left s k) refl
   where
-    by_left : (b : Bool) → has_left s k ≡ b → AreKnown (settled s k)
-    by_left true h = subst (λ b. AreKnown (record s { clients = kept k b s.clients })) (sym h) known
+    by_left : (b : Bool) → has_left s k ≡ b → AreKnown (client_settled s k)
+    by_left true h = subst (λ b. AreKnown (record s { clients = clients_kept k b s.clients })) (sym h) known
     by_left false h =
-        let none = neither (not (channel_count_of s.channels k == 0)) (not (length (filter (answers.is_of k) s.asks) == 0)) h in
-        subst (λ b. AreKnown (record s { clients = kept k b s.clients })) (sym h) (record {
-          channels = all-both (λ (e : TableEntry). is_of k e ≡ false) (λ (e : TableEntry). is_member_known s.clients e.channel.client ≡ true) (λ (e : TableEntry). is_member_known (filter (is_other k) s.clients) e.channel.client ≡ true) (λ e a b. known-without k e.channel.client s.clients a b) s.channels (none-of (is_of k) s.channels none.0) known.channels;
-          asks = all-both (λ (a : Ask). answers.is_of k a ≡ false) (λ (a : Ask). is_member_known s.clients a.client ≡ true) (λ (a : Ask). is_member_known (filter (is_other k) s.clients) a.client ≡ true) (λ a x y. known-without k a.client s.clients x y) s.asks (none-of (answers.is_of k) s.asks none.1) known.asks;
-          forwards = all-both (λ (f : Forward). (f.client == k) ≡ false) (λ (f : Forward). is_served s.clients f.client ≡ true) (λ (f : Forward). is_served (filter (is_other k) s.clients) f.client ≡ true) (λ f a b. served-without k f.client s.clients a b) s.forwards elsewhere known.forwards;
+        let none = neither (not (channel_count_of s.channels k == 0)) (not (length (filter (answers.is_request_of k) s.asks) == 0)) h in
+        subst (λ b. AreKnown (record s { clients = clients_kept k b s.clients })) (sym h) (record {
+          channels = all-both (λ (e : TableEntry). is_channel_of k e ≡ false) (λ (e : TableEntry). is_member_known s.clients e.channel.client ≡ true) (λ (e : TableEntry). is_member_known (filter (is_other k) s.clients) e.channel.client ≡ true) (λ e a b. known-without k e.channel.client s.clients a b) s.channels (none-of (is_channel_of k) s.channels none.0) known.channels;
+          asks = all-both (λ (a : Ask). answers.is_request_of k a ≡ false) (λ (a : Ask). is_member_known s.clients a.client ≡ true) (λ (a : Ask). is_member_known (filter (is_other k) s.clients) a.client ≡ true) (λ a x y. known-without k a.client s.clients x y) s.asks (none-of (answers.is_request_of k) s.asks none.1) known.asks;
+          forwards = all-both (λ (f : Forward). (f.client == k) ≡ false) (λ (f : Forward). is_member_served s.clients f.client ≡ true) (λ (f : Forward). is_member_served (filter (is_other k) s.clients) f.client ≡ true) (λ f a b. served-without k f.client s.clients a b) s.forwards elsewhere known.forwards;
         })
 
 -- ---- the row of a client that is lost
@@ -222,33 +222,33 @@ lost-known k (c ∷ cs) h = by_case (lost-known k cs) (c.number == k) refl h
     by_case ih false n h = ap (λ b. b || is_member_known cs k) n ∙ ih (sym (ap (λ b. (b && c.lost) || is_lost_in cs k) n) ∙ h)
 
 -- a client that is served is not lost, so none with a forwarding is
-pub elsewhere : (l : Look) (s : CoreState) (k : ℕ) → AllByRecursion (ClientFits l) s.clients → l.lost k ≡ true → AllByRecursion (λ f. is_served s.clients f.client ≡ true) s.forwards → AllByRecursion (λ f. (f.client == k) ≡ false) s.forwards
+pub elsewhere : (l : Look) (s : CoreState) (k : ℕ) → AllByRecursion (ClientFits l) s.clients → l.lost k ≡ true → AllByRecursion (λ f. is_member_served s.clients f.client ≡ true) s.forwards → AllByRecursion (λ f. (f.client == k) ≡ false) s.forwards
 elsewhere l s k all lost known = each s.forwards known
   where
-    one : (f : Forward) → is_served s.clients f.client ≡ true → (f.client == k) ≡ false
+    one : (f : Forward) → is_member_served s.clients f.client ≡ true → (f.client == k) ≡ false
     one f h = by_case (f.client == k) refl
       where
         by_case : (b : Bool) → (f.client == k) ≡ b → (f.client == k) ≡ false
         by_case true e = absurd (let a : l.lost k ≡ false = subst (λ j. l.lost j ≡ false) (same-number f.client k e) (served l f.client s.clients all h).here in let c = sym lost ∙ a in cc)
         by_case false e = e
 
-    each : (fs : List Forward) → AllByRecursion (λ f. is_served s.clients f.client ≡ true) fs → AllByRecursion (λ f. (f.client == k) ≡ false) fs
+    each : (fs : List Forward) → AllByRecursion (λ f. is_member_served s.clients f.client ≡ true) fs → AllByRecursion (λ f. (f.client == k) ≡ false) fs
     each [] all = tt
     each (f ∷ fs) all = (one f all.0, each fs all.1)
 
 -- a quiet row of a client that is lost, which may be forgotten by it
-pub lost-stands : (s : CoreState) (es : List TableEntry) (row : Row) (rows : List Row) → Stands s rows → IsQuiet row → is_lost_in s.clients row.client ≡ true → TableFits es (held_of (row ∷ rows)) → AllByRecursion (λ e. is_member_known s.clients e.channel.client ≡ true) es → Stands (settled (record s { channels = es }) row.client) (row ∷ rows)
+pub lost-stands : (s : CoreState) (es : List TableEntry) (row : Row) (rows : List Row) → CoreRepresents s rows → IsQuiet row → is_lost_in s.clients row.client ≡ true → TableFits es (held_of (row ∷ rows)) → AllByRecursion (λ e. is_member_known s.clients e.channel.client ≡ true) es → CoreRepresents (client_settled (record s { channels = es }) row.client) (row ∷ rows)
 lost-stands s es row rows st q lost channels known =
     let after = sym (look-same row rows q) in
     let t : CoreState = record s { channels = es } in
     let gone : (look rows).lost row.client ≡ true = lost-there (look rows) row.client s.clients st.clients.each lost in
-    let asks : AsksFit s.asks (look (row ∷ rows)) = subst (AsksFit s.asks) after st.asks in
-    let here : has_matters (row ∷ rows) row.client ≡ has_left (record s { channels = es }) row.client = lost-matters (record s { channels = es }) row.client (row ∷ rows) channels asks (subst (λ (l : Look). l.lost row.client ≡ true) after gone) in
+    let wanted_requests : AsksFit s.asks (look (row ∷ rows)) = subst (AsksFit s.asks) after st.asks in
+    let here : has_matters (row ∷ rows) row.client ≡ has_left (record s { channels = es }) row.client = lost-matters (record s { channels = es }) row.client (row ∷ rows) channels wanted_requests (subst (λ (l : Look). l.lost row.client ≡ true) after gone) in
     record {
       channels = channels;
-      asks = asks;
+      asks = wanted_requests;
       forwards = subst (λ (l : Look). AreFit s.forwards l.current l.own l.lost) after st.forwards;
-      clients = subst (ClientsFit (kept row.client (has_left (record s { channels = es }) row.client) s.clients) (has_matters (row ∷ rows))) after
+      clients = subst (ClientsFit (clients_kept row.client (has_left (record s { channels = es }) row.client) s.clients) (has_matters (row ∷ rows))) after
           (clients-settle row.client (has_left (record s { channels = es }) row.client) s.clients (has_matters rows) (has_matters (row ∷ rows)) (look rows) st.clients (λ j other. ap has_open_matters (idle_row j row rows (turned j row.client other))) here (listed row.client (has_matters rows) (look rows).entered s.clients st.clients.numbers (lost-known row.client s.clients lost)));
       known = known-settle (record s { channels = es }) row.client (record { channels = known; asks = st.known.asks; forwards = st.known.forwards }) (elsewhere (look rows) s row.client st.clients.each gone st.known.forwards);
     }

@@ -8,16 +8,16 @@ use Rattle.mux_history.specs.Requests.{replies, unanswered_asks, wanted}
 use Rattle.mux_history.proofs.Bools.{same-number}
 use Rattle.mux_core.specs.declared.members.Member.{Member}
 use Rattle.mux_core.specs.Members.{member_state}
-use Rattle.mux_core.specs.State.{MemberState, is_served}
+use Rattle.mux_core.specs.State.{MemberState, is_member_served}
 use Rattle.mux_core.specs.Stands.{AreOnce, ClientFits, look}
-use Rattle.mux_core.specs.Requesting.{place_of, member_waiting_of, with_waiting}
+use Rattle.mux_core.specs.Requesting.{place_of_client, member_waiting_of, with_waiting}
 use Rattle.mux_core.proofs.Answering.{Waits, unanswered}
 use Rattle.mux_core.proofs.Pairs.{or-found}
 
 -- ---- the code's
 
-place-at : (k : ℕ) (c : MemberState) (cs : List MemberState) (b : Bool) → (c.number == k) ≡ b → place_of k (c ∷ cs) ≡ elim b as (λ _. ℕ) [ true ↦ 0 | false ↦ place_of k cs + 1 ]
-place-at k c cs b h = ap (λ (d : Bool). elim d as (λ _. ℕ) [ true ↦ 0 | false ↦ place_of k cs + 1 ]) h
+place-at : (k : ℕ) (c : MemberState) (cs : List MemberState) (b : Bool) → (c.number == k) ≡ b → place_of_client k (c ∷ cs) ≡ elim b as (λ _. ℕ) [ true ↦ 0 | false ↦ place_of_client k cs + 1 ]
+place-at k c cs b h = ap (λ (d : Bool). elim d as (λ _. ℕ) [ true ↦ 0 | false ↦ place_of_client k cs + 1 ]) h
 
 with-at : (k : ℕ) (change : List Bool → List Bool) (c : MemberState) (cs : List MemberState) (b : Bool) → (c.number == k) ≡ b → with_waiting k change (c ∷ cs) ≡ elim b as (λ _. List MemberState) [ true ↦ record c { waiting = change c.waiting } ∷ cs | false ↦ c ∷ with_waiting k change cs ]
 with-at k change c cs b h = ap (λ (d : Bool). elim d as (λ _. List MemberState) [ true ↦ record c { waiting = change c.waiting } ∷ cs | false ↦ c ∷ with_waiting k change cs ]) h
@@ -26,18 +26,18 @@ waiting-at : (k : ℕ) (c : MemberState) (cs : List MemberState) (b : Bool) → 
 waiting-at k c cs b h = ap (λ (d : Bool). elim d as (λ _. List Bool) [ true ↦ c.waiting | false ↦ member_waiting_of k cs ]) h
 
 -- where the client isn't there nothing changes
-pub not-there : (k : ℕ) (change : List Bool → List Bool) (cs : List MemberState) → length cs ≤ place_of k cs → (with_waiting k change cs ≡ cs) × (member_waiting_of k cs ≡ [])
+pub not-there : (k : ℕ) (change : List Bool → List Bool) (cs : List MemberState) → length cs ≤ place_of_client k cs → (with_waiting k change cs ≡ cs) × (member_waiting_of k cs ≡ [])
 not-there k change [] le = (refl, refl)
 not-there k change (c ∷ cs) le = by_case (not-there k change cs) (c.number == k) refl
   where
-    by_case : (length cs ≤ place_of k cs → (with_waiting k change cs ≡ cs) × (member_waiting_of k cs ≡ [])) → (b : Bool) → (c.number == k) ≡ b → (with_waiting k change (c ∷ cs) ≡ c ∷ cs) × (member_waiting_of k (c ∷ cs) ≡ [])
+    by_case : (length cs ≤ place_of_client k cs → (with_waiting k change cs ≡ cs) × (member_waiting_of k cs ≡ [])) → (b : Bool) → (c.number == k) ≡ b → (with_waiting k change (c ∷ cs) ≡ c ∷ cs) × (member_waiting_of k (c ∷ cs) ≡ [])
     by_case ih true h = absurd (let e = place-at k c cs true h in omega (arith, e, le))
     by_case ih false h =
         let e = place-at k c cs false h in
         let i = ih (omega (arith, e, le)) in
         (with-at k change c cs false h ∙ ap (λ ds. c ∷ ds) i.0, waiting-at k c cs false h ∙ i.1)
 
-pub set-client : (k : ℕ) (change : List Bool → List Bool) (cs : List Member) (i : ℕ) (x d : Member) → i ≡ place_of k (map member_state cs) → i < length cs → member_state x ≡ record (member_state (slice_index_or cs i d)) { waiting = change (member_state (slice_index_or cs i d)).waiting } → (map member_state (slice_set cs i x) ≡ with_waiting k change (map member_state cs)) × (member_waiting_of k (map member_state cs) ≡ (member_state (slice_index_or cs i d)).waiting)
+pub set-client : (k : ℕ) (change : List Bool → List Bool) (cs : List Member) (i : ℕ) (x d : Member) → i ≡ place_of_client k (map member_state cs) → i < length cs → member_state x ≡ record (member_state (slice_index_or cs i d)) { waiting = change (member_state (slice_index_or cs i d)).waiting } → (map member_state (slice_set cs i x) ≡ with_waiting k change (map member_state cs)) × (member_waiting_of k (map member_state cs) ≡ (member_state (slice_index_or cs i d)).waiting)
 set-client k change [] i x d at lt is = absurd (omega arith)
 set-client k change (c ∷ cs) zero x d at lt is = by_case ((member_state c).number == k) refl
   where
@@ -46,7 +46,7 @@ set-client k change (c ∷ cs) zero x d at lt is = by_case ((member_state c).num
     by_case false h = absurd (let e = place-at k (member_state c) (map member_state cs) false h in omega (arith, e, at))
 set-client k change (c ∷ cs) (suc n) x d at lt is = by_case (set-client k change cs n x d) ((member_state c).number == k) refl
   where
-    by_case : (n ≡ place_of k (map member_state cs) → n < length cs → member_state x ≡ record (member_state (slice_index_or cs n d)) { waiting = change (member_state (slice_index_or cs n d)).waiting } → (map member_state (slice_set cs n x) ≡ with_waiting k change (map member_state cs)) × (member_waiting_of k (map member_state cs) ≡ (member_state (slice_index_or cs n d)).waiting)) → (b : Bool) → ((member_state c).number == k) ≡ b → (map member_state (slice_set (c ∷ cs) (suc n) x) ≡ with_waiting k change (map member_state (c ∷ cs))) × (member_waiting_of k (map member_state (c ∷ cs)) ≡ (member_state (slice_index_or cs n d)).waiting)
+    by_case : (n ≡ place_of_client k (map member_state cs) → n < length cs → member_state x ≡ record (member_state (slice_index_or cs n d)) { waiting = change (member_state (slice_index_or cs n d)).waiting } → (map member_state (slice_set cs n x) ≡ with_waiting k change (map member_state cs)) × (member_waiting_of k (map member_state cs) ≡ (member_state (slice_index_or cs n d)).waiting)) → (b : Bool) → ((member_state c).number == k) ≡ b → (map member_state (slice_set (c ∷ cs) (suc n) x) ≡ with_waiting k change (map member_state (c ∷ cs))) × (member_waiting_of k (map member_state (c ∷ cs)) ≡ (member_state (slice_index_or cs n d)).waiting)
     by_case ih true h = absurd (let e = place-at k (member_state c) (map member_state cs) true h in omega (arith, e, at))
     by_case ih false h =
         let e = place-at k (member_state c) (map member_state cs) false h in
@@ -82,11 +82,11 @@ with-map k change (c ∷ cs) once = by_case (with-map k change cs once.1) (c.num
 
 -- ---- what a client that is served waits for
 
-none-served : (k : ℕ) (cs : List MemberState) → AllByRecursion (λ d. (d.number == k) ≡ false) cs → is_served cs k ≡ true → ⊥
+none-served : (k : ℕ) (cs : List MemberState) → AllByRecursion (λ d. (d.number == k) ≡ false) cs → is_member_served cs k ≡ true → ⊥
 none-served k [] all h = cc
-none-served k (c ∷ cs) all h = none-served k cs all.1 (or-found ((c.number == k) && not c.lost) (is_served cs k) h (ap (λ b. b && not c.lost) all.0))
+none-served k (c ∷ cs) all h = none-served k cs all.1 (or-found ((c.number == k) && not c.lost) (is_member_served cs k) h (ap (λ b. b && not c.lost) all.0))
 
-pub waits-are : (rows : List Row) (k : ℕ) (cs : List MemberState) → AllByRecursion (ClientFits (look rows)) cs → AreOnce cs → is_served cs k ≡ true → Waits (wanted (rows_of k rows)) (replies (rows_of k rows)) (member_waiting_of k cs)
+pub waits-are : (rows : List Row) (k : ℕ) (cs : List MemberState) → AllByRecursion (ClientFits (look rows)) cs → AreOnce cs → is_member_served cs k ≡ true → Waits (wanted (rows_of k rows)) (replies (rows_of k rows)) (member_waiting_of k cs)
 waits-are rows k [] all once serves = absurd (cc)
 waits-are rows k (c ∷ cs) all once serves = by_case (waits-are rows k cs all.1 once.1) (c.number == k) refl c.lost refl
   where
@@ -94,10 +94,10 @@ waits-are rows k (c ∷ cs) all once serves = by_case (waits-are rows k cs all.1
     others [] h more = tt
     others (d ∷ ds) h more = (clash c.number d.number k h more.0, others ds h more.1)
 
-    by_case : (is_served cs k ≡ true → Waits (wanted (rows_of k rows)) (replies (rows_of k rows)) (member_waiting_of k cs)) → (b : Bool) → (c.number == k) ≡ b → (l : Bool) → c.lost ≡ l → Waits (wanted (rows_of k rows)) (replies (rows_of k rows)) (member_waiting_of k (c ∷ cs))
+    by_case : (is_member_served cs k ≡ true → Waits (wanted (rows_of k rows)) (replies (rows_of k rows)) (member_waiting_of k cs)) → (b : Bool) → (c.number == k) ≡ b → (l : Bool) → c.lost ≡ l → Waits (wanted (rows_of k rows)) (replies (rows_of k rows)) (member_waiting_of k (c ∷ cs))
     by_case ih true h false l = subst (Waits (wanted (rows_of k rows)) (replies (rows_of k rows))) (sym (waiting-at k c cs true h)) (subst (λ i. Waits (wanted (rows_of i rows)) (replies (rows_of i rows)) c.waiting) (same-number c.number k h) (all.0.answers l))
-    by_case ih true h true l = absurd (none-served k cs (others cs h once.0) (or-found ((c.number == k) && not c.lost) (is_served cs k) serves (ap (λ b. b && not c.lost) h ∙ ap not l)))
-    by_case ih false h l e = subst (Waits (wanted (rows_of k rows)) (replies (rows_of k rows))) (sym (waiting-at k c cs false h)) (ih (or-found ((c.number == k) && not c.lost) (is_served cs k) serves (ap (λ b. b && not c.lost) h)))
+    by_case ih true h true l = absurd (none-served k cs (others cs h once.0) (or-found ((c.number == k) && not c.lost) (is_member_served cs k) serves (ap (λ b. b && not c.lost) h ∙ ap not l)))
+    by_case ih false h l e = subst (Waits (wanted (rows_of k rows)) (replies (rows_of k rows))) (sym (waiting-at k c cs false h)) (ih (or-found ((c.number == k) && not c.lost) (is_member_served cs k) serves (ap (λ b. b && not c.lost) h)))
 
 pub how-many : (own : List Row) (w : List Bool) → Waits (wanted own) (replies own) w → unanswered_asks own ≡ length w
 how-many own w h = let e = unanswered (wanted own) (replies own) w h in omega arith

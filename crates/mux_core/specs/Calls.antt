@@ -17,15 +17,15 @@ use Rattle.mux_history.specs.Choices.{takes_number}
 use Rattle.mux_history.specs.Farewell.{farewell}
 use Rattle.mux_history.specs.Said.{sent_payload}
 use Rattle.mux_history.specs.Heard.{Dest, ToMaster, ToClient, Disconnects, Breaks, dest, received_for, received_master}
-use Rattle.mux_history.specs.Log.{all_recorded, admits, bare, open_matters, with_farewell}
+use Rattle.mux_history.specs.Log.{all_recorded, admits, bare_row, open_matters, with_farewell}
 use Rattle.client_teardown.specs.Leaving.{with_payloads}
 use Rattle.mux_core.specs.declared.verdict.Verdict.{Verdict}
 use Rattle.mux_core.specs.declared.verdict.Verdict.TheVariants as verdict
 use Rattle.mux_core.specs.declared.heard.Delivery as declared
 use Rattle.mux_core.specs.declared.heard.Delivery.TheVariants as heard
-use Rattle.mux_core.specs.State.{CoreState, is_served}
+use Rattle.mux_core.specs.State.{CoreState, is_member_served}
 use Rattle.mux_core.specs.Opening.{open_verdict}
-use Rattle.mux_core.specs.Stands.{Stands, is_member_known}
+use Rattle.mux_core.specs.Stands.{CoreRepresents, is_member_known}
 
 -- ---- admit
 
@@ -37,10 +37,10 @@ pub record IsNewClient (k : ℕ) (rows : List Row) : Type 0 where
 -- it is admitted exactly where fewer than 64 clients have open matters
 pub record Admits (old new : CoreState) (k : ℕ) (let_in : Bool) (rows : List Row) : Type 0 where
   pub exact : let_in ≡ nat_lt (open_matters rows) MAX_CLIENTS
-  pub stands : Stands new (bare (Admit k) k (admits rows) ∷ rows)
+  pub stands : CoreRepresents new (bare_row (Admit k) k (admits rows) ∷ rows)
 
 abbrev pub AdmitsOn : CoreState → CoreState → ℕ → Bool → Type 0
-AdmitsOn old new k let_in = (rows : List Row) → Stands old rows → IsNewClient k rows
+AdmitsOn old new k let_in = (rows : List Row) → CoreRepresents old rows → IsNewClient k rows
     → Admits old new k let_in rows
 
 -- ---- sent
@@ -48,7 +48,7 @@ AdmitsOn old new k let_in = (rows : List Row) → Stands old rows → IsNewClien
 -- the row of what a client sends, as far as the item goes
 abbrev pub row_sent : CoreState → ℕ → List ℕ → ℕ → List Row → Row
 row_sent s k p pick rows =
-    bare (Says k (Payload p) None) k (sent_payload s.policy k (rows_of k rows) pick p)
+    bare_row (Says k (Payload p) None) k (sent_payload s.policy k (rows_of k rows) pick p)
 
 -- the number is below the bound, and no channel holds it
 pub record IsFreshNumber (rows : List Row) (n : ℕ) : Type 0 where
@@ -69,7 +69,7 @@ VerdictShows row own (verdict.Drop why) = (row.fate ≡ Drop why) × (row.up ≡
 -- the core after it: where the client is dropped nothing was changed
 abbrev pub StandsAfter : CoreState → CoreState → Row → List Row → Verdict → Type 0
 StandsAfter old new row rows (verdict.Drop why) = new ≡ old
-StandsAfter old new row rows v = Stands new (row ∷ rows)
+StandsAfter old new row rows v = CoreRepresents new (row ∷ rows)
 
 -- a row that the log has: what it sends and shows, its number, and the core after it
 pub record SendsRow (old new : CoreState) (row : Row) (pick : ℕ) (up up' : QueueState) (v : Verdict)
@@ -89,7 +89,7 @@ CoreSendsIn old new k p pick up up' v rows =
 abbrev pub SendsAs : CoreState → CoreState → ℕ → List ℕ → Summary → ℕ → QueueState → QueueState
     → Verdict → Type 0
 SendsAs old new k p m pick up up' v =
-    (rows : List Row) → Stands old rows → is_served old.clients k ≡ true → read_summary p ≡ Ok m
+    (rows : List Row) → CoreRepresents old rows → is_member_served old.clients k ≡ true → read_summary p ≡ Ok m
     → CoreSendsIn old new k p pick up up' v rows
 
 -- with some number
@@ -109,7 +109,7 @@ pub record StartsOn (old new : CoreState) (k : ℕ) (p : List ℕ) (c w m : ℕ)
 pub record CoreSendsOn (old new : CoreState) (k : ℕ) (p : List ℕ) (up up' : QueueState) (v : Verdict) :
     Type 0 where
   pub pick : ℕ
-  pub goes : (rows : List Row) → Stands old rows → is_served old.clients k ≡ true
+  pub goes : (rows : List Row) → CoreRepresents old rows → is_member_served old.clients k ≡ true
       → CoreSendsIn old new k p pick up up' v rows
 
 -- an answer fits into a frame
@@ -135,20 +135,20 @@ GoesTo k lost h = ⊥
 
 -- the row of what the server sends to a client, as far as the item goes
 abbrev pub received_row_of : ℕ → List ℕ → List Row → Row
-received_row_of k p rows = bare (Heard p) k (received_for (rows_of k rows) p)
+received_row_of k p rows = bare_row (Heard p) k (received_for (rows_of k rows) p)
 
 pub record ReceivesClient (new : CoreState) (k : ℕ) (p p' : List ℕ) (up up' : QueueState)
     (h : declared.Delivery) (rows : List Row) : Type 0 where
   pub sent : up'.waiting ≡ (with_payloads (received_row_of k p rows).up up).waiting
   pub to : GoesTo k (is_lost (rows_of k rows)) h
   pub recorded : all_recorded (received_row_of k p rows) (rows_of k rows) ≡ recorded_by h p'
-  pub stands : Stands new (received_row_of k p rows ∷ rows)
+  pub stands : CoreRepresents new (received_row_of k p rows ∷ rows)
 
 pub record ReceivesMaster (new : CoreState) (p : List ℕ) (up up' : QueueState) (h : declared.Delivery)
     (rows : List Row) : Type 0 where
   pub sent : up'.waiting ≡ (with_payloads (received_master p).sent up).waiting
   pub to : h ≡ heard.Master
-  pub stands : Stands new (bare (Heard p) 0 (received_master p) ∷ rows)
+  pub stands : CoreRepresents new (bare_row (Heard p) 0 (received_master p) ∷ rows)
 
 -- nothing is sent where the run ends
 pub record ReceivesEnd (expected : declared.Delivery) (up up' : QueueState) (h : declared.Delivery) :
@@ -176,7 +176,7 @@ pub record CoreReceivesIn (old new : CoreState) (p p' : List ℕ) (up up' : Queu
 
 abbrev pub CoreReceivesOn : CoreState → CoreState → List ℕ → List ℕ → QueueState → QueueState
     → declared.Delivery → Type 0
-CoreReceivesOn old new p p' up up' h = (rows : List Row) → Stands old rows
+CoreReceivesOn old new p p' up up' h = (rows : List Row) → CoreRepresents old rows
     → CoreReceivesIn old new p p' up up' h rows
 
 -- ---- gone
@@ -192,29 +192,29 @@ IsUnsent item k = ⊥
 pub record Leaves (new : CoreState) (row : Row) (up up' : QueueState) (rows : List Row) :
     Type 0 where
   pub sent : up'.waiting ≡ (with_payloads (farewell row (rows_of row.client rows)) up).waiting
-  pub stands : Stands new (with_farewell row (rows_of row.client rows) ∷ rows)
+  pub stands : CoreRepresents new (with_farewell row (rows_of row.client rows) ∷ rows)
 
 -- of a row that wasn't reported to the core, or that changed nothing
 abbrev pub LeavesUnsent : CoreState → CoreState → ℕ → QueueState → QueueState → Type 0
 LeavesUnsent old new k up up' =
-    (rows : List Row) (row : Row) → Stands old rows → is_served old.clients k ≡ true
+    (rows : List Row) (row : Row) → CoreRepresents old rows → is_member_served old.clients k ≡ true
     → IsUnsent row.item k → row.client ≡ k → row.up ≡ [] → row.farewell ≡ [] → loses row ≡ true
     → Leaves new row up up' rows
 
 -- of a row that the core represents, and that drops its client after all
 abbrev pub LeavesRecorded : CoreState → CoreState → ℕ → QueueState → QueueState → Type 0
 LeavesRecorded old new k up up' =
-    (rows : List Row) (row : Row) (down : List (List ℕ)) (why : Why) → Stands old (row ∷ rows)
-    → is_served old.clients k ≡ true → row.client ≡ k → row.fate ≡ Goes → loses row ≡ false
+    (rows : List Row) (row : Row) (down : List (List ℕ)) (why : Why) → CoreRepresents old (row ∷ rows)
+    → is_member_served old.clients k ≡ true → row.client ≡ k → row.fate ≡ Goes → loses row ≡ false
     → row.farewell ≡ [] → Leaves new (record row { down = down; fate = Drop why }) up up' rows
 
 -- of all logs, where the server sends this message and nothing goes up
 abbrev pub ReceivesSummary : CoreState → CoreState → List ℕ → List ℕ → Summary → declared.Delivery → Type 0
-ReceivesSummary old new p p' m h = (rows : List Row) (up : QueueState) → Stands old rows
+ReceivesSummary old new p p' m h = (rows : List Row) (up : QueueState) → CoreRepresents old rows
     → read_summary p ≡ Ok m → ReceivesAs new p p' up up h rows (dest rows p)
 
 -- the same where something goes up
 abbrev pub ReceivesWith : CoreState → CoreState → List ℕ → List ℕ → Summary → QueueState → QueueState
     → declared.Delivery → Type 0
-ReceivesWith old new p p' m up up' h = (rows : List Row) → Stands old rows → read_summary p ≡ Ok m
+ReceivesWith old new p p' m up up' h = (rows : List Row) → CoreRepresents old rows → read_summary p ≡ Ok m
     → ReceivesAs new p p' up up' h rows (dest rows p)

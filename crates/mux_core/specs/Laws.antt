@@ -6,7 +6,7 @@ use Rattle.mux_history.specs.PlainRows.{IsPlainRow}
 use Rattle.mux_history.specs.Choices.{takes_number}
 use Rattle.mux_history.specs.Right.{carried_number}
 use Rattle.mux_core.specs.State.{CoreState}
-use Rattle.mux_core.specs.Stands.{Stands}
+use Rattle.mux_core.specs.Stands.{CoreRepresents}
 use Rattle.mux_core.specs.Calls.{row_sent}
 
 -- a row of what neither a client in proxy mode nor the server sends, which loses no client and
@@ -18,14 +18,14 @@ pub record IsIdleRow (row : Row) : Type 0 where
 
 -- such rows leave a core as it is
 abbrev pub IdleRowsStay : Type 0
-IdleRowsStay = (s : CoreState) (row : Row) (rows : List Row) → Stands s rows → IsIdleRow row
-    → Stands s (row ∷ rows)
+IdleRowsStay = (s : CoreState) (row : Row) (rows : List Row) → CoreRepresents s rows → IsIdleRow row
+    → CoreRepresents s (row ∷ rows)
 
 -- what a row records for its client is nothing to a core
 abbrev pub DownIsFree : Type 0
 DownIsFree =
-    (s : CoreState) (row : Row) (rows : List Row) (down : List (List ℕ)) → Stands s (row ∷ rows)
-    → Stands s (record row { down = down } ∷ rows)
+    (s : CoreState) (row : Row) (rows : List Row) (down : List (List ℕ)) → CoreRepresents s (row ∷ rows)
+    → CoreRepresents s (record row { down = down } ∷ rows)
 
 -- the number that the row of a client's open or confirmation carries up is the pick
 abbrev pub CarriesPick : Type 0

@@ -2,7 +2,7 @@
 use Rattle.std.specs.Prelude.{◌≡◌, ℕ, ◌==◌, ◌&&◌, Bool, true, false, List, Option, Some, None, is_some, not, filter}
 use Rattle.window_ledger.specs.declared.ledger.Ledger.{Ledger}
 use Rattle.mux_history.specs.Channels as history
-use Rattle.window_ledger.specs.Stands.{confirmed}
+use Rattle.window_ledger.specs.Stands.{is_open_confirmed}
 use Rattle.window_ledger.specs.Stands as ledger
 use Rattle.mux_core.specs.State.{CoreState}
 use Rattle.channel_table.specs.declared.channel.Channel.{Channel}
@@ -12,7 +12,7 @@ use Rattle.channel_table.specs.Entries.{channel_at, changed_at, with_ledger, adm
 -- the number and the account, where the channel is the client's and confirmed
 abbrev pub if_confirmed : ℕ → ℕ → Option Channel → Option Ledger → Option (ℕ × Ledger)
 if_confirmed k n (Some c) (Some l) =
-    elim ((c.client == k) && confirmed l) [ true ↦ Some (n, l) | false ↦ None ]
+    elim ((c.client == k) && is_open_confirmed l) [ true ↦ Some (n, l) | false ↦ None ]
 if_confirmed k n _ _ = None
 
 -- of the channel that the server names so
@@ -34,7 +34,7 @@ acted n l over es = filter (entry_stays_in n over) (changed_at n (with_ledger l)
 
 pub record PutsLedger (old new : CoreState) (n : ℕ) (l : Ledger) : Type 0 where
   pub over : Bool
-  pub closed : (x : history.Channel) → ledger.Stands l x → over ≡ ledger.both_closed x
+  pub closed : (x : history.Channel) → ledger.LedgerRepresents l x → over ≡ ledger.both_closed x
   pub after : new ≡ record old { channels = acted n l over old.channels }
 
 -- ---- the channel for which a number stands
@@ -49,12 +49,12 @@ channel_for es n = both (channel_at es n) (ledger_at es n)
 -- ---- a client's open that has no answer
 
 abbrev pub waits : Channel → Ledger → Bool
-waits c l = history.is_up c.by && not (confirmed l)
+waits c l = history.is_up c.by && not (is_open_confirmed l)
 
 -- ---- a server's open that has no answer
 
 abbrev pub awaits_answer : Channel → Ledger → Bool
-awaits_answer c l = not (history.is_up c.by) && not (confirmed l)
+awaits_answer c l = not (history.is_up c.by) && not (is_open_confirmed l)
 
 -- the number and the account, where it is the client's to answer
 abbrev pub if_waiting : ℕ → ℕ → Option Channel → Option Ledger → Option (ℕ × Ledger)
@@ -67,8 +67,8 @@ abbrev pub waiting_under : List TableEntry → ℕ → Option ℕ → Option (�
 waiting_under es k None = None
 waiting_under es k (Some n) = if_waiting k n (admitted_at es n) (ledger_at es n)
 
-abbrev pub waiting_for : List TableEntry → ℕ → ℕ → Option (ℕ × Ledger)
-waiting_for es k remote = waiting_under es k (number_of_remote es remote)
+abbrev pub open_waiting_for : List TableEntry → ℕ → ℕ → Option (ℕ × Ledger)
+open_waiting_for es k remote = waiting_under es k (number_of_remote es remote)
 
 -- ---- the other side's number of a channel that is confirmed
 

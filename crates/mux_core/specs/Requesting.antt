@@ -14,9 +14,9 @@ use Rattle.mux_core.specs.State.{MemberState, CoreState}
 use Rattle.mux_core.specs.Calls.{SendsAs}
 
 -- the place of a client, or the end
-abbrev pub place_of : ℕ → List MemberState → ℕ
-place_of k [] = 0
-place_of k (c ∷ cs) = elim (c.number == k) [ true ↦ 0 | false ↦ place_of k cs + 1 ]
+abbrev pub place_of_client : ℕ → List MemberState → ℕ
+place_of_client k [] = 0
+place_of_client k (c ∷ cs) = elim (c.number == k) [ true ↦ 0 | false ↦ place_of_client k cs + 1 ]
 
 -- what it is still to be answered
 abbrev pub member_waiting_of : ℕ → List MemberState → List Bool
@@ -41,17 +41,17 @@ abbrev pub refusal_now : Bool → Verdict
 refusal_now true = verdict.Answer request_failure
 refusal_now false = verdict.Held
 
-abbrev pub refusal : Bool → List Bool → Verdict
-refusal false w = verdict.Silent
-refusal true w = refusal_now (is_none_left w)
+abbrev pub refusal_verdict : Bool → List Bool → Verdict
+refusal_verdict false w = verdict.Silent
+refusal_verdict true w = refusal_now (is_none_left w)
 
 abbrev pub after_refusal : Bool → ℕ → List MemberState → List MemberState
 after_refusal false k cs = cs
 after_refusal true k cs = with_waiting k or_behind cs
 
 -- one wanted request too many
-abbrev pub is_full : Bool → List Bool → Bool
-is_full want w = want && nat_le MAX_GLOBAL_REQUESTS (length w)
+abbrev pub is_one_too_many : Bool → List Bool → Bool
+is_one_too_many want w = want && nat_le MAX_GLOBAL_REQUESTS (length w)
 
 -- a forwarding may be asked, however many there are
 abbrev pub may_ask : Policy → Key → Bool → Bool
@@ -61,5 +61,5 @@ may_ask policy key want = want && (is_askable key && permits policy.listens key)
 abbrev pub SendsRoomy : CoreState → CoreState → ℕ → List ℕ → Global → Bool → QueueState → QueueState
     → Verdict → Type 0
 SendsRoomy old new k p what want up up' v =
-    is_full want (member_waiting_of k old.clients) ≡ false
+    is_one_too_many want (member_waiting_of k old.clients) ≡ false
     → SendsAs old new k p (Requests what want) 0 up up' v

@@ -9,14 +9,14 @@ use Rattle.mux_history.specs.Channels.{Channel, held_of}
 use Rattle.mux_history.specs.Requests.{Ask, replies, wanted}
 use Rattle.mux_history.specs.Forwardings.{Forwarding, current}
 use Rattle.mux_history.specs.Farewell.{has_open_matters}
-use Rattle.mux_history.specs.Log.{entered}
+use Rattle.mux_history.specs.Log.{admitted_clients}
 use Rattle.mux_isolation.specs.LogView.{Waiting, waiting_left_of}
-use Rattle.window_ledger.specs.Stands.{confirmed}
+use Rattle.window_ledger.specs.Stands.{is_open_confirmed}
 use Rattle.channel_table.specs.Entries.{TableEntry}
 use Rattle.channel_table.specs.Entries.{AreApart, channel_count_of}
 use Rattle.channel_table.specs.Stands.{ChannelsFit}
 use Rattle.forward_rules.specs.Stands.{AreFit, Places, places_of}
-use Rattle.mux_core.specs.State.{MemberState, CoreState, is_served}
+use Rattle.mux_core.specs.State.{MemberState, CoreState, is_member_served}
 
 -- ---- channels
 
@@ -27,7 +27,7 @@ has_numbers false Up own remote = is_some own && is_none remote
 has_numbers false Down own remote = is_none own && is_some remote
 
 abbrev pub is_whole : TableEntry → Bool
-is_whole e = has_numbers (confirmed e.ledger) e.channel.by e.channel.own e.channel.remote
+is_whole e = has_numbers (is_open_confirmed e.ledger) e.channel.by e.channel.own e.channel.remote
 
 -- a number of the server fits in four bytes
 abbrev pub HasSmall : TableEntry → Type 0
@@ -62,7 +62,7 @@ look rows = record {
   all = places_of rows;
   own = λ k. places_of (rows_of k rows);
   current = current rows;
-  entered = entered rows;
+  entered = admitted_clients rows;
   admitted = λ k. any_of is_admit (rows_of k rows);
   lost = λ k. is_lost (rows_of k rows);
   waiting = λ k. waiting_left_of (wanted (rows_of k rows)) (replies (rows_of k rows));
@@ -118,11 +118,11 @@ is_member_known cs k = any_of (λ c. c.number == k) cs
 pub record AreKnown (s : CoreState) : Type 0 where
   pub channels : AllByRecursion (λ e. is_member_known s.clients e.channel.client ≡ true) s.channels
   pub asks : AllByRecursion (λ a. is_member_known s.clients a.client ≡ true) s.asks
-  pub forwards : AllByRecursion (λ f. is_served s.clients f.client ≡ true) s.forwards
+  pub forwards : AllByRecursion (λ f. is_member_served s.clients f.client ≡ true) s.forwards
 
 -- ---- all of it
 
-pub record Stands (s : CoreState) (rows : List Row) : Type 0 where
+pub record CoreRepresents (s : CoreState) (rows : List Row) : Type 0 where
   pub channels : TableFits s.channels (held_of rows)
   pub asks : AsksFit s.asks (look rows)
   pub forwards : AreFit s.forwards (look rows).current (look rows).own (look rows).lost

@@ -26,5 +26,5 @@ abbrev pub new_state : Policy → CoreState
 new_state policy = record { policy = policy; channels = []; asks = []; clients = []; forwards = [] }
 
 -- the client is there and not lost
-abbrev pub is_served : List MemberState → ℕ → Bool
-is_served cs k = any_of (λ c. (c.number == k) && not c.lost) cs
+abbrev pub is_member_served : List MemberState → ℕ → Bool
+is_member_served cs k = any_of (λ c. (c.number == k) && not c.lost) cs

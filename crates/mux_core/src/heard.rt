@@ -10,10 +10,10 @@ ghost use Rattle.global_replies.specs.Replies.{after_reply, refusals_behind};
 ghost use Rattle.client_teardown.specs.Leaving.{with_payloads};
 ghost use Rattle.mux_core.specs.Calls.{CoreReceivesOn, ReceivesWith};
 ghost use Rattle.conn_messages.specs.Message.{grammar_request_of};
-ghost use Rattle.client_teardown.specs.Steps.{listed};
+ghost use Rattle.client_teardown.specs.Steps.{payload_list};
 ghost use Rattle.mux_core.specs.Replying.{after_failure, after_success, misses_port};
 ghost use Rattle.mux_core.specs.Requesting.{member_waiting_of, with_waiting};
-ghost use Rattle.mux_core.specs.Settling.{settled};
+ghost use Rattle.mux_core.specs.Settling.{client_settled};
 ghost use Rattle.mux_core.specs.declared.heard.Delivery.TheVariants.{Client, Lost};
 
 use crate::reading::{Summary, read_summary};
@@ -40,7 +40,7 @@ pub enum Delivery {
     Broke(Break),
 }
 
-// The server must say which port it chose, and doesn't.
+// The server must name the port that it chose, and doesn't.
 fn misses_port(request: Request<'_>, rest: &[u8]) -> bool
     ensures { result ≡ misses_port (grammar_request_of request.entry) rest.now }
 {
@@ -61,7 +61,7 @@ fn recorded_port(rest: &[u8]) -> u32
 // cancelled.
 fn late_success(request: Request<'_>, rest: &[u8]) -> Option<Small>
     requires { IsShortRequest (grammar_request_of request) }
-    ensures exact { listed result ≡ late_success rest.now (grammar_request_of request.entry) }
+    ensures exact { payload_list result ≡ late_success rest.now (grammar_request_of request.entry) }
     ensures fits { IfSome result (IsContent Proxy) }
 {
     match request {
@@ -73,7 +73,7 @@ fn late_success(request: Request<'_>, rest: &[u8]) -> Option<Small>
 // And where it fails: a cancel is sent again.
 fn late_refusal(request: Request<'_>) -> Option<Small>
     requires { IsShortRequest (grammar_request_of request) }
-    ensures exact { listed result ≡ late_refusal (grammar_request_of request.entry) }
+    ensures exact { payload_list result ≡ late_refusal (grammar_request_of request.entry) }
     ensures fits { IfSome result (IsContent Proxy) }
 {
     match request {
@@ -206,8 +206,8 @@ impl Core {
     ) -> Result<Delivery, OutOfMemory>
         requires { IfSome cancel (IsContent Proxy) }
         ensures to { IfOk result (λ h. h ≡ Lost client) }
-        ensures ok { OnOk result (self.new ≡ settled self.old client) }
-        ensures sent { OnOk result (up.new ≡ with_payloads (listed cancel) up.old) }
+        ensures ok { OnOk result (self.new ≡ client_settled self.old client) }
+        ensures sent { OnOk result (up.new ≡ with_payloads (payload_list cancel) up.old) }
         ensures policy { self.new.policy ≡ self.old.policy }
         ensures err { OnErr result (up.new ≡ up.old) }
     {

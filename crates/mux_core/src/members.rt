@@ -4,8 +4,8 @@ ghost use Rattle.global_replies.specs.Replies.{after_reply, is_none_left, or_beh
 ghost use Rattle.mux_core.specs.Members.{member_state};
 ghost use Rattle.mux_core.specs.Entering.{with_client};
 ghost use Rattle.mux_core.specs.Losing.{lost_clients};
-ghost use Rattle.mux_core.specs.Requesting.{more_awaited, place_of, member_waiting_of, with_waiting};
-ghost use Rattle.mux_core.specs.Settling.{is_lost_in, kept};
+ghost use Rattle.mux_core.specs.Requesting.{more_awaited, place_of_client, member_waiting_of, with_waiting};
+ghost use Rattle.mux_core.specs.Settling.{is_lost_in, clients_kept};
 
 use global_replies::ClientAnswers;
 use mux_history::limits::MAX_CLIENTS;
@@ -81,7 +81,7 @@ fn waiting_in(clients: &[Member], client: u64) -> u32
 // The place of a client, or the end.
 fn place_in(clients: &[Member], client: u64) -> usize
     ensures within { result ≤ length clients.now }
-    ensures exact { result ≡ place_of client (map member_state clients.now) }
+    ensures exact { result ≡ place_of_client client (map member_state clients.now) }
 {
     let mut place = 0;
     for c in clients {
@@ -144,7 +144,7 @@ impl Members {
 
     /// A client is out.
     pub fn forget(&mut self, client: u64)
-        ensures { self.new ≡ kept client false self.old }
+        ensures { self.new ≡ clients_kept client false self.old }
     {
         self.listed.retain(|c| c.number != client);
     }

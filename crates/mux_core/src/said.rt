@@ -31,7 +31,7 @@ fn refuse(sender: u32, reason: u32, text: &[u8]) -> Verdict
 }
 
 impl Core {
-    /// A client that is served says a payload. A `Drop` changes nothing: the next call is `gone`,
+    /// A client that is served sends a payload. A `Drop` changes nothing: the next call is `gone`,
     /// which completes the row.
     pub fn said(
         &mut self,

@@ -8,7 +8,7 @@ ghost use Rattle.mux_history.specs.Summary.{Requests};
 ghost use Rattle.conn_messages.specs.Keys.{IsShort, key_of};
 ghost use Rattle.mux_core.specs.Calls.{VerdictFits, SendsAs};
 ghost use Rattle.conn_messages.specs.Message.{grammar_request_of};
-ghost use Rattle.mux_core.specs.Requesting.{SendsRoomy, after_refusal, is_full, may_ask, refusal, member_waiting_of};
+ghost use Rattle.mux_core.specs.Requesting.{SendsRoomy, after_refusal, is_one_too_many, may_ask, refusal_verdict, member_waiting_of};
 
 use crate::state::Core;
 use crate::verdict::Verdict;
@@ -55,7 +55,7 @@ impl Core {
 
     // Whether a client's request is one too many.
     pub(crate) fn is_full(&self, client: u64, want: bool) -> bool
-        ensures { result ≡ is_full want (member_waiting_of client self.now.clients) }
+        ensures { result ≡ is_one_too_many want (member_waiting_of client self.now.clients) }
     {
         want && self.waiting(client) >= MAX_GLOBAL_REQUESTS
     }
@@ -70,7 +70,7 @@ impl Core {
 
     // A request that isn't sent.
     pub(crate) fn refuse_request(&mut self, client: u64, want: bool) -> Result<Verdict, OutOfMemory>
-        ensures verdict { IfOk result (λ v. v ≡ refusal want (member_waiting_of client self.old.clients)) }
+        ensures verdict { IfOk result (λ v. v ≡ refusal_verdict want (member_waiting_of client self.old.clients)) }
         ensures fits { IfOk result VerdictFits }
         ensures ok { OnOk result
             (self.new ≡ record self.old { clients = after_refusal want client self.old.clients }) }

@@ -4,15 +4,15 @@ ghost use Rattle.ssh_grammar.specs.SpellMessage.{with_recipient, with_sender};
 ghost use Rattle.mux_history.specs.Rows.{Row};
 ghost use Rattle.mux_history.specs.Log.{open_matters};
 ghost use Rattle.mux_history.specs.Policy.{permits};
-ghost use Rattle.window_ledger.specs.Stands.{IsConfirmed, confirmed};
-ghost use Rattle.window_ledger.specs.Leaving.{left};
+ghost use Rattle.window_ledger.specs.Stands.{IsConfirmed, is_open_confirmed};
+ghost use Rattle.window_ledger.specs.Leaving.{ledger_after_close};
 ghost use Rattle.conn_messages.specs.Keys.{key_of};
 ghost use Rattle.client_teardown.specs.Leaving.{SendsFarewell, channel_farewells, forward_farewells};
 ghost use Rattle.mux_core.specs.State.{new_state};
-ghost use Rattle.mux_core.specs.Stands.{Stands};
+ghost use Rattle.mux_core.specs.Stands.{CoreRepresents};
 ghost use Rattle.mux_core.specs.Lookups.{awaits_answer, waits};
 ghost use Rattle.mux_core.specs.Losing.{left_core, lost_clients};
-ghost use Rattle.mux_core.specs.Settling.{is_lost_in, settled};
+ghost use Rattle.mux_core.specs.Settling.{is_lost_in, client_settled};
 ghost use Rattle.mux_core.specs.Calls.{AdmitsOn};
 
 mod channels;
@@ -101,9 +101,9 @@ pub(crate) fn awaits_answer(channel: &Channel, ledger: &Ledger) -> bool
 
 // The account once the open is confirmed.
 pub(crate) fn confirmed_ledger(ledger: Ledger, window: u32, maximum: u32) -> Ledger
-    ensures stands { confirmed ledger ≡ false → IsConfirmed ledger result window maximum }
-    ensures confirmed { confirmed result ≡ true }
-    ensures left { confirmed (left result) ≡ true }
+    ensures stands { is_open_confirmed ledger ≡ false → IsConfirmed ledger result window maximum }
+    ensures confirmed { is_open_confirmed result ≡ true }
+    ensures left { is_open_confirmed (ledger_after_close result) ≡ true }
 {
     let mut given = ledger;
     if !ledger.confirmed() {
@@ -116,7 +116,7 @@ impl Core {
     /// A core that received nothing yet.
     pub fn new(alloc: Global, policy: Policy) -> Result<Core, OutOfMemory>
         ensures new { IfOk result (λ core. core ≡ new_state policy) }
-        ensures stands { IfOk result (λ core. Stands core []) }
+        ensures stands { IfOk result (λ core. CoreRepresents core []) }
     {
         Ok(Core {
             policy,
@@ -127,7 +127,7 @@ impl Core {
         })
     }
 
-    /// A client comes: whether it is let in.
+    /// A client comes: whether it is admitted.
     pub fn admit(&mut self, client: u64) -> Result<bool, OutOfMemory>
         ensures stands { IfOk result (λ let_in. AdmitsOn self.old self.new client let_in) }
         ensures policy { self.new.policy ≡ self.old.policy }
@@ -138,7 +138,7 @@ impl Core {
 
     /// How many clients have open matters.
     pub fn open_matters(&self) -> u32
-        ensures { (rows : List Row) → Stands self.now rows → result ≡ open_matters rows }
+        ensures { (rows : List Row) → CoreRepresents self.now rows → result ≡ open_matters rows }
     {
         self.clients.count()
     }
@@ -190,7 +190,7 @@ impl Core {
 
     // A client that is lost is forgotten, where nothing of it is left.
     pub(crate) fn settle(&mut self, client: u64)
-        ensures { self.new ≡ settled self.old client }
+        ensures { self.new ≡ client_settled self.old client }
     {
         if self.table.count(client) == 0 && self.askers.count(client) == 0 {
             self.clients.forget(client);

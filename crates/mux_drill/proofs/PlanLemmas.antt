@@ -9,7 +9,7 @@ use Rattle.conf_rules.specs.Results.{◌>>=◌}
 use Rattle.conf_rules.specs.Texts.{Bytes, split_at_each}
 use Rattle.conf_rules.specs.declared.command.Command.{Command}
 use Rattle.conf_rules.specs.declared.command.Command.TheVariants.{List as Listing, Master, Control, Drill}
-use Rattle.conf_rules.specs.CommandLine.{refused}
+use Rattle.conf_rules.specs.CommandLine.{refused_word}
 use Rattle.conf_rules.specs.declared.usage.Usage.TheVariants.{BadDrill}
 use Rattle.conf_rules.specs.declared.usage.UsageError.{UsageError}
 use Rattle.mux_drill.specs.Plan.{IsPlan, plan_in, plan_of}
@@ -39,7 +39,7 @@ within low high (d ∷ ds) n e =
 
 -- what a number is reported as
 abbrev recorded : ℕ → Option ℕ → Result ℕ UsageError
-recorded word None = refused word BadDrill
+recorded word None = refused_word word BadDrill
 recorded word (Some n) = Ok n
 
 -- the same of a number of the drill

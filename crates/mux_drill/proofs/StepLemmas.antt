@@ -1,7 +1,7 @@
 -- The turns of steps are turns that a wire may give.
 use Rattle.std.proofs.Common.{◌≡◌, refl, sym, ap, subst, ℕ, ◌+◌, ◌-◌, ◌<◌, ◌≤◌, Bool, true, false, ◌&&◌, ◌==◌, nat_lt, List, [], ◌∷◌, ◌++◌, length, take, slice_index, IsTrue, not, arith, lit<, length-take}
 use Rattle.std.proofs.lemmas.Grind.{common_steps}
-use Rattle.conf_rules.specs.Texts.{is_empty}
+use Rattle.conf_rules.specs.Texts.{is_empty_list}
 use Rattle.mux_outside.specs.OwnStreams.{is_silent}
 use Rattle.mux_outside.specs.Seen.{Seen}
 use Rattle.mux_outside.specs.Streams.{among}
@@ -40,7 +40,7 @@ some_of : (xs : List ℕ) → IsNonEmpty xs → 0 < length xs
 some_of [] h = absurd h
 some_of (x ∷ xs) h = omega arith
 
--- each step that speaks sends something
+-- each step of a stream that sends has bytes
 pub sends_some : (picks waiting : List ℕ) (plan : Plan) (stage : DrillStage)
     → SendsSome (step_at picks waiting plan stage).turn (step_at picks waiting plan stage).says
 unfolding greeting confirmation_frame adjust_frame data_frame close_frame
@@ -88,8 +88,8 @@ piece_short bytes some =
     let bounds = piece_fits 37 bytes (lit< tt) some in
     (bounds.0, omega (arith, bounds.1))
 
--- a stream that speaks has bytes
-pub speaks_some : (bytes : List ℕ) → not (is_empty bytes) ≡ true → 0 < length bytes
+-- a stream that sends has bytes
+pub speaks_some : (bytes : List ℕ) → not (is_empty_list bytes) ≡ true → 0 < length bytes
 speaks_some [] e = cc
 speaks_some (x ∷ xs) e = omega arith
 

@@ -3,7 +3,7 @@ use Rattle.std.proofs.Common.{◌≡◌, ◌∙◌, refl, sym, ap, subst, ℕ, s
 use Rattle.std.proofs.lemmas.Bool.Decides.{nat_tests}
 use Rattle.mux_outside.specs.Counts.{counted}
 use Rattle.mux_outside.specs.declared.turn.Tally.{Tally}
-use Rattle.mux_drill.specs.Trace.{IsDrillTrace, stage_after, from_message, drawn_after, counting, tally_at, draws_at, place_of, last_of}
+use Rattle.mux_drill.specs.Trace.{IsDrillTrace, drill_stage_after, from_message, drawn_after, counting, tally_at, draws_at, place_of_stage, last_of}
 use Rattle.mux_drill.specs.Generator.{drawn, length_of, total_length}
 use Rattle.mux_drill.specs.Plan.{IsPlan}
 use Rattle.mux_drill.specs.declared.plan.Plan.{Plan}
@@ -138,8 +138,8 @@ sending_tally plan i len low = by_case (nat_lt 0 i) refl
         ap (sums plan i) none
 
 -- the step after one is one of the plan, and what was drawn and counted goes with it
-pub step_trace : (plan : Plan) (stage : DrillStage) → IsPlan plan → 1 ≤ place_of stage → place_of stage ≤ last_of plan stage
-    → IsDrillTrace plan (stage_after plan stage) (drawn_after stage (drawn plan.seed (draws_at plan stage)))
+pub step_trace : (plan : Plan) (stage : DrillStage) → IsPlan plan → 1 ≤ place_of_stage stage → place_of_stage stage ≤ last_of plan stage
+    → IsDrillTrace plan (drill_stage_after plan stage) (drawn_after stage (drawn plan.seed (draws_at plan stage)))
     (counting plan stage (length_of (drawn plan.seed (draws_at plan stage))) (tally_at (record { plan = plan; stage = stage })))
 step_trace plan Unopened sound first last =
     record { sound = sound; first = first; last = last; drawn_is = refl; tally_is = refl }
@@ -179,7 +179,7 @@ step_trace plan (Adjusting i) sound first last =
     (at_next plan i sound within)
 step_trace plan (Closing c) sound first last =
     let all = tally plan.clients plan.messages (total_length plan.seed plan.messages) (total_length plan.seed plan.messages) 0 in
-    let P : Tally → Type 0 = λ t. At plan (drawn plan.seed plan.messages) t (stage_after plan (Closing c)) in
+    let P : Tally → Type 0 = λ t. At plan (drawn plan.seed plan.messages) t (drill_stage_after plan (Closing c)) in
     subst P (sym (closing_tally plan c (length_of (drawn plan.seed plan.messages)) sound))
     (chosen (At plan (drawn plan.seed plan.messages) all) c plan.clients (Closing (c + 1)) (ClosingBack 1)
     (λ more. record {
@@ -198,7 +198,7 @@ step_trace plan (ClosingBack c) sound first last =
 step_trace plan (Leaving c) sound first last =
     let high : c ≤ 100000 = omega (arith, sound.few) in
     let whole : ℕ → Tally = λ n. tally plan.clients plan.messages (total_length plan.seed plan.messages) (total_length plan.seed plan.messages) n in
-    let P : ℕ → Type 0 = λ n. At plan (drawn plan.seed plan.messages) (whole n) (stage_after plan (Leaving c)) in
+    let P : ℕ → Type 0 = λ n. At plan (drawn plan.seed plan.messages) (whole n) (drill_stage_after plan (Leaving c)) in
     subst P (sym (counts c first high))
     (chosen (At plan (drawn plan.seed plan.messages) (whole c)) c plan.clients (Leaving (c + 1)) Ending
     (λ more.
@@ -212,7 +212,7 @@ step_trace plan Ending sound first last =
 
 -- the same for values that are equal to those
 pub next_trace : (plan : Plan) (stage stage' : DrillStage) (x x' : ℕ) (t t' : Tally) → IsDrillTrace plan stage x t
-    → stage' ≡ stage_after plan stage → x' ≡ drawn_after stage x → t' ≡ counting plan stage (length_of x) t
+    → stage' ≡ drill_stage_after plan stage → x' ≡ drawn_after stage x → t' ≡ counting plan stage (length_of x) t
     → IsDrillTrace plan stage' x' t'
 next_trace plan stage stage' x x' t t' now stage_is x_is t_is =
     rw (stage_is, x_is, t_is, now.drawn_is, now.tally_is) (step_trace plan stage now.sound now.first now.last)

@@ -1,7 +1,7 @@
 -- The bytes that were written to each stream and aren't read yet.
 use Rattle.std.specs.Prelude.{ℕ, Bool, List, [], ◌++◌, ◌-◌, drop, take, length, nat_eq, slice_set, slice_index_or}
 use Rattle.std.specs.List.{list_all, starts_with}
-use Rattle.conf_rules.specs.Texts.{is_empty}
+use Rattle.conf_rules.specs.Texts.{is_empty_list}
 
 -- those of a stream
 abbrev pub unread_at : ℕ → List (List ℕ) → List ℕ
@@ -26,5 +26,5 @@ abbrev pub stands_first : ℕ → List ℕ → List (List ℕ) → Bool
 stands_first stream bytes unread = starts_with nat_eq (unread_at stream unread) bytes
 
 -- whether all was read
-abbrev pub all_read : List (List ℕ) → Bool
-all_read unread = list_all is_empty unread
+abbrev pub is_all_read : List (List ℕ) → Bool
+is_all_read unread = list_all is_empty_list unread

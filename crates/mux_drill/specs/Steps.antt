@@ -13,8 +13,8 @@ use Rattle.mux_drill.specs.declared.step.DrillStep.{DrillStep}
 -- ---- what is needed and given
 
 -- a turn, before which nothing is needed and which sends nothing
-abbrev pub bare : Turn → DrillStep
-bare turn = record { up = []; client = 0; down = []; turn = turn; says = [] }
+abbrev pub turn_alone : Turn → DrillStep
+turn_alone turn = record { up = []; client = 0; down = []; turn = turn; says = [] }
 
 -- message i
 abbrev pub message_at : Plan → ℕ → DrillMessage
@@ -48,8 +48,8 @@ confirming client number = record {
 }
 
 -- message i is sent
-abbrev pub sending : ℕ → ℕ → DrillMessage → DrillMessage → DrillStep
-sending clients i before m = record {
+abbrev pub message_step : ℕ → ℕ → DrillMessage → DrillMessage → DrillStep
+message_step clients i before m = record {
   up = settled_up before i;
   client = clients;
   down = settled_down clients i;
@@ -78,8 +78,8 @@ adjusting m = record {
 }
 
 -- a client sends CLOSE, the first after so many messages
-abbrev pub closing : ℕ → ℕ → DrillMessage → ℕ → DrillStep
-closing clients messages before client = record {
+abbrev pub close_step : ℕ → ℕ → DrillMessage → ℕ → DrillStep
+close_step clients messages before client = record {
   up = if client == 1 then settled_up before messages else [];
   client = clients;
   down = if client == 1 then settled_down clients messages else [];
@@ -92,18 +92,18 @@ closing clients messages before client = record {
 -- the step of a stage, by the numbers that the master picked for the clients and the bytes that
 -- wait for the server
 abbrev pub step_at : List ℕ → List ℕ → Plan → DrillStage → DrillStep
-step_at picks waiting plan Unopened = bare (Failed 0)
-step_at picks waiting plan (Accepting c) = bare (Accepted c)
-step_at picks waiting plan (Entering c) = record (bare (Got c)) { says = greeting }
+step_at picks waiting plan Unopened = turn_alone (Failed 0)
+step_at picks waiting plan (Accepting c) = turn_alone (Accepted c)
+step_at picks waiting plan (Entering c) = record (turn_alone (Got c)) { says = greeting }
 step_at picks waiting plan (Confirming c) = confirming c (opener_in waiting)
 step_at picks waiting plan (Sending i) =
-    sending plan.clients i (message_before plan i) (message_at plan i)
+    message_step plan.clients i (message_before plan i) (message_at plan i)
 step_at picks waiting plan (Echoing i) =
     echoing (slice_index picks (message_at plan i).client) (message_at plan i)
 step_at picks waiting plan (Adjusting i) = adjusting (message_at plan i)
 step_at picks waiting plan (Closing c) =
-    closing plan.clients plan.messages (message_before plan plan.messages) c
+    close_step plan.clients plan.messages (message_before plan plan.messages) c
 step_at picks waiting plan (ClosingBack c) =
-    record (bare (Got 0)) { up = close_frame (c - 1); says = close_frame (slice_index picks c) }
-step_at picks waiting plan (Leaving c) = record (bare (End c)) { client = c; down = close_frame 0 }
-step_at picks waiting plan Ending = bare (End 0)
+    record (turn_alone (Got 0)) { up = close_frame (c - 1); says = close_frame (slice_index picks c) }
+step_at picks waiting plan (Leaving c) = record (turn_alone (End c)) { client = c; down = close_frame 0 }
+step_at picks waiting plan Ending = turn_alone (End 0)

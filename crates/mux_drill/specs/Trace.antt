@@ -20,23 +20,23 @@ abbrev pub from_message : Plan → ℕ → DrillStage
 from_message plan i = if nat_lt i plan.messages then Sending i else Closing 1
 
 -- the step after one
-abbrev pub stage_after : Plan → DrillStage → DrillStage
-stage_after plan Unopened = Unopened
-stage_after plan (Accepting c) = Entering c
-stage_after plan (Entering c) = if nat_lt c plan.clients then Accepting (c + 1) else Confirming 1
-stage_after plan (Confirming c) = if nat_lt c plan.clients then Confirming (c + 1)
+abbrev pub drill_stage_after : Plan → DrillStage → DrillStage
+drill_stage_after plan Unopened = Unopened
+drill_stage_after plan (Accepting c) = Entering c
+drill_stage_after plan (Entering c) = if nat_lt c plan.clients then Accepting (c + 1) else Confirming 1
+drill_stage_after plan (Confirming c) = if nat_lt c plan.clients then Confirming (c + 1)
     else from_message plan 0
-stage_after plan (Sending i) = Echoing i
-stage_after plan (Echoing i) = Adjusting i
-stage_after plan (Adjusting i) = from_message plan (i + 1)
-stage_after plan (Closing c) = if nat_lt c plan.clients then Closing (c + 1) else ClosingBack 1
-stage_after plan (ClosingBack c) = if nat_lt c plan.clients then ClosingBack (c + 1) else Leaving 1
-stage_after plan (Leaving c) = if nat_lt c plan.clients then Leaving (c + 1) else Ending
-stage_after plan Ending = Ending
+drill_stage_after plan (Sending i) = Echoing i
+drill_stage_after plan (Echoing i) = Adjusting i
+drill_stage_after plan (Adjusting i) = from_message plan (i + 1)
+drill_stage_after plan (Closing c) = if nat_lt c plan.clients then Closing (c + 1) else ClosingBack 1
+drill_stage_after plan (ClosingBack c) = if nat_lt c plan.clients then ClosingBack (c + 1) else Leaving 1
+drill_stage_after plan (Leaving c) = if nat_lt c plan.clients then Leaving (c + 1) else Ending
+drill_stage_after plan Ending = Ending
 
 -- the same of a spot
 abbrev pub spot_after : Spot → Spot
-spot_after spot = record spot { stage = stage_after spot.plan spot.stage }
+spot_after spot = record spot { stage = drill_stage_after spot.plan spot.stage }
 
 -- ---- what is counted before a step
 
@@ -110,18 +110,18 @@ full_tally plan = record {
 -- ---- what is kept of it
 
 -- the client or message of a step
-abbrev pub place_of : DrillStage → ℕ
-place_of Unopened = 1
-place_of (Accepting c) = c
-place_of (Entering c) = c
-place_of (Confirming c) = c
-place_of (Sending i) = i + 1
-place_of (Echoing i) = i + 1
-place_of (Adjusting i) = i + 1
-place_of (Closing c) = c
-place_of (ClosingBack c) = c
-place_of (Leaving c) = c
-place_of Ending = 1
+abbrev pub place_of_stage : DrillStage → ℕ
+place_of_stage Unopened = 1
+place_of_stage (Accepting c) = c
+place_of_stage (Entering c) = c
+place_of_stage (Confirming c) = c
+place_of_stage (Sending i) = i + 1
+place_of_stage (Echoing i) = i + 1
+place_of_stage (Adjusting i) = i + 1
+place_of_stage (Closing c) = c
+place_of_stage (ClosingBack c) = c
+place_of_stage (Leaving c) = c
+place_of_stage Ending = 1
 
 -- the last one
 abbrev pub last_of : Plan → DrillStage → ℕ
@@ -164,7 +164,7 @@ counting plan _ len tally = tally
 -- a step of the plan, the number drawn last and what was counted
 pub record IsDrillTrace (plan : Plan) (stage : DrillStage) (x : ℕ) (tally : Tally) : Type 0 where
   pub sound : IsPlan plan
-  pub first : 1 ≤ place_of stage
-  pub last : place_of stage ≤ last_of plan stage
+  pub first : 1 ≤ place_of_stage stage
+  pub last : place_of_stage stage ≤ last_of plan stage
   pub drawn_is : x ≡ drawn plan.seed (draws_at plan stage)
   pub tally_is : tally ≡ tally_at (record { plan = plan; stage = stage })

@@ -1,6 +1,6 @@
 //! What a step leaves.
 ghost use Rattle.std.specs.Prelude.{◌≡◌, ◌≤◌};
-ghost use Rattle.mux_drill.specs.Trace.{stage_after as after, place_of, last_of, from_message as message_or_close, drawn_after, counting};
+ghost use Rattle.mux_drill.specs.Trace.{drill_stage_after as after, place_of_stage, last_of, from_message as message_or_close, drawn_after, counting};
 ghost use Rattle.mux_drill.specs.Generator.{length_of};
 
 use crate::draw::{draw, len_of};
@@ -21,7 +21,7 @@ fn from_message(plan: Plan, i: u64) -> DrillStage
 
 /// The step after one.
 pub fn stage_after(plan: Plan, stage: DrillStage) -> DrillStage
-    requires { place_of stage ≤ last_of plan stage }
+    requires { place_of_stage stage ≤ last_of plan stage }
     ensures { result ≡ after plan stage }
 {
     match stage {

@@ -12,7 +12,7 @@ ghost use Rattle.mux_drill.specs.declared.play.PlayChange.TheVariants.{Nothing};
 ghost use Rattle.mux_drill.specs.declared.stage.DrillStage.TheVariants.{Ending};
 
 use crate::plan::Plan;
-use crate::play::{Given, Play, PlayChange};
+use crate::play::{GivenTurn, Play, PlayChange};
 use mux_outside::{FileError, HouseMark, Piece, Streams, Tally, Turn, Want, Wire, WireLog, Wrote};
 use ssh_fields::OutOfMemory;
 use std::alloc::Global;
@@ -206,7 +206,7 @@ impl Wire for DrillWire {
 
 impl DrillWire {
     // The turn of a wait, and what it leaves.
-    fn given(&self, waiting: &Streams, want: Want) -> Given
+    fn given(&self, waiting: &Streams, want: Want) -> GivenTurn
         requires may { MayWait waiting.now want self.now.log.state.seen }
         ensures turn { TurnFits result.turn want self.now.log.state.seen
             (drill_piece_of result.change self.now.play) }
@@ -219,7 +219,7 @@ impl DrillWire {
     {
         match want {
             Want::Read => self.play.next(&self.log),
-            Want::WriteOnly => Given {
+            Want::WriteOnly => GivenTurn {
                 turn: Turn::Writable(waiting.as_slice()[0]),
                 change: PlayChange::Nothing,
             },

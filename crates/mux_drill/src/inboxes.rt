@@ -1,6 +1,6 @@
 ghost use Rattle.std.specs.Prelude.{◌≡◌, ◌≤◌, ◌^◌, ◌<◌, [], ◌++◌, drop, take, ◌-◌, length, replicate, IfOk, OnOk, OnErr};
-ghost use Rattle.conf_rules.specs.Texts.{is_empty};
-ghost use Rattle.mux_drill.specs.Inboxes.{unread_at, with_more_bytes, without_first_message, without_last, stands_first, all_read};
+ghost use Rattle.conf_rules.specs.Texts.{is_empty_list};
+ghost use Rattle.mux_drill.specs.Inboxes.{unread_at, with_more_bytes, without_first_message, without_last, stands_first, is_all_read};
 
 use ssh_fields::OutOfMemory;
 use std::alloc::Global;
@@ -157,7 +157,7 @@ impl Inboxes {
 
     /// Whether all was read.
     pub fn all_read(&self) -> bool
-        ensures { result ≡ all_read self.now }
+        ensures { result ≡ is_all_read self.now }
     {
         self.boxes.iter().all(|inbox| inbox.unread().is_empty())
     }

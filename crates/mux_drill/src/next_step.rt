@@ -1,6 +1,6 @@
 //! The step of a stage.
 ghost use Rattle.std.specs.Prelude.{◌≡◌, ◌≤◌, IfOk};
-ghost use Rattle.mux_drill.specs.Trace.{place_of, last_of, draws_at};
+ghost use Rattle.mux_drill.specs.Trace.{place_of_stage, last_of, draws_at};
 ghost use Rattle.mux_drill.specs.Generator.{drawn};
 ghost use Rattle.mux_drill.specs.Plan.{IsPlan};
 ghost use Rattle.mux_drill.specs.Steps.{step_at};
@@ -27,8 +27,8 @@ pub fn step_of(
     waiting: &[u8],
 ) -> Result<DrillStep, OutOfMemory>
     requires sound { IsPlan plan }
-    requires first { 1 ≤ place_of stage }
-    requires last { place_of stage ≤ last_of plan stage }
+    requires first { 1 ≤ place_of_stage stage }
+    requires last { place_of_stage stage ≤ last_of plan stage }
     requires drawn_is { x ≡ drawn plan.seed (draws_at plan stage) }
     ensures { IfOk result (λ step. step ≡ step_at picks.now waiting.now plan stage) }
 {

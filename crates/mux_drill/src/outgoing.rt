@@ -7,7 +7,7 @@ use std::marker::Model;
 // The most bytes that a turn gives.
 const PIECE: usize = 37;
 
-/// What a stream is saying, and how much of it was given.
+/// What a stream sends, and how much of it was given.
 #[derive(Drop)]
 pub struct DrillOutgoing {
     stream: u64,

@@ -6,7 +6,7 @@ ghost use Rattle.mux_outside.specs.declared.turn.Want.TheVariants.{Read};
 ghost use Rattle.mux_outside.specs.declared.turn.Turn.TheVariants.{End, NoMemory};
 ghost use Rattle.mux_drill.specs.declared.stage.DrillStage.TheVariants.{Ending};
 ghost use Rattle.mux_drill.specs.Plan.{IsPlan};
-ghost use Rattle.mux_drill.specs.Play.{speaks, may_happen, is_met, next_step, next_turn, next_piece, next_change, drill_piece_of, changed, begun, speaker_of, picks_after, IsNothing, PlayStarts, GivesNextTurn};
+ghost use Rattle.mux_drill.specs.Play.{has_bytes_left, may_happen, is_met, next_step, next_turn, next_piece, next_change, drill_piece_of, play_changed, begun, speaker_of, picks_after, IsNothing, PlayStarts, GivesNextTurn};
 ghost use Rattle.mux_drill.specs.declared.play.PlayChange.TheVariants.{Nothing};
 
 use crate::frames::opener_in;
@@ -45,7 +45,7 @@ pub enum PlayChange {
 
 /// A turn, and what it leaves.
 #[derive(Drop)]
-pub struct Given {
+pub struct GivenTurn {
     pub turn: Turn,
     pub change: PlayChange,
 }
@@ -120,7 +120,7 @@ impl Play {
     }
 
     /// The next turn.
-    pub fn next(&self, log: &WireLog) -> Given
+    pub fn next(&self, log: &WireLog) -> GivenTurn
         requires { IsTrue (among 0 log.now.state.seen.streams) }
         ensures fits { TurnFits result.turn Read log.now.state.seen
             (drill_piece_of result.change self.now) }
@@ -137,9 +137,9 @@ impl Play {
     }
 
     // The next piece of what is being sent.
-    fn go_on(&self, log: &WireLog) -> Given
+    fn go_on(&self, log: &WireLog) -> GivenTurn
         requires server { IsTrue (among 0 log.now.state.seen.streams) }
-        requires speaks { speaks self.now.said ≡ true }
+        requires speaks { has_bytes_left self.now.said ≡ true }
         ensures fits { TurnFits result.turn Read log.now.state.seen
             (drill_piece_of result.change self.now) }
         ensures own_turn { log.now.state.seen.own ≡ [] → OwnFits result.turn log.now.state.seen }
@@ -148,21 +148,21 @@ impl Play {
         ensures ends { result.turn ≢ End 0 }
     {
         if !log.streams().contains(self.said.stream()) {
-            return Given {
+            return GivenTurn {
                 turn: Turn::Failed(0),
                 change: PlayChange::Nothing,
             };
         }
-        Given {
+        GivenTurn {
             turn: Turn::Got(self.said.stream()),
             change: PlayChange::GoesOn,
         }
     }
 
     // The next step, where what it needs was written.
-    fn begin(&self, log: &WireLog) -> Given
+    fn begin(&self, log: &WireLog) -> GivenTurn
         requires server { IsTrue (among 0 log.now.state.seen.streams) }
-        requires silent { speaks self.now.said ≡ false }
+        requires silent { has_bytes_left self.now.said ≡ false }
         ensures fits { TurnFits result.turn Read log.now.state.seen
             (drill_piece_of result.change self.now) }
         ensures own_turn { log.now.state.seen.own ≡ [] → OwnFits result.turn log.now.state.seen }
@@ -171,18 +171,18 @@ impl Play {
         ensures ends { result.turn ≡ End 0 → self.now.trace.stage ≡ Ending }
     {
         let Ok(step) = self.trace.step(self.alloc, &self.picks, self.unread.at(0)) else {
-            return Given {
+            return GivenTurn {
                 turn: Turn::NoMemory,
                 change: PlayChange::Nothing,
             };
         };
         if !is_met(&step, log, &self.unread) {
-            return Given {
+            return GivenTurn {
                 turn: Turn::Failed(0),
                 change: PlayChange::Nothing,
             };
         }
-        Given {
+        GivenTurn {
             turn: step.turn,
             change: PlayChange::Takes(step),
         }
@@ -202,7 +202,7 @@ impl Play {
 
     /// Keeps what a turn leaves.
     pub fn keep(&mut self, change: PlayChange)
-        ensures { self.new ≡ changed change self.old }
+        ensures { self.new ≡ play_changed change self.old }
     {
         match change {
             PlayChange::Nothing => {}

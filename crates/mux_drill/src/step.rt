@@ -2,7 +2,7 @@
 ghost use Rattle.std.specs.Prelude.{◌≡◌, ◌≤◌, ◌-◌, ◌==◌, if◌then◌else◌, [], IfOk, slice_index};
 ghost use Rattle.mux_drill.specs.Frames.{greeting, welcome, close_frame};
 ghost use Rattle.mux_drill.specs.Generator.{IsDrillMessage};
-ghost use Rattle.mux_drill.specs.Steps.{bare, settled_up, settled_down, welcome_before, confirming, sending, echoing, adjusting, closing};
+ghost use Rattle.mux_drill.specs.Steps.{turn_alone, settled_up, settled_down, welcome_before, confirming, message_step, echoing, adjusting, close_step};
 ghost use Rattle.mux_outside.specs.declared.turn.Turn.TheVariants.{Got, End};
 
 use crate::frames::{
@@ -27,7 +27,7 @@ pub struct DrillStep {
 impl DrillStep {
     /// A turn, before which nothing is needed and which sends nothing.
     pub fn bare(alloc: Global, turn: Turn) -> DrillStep
-        ensures { result ≡ bare turn }
+        ensures { result ≡ turn_alone turn }
     {
         DrillStep {
             up: Text::new(alloc),
@@ -40,7 +40,7 @@ impl DrillStep {
 
     /// A client sends HELLO, PROXY and its open.
     pub fn entering(alloc: Global, client: u64) -> Result<DrillStep, OutOfMemory>
-        ensures { IfOk result (λ step. step ≡ record (bare (Got client)) { says = greeting }) }
+        ensures { IfOk result (λ step. step ≡ record (turn_alone (Got client)) { says = greeting }) }
     {
         let mut step = DrillStep::bare(alloc, Turn::Got(client));
         add_greeting(&mut step.says)?;
@@ -74,7 +74,7 @@ impl DrillStep {
         requires few { clients ≤ 64 }
         requires earlier { IsDrillMessage before }
         requires sound { IsDrillMessage message }
-        ensures { IfOk result (λ step. step ≡ sending clients i before message) }
+        ensures { IfOk result (λ step. step ≡ message_step clients i before message) }
     {
         let up = settled_up(alloc, before, i)?;
         let down = settled_down(alloc, clients, i)?;
@@ -130,7 +130,7 @@ impl DrillStep {
         requires first { 1 ≤ client }
         requires last { client ≤ clients }
         requires earlier { IsDrillMessage before }
-        ensures { IfOk result (λ step. step ≡ closing clients messages before client) }
+        ensures { IfOk result (λ step. step ≡ close_step clients messages before client) }
     {
         let mut step = DrillStep::before_close(alloc, clients, messages, before, client)?;
         add_close(&mut step.says, client as u32 - 1)?;
@@ -149,7 +149,7 @@ impl DrillStep {
         requires few { clients ≤ 64 }
         requires earlier { IsDrillMessage before }
         ensures { IfOk result (λ step.
-            step ≡ record (closing clients messages before client) { says = [] }) }
+            step ≡ record (close_step clients messages before client) { says = [] }) }
     {
         let mut step = DrillStep::bare(alloc, Turn::Got(client));
         step.client = clients;
@@ -165,7 +165,7 @@ impl DrillStep {
         requires some { 1 ≤ client }
         requires few { client ≤ 64 }
         ensures { IfOk result (λ step. step
-            ≡ record (bare (Got 0)) { up = close_frame (client - 1); says = close_frame number }) }
+            ≡ record (turn_alone (Got 0)) { up = close_frame (client - 1); says = close_frame number }) }
     {
         let mut step = DrillStep::bare(alloc, Turn::Got(0));
         add_close(&mut step.up, client as u32 - 1)?;
@@ -176,7 +176,7 @@ impl DrillStep {
     /// A client ends.
     pub fn leaving(alloc: Global, client: u64) -> Result<DrillStep, OutOfMemory>
         ensures { IfOk result (λ step. step
-            ≡ record (bare (End client)) { client = client; down = close_frame 0 }) }
+            ≡ record (turn_alone (End client)) { client = client; down = close_frame 0 }) }
     {
         let mut step = DrillStep::bare(alloc, Turn::End(client));
         step.client = client;

@@ -210,7 +210,7 @@ module _ {U T : Type 0} (ul : U → Option (List ℕ)) (tl : T → Option (List 
 
   -- ---- handing on
 
-  -- the server's socket was given what was in the outbox, as far as it took it
+  -- the server's socket was given what was in the outbox, as far as it accepted it
   pub of_hand_on : (old new : StreamTable U T) → (IsConnected 0 old.entries → IsConnected 0 new.entries) → recorded_at ul tl 0 new.entries ≡ recorded_at ul tl 0 old.entries
       → Keeps (accepted 0 (recorded_at ug tg 0 old.entries) old.outbox) (accepted 0 (recorded_at ug tg 0 new.entries) new.outbox) → Touches 0 old new → LosesNone ul tl ug tg old new
   of_hand_on old new connected unread given touches = λ s is. elim (cases_eq s 0) [

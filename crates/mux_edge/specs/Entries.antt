@@ -8,8 +8,8 @@ use Rattle.mux_edge.specs.declared.table.TheConstants.{MOST_OWN_STREAMS}
 use Rattle.mux_edge.specs.declared.table.ready.StreamEntry.{StreamEntry}
 
 -- whether a socket's stream gives nothing
-abbrev pub is_silent : {U T : Type 0} → StreamEntry U T → Bool
-is_silent entry = entry.paused || (entry.connecting || entry.ended)
+abbrev pub gives_nothing : {U T : Type 0} → StreamEntry U T → Bool
+gives_nothing entry = entry.paused || (entry.connecting || entry.ended)
 
 module _ {U T S : Type 0} where
   -- the stream of this number has a socket
@@ -49,7 +49,7 @@ module _ {U T S : Type 0} where
   -- a stream gives nothing: it is paused or not connected yet, or has given its end
   abbrev pub IsSilent : ℕ → IndexMap ℕ (StreamEntry U T) S → Type 0
   IsSilent number entries =
-      IsSomeAnd (get nat_eq entries number) (λ entry. is_silent entry ≡ true)
+      IsSomeAnd (get nat_eq entries number) (λ entry. gives_nothing entry ≡ true)
 
   -- a stream is paused, or isn't
   abbrev pub IsPaused : Bool → ℕ → IndexMap ℕ (StreamEntry U T) S → Type 0

@@ -32,13 +32,13 @@ abbrev pub behind_column : List ℕ → List ℕ
 behind_column line = drop (prefix_len (λ b. not (b == 32)) line) line
 
 -- what stands after the blanks
-abbrev pub kind : List ℕ → List ℕ
-kind line = drop (prefix_len (λ b. b == 32) (behind_column line)) (behind_column line)
+abbrev pub text_after_blanks : List ℕ → List ℕ
+text_after_blanks line = drop (prefix_len (λ b. b == 32) (behind_column line)) (behind_column line)
 
 -- a line is a row of this address, for a stream
 abbrev pub IsStreamRow : List ℕ → IpAddr → Type 0
 IsStreamRow line ip =
-    IsIpText (column line) ip × (starts_with nat_eq (kind line) (codes "STREAM") ≡ true)
+    IsIpText (column line) ip × (starts_with nat_eq (text_after_blanks line) (codes "STREAM") ≡ true)
 
 -- ---- the whole output
 

@@ -35,12 +35,12 @@ is_join number (Write stream) = false
 is_join number (Connect stream) = false
 
 -- this is of the stream of this number
-abbrev pub is_of : ℕ → Ready → Bool
-is_of number Accept = false
-is_of number (Join listener) = false
-is_of number (Read stream) = stream == number
-is_of number (Write stream) = stream == number
-is_of number (Connect stream) = stream == number
+abbrev pub is_ready_of : ℕ → Ready → Bool
+is_ready_of number Accept = false
+is_ready_of number (Join listener) = false
+is_ready_of number (Read stream) = stream == number
+is_ready_of number (Write stream) = stream == number
+is_ready_of number (Connect stream) = stream == number
 
 -- a round is over where nothing may be served, and where it is to be served after what the round
 -- has gone over twice

@@ -15,14 +15,14 @@ abbrev pub no_shares : Shares
 no_shares = record { clients = 0; own = 0 }
 
 -- a count of bytes after more of them: it stays at the end of its type
-abbrev pub added : ℕ → ℕ → ℕ
-added count bytes = min (count + bytes) (2 ^ 64 - 1)
+abbrev pub count_after_bytes : ℕ → ℕ → ℕ
+count_after_bytes count bytes = min (count + bytes) (2 ^ 64 - 1)
 
 -- after bytes of a stream: those of the server aren't counted
 abbrev pub shares_after : ℕ → ℕ → Shares → Shares
 shares_after stream bytes shares =
-    if is_own stream then record shares { own = added shares.own bytes } else
-    if stream == 0 then shares else record shares { clients = added shares.clients bytes }
+    if is_own stream then record shares { own = count_after_bytes shares.own bytes } else
+    if stream == 0 then shares else record shares { clients = count_after_bytes shares.clients bytes }
 
 -- a turn reports neither bytes nor the end of one of the master's own streams
 abbrev pub PassesOwn : Turn → Type 0

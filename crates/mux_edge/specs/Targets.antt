@@ -10,8 +10,8 @@ addresses_left_of target =
     unwrap_or (option_map (λ addresses. length addresses.items) target.addresses) 0 - target.tried
 
 -- whether it waits for the look-up of this name
-abbrev pub awaits : Target → List ℕ → Bool
-awaits target name = not (is_some target.addresses) && bytes_eq target.name.items name
+abbrev pub awaits_lookup : Target → List ℕ → Bool
+awaits_lookup target name = not (is_some target.addresses) && bytes_eq target.name.items name
 
 -- it is that of a name and a port, of whose addresses none was tried
 pub record IsNewTarget (name : List ℕ) (port : ℕ) (target : Target) : Type 0 where

@@ -7,7 +7,7 @@ ghost use Rattle.mux_edge.specs.Transport.{IsOverTcp, IsOverUnix, is_begun, pass
 
 use crate::socket::{TcpSocket, UnixSocket};
 use mio::{Interest, Registry, Token};
-use mux_exchange::Channel;
+use mux_exchange::ByteChannel;
 use mux_outside::Piece;
 use std::io;
 use std::io::ErrorKind;
@@ -109,7 +109,7 @@ fn finished_half() -> Shutdown
     Shutdown::Write
 }
 
-impl<U: UnixSocket, T: TcpSocket> Channel for Stream<U, T> {
+impl<U: UnixSocket, T: TcpSocket> ByteChannel for Stream<U, T> {
     ghost remaining = { of_socket U.remaining T.remaining };
 
     ghost contents = { of_socket U.contents T.contents };

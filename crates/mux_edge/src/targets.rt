@@ -20,7 +20,7 @@ pub struct Target {
 }
 
 impl Target {
-    ghost use Rattle.mux_edge.specs.Targets.{awaits, addresses_left_of};
+    ghost use Rattle.mux_edge.specs.Targets.{awaits_lookup, addresses_left_of};
 
     // The address that is tried next.
     fn next(&mut self) -> Option<SocketAddr>
@@ -56,7 +56,7 @@ impl Target {
 
     /// Whether it waits for the look-up of this name.
     pub fn awaits(&self, name: &[u8]) -> bool
-        ensures { result ≡ awaits self.now name.now }
+        ensures { result ≡ awaits_lookup self.now name.now }
     {
         self.addresses.is_none() && self.name.as_slice() == name
     }

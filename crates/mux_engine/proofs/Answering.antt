@@ -17,8 +17,8 @@ use Rattle.mux_history.specs.declared.ended.Ended.{Ended}
 use Rattle.mux_history.specs.declared.ended.Ended.TheVariants as ended
 use Rattle.mux_history.specs.Policy.{Policy}
 use Rattle.mux_history.specs.Promises.{turns_in}
-use Rattle.mux_state.specs.State.{State}
-use Rattle.mux_engine.specs.Counted.{Spent, RunStops, Well}
+use Rattle.mux_state.specs.State.{EngineState}
+use Rattle.mux_engine.specs.Counted.{Spent, RunStops, CountsOfWholeCall}
 use Rattle.mux_engine.specs.Owned.{IsOwnOffered}
 use Rattle.mux_engine.specs.Rests.{IsByRow, ended_as, start_refused_if}
 use Rattle.mux_engine.specs.Run.{IsRun}
@@ -75,14 +75,14 @@ failed-whole answer mid new f g h i r le le' rose stays is e = rose-behind f.ser
 
 module _ {May : HouseReply → Type 0} {Rest : Resting} {before : Option (List HouseMark)} {policy : Policy} {pid : ℕ} {start : Option (List Mark)} where
   -- no stream is held back yet, and none failed
-  pub none-held : {now : Side} {seen : Seen} {given : ℕ} {todo : List ℕ} {s : State} (held failed : List ℕ) → held ≡ [] → failed ≡ [] → Serving May Rest before now policy pid start seen [] [] given todo s → Serving May Rest before now policy pid start seen held failed given todo s
+  pub none-held : {now : Side} {seen : Seen} {given : ℕ} {todo : List ℕ} {s : EngineState} (held failed : List ℕ) → held ≡ [] → failed ≡ [] → Serving May Rest before now policy pid start seen [] [] given todo s → Serving May Rest before now policy pid start seen held failed given todo s
   none-held {now} {seen} {given} {todo} {s} held failed e f v = subst (λ (l : List ℕ). Serving May Rest before now policy pid start seen l failed given todo s) (sym e) (subst (λ (l : List ℕ). Serving May Rest before now policy pid start seen [] l given todo s) (sym f) v)
 
-  pub none-given : {now : Side} {seen : Seen} {held failed : List ℕ} {given : ℕ} {todo : List ℕ} {s : State} (v : Serving May Rest before now policy pid start seen held failed given todo s) → v.journal ≡ [] → given ≡ 0
+  pub none-given : {now : Side} {seen : Seen} {held failed : List ℕ} {given : ℕ} {todo : List ℕ} {s : EngineState} (v : Serving May Rest before now policy pid start seen held failed given todo s) → v.journal ≡ [] → given ≡ 0
   none-given v z = sym v.turns ∙ ap turns_in z
 
   -- a run that went to its end
-  pub ran-whole : {now : Side} {seen : Seen} {held failed : List ℕ} {s : State} (stands : List HouseCall → Type 0) (last : HouseState) (turns given : ℕ) (all : Bool) (mid : Option Ended) (m n : Faults) (refused : Option ℕ) (answer : Ended)
+  pub ran-whole : {now : Side} {seen : Seen} {held failed : List ℕ} {s : EngineState} (stands : List HouseCall → Type 0) (last : HouseState) (turns given : ℕ) (all : Bool) (mid : Option Ended) (m n : Faults) (refused : Option ℕ) (answer : Ended)
       → Serving May Rest before now policy pid start seen held failed (given + 0) [] s → now.unnoted ≡ [] → HandsOn stands last.stands now.calls → ((t : ℕ) → is_one t seen.own ≡ true → IsOwnOffered (last.queue t) held failed t)
       → given ≤ turns → (all ≡ true → given ≡ turns) → StaysOrFails mid s.ended m n → (all ≡ false → mid ≡ None → refused ≢ None) → answer ≡ ended_as s.ended refused
       → IsRun May Rest.rests stands last Rest.present policy pid turns before now.recorded start seen refused answer
@@ -103,7 +103,7 @@ pub spent-from : (present all : Bool) (turns : ℕ) (a b c : CallCounts) → b �
 spent-from present all turns a b c e s = subst (λ (x : CallCounts). Spent present all turns x c) e s
 
 pub stops-whole : (present all must : Bool) (turns : ℕ) (answer : Ended) (a b c d : CallCounts) (mid new : Option Ended) (m n : Faults) (refused : Option ℕ)
-    → b ≡ a → Spent present all turns b c → Well 0 c d → StaysOrFails mid new m n → IsByRow mid → (all ≡ false → mid ≡ None → start_refused_if present must refused ≢ None) → (present ≡ false → turns ≡ 0 → new ≡ None) → answer ≡ ended_as new (start_refused_if present must refused)
+    → b ≡ a → Spent present all turns b c → CountsOfWholeCall 0 c d → StaysOrFails mid new m n → IsByRow mid → (all ≡ false → mid ≡ None → start_refused_if present must refused ≢ None) → (present ≡ false → turns ≡ 0 → new ≡ None) → answer ≡ ended_as new (start_refused_if present must refused)
     → RunStops present turns answer a d
 stops-whole present all must turns answer a b c d mid new m n refused same spent well stays row over idle is =
     stops-spent present all turns answer a d (spent-then present all turns a c d (spent-from present all turns a b c same spent) well)

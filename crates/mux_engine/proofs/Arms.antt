@@ -17,9 +17,9 @@ use Rattle.mux_history.specs.declared.ended.Ended.{Ended}
 use Rattle.mux_history.specs.declared.ended.Ended.TheVariants as ended
 use Rattle.mux_state.specs.declared.event.Event.{Event}
 use Rattle.mux_state.specs.declared.event.Event.TheVariants.{Accepted, FromClient, ClientEnd, ClientFailed, HouseSays, FromServer, ServerEnd, ServerFailed}
-use Rattle.mux_state.specs.State.{State, numbers, queue_in}
+use Rattle.mux_state.specs.State.{EngineState, numbers, queue_in}
 use Rattle.mux_state.specs.Events.{EngineKeeps, MayEnd, SameStreams, MarkRecords, here}
-use Rattle.mux_engine.specs.Counted.{Counts, Cut, Waited, Well}
+use Rattle.mux_engine.specs.Counted.{CountsOfCall, CountsOfCutCall, Waited, CountsOfWholeCall}
 use Rattle.mux_engine.proofs.Comes.{StaysBy, came-none, came-one, came-then, came-wait}
 use Rattle.mux_engine.specs.Serving.{IsOfferedTo, StaysOrFails}
 
@@ -41,49 +41,49 @@ waited-on m n k a b c e v w =
     let p : min (a + m) (2 ^ 64 - 1) ≤ b = v.least in let q : min (b + n) (2 ^ 64 - 1) ≤ c = w.least in
     record { most = omega arith; least = omega arith; fits = λ h. w.fits (v.fits h) }
 
-pub well-none : (c : CallCounts) → Well 0 c c
+pub well-none : (c : CallCounts) → CountsOfWholeCall 0 c c
 well-none c = record { waited = waited-none c.waits; wants = refl; late = λ z. refl; came = came-none c }
 
 late-one : (c : CallCounts) (b : Bool) → c.wants ≡ 0 → (calls_after_one b c).late ≡ c.late
 late-one c b e = ap (λ t. cond t c.late (counted c.late)) (eq-eqb c.wants 0 e)
 
-pub well-one : (c : CallCounts) → Well 0 c (calls_after_one false c)
+pub well-one : (c : CallCounts) → CountsOfWholeCall 0 c (calls_after_one false c)
 well-one c = record { waited = waited-none c.waits; wants = refl; late = late-one c false; came = came-one false c }
 
 -- a call of wait that found memory
-pub well-wait : (t : Turn) (c : CallCounts) → is_starved t ≡ false → Well 1 c (calls_after_wait t c)
+pub well-wait : (t : Turn) (c : CallCounts) → is_starved t ≡ false → CountsOfWholeCall 1 c (calls_after_wait t c)
 well-wait t c e = record { waited = waited-one c.waits; wants = ap (λ b. cond b (counted c.wants) c.wants) e; late = late-one c (is_starved t); came = came-wait t c }
 
 -- first so many waits, then so many
-pub well-on : (m n k : ℕ) (a b c : CallCounts) → m + n ≡ k → Well m a b → Well n b c → Well k a c
+pub well-on : (m n k : ℕ) (a b c : CallCounts) → m + n ≡ k → CountsOfWholeCall m a b → CountsOfWholeCall n b c → CountsOfWholeCall k a c
 well-on m n k a b c e v w = record { waited = waited-on m n k a.waits b.waits c.waits e v.waited w.waited; wants = w.wants ∙ v.wants; late = λ z. w.late (v.wants ∙ z) ∙ v.late z; came = came-then a b c v.came w.came }
 
-pub well-then : (a b c : CallCounts) → Well 0 a b → Well 0 b c → Well 0 a c
+pub well-then : (a b c : CallCounts) → CountsOfWholeCall 0 a b → CountsOfWholeCall 0 b c → CountsOfWholeCall 0 a c
 well-then a b c v w = well-on 0 0 0 a b c (omega arith) v w
 
 -- calls that ended well come before one that was cut short
-pub cut-on : (m n k : ℕ) (a b c : CallCounts) → m + n ≡ k → Well m a b → Cut n b c → Cut k a c
+pub cut-on : (m n k : ℕ) (a b c : CallCounts) → m + n ≡ k → CountsOfWholeCall m a b → CountsOfCutCall n b c → CountsOfCutCall k a c
 cut-on m n k a b c e v w = let f : b.waits ≤ a.waits + m = v.waited.most in let g : c.waits ≤ b.waits + n = w.few in let d : b.wants ≡ a.wants = v.wants in let h : c.wants ≤ b.wants + 1 = w.wants in
     record { few = omega arith; wants = omega arith; late = λ z. w.late (v.wants ∙ z) ∙ v.late z; came = came-then a b c v.came w.came }
 
-pub cut-then : (a b c : CallCounts) → Well 0 a b → Cut 0 b c → Cut 0 a c
+pub cut-then : (a b c : CallCounts) → CountsOfWholeCall 0 a b → CountsOfCutCall 0 b c → CountsOfCutCall 0 a c
 cut-then a b c v w = cut-on 0 0 0 a b c (omega arith) v w
 
-pub counts-on : {A E : Type 0} (m n k : ℕ) (r : Result A E) (a b c : CallCounts) → m + n ≡ k → Well m a b → Counts n r b c → Counts k r a c
+pub counts-on : {A E : Type 0} (m n k : ℕ) (r : Result A E) (a b c : CallCounts) → m + n ≡ k → CountsOfWholeCall m a b → CountsOfCall n r b c → CountsOfCall k r a c
 counts-on m n k (Ok x) a b c e v w = well-on m n k a b c e v w
 counts-on m n k (Err x) a b c e v w = cut-on m n k a b c e v w
 
 -- a call that found memory is none that was cut short
-pub well-cut : (n : ℕ) (a b : CallCounts) → Well n a b → Cut n a b
+pub well-cut : (n : ℕ) (a b : CallCounts) → CountsOfWholeCall n a b → CountsOfCutCall n a b
 well-cut n a b v = let f : b.waits ≤ a.waits + n = v.waited.most in let d : b.wants ≡ a.wants = v.wants in
     record { few = omega arith; wants = omega arith; late = v.late; came = v.came }
 
-pub counts-well : {A E : Type 0} (n : ℕ) (r : Result A E) (a b : CallCounts) → Well n a b → Counts n r a b
+pub counts-well : {A E : Type 0} (n : ℕ) (r : Result A E) (a b : CallCounts) → CountsOfWholeCall n a b → CountsOfCall n r a b
 counts-well n (Ok x) a b v = v
 counts-well n (Err x) a b v = well-cut n a b v
 
 -- a write that found no memory
-pub cut-one : (c : CallCounts) → Cut 0 c (calls_after_one true c)
+pub cut-one : (c : CallCounts) → CountsOfCutCall 0 c (calls_after_one true c)
 cut-one c = record { few = omega arith; wants = omega arith; late = late-one c true; came = came-one true c }
 
 -- ---- the end
@@ -110,7 +110,7 @@ then-stays-or-fails a b c m n o (inr x) (inr y) = let r : Rose m n = x.1 in inr 
 -- ---- a stream that failed at a write
 
 -- what its event leaves of the engine
-pub record Failing (k : ℕ) (old new : State) : Type 0 where
+pub record Failing (k : ℕ) (old new : EngineState) : Type 0 where
   pub policy : new.core.policy ≡ old.core.policy
   pub pid : new.pid ≡ old.pid
   pub streams : here new ≡ here old
@@ -119,10 +119,10 @@ pub record Failing (k : ℕ) (old new : State) : Type 0 where
   pub over : k ≡ 0 → new.ended ≢ None
   pub client : k ≢ 0 → new.ended ≡ old.ended
 
-same-here : (old new : State) → SameStreams old new → here new ≡ here old
+same-here : (old new : EngineState) → SameStreams old new → here new ≡ here old
 same-here old new s = ap (λ l. l ++ new.refused) s.clients ∙ ap (λ l. numbers old.clients ++ l) s.refused
 
-client-fails : (k j : ℕ) (old new : State) → j ≢ 0 → j ≡ k → EngineKeeps (ClientFailed j) old new → (old.ended ≡ None → new.ended ≡ None) → Failing k old new
+client-fails : (k j : ℕ) (old new : EngineState) → j ≢ 0 → j ≡ k → EngineKeeps (ClientFailed j) old new → (old.ended ≡ None → new.ended ≡ None) → Failing k old new
 client-fails k j old new nz same keeps ends = by_end old.ended refl
   where
     by_end : (o : Option Ended) → old.ended ≡ o → Failing k old new
@@ -139,13 +139,13 @@ client-fails k j old new nz same keeps ends = by_end old.ended refl
       policy = keeps.policy;
       pid = keeps.pid;
       streams = ap here s;
-      live = λ l. ap (λ (t : State). t.ended) (sym s) ∙ l;
+      live = λ l. ap (λ (t : EngineState). t.ended) (sym s) ∙ l;
       server = λ z. absurd (nz (same ∙ z));
       over = λ z. absurd (nz (same ∙ z));
-      client = λ z. ap (λ (t : State). t.ended) s;
+      client = λ z. ap (λ (t : EngineState). t.ended) s;
     }
 
-server-fails : (k : ℕ) (old new : State) → k ≡ 0 → EngineKeeps ServerFailed old new → (old.ended ≡ None → new.ended ≡ Some ended.ServerFailed) → Failing k old new
+server-fails : (k : ℕ) (old new : EngineState) → k ≡ 0 → EngineKeeps ServerFailed old new → (old.ended ≡ None → new.ended ≡ Some ended.ServerFailed) → Failing k old new
 server-fails k old new zero keeps ends = by_end old.ended refl
   where
     none-some : (cause : Ended) → new.ended ≡ Some cause → new.ended ≢ None
@@ -165,9 +165,9 @@ server-fails k old new zero keeps ends = by_end old.ended refl
       policy = keeps.policy;
       pid = keeps.pid;
       streams = ap here s;
-      live = λ l. ap (λ (t : State). t.ended) (sym s) ∙ l;
-      server = λ z. inl (ap (λ (t : State). t.ended) s);
-      over = λ z. none-some cause (ap (λ (t : State). t.ended) s ∙ e);
+      live = λ l. ap (λ (t : EngineState). t.ended) (sym s) ∙ l;
+      server = λ z. inl (ap (λ (t : EngineState). t.ended) s);
+      over = λ z. none-some cause (ap (λ (t : EngineState). t.ended) s ∙ e);
       client = λ nz. absurd (nz zero);
     }
 
@@ -175,7 +175,7 @@ abbrev stream-of : Mark → ℕ
 stream-of (WriteFails k) = k
 stream-of mark = 0
 
-pub failing : (e : Event) (k : ℕ) (old new : State) → MarkRecords e (WriteFails k) → EngineKeeps e old new → (old.ended ≡ None → MayEnd e new.ended) → Failing k old new
+pub failing : (e : Event) (k : ℕ) (old new : EngineState) → MarkRecords e (WriteFails k) → EngineKeeps e old new → (old.ended ≡ None → MayEnd e new.ended) → Failing k old new
 failing (Accepted j) k old new t keeps ends = absurd (cc)
 failing (FromClient j bytes) k old new t keeps ends = absurd (let z = t.1 in cc)
 failing (ClientEnd j) k old new t keeps ends = absurd (let z = t.1 in cc)
@@ -198,7 +198,7 @@ pub whose-server : (k : ℕ) → (k == 0) ≡ true → whose k ≡ Server
 whose-server k e = ap (λ (b : Bool). cond b Server (cond (is_own k) Own (Client k))) e
 
 -- the count of the server's side rose where it is the server's stream
-pub fault-ended : (k : ℕ) (old new : State) (f f' : Faults) → Failing k old new → FaultOf (whose k) f f' → StaysOrFails old.ended new.ended f f'
+pub fault-ended : (k : ℕ) (old new : EngineState) (f f' : Faults) → Failing k old new → FaultOf (whose k) f f' → StaysOrFails old.ended new.ended f f'
 fault-ended k old new f f' fails fault = elim (eqb_tells k 0) [
   | inl q ↦ let r : Rose f.server f'.server = of-server q.0 in elim (fails.server q.1) [ inl e ↦ inl (e, r.later) | inr e ↦ inr (e, r) ]
   | inr q ↦ inl (fails.client q.1, fault-later k f f' fault)
@@ -209,17 +209,17 @@ fault-ended k old new f f' fails fault = elim (eqb_tells k 0) [
 
 -- ---- a stream that was offered what waits
 
-pub offered-none : (k : ℕ) (s : State) (f : Faults) → IsOfferedTo k s s f f
+pub offered-none : (k : ℕ) (s : EngineState) (f : Faults) → IsOfferedTo k s s f f
 offered-none k s f = record { streams = refl; ended = stays s.ended s.ended f.server f.server refl refl; client = λ nz. refl }
 
 -- where the engine goes on with the same streams and the same end, and no fault was counted
-pub offered-same : (k : ℕ) (s t : State) (f g : Faults) → here t ≡ here s → t.ended ≡ s.ended → g ≡ f → IsOfferedTo k s t f g
+pub offered-same : (k : ℕ) (s t : EngineState) (f g : Faults) → here t ≡ here s → t.ended ≡ s.ended → g ≡ f → IsOfferedTo k s t f g
 offered-same k s t f g h e same = record { streams = h; ended = stays s.ended t.ended f.server g.server e (ap (λ (x : Faults). x.server) same); client = λ nz. e }
 
-pub offered-fails : (k : ℕ) (s t : State) (f g : Faults) → Failing k s t → FaultOf (whose k) f g → IsOfferedTo k s t f g
+pub offered-fails : (k : ℕ) (s t : EngineState) (f g : Faults) → Failing k s t → FaultOf (whose k) f g → IsOfferedTo k s t f g
 offered-fails k s t f g fails c = record { streams = fails.streams; ended = fault-ended k s t f g fails c; client = fails.client }
 
-pub offered-then : {k : ℕ} {a b c : State} {f g h : Faults} → IsOfferedTo k a b f g → IsOfferedTo k b c g h → IsOfferedTo k a c f h
+pub offered-then : {k : ℕ} {a b c : EngineState} {f g h : Faults} → IsOfferedTo k a b f g → IsOfferedTo k b c g h → IsOfferedTo k a c f h
 offered-then {k} {a} {b} {c} {f} {g} {h} v w = record {
   streams = w.streams ∙ v.streams;
   ended = then-stays-or-fails a.ended b.ended c.ended f.server g.server h.server v.ended w.ended;
@@ -245,8 +245,8 @@ pub none-there : {P : Type 0} (i : ℕ) (xs : List ℕ) → i < length xs → xs
 none-there i xs less none = absurd (let z : length xs ≡ 0 = ap length none in omega arith)
 
 -- nothing was done, and then nothing
-pub unchanged-then : {V : Type 0} (k : ℕ) (s t u : State) (v w x : V) → (queue_in s k ≡ [] → (t ≡ s) × (w ≡ v)) → (queue_in t k ≡ [] → (u ≡ t) × (x ≡ w)) → queue_in s k ≡ [] → (u ≡ s) × (x ≡ v)
-unchanged-then k s t u v w x first then none = let a : (t ≡ s) × (w ≡ v) = first none in let b : (u ≡ t) × (x ≡ w) = then (ap (λ (y : State). queue_in y k) a.0 ∙ none) in (b.0 ∙ a.0, b.1 ∙ a.1)
+pub unchanged-then : {V : Type 0} (k : ℕ) (s t u : EngineState) (v w x : V) → (queue_in s k ≡ [] → (t ≡ s) × (w ≡ v)) → (queue_in t k ≡ [] → (u ≡ t) × (x ≡ w)) → queue_in s k ≡ [] → (u ≡ s) × (x ≡ v)
+unchanged-then k s t u v w x first then none = let a : (t ≡ s) × (w ≡ v) = first none in let b : (u ≡ t) × (x ≡ w) = then (ap (λ (y : EngineState). queue_in y k) a.0 ∙ none) in (b.0 ∙ a.0, b.1 ∙ a.1)
 
 -- ---- errors
 
@@ -259,6 +259,6 @@ on-ok (Ok x) f p = f p
 on-ok (Err e) f p = tt
 
 -- calls that ended well come before
-pub counts-then : {A E : Type 0} (r : Result A E) (a b c : CallCounts) → Well 0 a b → Counts 0 r b c → Counts 0 r a c
+pub counts-then : {A E : Type 0} (r : Result A E) (a b c : CallCounts) → CountsOfWholeCall 0 a b → CountsOfCall 0 r b c → CountsOfCall 0 r a c
 counts-then (Ok x) a b c v w = well-then a b c v w
 counts-then (Err e) a b c v w = cut-then a b c v w

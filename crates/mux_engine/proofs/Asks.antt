@@ -27,8 +27,8 @@ use Rattle.mux_history.proofs.LawfulItems.{treat-item}
 use Rattle.mux_bounds.proofs.Entries.{EachItem, by-more, each-unless, lists, next, setting, with-reply}
 use Rattle.mux_peers.specs.Asked.{asked_by, asks_of_rows, item_asks, known_after, reading_asks, sending_asks}
 use Rattle.mux_peers.specs.Starved.{BeginsWithAsked}
-use Rattle.mux_state.specs.State.{State}
-use Rattle.mux_state.specs.Stands.{GoesBy, Stands, log}
+use Rattle.mux_state.specs.State.{EngineState}
+use Rattle.mux_state.specs.Stands.{GoesBy, RepresentsSoFar, log}
 use Rattle.mux_engine.specs.Answers.{opens_after}
 use Rattle.mux_engine.specs.Sides.{ask_marks_in}
 use Rattle.mux_engine.proofs.Marks.{asks-more, log-same}
@@ -52,7 +52,7 @@ none-asked (HouseTook n ∷ marks) each = absurd each.0
 none-asked (HouseAnswer client id reply ∷ marks) each = absurd each.0
 none-asked (HouseOrder order number ∷ marks) each = absurd each.0
 
--- all of them are asks
+-- all of them are requests
 pub all-asks : (P : ℕ → Type 0) (marks : List HouseMark) → EachAsked P marks → ask_marks_in marks ≡ marks
 all-asks P [] each = refl
 all-asks P (HouseAsked client id opening ask reply ∷ marks) each = ap (λ l. HouseAsked client id opening ask reply ∷ l) (all-asks P marks each.1)
@@ -166,7 +166,7 @@ module _ (P : ℕ → Type 0) where
 
   -- ---- the requests of an event
 
-  pub goes-asked : {May : HouseReply → Type 0} {recorded recorded' : Option (List HouseMark)} {picked : List ℕ} {replies : List HouseReply} {s s' : State} {mark : Mark} {marks : List Mark} {closed : List ℕ} (g : GoesBy May recorded recorded' picked replies s s' mark marks closed)
+  pub goes-asked : {May : HouseReply → Type 0} {recorded recorded' : Option (List HouseMark)} {picked : List ℕ} {replies : List HouseReply} {s s' : EngineState} {mark : Mark} {marks : List Mark} {closed : List ℕ} (g : GoesBy May recorded recorded' picked replies s s' mark marks closed)
       → s'.core.policy ≡ s.core.policy → s'.pid ≡ s.pid → SentBy mark → EachAsked P g.asks
   goes-asked {picked = picked} {replies = replies} {s = s} {s' = s'} {mark = mark} {marks = marks} g same_policy same_pid p =
       let ps : List ℕ = (picked ++ g.picks) ++ [] in
@@ -174,14 +174,14 @@ module _ (P : ℕ → Type 0) where
       let grown : Grows (log s ps rs marks) (log s ps rs (mark ∷ marks)) = grows-all s.core.policy s.pid ps rs (log s ps rs marks) (items_in marks mark) (mark-speaks marks mark p) in
       subst (EachAsked P) (append_cancel_left (asks_of_rows (log s ps rs marks)) grown.more g.asks (sym grown.is ∙ (ap asks_of_rows (sym (log-same s s' ps rs (mark ∷ marks) same_policy same_pid)) ∙ g.asked [] []))) grown.each
 
--- the first of what the rows of a mark ask are asks
-pub begins-asked : (P : ℕ → Type 0) (s : State) (ps : List ℕ) (rs : List HouseReply) (mark : Mark) (marks : List Mark) (asks : List HouseMark) → SentBy P mark → BeginsWithAsked (asks_of_rows (log s ps rs marks)) asks (asks_of_rows (log s ps rs (mark ∷ marks))) → EachAsked P asks
+-- the first of what the rows of a mark ask are requests
+pub begins-asked : (P : ℕ → Type 0) (s : EngineState) (ps : List ℕ) (rs : List HouseReply) (mark : Mark) (marks : List Mark) (asks : List HouseMark) → SentBy P mark → BeginsWithAsked (asks_of_rows (log s ps rs marks)) asks (asks_of_rows (log s ps rs (mark ∷ marks))) → EachAsked P asks
 begins-asked P s ps rs mark marks asks p b =
     let grown : Grows P (log s ps rs marks) (log s ps rs (mark ∷ marks)) = grows-all P s.core.policy s.pid ps rs (log s ps rs marks) (items_in marks mark) (mark-speaks P marks mark p) in
     each-front P asks b.rest (subst (EachAsked P) (append_cancel_left (asks_of_rows (log s ps rs marks)) grown.more (asks ++ b.rest) (sym grown.is ∙ b.all_is)) grown.each)
 
 -- whoever replies may, where nothing was asked
-pub goes-unasked : {May May' : HouseReply → Type 0} {recorded recorded' : Option (List HouseMark)} {picked : List ℕ} {replies : List HouseReply} {s s' : State} {mark : Mark} {marks : List Mark} {closed : List ℕ} (st : Stands picked replies s marks closed) (g : GoesBy May' recorded recorded' picked replies s s' mark marks closed)
+pub goes-unasked : {May May' : HouseReply → Type 0} {recorded recorded' : Option (List HouseMark)} {picked : List ℕ} {replies : List HouseReply} {s s' : EngineState} {mark : Mark} {marks : List Mark} {closed : List ℕ} (st : RepresentsSoFar picked replies s marks closed) (g : GoesBy May' recorded recorded' picked replies s s' mark marks closed)
     → g.asks ≡ [] → GoesBy May recorded recorded' picked replies s s' mark marks closed
 goes-unasked {May} {May'} {replies = replies} st g none = record {
   picks = g.picks;
@@ -203,7 +203,7 @@ goes-unasked {May} {May'} {replies = replies} st g none = record {
     size : length g.replies ≡ 0
     size = let a : length (st.asks ++ []) ≡ length st.asks = ap length (append-nil st.asks) in let b : length st.asks ≡ length replies = st.each in let c : length (replies ++ g.replies) ≡ length replies + length g.replies = length-append replies g.replies in omega (arith, a, b, c, same)
 
-pub unasked-none : (May : HouseReply → Type 0) {May' : HouseReply → Type 0} {recorded recorded' : Option (List HouseMark)} {picked : List ℕ} {replies : List HouseReply} {s s' : State} {mark : Mark} {marks : List Mark} {closed : List ℕ} (st : Stands picked replies s marks closed) (g : GoesBy May' recorded recorded' picked replies s s' mark marks closed)
+pub unasked-none : (May : HouseReply → Type 0) {May' : HouseReply → Type 0} {recorded recorded' : Option (List HouseMark)} {picked : List ℕ} {replies : List HouseReply} {s s' : EngineState} {mark : Mark} {marks : List Mark} {closed : List ℕ} (st : RepresentsSoFar picked replies s marks closed) (g : GoesBy May' recorded recorded' picked replies s s' mark marks closed)
     → (none : g.asks ≡ []) → (goes-unasked {May = May} st g none).asks ≡ []
 unfolding goes-unasked
 unasked-none May st g none = none

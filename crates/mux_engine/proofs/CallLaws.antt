@@ -13,7 +13,7 @@ use Rattle.mux_history.specs.declared.limits.TheConstants.{HOUSE}
 use Rattle.mux_history.specs.Log.{Setting}
 use Rattle.mux_history.specs.Journal.{bytes_in, bytes_of, house_sent, is_own_stream, log_of_journal, taken_by, bytes_taken_in}
 use Rattle.mux_history.specs.Pending.{pending}
-use Rattle.mux_engine.specs.CallLaws.{IsGivenAll, IsRecordedAll, bytes_got, got_by, bytes_took, took_by}
+use Rattle.mux_engine.specs.CallLaws.{IsGivenAll, IsRecordedAll, bytes_got, got_by, bytes_took, accepted_by_call}
 use Rattle.mux_engine.specs.Called.{calls_at, calls_in, house_calls}
 use Rattle.mux_engine.proofs.Lists.{test-other, true-false}
 
@@ -89,9 +89,9 @@ given-all setting (mark ∷ before) t own =
 
 took-append : (t : ℕ) (a b : List HouseCall) → bytes_took t (a ++ b) ≡ bytes_took t a ++ bytes_took t b
 took-append t [] b = refl
-took-append t (one ∷ a) b = ap (λ l. took_by t one ++ l) (took-append t a b) ∙ sym (append_assoc (took_by t one) (bytes_took t a) (bytes_took t b))
+took-append t (one ∷ a) b = ap (λ l. accepted_by_call t one ++ l) (took-append t a b) ∙ sym (append_assoc (accepted_by_call t one) (bytes_took t a) (bytes_took t b))
 
-took-none : (t : ℕ) (one : HouseCall) → took_by t one ≡ [] → (b : Bool) → bytes_took t (cond b (one ∷ []) []) ≡ []
+took-none : (t : ℕ) (one : HouseCall) → accepted_by_call t one ≡ [] → (b : Bool) → bytes_took t (cond b (one ∷ []) []) ≡ []
 took-none t one e true = ap (λ l. l ++ []) e
 took-none t one e false = refl
 

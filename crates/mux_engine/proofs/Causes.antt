@@ -19,8 +19,8 @@ use Rattle.mux_history.specs.Rows.{Item, Row}
 use Rattle.mux_history.specs.Solo.{run_end_of}
 use Rattle.mux_history.specs.Journal.{bytes_of, is_own_stream, new_received, new_sayings, unless_own}
 use Rattle.mux_history.specs.Log.{more_all}
-use Rattle.mux_state.specs.State.{State}
-use Rattle.mux_state.specs.Stands.{GoesBy, Stands, log, setting}
+use Rattle.mux_state.specs.State.{EngineState}
+use Rattle.mux_state.specs.Stands.{GoesBy, RepresentsSoFar, log, run_setting}
 use Rattle.mux_state.specs.Events.{MayEnd, MarkRecords}
 use Rattle.mux_state.specs.declared.event.Event.{Event}
 use Rattle.mux_state.specs.declared.event.Event.TheVariants.{Accepted, FromClient, ClientEnd, ClientFailed, HouseSays, FromServer, ServerEnd, ServerFailed}
@@ -43,20 +43,20 @@ pub record EndsSo (e : Event) (o : Option Ended) : Type 0 where
 
 -- ---- the rows of a mark
 
-module _ (s : State) (picks : List ℕ) (replies : List HouseReply) (marks : List Mark) where
+module _ (s : EngineState) (picks : List ℕ) (replies : List HouseReply) (marks : List Mark) where
   abbrev rows : List Row
   rows = log s picks replies marks
 
   client-ends : (k : ℕ) (bytes : List ℕ) → k ≢ 0 → EndsFor k (run_end_of rows) → EndsFor k (run_end_of (log s picks replies (Gets k bytes ∷ marks)))
   client-ends k bytes nz n = by_stream (k == 0) refl
     where
-      by_own : (b : Bool) → EndsFor k (run_end_of (more_all (setting s picks replies) rows (elim b as (λ _. List Item) [ true ↦ [] | false ↦ new_sayings k (bytes_of k marks) (bytes_of k marks ++ bytes) ])))
+      by_own : (b : Bool) → EndsFor k (run_end_of (more_all (run_setting s picks replies) rows (elim b as (λ _. List Item) [ true ↦ [] | false ↦ new_sayings k (bytes_of k marks) (bytes_of k marks ++ bytes) ])))
       by_own true = n
       by_own false = says-for s.core.policy s.pid picks replies k (drop (length (said (bytes_of k marks))) (said (bytes_of k marks ++ bytes))) rows n
 
       by_stream : (b : Bool) → (k == 0) ≡ b → EndsFor k (run_end_of (log s picks replies (Gets k bytes ∷ marks)))
       by_stream true e = absurd (nz (eqb-true k 0 e))
-      by_stream false e = subst (λ (b : Bool). EndsFor k (run_end_of (more_all (setting s picks replies) rows (elim b as (λ _. List Item) [ true ↦ new_received (bytes_of 0 marks) (bytes_of 0 marks ++ bytes) | false ↦ unless_own k (new_sayings k (bytes_of k marks) (bytes_of k marks ++ bytes)) ])))) (sym e) (by_own (is_own_stream k))
+      by_stream false e = subst (λ (b : Bool). EndsFor k (run_end_of (more_all (run_setting s picks replies) rows (elim b as (λ _. List Item) [ true ↦ new_received (bytes_of 0 marks) (bytes_of 0 marks ++ bytes) | false ↦ unless_own k (new_sayings k (bytes_of k marks) (bytes_of k marks ++ bytes)) ])))) (sym e) (by_own (is_own_stream k))
 
   server-ends : (bytes : List ℕ) → EndsReceived (run_end_of rows) → EndsReceived (run_end_of (log s picks replies (Gets 0 bytes ∷ marks)))
   server-ends bytes n = receives-ends s.core.policy s.pid picks replies (drop (length (parse InProxy (bytes_of 0 marks)).says) (parse InProxy (bytes_of 0 marks ++ bytes)).says) rows n
@@ -66,8 +66,8 @@ module _ (s : State) (picks : List ℕ) (replies : List HouseReply) (marks : Lis
 
 -- ---- an event
 
-module _ {May : HouseReply → Type 0} {recorded recorded' : Option (List Asked)} {picked : List ℕ} {given : List HouseReply} {s s' : State} {mark : Mark} {marks : List Mark} {closed : List ℕ}
-    (st : Stands picked given s marks closed) (g : GoesBy May recorded recorded' picked given s s' mark marks closed) (policy : s'.core.policy ≡ s.core.policy) (pid : s'.pid ≡ s.pid) (live : s.ended ≡ None) where
+module _ {May : HouseReply → Type 0} {recorded recorded' : Option (List Asked)} {picked : List ℕ} {given : List HouseReply} {s s' : EngineState} {mark : Mark} {marks : List Mark} {closed : List ℕ}
+    (st : RepresentsSoFar picked given s marks closed) (g : GoesBy May recorded recorded' picked given s s' mark marks closed) (policy : s'.core.policy ≡ s.core.policy) (pid : s'.pid ≡ s.pid) (live : s.ended ≡ None) where
   abbrev picks-then : List ℕ
   picks-then = (picked ++ g.picks) ++ []
 

@@ -21,9 +21,9 @@ use Rattle.mux_history.specs.Settings.{by_lists}
 use Rattle.mux_history.specs.Promises.{not_own}
 use Rattle.mux_history.proofs.Wires.{wire-keeps}
 use Rattle.mux_peers.proofs.Stood.{own_row}
-use Rattle.mux_state.specs.State.{State, closed_by, first_of, is_here}
+use Rattle.mux_state.specs.State.{EngineState, closed_by, first_lost_client, is_here}
 use Rattle.mux_state.specs.Events.{here}
-use Rattle.mux_state.specs.Stands.{Closes, IsFirstLost, Stands, EngineRepresents, log, not_closed}
+use Rattle.mux_state.specs.Stands.{Closes, IsFirstLost, RepresentsSoFar, EngineRepresents, log, not_closed}
 use Rattle.mux_engine.specs.Serving.{IsRunSound, IsUnseen, IsUnused, Serving}
 use Rattle.mux_engine.specs.Sides.{Housed, Resting, Side}
 use Rattle.mux_engine.proofs.Lists.{among-here, among-less, none-without, or-true, own-or-house, test-other, true-false, without-other}
@@ -81,7 +81,7 @@ loss-is-out k (row ∷ rows) h = elim (split-losses k (losses rows) (loss_by row
 ]
 
 -- so is the one that is closed first
-first-out : {picked : List ℕ} {replies : List HouseReply} {s : State} {marks : List Mark} {closed : List ℕ} (st : Stands picked replies s marks closed) (k : ℕ) → IsFirstLost k s.leaving → (in-losses k (filter (not_closed closed) (losses (log s (picked ++ []) (replies ++ []) marks))) ≡ true) × (is_out (rows_of k (log s (picked ++ []) (replies ++ []) marks)) ≡ true)
+first-out : {picked : List ℕ} {replies : List HouseReply} {s : EngineState} {marks : List Mark} {closed : List ℕ} (st : RepresentsSoFar picked replies s marks closed) (k : ℕ) → IsFirstLost k s.leaving → (in-losses k (filter (not_closed closed) (losses (log s (picked ++ []) (replies ++ []) marks))) ≡ true) × (is_out (rows_of k (log s (picked ++ []) (replies ++ []) marks)) ≡ true)
 first-out {picked} {replies} {s} {marks} {closed} st k first =
     let rows : List Row = log s (picked ++ []) (replies ++ []) marks in
     let v : EngineRepresents (picked ++ []) (replies ++ []) (length picked) st.asks s marks closed = st.at [] [] in
@@ -89,7 +89,7 @@ first-out {picked} {replies} {s} {marks} {closed} st k first =
     (listed, loss-is-out k rows (unfiltered k (not_closed closed) (losses rows) listed))
 
 -- so the server's stream is never closed
-pub first-nonzero : {picked : List ℕ} {replies : List HouseReply} {s : State} {marks : List Mark} {closed : List ℕ} (st : Stands picked replies s marks closed) (k : ℕ) → IsFirstLost k s.leaving → k ≢ 0
+pub first-nonzero : {picked : List ℕ} {replies : List HouseReply} {s : EngineState} {marks : List Mark} {closed : List ℕ} (st : RepresentsSoFar picked replies s marks closed) (k : ℕ) → IsFirstLost k s.leaving → k ≢ 0
 first-nonzero {picked} {replies} {s} {marks} {closed} st k first e =
     let v : EngineRepresents (picked ++ []) (replies ++ []) (length picked) st.asks s marks closed = st.at [] [] in
     true-false (sym (first-out st k first).1 ∙ (ap (λ j. is_out (rows_of j (log s (picked ++ []) (replies ++ []) marks))) e ∙ v.rows.server_in))
@@ -112,7 +112,7 @@ passes k closed (l ∷ ls) h = by_test (not_closed closed l) refl h (passes k cl
     by_test false p h ih = ih h
 
 -- it is here until then
-pub first-here : {picked : List ℕ} {replies : List HouseReply} {s : State} {marks : List Mark} {closed : List ℕ} (st : Stands picked replies s marks closed) (k : ℕ) → IsFirstLost k s.leaving → among k (here s) ≡ true
+pub first-here : {picked : List ℕ} {replies : List HouseReply} {s : EngineState} {marks : List Mark} {closed : List ℕ} (st : RepresentsSoFar picked replies s marks closed) (k : ℕ) → IsFirstLost k s.leaving → among k (here s) ≡ true
 first-here {picked} {replies} {s} {marks} {closed} st k first = among-here s k ∙ by_here (is_here s k) refl
   where
     v : EngineRepresents (picked ++ []) (replies ++ []) (length picked) st.asks s marks closed
@@ -150,17 +150,17 @@ stays-all k (t ∷ own) e = by_head (t.number == k) e (stays-all k own)
     by_head true e ih = true-false e
     by_head false e ih = ap (λ l. t ∷ l) (ih e)
 
-pub none-closed : {May : HouseReply → Type 0} {Rest : Resting} {before : Option (List HouseMark)} {now : Side} {policy : Policy} {pid : ℕ} {start : Option (List Mark)} {seen : Seen} {held failed : List ℕ} {given : ℕ} {todo : List ℕ} {s : State} (v : Serving May Rest before now policy pid start seen held failed given todo s) (k : ℕ) → IsFirstLost k s.leaving → is_one k seen.own ≡ false
+pub none-closed : {May : HouseReply → Type 0} {Rest : Resting} {before : Option (List HouseMark)} {now : Side} {policy : Policy} {pid : ℕ} {start : Option (List Mark)} {seen : Seen} {held failed : List ℕ} {given : ℕ} {todo : List ℕ} {s : EngineState} (v : Serving May Rest before now policy pid start seen held failed given todo s) (k : ℕ) → IsFirstLost k s.leaving → is_one k seen.own ≡ false
 none-closed {seen = seen} {s = s} v k first = elim (eqb_tells k HOUSE) [
   | inl q ↦ ap (λ i. is_one i seen.own) q.1 ∙ own-apart seen v.journal v.places HOUSE (house-shut v)
   | inr q ↦ client-apart seen v.journal v.places k (own-or-house k (v.apart k (first-here v.stands k first)) q.1)
 ]
 
-unfoldable pub serve-closed : {May : HouseReply → Type 0} {Rest : Resting} {before : Option (List HouseMark)} {now : Side} {policy : Policy} {pid : ℕ} {start : Option (List Mark)} {seen : Seen} {held failed : List ℕ} {given : ℕ} {todo : List ℕ} {s : State} (v : Serving May Rest before now policy pid start seen held failed given todo s) (k : ℕ)
+unfoldable pub serve-closed : {May : HouseReply → Type 0} {Rest : Resting} {before : Option (List HouseMark)} {now : Side} {policy : Policy} {pid : ℕ} {start : Option (List Mark)} {seen : Seen} {held failed : List ℕ} {given : ℕ} {todo : List ℕ} {s : EngineState} (v : Serving May Rest before now policy pid start seen held failed given todo s) (k : ℕ)
     → IsFirstLost k s.leaving → Closes s (closed_by s k) k → Serving May Rest before now policy pid start (seen_after_close k seen) (without k held) failed given todo (closed_by s k)
 serve-closed {May} {Rest} {before} {now} {policy} {pid} {start} {seen} {held} {failed} {given} {todo} {s} v k first closes =
     let nz : k ≢ 0 = first-nonzero v.stands k first in
-    let st : Stands v.picked v.replies (closed_by s k) v.journal (k ∷ v.closed) = closes v.picked v.replies v.journal v.closed v.stands in
+    let st : RepresentsSoFar v.picked v.replies (closed_by s k) v.journal (k ∷ v.closed) = closes v.picked v.replies v.journal v.closed v.stands in
     let asks : st.asks ≡ v.stands.asks = sym (st.at [] []).rows.asked_is ∙ (v.stands.at [] []).rows.asked_is in
     let less : without k (not_own (here s)) ≡ not_own (here (closed_by s k)) = both-tests (λ i. not (i == k)) (λ i. not (is_own i)) (here s) ∙ ap not_own (here-less s k) in
     record {
@@ -205,7 +205,7 @@ serve-closed {May} {Rest} {before} {now} {policy} {pid} {start} {seen} {held} {f
 
 -- ---- the master's own streams stay
 
-pub housed-closed : {May : HouseReply → Type 0} {Rest : Resting} {before : Option (List HouseMark)} {now : Side} {policy : Policy} {pid : ℕ} {start : Option (List Mark)} {seen : Seen} {held failed : List ℕ} {given : ℕ} {todo : List ℕ} {s : State} (v : Serving May Rest before now policy pid start seen held failed given todo s) (k : ℕ) → IsFirstLost k s.leaving → (known : Known) (own : List ℕ) → Housed known seen own → Housed known (seen_after_close k seen) own
+pub housed-closed : {May : HouseReply → Type 0} {Rest : Resting} {before : Option (List HouseMark)} {now : Side} {policy : Policy} {pid : ℕ} {start : Option (List Mark)} {seen : Seen} {held failed : List ℕ} {given : ℕ} {todo : List ℕ} {s : EngineState} (v : Serving May Rest before now policy pid start seen held failed given todo s) (k : ℕ) → IsFirstLost k s.leaving → (known : Known) (own : List ℕ) → Housed known seen own → Housed known (seen_after_close k seen) own
 housed-closed {seen = seen} {s = s} v k first known own h =
     record {
       ordering = h.ordering;
@@ -246,6 +246,6 @@ fewer k (l ∷ ls) f = let e : filter (λ (l : ℕ × Option Why). not (l.0 == k
     let s : length (filter (λ (l : ℕ × Option Why). not (l.0 == k)) ls) ≤ length ls = filter-short (λ (l : ℕ × Option Why). not (l.0 == k)) ls in
     omega (arith, ap length e)
 
-pub first-is : (k : ℕ) (why : Option Why) (ls : List (ℕ × Option Why)) → first_of ls ≡ Some (k, why) → IsFirstLost k ls
+pub first-is : (k : ℕ) (why : Option Why) (ls : List (ℕ × Option Why)) → first_lost_client ls ≡ Some (k, why) → IsFirstLost k ls
 first-is k why [] e = absurd (cc)
 first-is k why (l ∷ ls) e = let p : l ≡ (k, why) = cc in ap (λ (x : ℕ × Option Why). x.0) p

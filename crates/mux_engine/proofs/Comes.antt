@@ -161,7 +161,7 @@ pub over-offered : (p : Bool) (old new : Option Ended) (m n : ℕ) (a b c : Call
 over-offered p old new m n a b c (inl s) over came = subst (λ (x : Option Ended). OverBy p x a c) (sym s.0) (over-stays p old a b c over came)
 over-offered p old new m n a b c (inr f) over came = subst (λ (x : Option Ended). OverBy p x a c) (sym f.0) tt
 
--- of the same house
+-- of the same forwarder
 pub over-present : (p q : Bool) (o : Option Ended) (a b : CallCounts) → p ≡ q → OverBy p o a b → OverBy q o a b
 over-present p q o a b e over = subst (λ (x : Bool). OverBy x o a b) e over
 

@@ -17,7 +17,7 @@ use Rattle.mux_history.specs.declared.ended.Ended.TheVariants as ended
 use Rattle.mux_state.specs.declared.event.Event.{Event}
 use Rattle.mux_state.specs.declared.event.Event.TheVariants.{Accepted, FromClient, ClientEnd, ClientFailed, HouseSays, FromServer, ServerEnd, ServerFailed}
 use Rattle.mux_state.specs.Events.{MayEnd, MarkRecords}
-use Rattle.mux_engine.specs.Counted.{Counts, Cut}
+use Rattle.mux_engine.specs.Counted.{CountsOfCall, CountsOfCutCall}
 use Rattle.mux_engine.specs.Rests.{IsByRow}
 use Rattle.mux_engine.specs.Turns.{IsEventOf}
 use Rattle.mux_engine.proofs.Arms.{well-wait, whose-server}
@@ -36,7 +36,7 @@ wants-wait true c = counted-most c.wants
 wants-wait false c = omega arith
 
 -- a call of wait, whether or not it found memory
-pub cut-wait : (t : Turn) (c : CallCounts) → Cut 1 c (calls_after_wait t c)
+pub cut-wait : (t : Turn) (c : CallCounts) → CountsOfCutCall 1 c (calls_after_wait t c)
 cut-wait t c = record { few = counted-most c.waits; wants = wants-wait (is_starved t) c; late = late-wait t c; came = came-wait t c }
 
 -- one that found memory, where its turn reported an event
@@ -49,11 +49,11 @@ records-event e (turn.Writable k) bytes next = absurd next
 records-event e (turn.Joined l k) bytes next = absurd next
 records-event e turn.NoMemory bytes next = absurd next
 
-pub counts-event : {A E : Type 0} (r : Result A E) (e : Event) (t : Turn) (bytes : List ℕ) (c : CallCounts) → IsEventOf e t bytes → Counts 1 r c (calls_after_wait t c)
+pub counts-event : {A E : Type 0} (r : Result A E) (e : Event) (t : Turn) (bytes : List ℕ) (c : CallCounts) → IsEventOf e t bytes → CountsOfCall 1 r c (calls_after_wait t c)
 counts-event (Ok x) e t bytes c next = well-wait t c (records-event e t bytes next)
 counts-event (Err x) e t bytes c next = cut-wait t c
 
-pub cut-none : (n : ℕ) (c : CallCounts) → Cut n c c
+pub cut-none : (n : ℕ) (c : CallCounts) → CountsOfCutCall n c c
 cut-none n c = record { few = omega arith; wants = omega arith; late = λ z. refl; came = came-none c }
 
 -- ---- what a whole run counts

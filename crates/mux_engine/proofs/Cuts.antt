@@ -13,13 +13,13 @@ use Rattle.mux_history.specs.Rows.{Row}
 use Rattle.mux_history.specs.Log.{Setting}
 use Rattle.mux_history.specs.Settings.{by_lists}
 use Rattle.mux_history.specs.Journal.{is_accepted, items_in, log_of_journal}
-use Rattle.mux_history.specs.Promises.{is_asked, turns_in}
+use Rattle.mux_history.specs.Promises.{is_house_request, turns_in}
 use Rattle.mux_history.specs.Wires.{OfWire}
 use Rattle.mux_bounds.specs.Bounds.{IsLog}
 use Rattle.mux_peers.specs.Asked.{RecordsAsks, asks_of_rows}
 use Rattle.mux_peers.specs.Starved.{BeginsWithAsked}
 use Rattle.mux_peers.proofs.Starved.{all-begin}
-use Rattle.mux_state.specs.State.{State}
+use Rattle.mux_state.specs.State.{EngineState}
 use Rattle.mux_state.specs.Stands.{RowsFit}
 use Rattle.mux_outside.specs.HouseCalls.{HouseCall, calls_of}
 use Rattle.mux_outside.proofs.HouseCalls.{calls-append}
@@ -38,22 +38,22 @@ use Rattle.mux_engine.proofs.Recorded.{records-more, records-none, records-then}
 pub of-streams : (streams blocked : List ℕ) (last : ℕ) (journal : List Mark) → OfWire streams blocked last journal → IsOfWire journal
 of-streams streams blocked last journal of = record { lawful = of.lawful; asked = of.asked }
 
-pub rows-left : (setting : Setting) (journal : List Mark) (taken : ℕ) (drawn : List HouseMark) (s : State) (closed : List ℕ) (rows : List Row) → KeepsMarks setting journal → IsLog setting journal rows → RowsFit taken drawn s closed rows → IsLeft setting journal taken drawn
+pub rows-left : (setting : Setting) (journal : List Mark) (taken : ℕ) (drawn : List HouseMark) (s : EngineState) (closed : List ℕ) (rows : List Row) → KeepsMarks setting journal → IsLog setting journal rows → RowsFit taken drawn s closed rows → IsLeft setting journal taken drawn
 rows-left setting journal taken drawn s closed rows k l fit = record { kept = k; rows = rows; is_log = l; fresh = fit.fresh; taken_is = fit.taken_is; given_is = fit.drawn_is; asked_is = fit.asked_is }
 
 -- the requests in the forwarder's marks with some more
 pub asks-left : (old more : List HouseMark) (asks : List HouseMark) → ask_marks_in old ≡ asks → ask_marks_in (old ++ more) ≡ asks ++ ask_marks_in more
-asks-left old more asks e = filter-append is_asked old more ∙ ap (λ l. l ++ ask_marks_in more) e
+asks-left old more asks e = filter-append is_house_request old more ∙ ap (λ l. l ++ ask_marks_in more) e
 
 -- what the rows so far ask
-pub now-asked : {May : HouseReply → Type 0} {Rest : Resting} {before : Option (List HouseMark)} {now : Side} {policy : Policy} {pid : ℕ} {start : Option (List Mark)} {seen : Seen} {held failed : List ℕ} {given : ℕ} {todo : List ℕ} {s : State} (v : Serving May Rest before now policy pid start seen held failed given todo s) (picks : List ℕ) (later : List HouseReply) → asks_of_rows (log_of_journal (by_lists policy pid (v.picked ++ picks) (v.replies ++ later)) v.journal) ≡ v.stands.asks
+pub now-asked : {May : HouseReply → Type 0} {Rest : Resting} {before : Option (List HouseMark)} {now : Side} {policy : Policy} {pid : ℕ} {start : Option (List Mark)} {seen : Seen} {held failed : List ℕ} {given : ℕ} {todo : List ℕ} {s : EngineState} (v : Serving May Rest before now policy pid start seen held failed given todo s) (picks : List ℕ) (later : List HouseReply) → asks_of_rows (log_of_journal (by_lists policy pid (v.picked ++ picks) (v.replies ++ later)) v.journal) ≡ v.stands.asks
 now-asked {May} {Rest} {before} {now} {policy} {pid} {start} {seen} {held} {failed} {given} {todo} {s} v picks later = ap asks_of_rows (sym (log-is s policy pid (v.picked ++ picks) (v.replies ++ later) v.journal v.policy_is v.pid_is)) ∙ (v.stands.at picks later).rows.asked_is
 
 -- nothing more was asked: where the wire recorded no mark, and where it recorded one
-pub on-here : {May : HouseReply → Type 0} {Rest : Resting} {before : Option (List HouseMark)} {now : Side} {policy : Policy} {pid : ℕ} {start : Option (List Mark)} {seen : Seen} {held failed : List ℕ} {given : ℕ} {todo : List ℕ} {s : State} (v : Serving May Rest before now policy pid start seen held failed given todo s) → AsksOn May policy pid v.picked v.replies v.journal v.stands.asks []
+pub on-here : {May : HouseReply → Type 0} {Rest : Resting} {before : Option (List HouseMark)} {now : Side} {policy : Policy} {pid : ℕ} {start : Option (List Mark)} {seen : Seen} {held failed : List ℕ} {given : ℕ} {todo : List ℕ} {s : EngineState} (v : Serving May Rest before now policy pid start seen held failed given todo s) → AsksOn May policy pid v.picked v.replies v.journal v.stands.asks []
 on-here v = record { more_picks = []; more_replies = []; may = tt; begins = record { rest = []; all_is = now-asked v [] [] ∙ sym (append-nil v.stands.asks) } }
 
-pub on-next : {May : HouseReply → Type 0} {Rest : Resting} {before : Option (List HouseMark)} {now : Side} {policy : Policy} {pid : ℕ} {start : Option (List Mark)} {seen : Seen} {held failed : List ℕ} {given : ℕ} {todo : List ℕ} {s : State} (v : Serving May Rest before now policy pid start seen held failed given todo s) (mark : Mark) → AsksOn May policy pid v.picked v.replies (mark ∷ v.journal) v.stands.asks []
+pub on-next : {May : HouseReply → Type 0} {Rest : Resting} {before : Option (List HouseMark)} {now : Side} {policy : Policy} {pid : ℕ} {start : Option (List Mark)} {seen : Seen} {held failed : List ℕ} {given : ℕ} {todo : List ℕ} {s : EngineState} (v : Serving May Rest before now policy pid start seen held failed given todo s) (mark : Mark) → AsksOn May policy pid v.picked v.replies (mark ∷ v.journal) v.stands.asks []
 on-next {May} {Rest} {before} {now} {policy} {pid} {start} {seen} {held} {failed} {given} {todo} {s} v mark =
     let set : Setting = by_lists policy pid (v.picked ++ []) (v.replies ++ []) in
     record {
@@ -64,7 +64,7 @@ on-next {May} {Rest} {before} {now} {policy} {pid} {start} {seen} {held} {failed
     }
 
 -- the rows before the mark are left, whatever the forwarder recorded at the mark
-unfoldable pub cut-next : {May : HouseReply → Type 0} {Rest : Resting} {before : Option (List HouseMark)} {now : Side} {policy : Policy} {pid : ℕ} {start : Option (List Mark)} {seen : Seen} {held failed : List ℕ} {given : ℕ} {todo : List ℕ} {s : State} (v : Serving May Rest before now policy pid start seen held failed given todo s) (now' : Option (List HouseMark)) (recorded' : Option (List Mark)) (given' : ℕ) (mark : Mark) (more left : List HouseMark)
+unfoldable pub cut-next : {May : HouseReply → Type 0} {Rest : Resting} {before : Option (List HouseMark)} {now : Side} {policy : Policy} {pid : ℕ} {start : Option (List Mark)} {seen : Seen} {held failed : List ℕ} {given : ℕ} {todo : List ℕ} {s : EngineState} (v : Serving May Rest before now policy pid start seen held failed given todo s) (now' : Option (List HouseMark)) (recorded' : Option (List Mark)) (given' : ℕ) (mark : Mark) (more left : List HouseMark)
     → recorded' ≡ option_map (λ m. m ++ mark ∷ []) seen.recorded → RecordsAsks now.recorded now' more → house_mark mark ++ left ≡ now.unnoted ++ more → IsOfWire (mark ∷ v.journal) → IsMarkPlaced v.journal mark → turns_in (mark ∷ v.journal) ≤ given' → ((set : Setting) → RestedAt Rest.rests set before v.journal mark) → (Rest.present ≡ false → is_by_house mark ≡ false) → AsksOn May policy pid v.picked v.replies (mark ∷ v.journal) v.stands.asks (ask_marks_in more)
     → ((set : Setting) → IsLog set (mark ∷ v.journal) (log_of_journal set v.journal)) → ((picks : List ℕ) (later : List HouseReply) → PromiseAt (by_lists policy pid (v.picked ++ picks) (v.replies ++ later)) v.journal mark) → Promised May Rest before now' policy pid start recorded' given'
 cut-next {May} {Rest} {before} {now} {policy} {pid} {start} {seen} {held} {failed} {given} {todo} {s} v now' recorded' given' mark more left e h is of placed le rested absent on cut promise =
@@ -95,7 +95,7 @@ cut-next {May} {Rest} {before} {now} {policy} {pid} {start} {seen} {held} {faile
     }
 
 -- all rows are left where the wire recorded no mark
-unfoldable pub cut-here : {May : HouseReply → Type 0} {Rest : Resting} {before : Option (List HouseMark)} {now : Side} {policy : Policy} {pid : ℕ} {start : Option (List Mark)} {seen : Seen} {held failed : List ℕ} {given : ℕ} {todo : List ℕ} {s : State} (v : Serving May Rest before now policy pid start seen held failed given todo s) (now' : Option (List HouseMark)) (recorded' : Option (List Mark)) (given' : ℕ) (more : List HouseMark)
+unfoldable pub cut-here : {May : HouseReply → Type 0} {Rest : Resting} {before : Option (List HouseMark)} {now : Side} {policy : Policy} {pid : ℕ} {start : Option (List Mark)} {seen : Seen} {held failed : List ℕ} {given : ℕ} {todo : List ℕ} {s : EngineState} (v : Serving May Rest before now policy pid start seen held failed given todo s) (now' : Option (List HouseMark)) (recorded' : Option (List Mark)) (given' : ℕ) (more : List HouseMark)
     → recorded' ≡ seen.recorded → RecordsAsks now.recorded now' more → ask_marks_in more ≡ [] → given ≤ given' → Promised May Rest before now' policy pid start recorded' given'
 cut-here {May} {Rest} {before} {now} {policy} {pid} {start} {seen} {held} {failed} {given} {todo} {s} v now' recorded' given' more e h none le = record {
   journal = v.journal;
@@ -123,11 +123,11 @@ cut-here {May} {Rest} {before} {now} {policy} {pid} {start} {seen} {held} {faile
 }
 
 -- where the forwarder recorded nothing meanwhile
-pub cut-still : {May : HouseReply → Type 0} {Rest : Resting} {before : Option (List HouseMark)} {now : Side} {policy : Policy} {pid : ℕ} {start : Option (List Mark)} {seen : Seen} {held failed : List ℕ} {given : ℕ} {todo : List ℕ} {s : State} (v : Serving May Rest before now policy pid start seen held failed given todo s) (recorded' : Option (List Mark)) → recorded' ≡ seen.recorded → Promised May Rest before now.recorded policy pid start recorded' given
+pub cut-still : {May : HouseReply → Type 0} {Rest : Resting} {before : Option (List HouseMark)} {now : Side} {policy : Policy} {pid : ℕ} {start : Option (List Mark)} {seen : Seen} {held failed : List ℕ} {given : ℕ} {todo : List ℕ} {s : EngineState} (v : Serving May Rest before now policy pid start seen held failed given todo s) (recorded' : Option (List Mark)) → recorded' ≡ seen.recorded → Promised May Rest before now.recorded policy pid start recorded' given
 cut-still {now = now} {given = given} v recorded' e = cut-here v now.recorded recorded' given [] e (records-none now.recorded) refl (omega arith)
 
 -- what the forwarder records is not noted yet
-unfoldable pub serve-recorded : {May : HouseReply → Type 0} {Rest : Resting} {before : Option (List HouseMark)} {now : Side} {policy : Policy} {pid : ℕ} {start : Option (List Mark)} {seen : Seen} {held failed : List ℕ} {given : ℕ} {todo : List ℕ} {s : State} (v : Serving May Rest before now policy pid start seen held failed given todo s) (now' : Side) (more : List HouseMark) → RecordsAsks now.recorded now'.recorded more → now'.unnoted ≡ now.unnoted ++ more → ask_marks_in more ≡ [] → All (λ (a : OpenAsk). IsTrue (is_accepted a.client v.journal)) now'.asks → now'.asks ≡ opens_after more now.asks → now'.let_in ≡ now.let_in → now'.calls ≡ now.calls ++ calls_of more → Serving May Rest before now' policy pid start seen held failed given todo s
+unfoldable pub serve-recorded : {May : HouseReply → Type 0} {Rest : Resting} {before : Option (List HouseMark)} {now : Side} {policy : Policy} {pid : ℕ} {start : Option (List Mark)} {seen : Seen} {held failed : List ℕ} {given : ℕ} {todo : List ℕ} {s : EngineState} (v : Serving May Rest before now policy pid start seen held failed given todo s) (now' : Side) (more : List HouseMark) → RecordsAsks now.recorded now'.recorded more → now'.unnoted ≡ now.unnoted ++ more → ask_marks_in more ≡ [] → All (λ (a : OpenAsk). IsTrue (is_accepted a.client v.journal)) now'.asks → now'.asks ≡ opens_after more now.asks → now'.let_in ≡ now.let_in → now'.calls ≡ now.calls ++ calls_of more → Serving May Rest before now' policy pid start seen held failed given todo s
 serve-recorded {May} {Rest} {before} {now} {policy} {pid} {start} {seen} {held} {failed} {given} {todo} {s} v now' more h is none askers opens within calls =
     let same : (house_marks v.journal ++ now.unnoted) ++ more ≡ house_marks v.journal ++ now'.unnoted = append_assoc (house_marks v.journal) now.unnoted more ∙ ap (λ l. house_marks v.journal ++ l) (sym is) in
     serve-as v now' seen.listens todo record {

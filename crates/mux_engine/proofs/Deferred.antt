@@ -13,7 +13,7 @@ use Rattle.mux_outside.specs.declared.mark.Mark.{Mark}
 use Rattle.mux_history.specs.Journal.{log_of_journal}
 use Rattle.mux_history.specs.Log.{Setting}
 use Rattle.mux_peers.specs.Asked.{asks_of_rows}
-use Rattle.mux_engine.specs.Answers.{AnswersOne, opens_after, opens_by}
+use Rattle.mux_engine.specs.Answers.{AnswersOne, opens_after, requests_after_mark}
 use Rattle.mux_engine.specs.Sides.{ask_marks_in, house_marks}
 use Rattle.mux_engine.proofs.HouseTurns.{reply-so, rest-so}
 use Rattle.mux_engine.proofs.Lists.{or-true, test-same}
@@ -42,10 +42,10 @@ deferred-last front client id ask e = list_any-append (is_deferred client id) fr
 opens-deferred : (front marks : List HouseMark) (opens : List OpenAsk) → EachDeferred front opens → EachDeferred (front ++ marks) (opens_after marks opens)
 opens-deferred front [] opens all = subst (λ (l : List HouseMark). EachDeferred l opens) (sym (append-nil front)) all
 opens-deferred front (mark ∷ marks) opens all =
-    subst (λ (l : List HouseMark). EachDeferred l (opens_after marks (opens_by mark opens))) (append_assoc front (mark ∷ []) marks)
-    (opens-deferred (front ++ mark ∷ []) marks (opens_by mark opens) (by_mark mark (deferred-more front (mark ∷ []) opens all)))
+    subst (λ (l : List HouseMark). EachDeferred l (opens_after marks (requests_after_mark mark opens))) (append_assoc front (mark ∷ []) marks)
+    (opens-deferred (front ++ mark ∷ []) marks (requests_after_mark mark opens) (by_mark mark (deferred-more front (mark ∷ []) opens all)))
   where
-    by_mark : (mark : HouseMark) → EachDeferred (front ++ mark ∷ []) opens → EachDeferred (front ++ mark ∷ []) (opens_by mark opens)
+    by_mark : (mark : HouseMark) → EachDeferred (front ++ mark ∷ []) opens → EachDeferred (front ++ mark ∷ []) (requests_after_mark mark opens)
     by_mark (HouseAsked client id opening what Later) h =
         All-push (λ (a : OpenAsk). IsTrue (list_any (is_deferred a.client a.id) (front ++ HouseAsked client id opening what Later ∷ []))) opens (record { client = client; id = id; opening = opening }) h
         (deferred-last front client id (HouseAsked client id opening what Later) (ap (λ b. b && (id == id)) (test-same client) ∙ test-same id))

@@ -22,7 +22,7 @@ use Rattle.mux_history.specs.declared.ended.Ended.{Ended}
 use Rattle.mux_history.specs.declared.ended.Ended.TheVariants as ended
 use Rattle.mux_history.specs.Channels.{Channel, held_of, holder, live_in, with_own}
 use Rattle.mux_history.specs.Choices.{FromLists, pick_of, replies_given, reply_at}
-use Rattle.mux_history.specs.Controls.{answers_ask, answers_maybe, body_asks, first_control, first_unread, greeted, house_answer, later_control, later_unread, sent_body, sent_first, sent_later}
+use Rattle.mux_history.specs.Controls.{answers_ask, answers_maybe, body_asks, first_control, first_unread, client_has_greeted, house_answer, later_control, later_unread, sent_body, sent_first, sent_later}
 use Rattle.mux_history.specs.Forwardings.{Forwarding, live_at}
 use Rattle.mux_history.specs.Summary.{Act, Confirmation, Fails, Summary, Open, Refuses, Requests, Succeeds, Transport, Within, read_summary}
 use Rattle.mux_history.specs.Heard.{Breaks, Dest, Disconnects, ToClient, ToMaster, dest, dest_asker, dest_confirmation, dest_summary, dest_open, dest_success, dest_within, for_master, received_for, received_master, pending_open}
@@ -31,11 +31,11 @@ use Rattle.mux_history.specs.Ledger.{breach}
 use Rattle.mux_history.specs.Policy.{Policy, may_open}
 use Rattle.mux_history.specs.Requests.{Ask, asker}
 use Rattle.mux_history.specs.Rows.{Row, rows_of, loses, Item, Heard, Says, Fate, Goes, Refused, Drop, End}
-use Rattle.mux_history.specs.Said.{Outcome, confirmed_at, drops, fails_open, is_failing, is_full_of_asks, on_breach, on_confirmed, on_unused, on_waiting, sent_summary, sent_open, sent_payload, sent_request, sends, sends_as, sends_if, sends_open, silent, waiting_at, reason_for, text_for}
+use Rattle.mux_history.specs.Said.{Outcome, confirmed_at, drops, fails_open, is_failing, is_full_of_asks, on_breach, on_confirmed, on_unused, on_waiting, sent_summary, open_outcome, sent_payload, sent_request, sends_payload, sends_as, sends_if, sends_open, silent, waiting_at, reason_for, text_for}
 use Rattle.mux_history.specs.Settings.{by_lists}
 use Rattle.mux_history.specs.Solo.{run_end_of}
 use Rattle.mux_history.specs.Journal.{received_item, sent_item, server_end}
-use Rattle.mux_history.specs.Log.{all_recorded, bare, fate_with, received_row, makes_next, more_all, more_of, next_row, overflow, queued, row_of, sent_by_client, treat}
+use Rattle.mux_history.specs.Log.{all_recorded, bare_row, fate_with, received_row, makes_next, more_all, more_of, next_row, overflow, queued, row_of, sent_by_client, treat}
 use Rattle.mux_history.specs.Pending.{waiting_down}
 use Rattle.mux_history.specs.Farewell.{farewell}
 use Rattle.mux_peers.proofs.Receivings.{heard-goes}
@@ -68,10 +68,10 @@ with-full P Refused None h = tt
 with-full P Refused (Some cause) h = tt
 
 pub row-as : (P : Option Ended → Type 0) (item : Item) (k : ℕ) (o : Outcome) (own : List Row) → EndsAs P o.ends → EndsAs P (row_of item k o own).fate
-row-as P item k o own h = by_loss (loses q) (with-full P o.ends (overflow (waiting_down own) (all_recorded (bare item k o) own)) h)
+row-as P item k o own h = by_loss (loses q) (with-full P o.ends (overflow (waiting_down own) (all_recorded (bare_row item k o) own)) h)
   where
     q : Row
-    q = queued (all_recorded (bare item k o) own) (bare item k o) own
+    q = queued (all_recorded (bare_row item k o) own) (bare_row item k o) own
 
     by_loss : (b : Bool) → EndsAs P q.fate → EndsAs P (elim b as (λ _. Row) [ true ↦ record q { farewell = farewell q own } | false ↦ q ]).fate
     by_loss true h = h
@@ -89,7 +89,7 @@ fine-open own pick p sender = by_room (nat_lt (length (held_of own)) MAX_CHANNEL
     by_room true = tt
     by_room false = tt
 
-fine-kind : (policy : Policy) (own : List Row) (pick : ℕ) (p : List ℕ) (sender : ℕ) (what : Opens) → Fine (sent_open policy own pick p sender what)
+fine-kind : (policy : Policy) (own : List Row) (pick : ℕ) (p : List ℕ) (sender : ℕ) (what : Opens) → Fine (open_outcome policy own pick p sender what)
 fine-kind policy own pick p sender what = by_permit (may_open policy what)
   where
     by_permit : (b : Bool) → Fine (elim b as (λ _. Outcome) [ true ↦ sends_open own pick p sender | false ↦ fails_open sender (reason_for what) (text_for what) ])
@@ -112,8 +112,8 @@ fine-confirmed : (p : List ℕ) (s : ℕ) (act : Act) (x : Option Channel) → F
 fine-confirmed p s act None = tt
 fine-confirmed p s act (Some x) = fine-breach p s (breach Up act x)
 
-fine-within : (own : List Row) (p : List ℕ) (s : ℕ) (act : Act) (b : Bool) → Fine (elim b as (λ _. Outcome) [ true ↦ on_waiting s (sends p) (waiting_at own s) | false ↦ on_confirmed p s act (confirmed_at own s) ])
-fine-within own p s act true = fine-waiting s (sends p) (waiting_at own s) tt
+fine-within : (own : List Row) (p : List ℕ) (s : ℕ) (act : Act) (b : Bool) → Fine (elim b as (λ _. Outcome) [ true ↦ on_waiting s (sends_payload p) (waiting_at own s) | false ↦ on_confirmed p s act (confirmed_at own s) ])
+fine-within own p s act true = fine-waiting s (sends_payload p) (waiting_at own s) tt
 fine-within own p s act false = fine-confirmed p s act (confirmed_at own s)
 
 fine-if : (b : Bool) (p : List ℕ) → Fine (sends_if b p)
@@ -135,7 +135,7 @@ fine-transport true = tt
 fine-transport false = tt
 
 fine-summary : (policy : Policy) (k : ℕ) (own : List Row) (pick : ℕ) (p : List ℕ) (m : Summary) → Fine (sent_summary policy k own pick p m)
-fine-summary policy k own pick p (Open what sender w x) = fine-unused sender (sent_open policy own pick p sender what) (with_own own sender) (fine-kind policy own pick p sender what)
+fine-summary policy k own pick p (Open what sender w x) = fine-unused sender (open_outcome policy own pick p sender what) (with_own own sender) (fine-kind policy own pick p sender what)
 fine-summary policy k own pick p (Confirmation s sender w x) = fine-waiting s (on_unused sender (sends_as pick p) (with_own own sender)) (waiting_at own s) (fine-unused sender (sends_as pick p) (with_own own sender) tt)
 fine-summary policy k own pick p (Transport number) = fine-transport (number == DISCONNECT)
 fine-summary policy k own pick p (Requests what wants) = fine-asks policy k own p what wants (is_full_of_asks wants own)
@@ -196,7 +196,7 @@ body-for pid k given has_greeted body = by_read (read_control body) has_greeted
     by_read (Err fault) false = unread-for k fault
 
 outgoing-for : (policy : Policy) (pid k : ℕ) (own : List Row) (pick : ℕ) (x : Outgoing) (given : Option HouseReply) → For k (sent_by_client policy pid k own pick x given)
-outgoing-for policy pid k own pick (Body body) given = body-for pid k given (greeted own) body
+outgoing-for policy pid k own pick (Body body) given = body-for pid k given (client_has_greeted own) body
 outgoing-for policy pid k own pick (Payload p) given = lives-as (EndsFor k) (sent_payload policy k own pick p).ends (fine-payload policy k own pick p)
 outgoing-for policy pid k own pick (BadFraming fault) given = tt
 
@@ -221,7 +221,7 @@ said-as P policy pid picks given k x ends rows = by_outgoing x ends
     by_outgoing : (x : Outgoing) → SendsAs P policy pid k x → EndsAs P (next_row (by_lists policy pid picks given) rows (sent_item k x)).fate
     by_outgoing (Payload p) ends = plain (Payload p) ends (pick (Payload p)) None
     by_outgoing (BadFraming fault) ends = plain (BadFraming fault) ends (pick (BadFraming fault)) None
-    by_outgoing (Body body) ends = by_ask body ends (greeted (rows_of k rows) && body_asks body)
+    by_outgoing (Body body) ends = by_ask body ends (client_has_greeted (rows_of k rows) && body_asks body)
 
 pub said-for : (policy : Policy) (pid : ℕ) (picks : List ℕ) (given : List HouseReply) (k : ℕ) (x : Outgoing) (rows : List Row) → EndsAs (EndsFor k) (next_row (by_lists policy pid picks given) rows (sent_item k x)).fate
 said-for policy pid picks given k x rows = said-as (EndsFor k) policy pid picks given k x (λ own pick reply. outgoing-for policy pid k own pick x reply) rows

@@ -11,10 +11,10 @@ use Rattle.mux_outside.specs.declared.mark.Mark.{Mark}
 use Rattle.mux_history.specs.declared.limits.TheConstants.{HOUSE}
 use Rattle.mux_history.specs.Policy.{Policy}
 use Rattle.mux_state.specs.Events.{here}
-use Rattle.mux_state.specs.State.{State}
+use Rattle.mux_state.specs.State.{EngineState}
 use Rattle.mux_engine.specs.Called.{Handed}
 use Rattle.mux_engine.specs.Serving.{IsRunServed, OwnOn, Promised, RunsOn, Scene, ServedWith, Serving, ServesOn, StaysServed}
-use Rattle.mux_engine.specs.Sides.{RestsOf, noted}
+use Rattle.mux_engine.specs.Sides.{RestsOf, all_marks_noted}
 use Rattle.mux_engine.specs.SilentAnswers.{AcceptsAs}
 use Rattle.mux_engine.proofs.Arms.{on-err}
 use Rattle.mux_engine.proofs.HouseCalls.{no-turns, no-turns-left, none-given, same-noted}
@@ -34,19 +34,19 @@ module _ {T : Type 0} (May : HouseReply → Type 0) (state : T → HouseState) w
   -- a call, where a forwarder is there so
   abbrev RunsIf : {A E : Type 0} → Bool → Result A E → T → T → Scene → Scene → ℕ → (A → ℕ) → List ℕ → (A → List ℕ) → Type 0
   RunsIf there r a b old new most more todo rest = (first : T) (calls : List HouseCall) (before : Option (List HouseMark)) (policy : Policy) (pid : ℕ) (start : Option (List Mark)) (given : ℕ) → HandsOn (state first).stands (state a).stands calls
-      → Serving May (RestsOf state there first) before (noted (state a).recorded (state a).known calls) policy pid start old.seen old.held old.failed given todo old.engine
-      → MatchResult r (λ x. Handed (state first).stands (state b).stands (λ all. Serving May (RestsOf state there first) before (noted (state b).recorded (state b).known all) policy pid start new.seen new.held new.failed (given + more x) (rest x) new.engine))
+      → Serving May (RestsOf state there first) before (all_marks_noted (state a).recorded (state a).known calls) policy pid start old.seen old.held old.failed given todo old.engine
+      → MatchResult r (λ x. Handed (state first).stands (state b).stands (λ all. Serving May (RestsOf state there first) before (all_marks_noted (state b).recorded (state b).known all) policy pid start new.seen new.held new.failed (given + more x) (rest x) new.engine))
       (λ e. Promised May (RestsOf state there first) before (state b).recorded policy pid start new.seen.recorded (given + most))
 
 -- streams of the master's own were offered what waits for them, whatever the outcome
-pub own-runs : {A E T : Type 0} (r : Result A E) (May : HouseReply → Type 0) (state : T → HouseState) (a b : T) (seen seen' : Seen) (held held' failed failed' todo : List ℕ) (s : State) → (state b).recorded ≡ (state a).recorded → OnOk r ((state b).known ≡ (state a).known) → OwnOn {T = T} r May state a b seen seen' held held' failed failed' → AcceptsAs seen s
+pub own-runs : {A E T : Type 0} (r : Result A E) (May : HouseReply → Type 0) (state : T → HouseState) (a b : T) (seen seen' : Seen) (held held' failed failed' todo : List ℕ) (s : EngineState) → (state b).recorded ≡ (state a).recorded → OnOk r ((state b).known ≡ (state a).known) → OwnOn {T = T} r May state a b seen seen' held held' failed failed' → AcceptsAs seen s
     → RunsOn r May state a b (record { seen = seen; held = held; failed = failed; engine = s }) (record { seen = seen'; held = held'; failed = failed'; engine = s }) 0 (λ x. 0) todo (λ x. todo)
 own-runs (Ok x) May state a b seen seen' held held' failed failed' todo s recorded known own accepts first calls before policy pid start given hands v =
-    let h = own (state a).known.present first before (noted (state a).recorded (state a).known calls) policy pid start given todo s accepts refl hands v in
+    let h = own (state a).known.present first before (all_marks_noted (state a).recorded (state a).known calls) policy pid start given todo s accepts refl hands v in
     record { all = h.all; hands = h.hands; so = no-turns (same-noted (state a).recorded (state b).recorded (state a).known (state b).known recorded known h.so) }
 own-runs (Err e) May state a b seen seen' held held' failed failed' todo s recorded known own accepts first calls before policy pid start given hands v =
     no-turns-left (subst (λ (marks : Option (List HouseMark)). Promised May (RestsOf state (state a).known.present first) before marks policy pid start seen'.recorded given) (sym recorded)
-    (own (state a).known.present first before (noted (state a).recorded (state a).known calls) policy pid start given todo s accepts refl hands v))
+    (own (state a).known.present first before (all_marks_noted (state a).recorded (state a).known calls) policy pid start given todo s accepts refl hands v))
 
 module _ {T : Type 0} {May : HouseReply → Type 0} {state : T → HouseState} where
   -- first a call that went well, and then this one
@@ -78,41 +78,41 @@ module _ {T : Type 0} {May : HouseReply → Type 0} {state : T → HouseState} w
   pub ran-none : (a : T) (old : Scene) (todo : List ℕ) → Ran May state a a old old 0 todo todo
   ran-none a old todo = record { runs = λ first calls before policy pid start given hands v. record { all = calls; hands = hands; so = no-turns v } }
 
-  pub own-ran : {a b : T} {seen seen' : Seen} {held held' failed failed' todo : List ℕ} {s : State} → (state b).recorded ≡ (state a).recorded → (state b).known ≡ (state a).known → OwnOn {A = Unit {0}} {E = Unit {0}} {T = T} (Ok tt) May state a b seen seen' held held' failed failed' → AcceptsAs seen s
+  pub own-ran : {a b : T} {seen seen' : Seen} {held held' failed failed' todo : List ℕ} {s : EngineState} → (state b).recorded ≡ (state a).recorded → (state b).known ≡ (state a).known → OwnOn {A = Unit {0}} {E = Unit {0}} {T = T} (Ok tt) May state a b seen seen' held held' failed failed' → AcceptsAs seen s
       → Ran May state a b (record { seen = seen; held = held; failed = failed; engine = s }) (record { seen = seen'; held = held'; failed = failed'; engine = s }) 0 todo todo
   own-ran {a} {b} {todo = todo} {s} recorded known own accepts = record {
     runs = λ first calls before policy pid start given hands v.
-        let h = own (state a).known.present first before (noted (state a).recorded (state a).known calls) policy pid start given todo s accepts refl hands v in
+        let h = own (state a).known.present first before (all_marks_noted (state a).recorded (state a).known calls) policy pid start given todo s accepts refl hands v in
         record { all = h.all; hands = h.hands; so = no-turns (same-noted (state a).recorded (state b).recorded (state a).known (state b).known recorded known h.so) };
   }
 
-  pub own-cut : {a b : T} {seen seen' : Seen} {held held' failed failed' todo : List ℕ} {s : State} → (state b).recorded ≡ (state a).recorded → OwnOn {A = Unit {0}} {E = Unit {0}} {T = T} (Err tt) May state a b seen seen' held held' failed failed' → AcceptsAs seen s
+  pub own-cut : {a b : T} {seen seen' : Seen} {held held' failed failed' todo : List ℕ} {s : EngineState} → (state b).recorded ≡ (state a).recorded → OwnOn {A = Unit {0}} {E = Unit {0}} {T = T} (Err tt) May state a b seen seen' held held' failed failed' → AcceptsAs seen s
       → WasCut May state a b (record { seen = seen; held = held; failed = failed; engine = s }) (record { seen = seen'; held = held'; failed = failed'; engine = s }) 0 todo
   own-cut {a} {seen' = seen'} {todo = todo} {s} recorded own accepts = record {
     runs = λ first calls before policy pid start given hands v.
         no-turns-left (subst (λ (marks : Option (List HouseMark)). Promised May (RestsOf state (state a).known.present first) before marks policy pid start seen'.recorded given) (sym recorded)
-        (own (state a).known.present first before (noted (state a).recorded (state a).known calls) policy pid start given todo s accepts refl hands v));
+        (own (state a).known.present first before (all_marks_noted (state a).recorded (state a).known calls) policy pid start given todo s accepts refl hands v));
   }
 
-  pub serves-ran : {a : T} {seen seen' : Seen} {held held' failed todo rest : List ℕ} {s s' : State} → ServesOn {A = Unit {0}} {E = Unit {0}} {T = T} (Ok tt) May state seen seen' held held' todo (λ x. rest) s s'
+  pub serves-ran : {a : T} {seen seen' : Seen} {held held' failed todo rest : List ℕ} {s s' : EngineState} → ServesOn {A = Unit {0}} {E = Unit {0}} {T = T} (Ok tt) May state seen seen' held held' todo (λ x. rest) s s'
       → Ran May state a a (record { seen = seen; held = held; failed = failed; engine = s }) (record { seen = seen'; held = held'; failed = failed; engine = s' }) 0 todo rest
   serves-ran {a} {failed = failed} serves = record {
     runs = λ first calls before policy pid start given hands v.
-        record { all = calls; hands = hands; so = no-turns (serves (state a).known.present first before (noted (state a).recorded (state a).known calls) policy pid start failed given v) };
+        record { all = calls; hands = hands; so = no-turns (serves (state a).known.present first before (all_marks_noted (state a).recorded (state a).known calls) policy pid start failed given v) };
   }
 
-  pub serves-cut : {a : T} {seen seen' : Seen} {held held' failed todo : List ℕ} {s s' : State} → ServesOn {A = Unit {0}} {E = Unit {0}} {T = T} (Err tt) May state seen seen' held held' todo (λ x. []) s s'
+  pub serves-cut : {a : T} {seen seen' : Seen} {held held' failed todo : List ℕ} {s s' : EngineState} → ServesOn {A = Unit {0}} {E = Unit {0}} {T = T} (Err tt) May state seen seen' held held' todo (λ x. []) s s'
       → WasCut May state a a (record { seen = seen; held = held; failed = failed; engine = s }) (record { seen = seen'; held = held'; failed = failed; engine = s' }) 0 todo
   serves-cut {a} {failed = failed} serves = record {
     runs = λ first calls before policy pid start given hands v.
-        no-turns-left (serves (state a).known.present first before (noted (state a).recorded (state a).known calls) policy pid start failed given v);
+        no-turns-left (serves (state a).known.present first before (all_marks_noted (state a).recorded (state a).known calls) policy pid start failed given v);
   }
 
-  pub stays-ran : {a : T} {seen seen' : Seen} {held held' failed todo : List ℕ} {s s' : State} → StaysServed May state seen seen' held held' s s'
+  pub stays-ran : {a : T} {seen seen' : Seen} {held held' failed todo : List ℕ} {s s' : EngineState} → StaysServed May state seen seen' held held' s s'
       → Ran May state a a (record { seen = seen; held = held; failed = failed; engine = s }) (record { seen = seen'; held = held'; failed = failed; engine = s' }) 0 todo todo
   stays-ran {a} {failed = failed} {todo} stays = record {
     runs = λ first calls before policy pid start given hands v.
-        record { all = calls; hands = hands; so = no-turns (stays (state a).known.present first before (noted (state a).recorded (state a).known calls) policy pid start failed given todo v) };
+        record { all = calls; hands = hands; so = no-turns (stays (state a).known.present first before (all_marks_noted (state a).recorded (state a).known calls) policy pid start failed given todo v) };
   }
 
   -- ---- what is left to be offered
@@ -143,7 +143,7 @@ module _ {T : Type 0} {May : HouseReply → Type 0} {state : T → HouseState} w
         pid = w.pid;
         start = w.start;
         given = w.given + more;
-        serving = subst (λ (p : Bool). Serving May (RestsOf state p w.first) w.before (noted (state b).recorded (state b).known h.all) w.policy w.pid w.start new.seen new.held new.failed (w.given + more) rest new.engine) (sym same) h.so;
+        serving = subst (λ (p : Bool). Serving May (RestsOf state p w.first) w.before (all_marks_noted (state b).recorded (state b).known h.all) w.policy w.pid w.start new.seen new.held new.failed (w.given + more) rest new.engine) (sym same) h.so;
       }
 
   pub is-served : {a : T} {now : Scene} {todo : List ℕ} → ServedWith May state a now todo → IsRunServed May state now.seen now.held now.engine
@@ -151,7 +151,7 @@ module _ {T : Type 0} {May : HouseReply → Type 0} {state : T → HouseState} w
     present = (state a).known.present;
     first = w.first;
     before = w.before;
-    now = noted (state a).recorded (state a).known w.calls;
+    now = all_marks_noted (state a).recorded (state a).known w.calls;
     policy = w.policy;
     pid = w.pid;
     start = w.start;
@@ -162,7 +162,7 @@ module _ {T : Type 0} {May : HouseReply → Type 0} {state : T → HouseState} w
   }
 
   -- it was served on
-  pub served-on : {seen seen' : Seen} {held held' todo : List ℕ} {s s' : State} (w : IsRunServed May state seen held s) → Serving May (RestsOf state w.present w.first) w.before w.now w.policy w.pid w.start seen' held' w.failed w.given todo s' → IsRunServed May state seen' held' s'
+  pub served-on : {seen seen' : Seen} {held held' todo : List ℕ} {s s' : EngineState} (w : IsRunServed May state seen held s) → Serving May (RestsOf state w.present w.first) w.before w.now w.policy w.pid w.start seen' held' w.failed w.given todo s' → IsRunServed May state seen' held' s'
   served-on {todo = todo} w v = record { present = w.present; first = w.first; before = w.before; now = w.now; policy = w.policy; pid = w.pid; start = w.start; failed = w.failed; given = w.given; todo = todo; serving = v }
 
   -- the blocked streams are those of the wire

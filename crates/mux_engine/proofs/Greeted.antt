@@ -20,7 +20,7 @@ use Rattle.mux_outside.specs.declared.mark.Mark.TheVariants as mark
 use Rattle.mux_history.specs.declared.ended.Ended.{Ended}
 use Rattle.mux_history.specs.declared.ended.Ended.TheVariants as ended
 use Rattle.mux_history.specs.declared.limits.TheConstants.{HOUSE, MAX_CLIENTS}
-use Rattle.mux_history.specs.Controls.{answers_ask, answers_maybe, house_answer, greeted, house_sends, in_proxy, sent_body}
+use Rattle.mux_history.specs.Controls.{answers_ask, answers_maybe, house_answer, client_has_greeted, house_sends, in_proxy, sent_body}
 use Rattle.mux_history.specs.Journal.{bytes_of, received_item, house_items, house_sent, is_own_stream, items_in, log_of_journal, new_received, new_sayings, sent_item, server_end, unless_own}
 use Rattle.mux_history.specs.Log.{Setting, admits, more_all, more_of, next_row, open_matters, row_of, sent_by_client}
 use Rattle.mux_history.specs.Policy.{Policy}
@@ -44,7 +44,7 @@ use Rattle.mux_engine.proofs.Lists.{true-false}
 
 -- a control message that ends no run, whether or not the client has greeted
 abbrev Calm : Outgoing → Type 0
-Calm (Body body) = (pid k : ℕ) (given : Option HouseReply) (greeted : Bool) → Fine (sent_body pid k given greeted body)
+Calm (Body body) = (pid k : ℕ) (given : Option HouseReply) (client_has_greeted : Bool) → Fine (sent_body pid k given client_has_greeted body)
 Calm outgoing = Unit {0}
 
 calm-hello : Calm (Body hello)
@@ -134,7 +134,7 @@ module _ (policy : Policy) (pid : ℕ) (picks : List ℕ) (given : List HouseRep
 
   -- what the forwarder sends calmly
   calm-says : (x : Outgoing) → Calm x → (own : List Row) (pick : ℕ) (reply : Option HouseReply) → Fine (sent_by_client policy pid HOUSE own pick x reply)
-  calm-says (Body body) h own pick reply = h pid HOUSE reply (greeted own)
+  calm-says (Body body) h own pick reply = h pid HOUSE reply (client_has_greeted own)
   calm-says (Payload p) h own pick reply = fine-payload policy HOUSE own pick p
   calm-says (BadFraming fault) h own pick reply = tt
 

@@ -1,4 +1,5 @@
--- What a call of wait makes of all that holds while a wire is served, with what was taken in behind it.
+-- What a call of wait makes of all that holds while a wire is served, with the event applied after
+-- it.
 use Rattle.std.proofs.Common.{◌≡◌, ◌≤◌, ◌<◌, ◌+◌, ℕ, Bool, true, false, not, ◌||◌, List, [], ◌∷◌, ◌++◌, length, drop, Option, Some, None, refl, sym, ap, ◌∙◌, subst, inl, inr, ◌⊎◌, cond, arith, append_assoc, MatchResult, OnOk}
 use Rattle.std.specs.Prelude.{◌==◌, filter, IsTrue, Result, Ok, Err}
 use Rattle.std.specs.Option.{option_map}
@@ -30,7 +31,7 @@ use Rattle.mux_outside.specs.declared.turn.Want.{Want}
 use Rattle.mux_history.specs.Policy.{Policy}
 use Rattle.mux_history.specs.Promises.{is_empty}
 use Rattle.mux_peers.specs.Asked.{known_after}
-use Rattle.mux_state.specs.State.{State}
+use Rattle.mux_state.specs.State.{EngineState}
 use Rattle.mux_state.specs.Stands.{CutsShort}
 use Rattle.mux_state.specs.Events.{here}
 use Rattle.mux_state.specs.declared.event.Event.{Event}
@@ -38,7 +39,7 @@ use Rattle.mux_engine.specs.Asking.{Applied, AppliesSo}
 use Rattle.mux_engine.specs.Owned.{waits_for_own}
 use Rattle.mux_engine.specs.Rests.{HasNoneToClose, IsHouseReady, IsReadyFor, start_refusal_of, start_refused_if}
 use Rattle.mux_engine.specs.Serving.{Promised, Serving}
-use Rattle.mux_engine.specs.Sides.{Housed, IsAlone, Resting, RestsOf, SameHouse, Side, Together, noted}
+use Rattle.mux_engine.specs.Sides.{Housed, IsAlone, Resting, RestsOf, SameHouse, Side, Together, all_marks_noted}
 use Rattle.mux_engine.specs.declared.room.Lists.{Lists}
 use Rattle.mux_engine.specs.Turns.{IsEventOf, IsOwnOf, failed_received, held_received, own_received, want_of}
 use Rattle.mux_engine.proofs.Cuts.{cut-here, cut-still}
@@ -56,7 +57,7 @@ use Rattle.mux_engine.proofs.WireTurns.{client-number, event-at, now-waiting, of
 -- ---- what holds at a wait, and what is known of its answer
 
 -- no client leaves, the run goes on, and each stream was offered what waits for it
-pub record AtWait (Rest : Resting) (now : Side) (seen : Seen) (own held failed : List ℕ) (queue : ℕ → List ℕ) (s : State) : Type 0 where
+pub record AtWait (Rest : Resting) (now : Side) (seen : Seen) (own held failed : List ℕ) (queue : ℕ → List ℕ) (s : EngineState) : Type 0 where
   pub none : s.leaving ≡ []
   pub admitted : s.refused ≡ []
   pub live : s.ended ≡ None
@@ -72,7 +73,7 @@ none-refused true false refused p e m = true-false (sym m)
 none-refused false must refused p e m = true-false (sym p)
 
 -- what a turn of the run begins with: the forwarder is ready for a wait, and nothing ends the run
-pub record BeginsTurn (house : HouseState) (wire : WireState) (lists : Lists) (s : State) : Type 0 where
+pub record BeginsTurn (house : HouseState) (wire : WireState) (lists : Lists) (s : EngineState) : Type 0 where
   pub together : Together house wire lists
   pub ready : IsReadyFor house lists s
   pub permitted : start_refusal_of house ≡ None
@@ -80,8 +81,8 @@ pub record BeginsTurn (house : HouseState) (wire : WireState) (lists : Lists) (s
   pub on : s.ended ≡ None
   pub receives : wire.seen.listens ≡ s.listening
 
-pub at-wait : {T : Type 0} (state : T → HouseState) (first house : T) (calls : List HouseCall) (wire : WireState) (lists : Lists) (s : State) → BeginsTurn (state house) wire lists s → HandsOn (state first).stands (state house).stands calls
-    → AtWait (RestsOf state (state house).known.present first) (noted (state house).recorded (state house).known calls) wire.seen lists.own lists.held lists.failed (state house).queue s
+pub at-wait : {T : Type 0} (state : T → HouseState) (first house : T) (calls : List HouseCall) (wire : WireState) (lists : Lists) (s : EngineState) → BeginsTurn (state house) wire lists s → HandsOn (state first).stands (state house).stands calls
+    → AtWait (RestsOf state (state house).known.present first) (all_marks_noted (state house).recorded (state house).known calls) wire.seen lists.own lists.held lists.failed (state house).queue s
 at-wait state first house calls wire lists s b hands = let housed = b.together.housed in let ready = b.ready in record {
   none = b.closed.closed;
   admitted = b.closed.refused;
@@ -107,13 +108,13 @@ at-wait state first house calls wire lists s b hands = let housed = b.together.h
 }
 
 -- the wire gave this turn
-pub record HasWaited (seen seen' : Seen) (own failed : List ℕ) (queue : ℕ → List ℕ) (s : State) (t : Turn) (bytes : List ℕ) : Type 0 where
+pub record HasWaited (seen seen' : Seen) (own failed : List ℕ) (queue : ℕ → List ℕ) (s : EngineState) (t : Turn) (bytes : List ℕ) : Type 0 where
   pub seen_is : seen' ≡ seen_after_turn t (s.waiting ++ filter (waits_for_own queue failed) own) (want_of s) bytes seen
   pub are : AreBytes bytes
   pub fits : TurnFits t (want_of s) seen bytes
   pub own_fits : OwnFits t seen
 
-pub has-waited : (wire wire' : WireState) (own failed : List ℕ) (queue : ℕ → List ℕ) (s : State) (t : Turn) (bytes got : List ℕ) (todo waiting : List ℕ) (want : Want) (tally : Tally) → wire' ≡ state_after_wait t todo want bytes tally wire → todo ≡ waiting ++ filter (waits_for_own queue failed) own → waiting ≡ s.waiting → want ≡ want_of s → AreBytes got → got ≡ bytes
+pub has-waited : (wire wire' : WireState) (own failed : List ℕ) (queue : ℕ → List ℕ) (s : EngineState) (t : Turn) (bytes got : List ℕ) (todo waiting : List ℕ) (want : Want) (tally : Tally) → wire' ≡ state_after_wait t todo want bytes tally wire → todo ≡ waiting ++ filter (waits_for_own queue failed) own → waiting ≡ s.waiting → want ≡ want_of s → AreBytes got → got ≡ bytes
     → TurnFits t want wire.seen bytes → OwnFits t wire.seen → HasWaited wire.seen wire'.seen own failed queue s t bytes
 has-waited wire wire' own failed queue s t bytes got todo waiting want tally after todo_is waiting_is want_is are same fits own_fits = record {
   seen_is = ap (λ (x : WireState). x.seen) after ∙ (ap (λ (l : List ℕ). seen_after_turn t l want bytes wire.seen) (todo_is ∙ ap (λ (l : List ℕ). l ++ filter (waits_for_own queue failed) own) waiting_is) ∙ ap (λ (w : Want). seen_after_turn t (s.waiting ++ filter (waits_for_own queue failed) own) w bytes wire.seen) want_is);
@@ -130,7 +131,7 @@ drop-all : (xs : List HouseMark) → drop (length xs) xs ≡ []
 drop-all [] = refl
 drop-all (x ∷ xs) = drop-all xs
 
--- asks change nothing else of what is known of a forwarder
+-- requests change nothing else of what is known of a forwarder
 pub after-asks : (asks : List HouseMark) (known : Known) → SameHouse known (known_after asks known)
 after-asks [] known = record { present = refl; ordering = refl; listeners = refl; streams = refl }
 after-asks (HouseAsked client id opening ask reply ∷ asks) known = let r = after-asks asks (record known { asks = _ }) in record { present = r.present; ordering = r.ordering; listeners = r.listeners; streams = r.streams }
@@ -142,11 +143,11 @@ after-asks (HouseOrder order number ∷ asks) known = after-asks asks known
 
 -- ---- an event that was recorded
 
-module _ {May : HouseReply → Type 0} {Rest : Resting} {before : Option (List HouseMark)} {now : Side} {policy : Policy} {pid : ℕ} {start : Option (List Mark)} {seen : Seen} {held failed : List ℕ} {given : ℕ} {s : State}
+module _ {May : HouseReply → Type 0} {Rest : Resting} {before : Option (List HouseMark)} {now : Side} {policy : Policy} {pid : ℕ} {start : Option (List Mark)} {seen : Seen} {held failed : List ℕ} {given : ℕ} {s : EngineState}
     (v : Serving May Rest before now policy pid start seen held failed given [] s) (live : s.ended ≡ None) (e : Event) (seen' : Seen) (given' : ℕ) (at : EventAt v live e seen' given') where
   -- it was applied, and all requests were noted; or there was no memory for that
-  pub event-applies : {A E : Type 0} (r : Result A E) (s' : State) (asks : List HouseMark) (recorded recorded' : Option (List HouseMark)) (known known' : Known) (seen0 seen'' : Seen) → seen0 ≡ seen' → now.recorded ≡ recorded → now.asks ≡ known.asks → now.let_in ≡ known.present
-      → Applied r May e s s' asks recorded recorded' known known' seen0 seen'' → MatchResult r (λ x. Serving May Rest before (noted recorded' known' (now.calls ++ calls_of asks)) policy pid start seen'' held failed given' (0 ∷ here s') s') (λ x. Promised May Rest before recorded' policy pid start seen''.recorded given')
+  pub event-applies : {A E : Type 0} (r : Result A E) (s' : EngineState) (asks : List HouseMark) (recorded recorded' : Option (List HouseMark)) (known known' : Known) (seen0 seen'' : Seen) → seen0 ≡ seen' → now.recorded ≡ recorded → now.asks ≡ known.asks → now.let_in ≡ known.present
+      → Applied r May e s s' asks recorded recorded' known known' seen0 seen'' → MatchResult r (λ x. Serving May Rest before (all_marks_noted recorded' known' (now.calls ++ calls_of asks)) policy pid start seen'' held failed given' (0 ∷ here s') s') (λ x. Promised May Rest before recorded' policy pid start seen''.recorded given')
   event-applies (Ok x) s' asks recorded recorded' known known' seen0 seen'' is same_recorded same_asks same_present h =
       let h' : AppliesSo May e s s' asks recorded recorded' known known' seen' seen'' (length asks) = subst (λ (y : Seen). AppliesSo May e s s' asks recorded recorded' known known' y seen'' (length asks)) is h in
       let goes : Serving May Rest before (record { recorded = recorded'; asks = known'.asks; unnoted = drop (length asks) asks; let_in = now.let_in; calls = now.calls ++ calls_of asks }) policy pid start seen'' held failed given' (0 ∷ here s') s' =
@@ -163,7 +164,7 @@ module _ {May : HouseReply → Type 0} {Rest : Resting} {before : Option (List H
 
 -- ---- all that holds then
 
-module _ {May : HouseReply → Type 0} {Rest : Resting} {before : Option (List HouseMark)} {now : Side} {policy : Policy} {pid : ℕ} {start : Option (List Mark)} {seen : Seen} {held failed : List ℕ} {given : ℕ} {s : State}
+module _ {May : HouseReply → Type 0} {Rest : Resting} {before : Option (List HouseMark)} {now : Side} {policy : Policy} {pid : ℕ} {start : Option (List Mark)} {seen : Seen} {held failed : List ℕ} {given : ℕ} {s : EngineState}
     (v : Serving May Rest before now policy pid start seen held failed given [] s) {own : List ℕ} {queue : ℕ → List ℕ} (a : AtWait Rest now seen own held failed queue s) where
   abbrev recorded-waiting : Serving May Rest before now policy pid start (seen-waiting v a.none a.admitted a.live a.offered) held failed (given + 1) [] s
   recorded-waiting = now-waiting v a.none a.admitted a.live a.offered a.receives a.all_noted a.rests
@@ -175,14 +176,14 @@ module _ {May : HouseReply → Type 0} {Rest : Resting} {before : Option (List H
     event-there : (e : Event) → IsEventOf e t bytes → EventAt (now-waiting v a.none a.admitted a.live a.offered a.receives a.all_noted a.rests) a.live e (seen-then t bytes) (given + 1)
     event-there e next = event-at v a.none a.admitted a.live a.offered a.receives a.all_noted a.rests t bytes e w.are w.fits w.own_fits next
 
-    -- the engine took in an event
-    pub turn-applies : {A E : Type 0} (r : Result A E) (e : Event) → IsEventOf e t bytes → (s' : State) (asks : List HouseMark) (recorded recorded' : Option (List HouseMark)) (known known' : Known) (seen'' : Seen) → now.recorded ≡ recorded → now.asks ≡ known.asks → now.let_in ≡ known.present
-        → Applied r May e s s' asks recorded recorded' known known' seen' seen'' → MatchResult r (λ x. Serving May Rest before (noted recorded' known' (now.calls ++ calls_of asks)) policy pid start seen'' held failed (given + 1) (0 ∷ here s') s') (λ x. Promised May Rest before recorded' policy pid start seen''.recorded (given + 1))
+    -- the engine applied an event
+    pub turn-applies : {A E : Type 0} (r : Result A E) (e : Event) → IsEventOf e t bytes → (s' : EngineState) (asks : List HouseMark) (recorded recorded' : Option (List HouseMark)) (known known' : Known) (seen'' : Seen) → now.recorded ≡ recorded → now.asks ≡ known.asks → now.let_in ≡ known.present
+        → Applied r May e s s' asks recorded recorded' known known' seen' seen'' → MatchResult r (λ x. Serving May Rest before (all_marks_noted recorded' known' (now.calls ++ calls_of asks)) policy pid start seen'' held failed (given + 1) (0 ∷ here s') s') (λ x. Promised May Rest before recorded' policy pid start seen''.recorded (given + 1))
     turn-applies r e next s' asks recorded recorded' known known' seen'' same_recorded same_asks same_present h =
         event-applies recorded-waiting a.live e (seen-then t bytes) (given + 1) (event-there e next) r s' asks recorded recorded' known known' seen' seen'' w.seen_is same_recorded same_asks same_present h
 
     -- it may end so
-    pub turn-ends : {A E : Type 0} (r : Result A E) (e : Event) → IsEventOf e t bytes → (s' : State) (asks : List HouseMark) (recorded recorded' : Option (List HouseMark)) (known known' : Known) (seen'' : Seen) → Applied r May e s s' asks recorded recorded' known known' seen' seen'' → OnOk r (EndsSo e s'.ended)
+    pub turn-ends : {A E : Type 0} (r : Result A E) (e : Event) → IsEventOf e t bytes → (s' : EngineState) (asks : List HouseMark) (recorded recorded' : Option (List HouseMark)) (known known' : Known) (seen'' : Seen) → Applied r May e s s' asks recorded recorded' known known' seen' seen'' → OnOk r (EndsSo e s'.ended)
     turn-ends (Ok x) e next s' asks recorded recorded' known known' seen'' h = event-ends (now-waiting v a.none a.admitted a.live a.offered a.receives a.all_noted a.rests) a.live e (seen-then t bytes) (given + 1) (event-there e next) s' asks recorded recorded' known known' seen' seen'' (length asks) h
     turn-ends (Err x) e next s' asks recorded recorded' known known' seen'' h = tt
 
@@ -303,7 +304,7 @@ event-housed known seen own waiting want (turn.Writable k) bytes e h fits next =
 event-housed known seen own waiting want (turn.Joined l k) bytes e h fits next = absurd next
 event-housed known seen own waiting want turn.NoMemory bytes e h fits next = absurd next
 
-pub turn-housed : {A E : Type 0} (r : Result A E) (May : HouseReply → Type 0) {seen seen' : Seen} {own failed : List ℕ} {queue : ℕ → List ℕ} {s : State} {t : Turn} {bytes : List ℕ} → HasWaited seen seen' own failed queue s t bytes → (e : Event) → IsEventOf e t bytes → (s' : State) (asks : List HouseMark) (recorded recorded' : Option (List HouseMark)) (known known' : Known) (seen'' : Seen)
+pub turn-housed : {A E : Type 0} (r : Result A E) (May : HouseReply → Type 0) {seen seen' : Seen} {own failed : List ℕ} {queue : ℕ → List ℕ} {s : EngineState} {t : Turn} {bytes : List ℕ} → HasWaited seen seen' own failed queue s t bytes → (e : Event) → IsEventOf e t bytes → (s' : EngineState) (asks : List HouseMark) (recorded recorded' : Option (List HouseMark)) (known known' : Known) (seen'' : Seen)
     → Applied r May e s s' asks recorded recorded' known known' seen' seen'' → Housed known seen own → OnOk r (Housed known' seen'' own)
 turn-housed (Ok x) May {seen = seen} {seen' = seen'} {own = own} {failed = failed} {queue = queue} {s = s} {t = t} {bytes = bytes} w e next s' asks recorded recorded' known known' seen'' h housed =
     let all : List ℕ = s.waiting ++ filter (waits_for_own queue failed) own in
@@ -313,8 +314,8 @@ turn-housed (Ok x) May {seen = seen} {seen' = seen'} {own = own} {failed = faile
     (ap (λ (y : Seen). y.listeners) h.seen_is ∙ ap (λ (y : Seen). y.listeners) w.seen_is) (ap (λ (y : Seen). y.own) h.seen_is ∙ ap (λ (y : Seen). y.own) w.seen_is) (ap (λ (y : Seen). y.streams) h.seen_is ∙ ap (λ (y : Seen). y.streams) w.seen_is) (ap (λ (y : Seen). y.last_own) h.seen_is ∙ ap (λ (y : Seen). y.last_own) w.seen_is)
 turn-housed (Err x) May w e next s' asks recorded recorded' known known' seen'' h housed = tt
 
--- all but its asks stays
-pub turn-house : {A E : Type 0} (r : Result A E) (May : HouseReply → Type 0) (e : Event) (s s' : State) (asks : List HouseMark) (recorded recorded' : Option (List HouseMark)) (known known' : Known) (seen seen' : Seen) → Applied r May e s s' asks recorded recorded' known known' seen seen' → OnOk r (SameHouse known known')
+-- all but its requests stays
+pub turn-house : {A E : Type 0} (r : Result A E) (May : HouseReply → Type 0) (e : Event) (s s' : EngineState) (asks : List HouseMark) (recorded recorded' : Option (List HouseMark)) (known known' : Known) (seen seen' : Seen) → Applied r May e s s' asks recorded recorded' known known' seen seen' → OnOk r (SameHouse known known')
 turn-house (Ok x) May e s s' asks recorded recorded' known known' seen seen' h = subst (SameHouse known) (sym h.known_is) (after-asks asks known)
 turn-house (Err x) May e s s' asks recorded recorded' known known' seen seen' h = tt
 
@@ -343,7 +344,7 @@ there known alone k one = by_present known.present refl
     by_present true e = refl
     by_present false e = true-false (sym one ∙ ap (is_one k) (alone.streams e))
 
-pub turn-fits : {seen seen' : Seen} {own failed held : List ℕ} {queue : ℕ → List ℕ} {s : State} {t : Turn} {bytes : List ℕ} → HasWaited seen seen' own failed queue s t bytes → (o : OwnTurn) → IsOwnOf o t bytes → (known : Known) (quiet : Quiet) → Housed known seen own → IsAlone known → IsHouseReady known quiet queue held failed own s → OwnTurnFits o known quiet
+pub turn-fits : {seen seen' : Seen} {own failed held : List ℕ} {queue : ℕ → List ℕ} {s : EngineState} {t : Turn} {bytes : List ℕ} → HasWaited seen seen' own failed queue s t bytes → (o : OwnTurn) → IsOwnOf o t bytes → (known : Known) (quiet : Quiet) → Housed known seen own → IsAlone known → IsHouseReady known quiet queue held failed own s → OwnTurnFits o known quiet
 turn-fits {seen = seen} {own = own} {s = s} {t = t} {bytes = bytes} w o next known quiet h alone ready = by_turn o next
   where
     Fits : Turn → Type 0
@@ -381,7 +382,7 @@ alone-as known known' same alone = record {
   streams = λ out. same.streams ∙ alone.streams (sym same.present ∙ out);
 }
 
--- of what is recorded, it keeps whether it is there and its asks
+-- of what is recorded, it keeps whether it is there and its requests
 pub record SameAsks (known known' : Known) : Type 0 where
   pub present : known'.present ≡ known.present
   pub asks : known'.asks ≡ known.asks
@@ -393,14 +394,14 @@ heard-asks (recorded.End k) known known' e = record { present = ap (λ (x : Know
 heard-asks (recorded.Writable k) known known' e = record { present = ap (λ (x : Known). x.present) e; asks = ap (λ (x : Known). x.asks) e }
 heard-asks (recorded.Failed k) known known' e = record { present = ap (λ (x : Known). x.present) e; asks = ap (λ (x : Known). x.asks) e }
 
-pub own-noted : {May : HouseReply → Type 0} {Rest : Resting} {before : Option (List HouseMark)} {policy : Policy} {pid : ℕ} {start : Option (List Mark)} {seen : Seen} {given : ℕ} {todo : List ℕ} {s : State} {calls : List HouseCall} (o : OwnTurn) (recorded recorded' : Option (List HouseMark)) (known known' : Known) (held held' failed failed' : List ℕ)
-    → recorded' ≡ recorded → known' ≡ known_after_own_turn o known → held' ≡ held_received o held → failed' ≡ failed_received o failed → Serving May Rest before (noted recorded known calls) policy pid start seen (held_received o held) (failed_received o failed) given todo s → Serving May Rest before (noted recorded' known' calls) policy pid start seen held' failed' given todo s
+pub own-noted : {May : HouseReply → Type 0} {Rest : Resting} {before : Option (List HouseMark)} {policy : Policy} {pid : ℕ} {start : Option (List Mark)} {seen : Seen} {given : ℕ} {todo : List ℕ} {s : EngineState} {calls : List HouseCall} (o : OwnTurn) (recorded recorded' : Option (List HouseMark)) (known known' : Known) (held held' failed failed' : List ℕ)
+    → recorded' ≡ recorded → known' ≡ known_after_own_turn o known → held' ≡ held_received o held → failed' ≡ failed_received o failed → Serving May Rest before (all_marks_noted recorded known calls) policy pid start seen (held_received o held) (failed_received o failed) given todo s → Serving May Rest before (all_marks_noted recorded' known' calls) policy pid start seen held' failed' given todo s
 own-noted {May} {Rest} {before} {policy} {pid} {start} {seen} {given} {todo} {s} {calls} o recorded recorded' known known' held held' failed failed' e f h i v =
     let same : SameAsks known known' = heard-asks o known known' f in
-    let side : noted recorded known calls ≡ noted recorded' known' calls = ap (λ (t : Option (List HouseMark)). noted t known calls) (sym e) ∙ (ap (λ (l : _). record (noted recorded' known calls) { asks = l }) (sym same.asks) ∙ ap (λ (b : Bool). record (noted recorded' known' calls) { let_in = b }) (sym same.present)) in
+    let side : all_marks_noted recorded known calls ≡ all_marks_noted recorded' known' calls = ap (λ (t : Option (List HouseMark)). all_marks_noted t known calls) (sym e) ∙ (ap (λ (l : _). record (all_marks_noted recorded' known calls) { asks = l }) (sym same.asks) ∙ ap (λ (b : Bool). record (all_marks_noted recorded' known' calls) { let_in = b }) (sym same.present)) in
     subst (λ (n : Side). Serving May Rest before n policy pid start seen held' failed' given todo s) side
-    (subst (λ (l : List ℕ). Serving May Rest before (noted recorded known calls) policy pid start seen l failed' given todo s) (sym h)
-    (subst (λ (l : List ℕ). Serving May Rest before (noted recorded known calls) policy pid start seen (held_received o held) l given todo s) (sym i) v))
+    (subst (λ (l : List ℕ). Serving May Rest before (all_marks_noted recorded known calls) policy pid start seen l failed' given todo s) (sym h)
+    (subst (λ (l : List ℕ). Serving May Rest before (all_marks_noted recorded known calls) policy pid start seen (held_received o held) l given todo s) (sym i) v))
 
 -- a stream that gives no more keeps its number
 end-one : (k t : ℕ) (own : List OwnStream) → is_one t (with_end k own) ≡ is_one t own
@@ -462,14 +463,14 @@ own-housed (recorded.End k) known seen own waiting want bytes t h fits next = su
 own-housed (recorded.Writable k) known seen own waiting want bytes t h fits next = subst (λ (x : Turn). Housed known (seen_after_turn x waiting want bytes seen) own) (sym next.1) (housed-as known known seen (seen_after_turn (turn.Writable k) waiting want bytes seen) own h refl refl refl refl refl refl refl)
 own-housed (recorded.Failed k) known seen own waiting want bytes t h fits next = subst (λ (x : Turn). Housed known (seen_after_turn x waiting want bytes seen) own) (sym next.1) (housed-as known known seen (seen_after_turn (turn.Failed k) waiting want bytes seen) own h refl refl refl refl refl refl refl)
 
-pub turn-own-housed : {seen seen' : Seen} {own failed : List ℕ} {queue : ℕ → List ℕ} {s : State} {t : Turn} {bytes : List ℕ} → HasWaited seen seen' own failed queue s t bytes → (o : OwnTurn) → IsOwnOf o t bytes → (known known' : Known) (own' : List ℕ) → Housed known seen own → known' ≡ known_after_own_turn o known → own' ≡ own_received o own → Housed known' seen' own'
+pub turn-own-housed : {seen seen' : Seen} {own failed : List ℕ} {queue : ℕ → List ℕ} {s : EngineState} {t : Turn} {bytes : List ℕ} → HasWaited seen seen' own failed queue s t bytes → (o : OwnTurn) → IsOwnOf o t bytes → (known known' : Known) (own' : List ℕ) → Housed known seen own → known' ≡ known_after_own_turn o known → own' ≡ own_received o own → Housed known' seen' own'
 turn-own-housed {seen = seen} {seen' = seen'} {own = own} {failed = failed} {queue = queue} {s = s} {t = t} {bytes = bytes} w o next known known' own' h e f =
     let all : List ℕ = s.waiting ++ filter (waits_for_own queue failed) own in
     subst (λ (k : Known). Housed k seen' own') (sym e) (subst (λ (l : List ℕ). Housed (known_after_own_turn o known) seen' l) (sym f)
     (subst (λ (x : Seen). Housed (known_after_own_turn o known) x (own_received o own)) (sym w.seen_is) (own-housed o known seen own all (want_of s) bytes t h w.own_fits next)))
 
--- where a stream only takes bytes again
-pub room-housed : {seen seen' : Seen} {own failed : List ℕ} {queue : ℕ → List ℕ} {s : State} {t : Turn} {bytes : List ℕ} → HasWaited seen seen' own failed queue s t bytes → (k : ℕ) → t ≡ turn.Writable k → (known : Known) → Housed known seen own → Housed known seen' own
+-- where a stream only accepts bytes again
+pub room-housed : {seen seen' : Seen} {own failed : List ℕ} {queue : ℕ → List ℕ} {s : EngineState} {t : Turn} {bytes : List ℕ} → HasWaited seen seen' own failed queue s t bytes → (k : ℕ) → t ≡ turn.Writable k → (known : Known) → Housed known seen own → Housed known seen' own
 room-housed {seen = seen} {own = own} {failed = failed} {queue = queue} {s = s} {bytes = bytes} w k is known h =
     let all : List ℕ = s.waiting ++ filter (waits_for_own queue failed) own in
     subst (λ (x : Seen). Housed known x own) (sym w.seen_is) (subst (λ (x : Turn). Housed known (seen_after_turn x all (want_of s) bytes seen) own) (sym is)

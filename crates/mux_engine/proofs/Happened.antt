@@ -21,7 +21,7 @@ use Rattle.mux_history.specs.Settings.{by_lists}
 use Rattle.mux_history.specs.Journal.{is_accepted, is_blocked, is_own_stream}
 use Rattle.mux_history.specs.Promises.{SpeaksInTime, has_failed, not_own, turns_in}
 use Rattle.mux_history.specs.Wires.{OfWire}
-use Rattle.mux_state.specs.State.{State}
+use Rattle.mux_state.specs.State.{EngineState}
 use Rattle.mux_state.specs.Events.{here}
 use Rattle.mux_state.specs.Stands.{GoesBy}
 use Rattle.mux_engine.specs.Answers.{AnswersOpen}
@@ -42,10 +42,10 @@ use Rattle.mux_engine.proofs.Turns.{IsRecorded, recorded-sound}
 pub last-or : (k t : ℕ) (xs : List ℕ) → among t (xs ++ k ∷ []) ≡ true → (k ≢ t) → among t xs ≡ true
 last-or k t xs a ne = sym (among-last k t xs ∙ (ap (λ b. among t xs || (b || false)) (test-other k t ne) ∙ or-none (among t xs))) ∙ a
 
-module _ {May : HouseReply → Type 0} {Rest : Resting} {before : Option (List HouseMark)} {now : Side} {policy : Policy} {pid : ℕ} {start : Option (List Mark)} {seen : Seen} {held failed : List ℕ} {given : ℕ} {todo : List ℕ} {s : State}
+module _ {May : HouseReply → Type 0} {Rest : Resting} {before : Option (List HouseMark)} {now : Side} {policy : Policy} {pid : ℕ} {start : Option (List Mark)} {seen : Seen} {held failed : List ℕ} {given : ℕ} {todo : List ℕ} {s : EngineState}
     (v : Serving May Rest before now policy pid start seen held failed given todo s) where
   -- with what an event of the engine picks
-  pub serve-event : {recorded recorded' : Option (List HouseMark)} {s' : State} (mark : Mark) (g : GoesBy May recorded recorded' v.picked v.replies s s' mark v.journal v.closed) (now' : Side) (seen' : Seen) (held' failed' : List ℕ) (given' : ℕ)
+  pub serve-event : {recorded recorded' : Option (List HouseMark)} {s' : EngineState} (mark : Mark) (g : GoesBy May recorded recorded' v.picked v.replies s s' mark v.journal v.closed) (now' : Side) (seen' : Seen) (held' failed' : List ℕ) (given' : ℕ)
       → s'.core.policy ≡ s.core.policy → s'.pid ≡ s.pid → s.ended ≡ None → IsRecorded mark → ((t : ℕ) → among t (0 ∷ here s') ≡ false → among t todo ≡ false) → ((k : ℕ) → among k v.closed ≡ true → Spares k mark)
       → ((picks : List ℕ) (later : List HouseReply) → SpeaksInTime (by_lists policy pid ((v.picked ++ g.picks) ++ picks) ((v.replies ++ g.replies) ++ later)) v.journal mark)
       → ((picks : List ℕ) (later : List HouseReply) → AnswersOpen (by_lists policy pid ((v.picked ++ g.picks) ++ picks) ((v.replies ++ g.replies) ++ later)) v.journal mark)
@@ -71,26 +71,26 @@ module _ {May : HouseReply → Type 0} {Rest : Resting} {before : Option (List H
   -- ---- where the streams are then
 
   -- a stream gave bytes, or no more, or failed
-  pub placed-gets : (seen' : Seen) (s' : State) (k : ℕ) (bytes : List ℕ) → among k seen.streams ≡ true → OfWire seen'.streams seen'.blocked seen'.last (Gets k bytes ∷ v.journal)
+  pub placed-gets : (seen' : Seen) (s' : EngineState) (k : ℕ) (bytes : List ℕ) → among k seen.streams ≡ true → OfWire seen'.streams seen'.blocked seen'.last (Gets k bytes ∷ v.journal)
       → seen'.streams ≡ seen.streams → seen'.blocked ≡ seen.blocked → seen'.last ≡ seen.last → seen'.last_own ≡ seen.last_own → seen'.listens ≡ seen.listens → here s' ≡ here s → Owns v.journal seen' (Gets k bytes) → Placed s' v.journal seen seen' held failed (Gets k bytes)
   placed-gets seen' s' k bytes found of streams blocked last last_own listens same owns =
       placed-by v (Gets k bytes) seen' held failed s' k found of streams last last_own listens same (v.held_is ∙ sym blocked) (ap (among k) blocked ∙ v.blocked_is k found) (λ t ne. ap (among t) blocked) (λ t ne. refl) (λ t. refl) (λ t ne. refl)
       (λ own f. v.failed_are k own found f) (λ t a. a) v.failed_did owns
 
-  pub placed-ends : (seen' : Seen) (s' : State) (k : ℕ) → among k seen.streams ≡ true → OfWire seen'.streams seen'.blocked seen'.last (Ends k ∷ v.journal)
+  pub placed-ends : (seen' : Seen) (s' : EngineState) (k : ℕ) → among k seen.streams ≡ true → OfWire seen'.streams seen'.blocked seen'.last (Ends k ∷ v.journal)
       → seen'.streams ≡ seen.streams → seen'.blocked ≡ seen.blocked → seen'.last ≡ seen.last → seen'.last_own ≡ seen.last_own → seen'.listens ≡ seen.listens → here s' ≡ here s → Owns v.journal seen' (Ends k) → Placed s' v.journal seen seen' held failed (Ends k)
   placed-ends seen' s' k found of streams blocked last last_own listens same owns =
       placed-by v (Ends k) seen' held failed s' k found of streams last last_own listens same (v.held_is ∙ sym blocked) (ap (among k) blocked ∙ v.blocked_is k found) (λ t ne. ap (among t) blocked) (λ t ne. refl) (λ t. refl) (λ t ne. refl)
       (λ own f. v.failed_are k own found f) (λ t a. a) v.failed_did owns
 
-  pub placed-fails : (seen' : Seen) (s' : State) (failed' : List ℕ) (k : ℕ) → among k seen.streams ≡ true → OfWire seen'.streams seen'.blocked seen'.last (Fails k ∷ v.journal)
+  pub placed-fails : (seen' : Seen) (s' : EngineState) (failed' : List ℕ) (k : ℕ) → among k seen.streams ≡ true → OfWire seen'.streams seen'.blocked seen'.last (Fails k ∷ v.journal)
       → seen'.streams ≡ seen.streams → seen'.blocked ≡ seen.blocked → seen'.last ≡ seen.last → seen'.last_own ≡ seen.last_own → seen'.listens ≡ seen.listens → here s' ≡ here s → (IsTrue (is_own k) → among k failed' ≡ true) → ((t : ℕ) → among t failed ≡ true → among t failed' ≡ true) → ((t : ℕ) → among t failed' ≡ true → has_failed t (Fails k ∷ v.journal) ≡ true) → Owns v.journal seen' (Fails k) → Placed s' v.journal seen seen' held failed' (Fails k)
   placed-fails seen' s' failed' k found of streams blocked last last_own listens same noted grows did owns =
       placed-by v (Fails k) seen' held failed' s' k found of streams last last_own listens same (v.held_is ∙ sym blocked) (ap (among k) blocked ∙ v.blocked_is k found) (λ t ne. ap (among t) blocked) (λ t ne. refl) (λ t. refl) (λ t ne. has-failed-other k t v.journal ne)
       (λ own f. noted own) grows did owns
 
   -- a client came
-  pub placed-accepts : (seen' : Seen) (s' : State) (k : ℕ) → k ≡ seen.last + 1 → k ≤ LAST_CLIENT → OfWire seen'.streams seen'.blocked seen'.last (Accepts k ∷ v.journal)
+  pub placed-accepts : (seen' : Seen) (s' : EngineState) (k : ℕ) → k ≡ seen.last + 1 → k ≤ LAST_CLIENT → OfWire seen'.streams seen'.blocked seen'.last (Accepts k ∷ v.journal)
       → seen'.streams ≡ seen.streams ++ k ∷ [] → seen'.blocked ≡ seen.blocked → seen'.last ≡ k → seen'.last_own ≡ seen.last_own → seen'.listens ≡ seen.listens → here s' ≡ here s ++ k ∷ [] → is_own k ≡ false → Owns v.journal seen' (Accepts k) → Placed s' v.journal seen seen' held failed (Accepts k)
   placed-accepts seen' s' k next most of streams blocked last last_own listens more client owns =
       let new : IsUnseen v.journal seen.blocked k = v.unseen k (omega arith) most in
@@ -127,7 +127,7 @@ module _ {May : HouseReply → Type 0} {Rest : Resting} {before : Option (List H
       no-client j (inr house) q = true-false (sym (ap is_own (q ∙ house)) ∙ client)
 
   -- the forwarder was admitted
-  pub placed-house-in : (seen' : Seen) (s' : State) → OfWire seen'.streams seen'.blocked seen'.last (House HouseIn ∷ v.journal) → seen'.streams ≡ seen.streams → seen'.blocked ≡ seen.blocked → seen'.last ≡ seen.last → seen'.last_own ≡ seen.last_own → seen'.listens ≡ seen.listens → here s' ≡ here s ++ HOUSE ∷ [] → Owns v.journal seen' (House HouseIn) → Placed s' v.journal seen seen' held failed (House HouseIn)
+  pub placed-house-in : (seen' : Seen) (s' : EngineState) → OfWire seen'.streams seen'.blocked seen'.last (House HouseIn ∷ v.journal) → seen'.streams ≡ seen.streams → seen'.blocked ≡ seen.blocked → seen'.last ≡ seen.last → seen'.last_own ≡ seen.last_own → seen'.listens ≡ seen.listens → here s' ≡ here s ++ HOUSE ∷ [] → Owns v.journal seen' (House HouseIn) → Placed s' v.journal seen seen' held failed (House HouseIn)
   placed-house-in seen' s' of streams blocked last last_own listens more owns = record {
     of_wire = of;
     open_are = ap not_own streams ∙ (v.open_are ∙ ap (λ l. 0 ∷ l) (sym (ap not_own more ∙ (filter-append (λ (t : ℕ). not (is_own t)) (here s) (HOUSE ∷ []) ∙ append-nil (not_own (here s))))));

@@ -14,15 +14,15 @@ use Rattle.mux_peers.specs.Asked.{Applies, RecordsAsks, known_after}
 use Rattle.mux_state.specs.declared.event.Event.{Event}
 use Rattle.mux_state.specs.Events.{EndsBy, EngineKeeps, MarkRecords}
 use Rattle.mux_state.specs.Stands.{GoesOn}
-use Rattle.mux_state.specs.State.{State}
+use Rattle.mux_state.specs.State.{EngineState}
 use Rattle.mux_engine.specs.Asking.{Applied, AppliesSo}
-use Rattle.mux_engine.specs.Sides.{SameStreams}
+use Rattle.mux_engine.specs.Sides.{SameStreamsSeen}
 use Rattle.mux_engine.proofs.HouseCalls.{streams-same}
 use Rattle.mux_engine.proofs.Lists.{true-false}
 use Rattle.mux_engine.proofs.Noted.{seen-with}
 
-with-streams : (n : ℕ) (asks : List HouseMark) (seen seen' : Seen) → seen' ≡ seen-with (take n asks) seen → SameStreams seen seen'
-with-streams n asks seen seen' e = subst (SameStreams seen) (sym e) record { places = record { streams = refl; listeners = refl; own = refl; last_own = refl; silence = λ l. l }; blocked = refl }
+with-streams : (n : ℕ) (asks : List HouseMark) (seen seen' : Seen) → seen' ≡ seen-with (take n asks) seen → SameStreamsSeen seen seen'
+with-streams n asks seen seen' e = subst (SameStreamsSeen seen) (sym e) record { places = record { streams = refl; listeners = refl; own = refl; last_own = refl; silence = λ l. l }; blocked = refl }
 
 -- ---- so many are noted
 
@@ -43,7 +43,7 @@ noted-next asks i m seen mid seen' less is so next =
 all-asked : {A E : Type 0} {x : A} (none asks : List HouseMark) (old new : HouseState) → none ≡ [] → (h : Applies {A = A} {E = E} (Ok x) none asks old new) → asks ≡ h.more
 all-asked none asks old new empty h = h.noted ∙ ap (λ (l : List HouseMark). l ++ h.more) empty
 
-pub applies-so : {A E : Type 0} {x : A} {May : HouseReply → Type 0} (e : Event) (s s' : State) (none asks : List HouseMark) (old new : HouseState) (seen seen' : Seen) (n : ℕ) → none ≡ [] → ((mark : Mark) → MarkRecords e mark → GoesOn May (Some none) (Some asks) s s' mark) → Applies {A = A} {E = E} (Ok x) none asks old new
+pub applies-so : {A E : Type 0} {x : A} {May : HouseReply → Type 0} (e : Event) (s s' : EngineState) (none asks : List HouseMark) (old new : HouseState) (seen seen' : Seen) (n : ℕ) → none ≡ [] → ((mark : Mark) → MarkRecords e mark → GoesOn May (Some none) (Some asks) s s' mark) → Applies {A = A} {E = E} (Ok x) none asks old new
     → EngineKeeps e s s' → ((mark : Mark) → MarkRecords e mark → EndsBy e s s' mark) → seen' ≡ seen-with (take n asks) seen → AppliesSo May e s s' asks old.recorded new.recorded old.known new.known seen seen' n
 applies-so {May = May} e s s' none asks old new seen seen' n empty goes applies keeps ends is =
     let same : asks ≡ applies.more = all-asked none asks old new empty applies in
@@ -57,7 +57,7 @@ applies-so {May = May} e s s' none asks old new seen seen' n empty goes applies 
     }
 
 -- there was no memory to note all of them
-pub applied-some : {A E : Type 0} (r : Result A E) {May : HouseReply → Type 0} (e : Event) (s s' : State) (asks : List HouseMark) (recorded recorded' : Option (List HouseMark)) (known known' : Known) (seen seen' : Seen) (n : ℕ) → IsErr r → AppliesSo May e s s' asks recorded recorded' known known' seen seen' n → Applied r May e s s' asks recorded recorded' known known' seen seen'
+pub applied-some : {A E : Type 0} (r : Result A E) {May : HouseReply → Type 0} (e : Event) (s s' : EngineState) (asks : List HouseMark) (recorded recorded' : Option (List HouseMark)) (known known' : Known) (seen seen' : Seen) (n : ℕ) → IsErr r → AppliesSo May e s s' asks recorded recorded' known known' seen seen' n → Applied r May e s s' asks recorded recorded' known known' seen seen'
 applied-some (Ok x) e s s' asks recorded recorded' known known' seen seen' n h so = true-false (sym h)
 applied-some (Err x) e s s' asks recorded recorded' known known' seen seen' n h so = inr (n, so)
 
@@ -66,7 +66,7 @@ pub hands-so : {A E : Type 0} {x : A} (none asks : List HouseMark) (old new : Ho
 hands-so none asks old new empty h = subst (λ (l : List HouseMark). HandsOn old.stands new.stands (calls_of l)) (sym (all-asked none asks old new empty h)) h.stands
 
 -- the streams stay
-pub applied-streams : {A E : Type 0} (r : Result A E) (May : HouseReply → Type 0) (e : Event) (s s' : State) (asks : List HouseMark) (recorded recorded' : Option (List HouseMark)) (known known' : Known) (seen seen' : Seen) → Applied r May e s s' asks recorded recorded' known known' seen seen' → SameStreams seen seen'
+pub applied-streams : {A E : Type 0} (r : Result A E) (May : HouseReply → Type 0) (e : Event) (s s' : EngineState) (asks : List HouseMark) (recorded recorded' : Option (List HouseMark)) (known known' : Known) (seen seen' : Seen) → Applied r May e s s' asks recorded recorded' known known' seen seen' → SameStreamsSeen seen seen'
 applied-streams (Ok x) May e s s' asks recorded recorded' known known' seen seen' h = with-streams (length asks) asks seen seen' h.seen_is
 applied-streams (Err x) May e s s' asks recorded recorded' known known' seen seen' (inl u) = streams-same seen seen' u.seen_is
 applied-streams (Err x) May e s s' asks recorded recorded' known known' seen seen' (inr p) = let h = p.1 in with-streams p.0 asks seen seen' h.seen_is

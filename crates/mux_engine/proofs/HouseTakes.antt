@@ -22,12 +22,12 @@ use Rattle.mux_history.specs.Promises.{IsSettled}
 use Rattle.mux_history.proofs.PendingSteps.{take-leaves}
 use Rattle.mux_history.proofs.Wires.{wire-keeps}
 use Rattle.mux_peers.specs.Asked.{asks_of_rows}
-use Rattle.mux_state.specs.State.{State, queue_in, taken}
+use Rattle.mux_state.specs.State.{EngineState, queue_in, took_and_listed}
 use Rattle.mux_state.specs.Events.{MarkRecords, here}
 use Rattle.mux_state.specs.declared.event.Event.{Event}
-use Rattle.mux_state.specs.Stands.{GoesAlone, RowsFit, Stands}
+use Rattle.mux_state.specs.Stands.{GoesAlone, RowsFit, RepresentsSoFar}
 use Rattle.mux_state.proofs.Twins.{house-client, stands-alike}
-use Rattle.mux_engine.specs.Serving.{IsRunSound, Serving, is_open}
+use Rattle.mux_engine.specs.Serving.{IsRunSound, Serving, is_stream_open}
 use Rattle.mux_engine.specs.Sides.{Resting, Side}
 use Rattle.mux_engine.proofs.Called.{CallsOn, calls-heard}
 use Rattle.mux_engine.proofs.Lists.{among-open, test-other, true-false, without-other}
@@ -56,30 +56,30 @@ take-all (x ∷ xs) = ap (λ (l : List ℕ). x ∷ l) (take-all xs)
 left-of-house : (t : ℕ) (xs : List ℕ) → HOUSE ≢ t → among t (0 ∷ without HOUSE xs) ≡ false → among t (0 ∷ xs) ≡ false
 left-of-house t xs ne a = ap (λ b. (0 == t) || b) (sym (without-other HOUSE t xs ne)) ∙ a
 
-module _ {May : HouseReply → Type 0} {Rest : Resting} {before : Option (List HouseMark)} {now : Side} {policy : Policy} {pid : ℕ} {start : Option (List Mark)} {seen : Seen} {held failed : List ℕ} {given : ℕ} {s : State} where
+module _ {May : HouseReply → Type 0} {Rest : Resting} {before : Option (List HouseMark)} {now : Side} {policy : Policy} {pid : ℕ} {start : Option (List Mark)} {seen : Seen} {held failed : List ℕ} {given : ℕ} {s : EngineState} where
   -- ---- nothing waits for it
 
   pub house-idle : (v : Serving May Rest before now policy pid start seen held failed given (0 ∷ here s) s) (bytes : List ℕ) → (among HOUSE v.closed ≡ false → Waiting bytes HOUSE s v.picked v.replies v.journal) → bytes ≡ [] → Serving May Rest before now policy pid start seen held failed given (0 ∷ without HOUSE (here s)) s
   house-idle v bytes waiting none = serve-todo v (0 ∷ without HOUSE (here s)) (λ t a. elim (eqb_tells HOUSE t) [
-    | inl q ↦ by_open t q.1 (is_open s HOUSE) refl
+    | inl q ↦ by_open t q.1 (is_stream_open s HOUSE) refl
     | inr q ↦ inl (left-of-house t (here s) q.1 a)
   ])
     where
-      by_open : (t : ℕ) → HOUSE ≡ t → (b : Bool) → is_open s HOUSE ≡ b → (among t (0 ∷ here s) ≡ false) ⊎ ((picks : List ℕ) (later : List HouseReply) → IsSettled (by_lists policy pid (v.picked ++ picks) (v.replies ++ later)) v.journal t)
+      by_open : (t : ℕ) → HOUSE ≡ t → (b : Bool) → is_stream_open s HOUSE ≡ b → (among t (0 ∷ here s) ≡ false) ⊎ ((picks : List ℕ) (later : List HouseReply) → IsSettled (by_lists policy pid (v.picked ++ picks) (v.replies ++ later)) v.journal t)
       by_open t q true e = inr (λ picks later. inl (ap (λ i. pending i (log_of_journal (by_lists policy pid (v.picked ++ picks) (v.replies ++ later)) v.journal)) (sym q)
           ∙ (sym (waiting (at-stream v.stands HOUSE e).not_closed picks later ∙ ap (pending HOUSE) (log-is s policy pid (v.picked ++ picks) (v.replies ++ later) v.journal v.policy_is v.pid_is)) ∙ none)))
       by_open t q false e = inl (ap (λ i. among i (0 ∷ here s)) (sym q) ∙ (among-open s HOUSE ∙ e))
 
   -- ---- it accepted all
 
-  pub house-takes : {todo : List ℕ} (v : Serving May Rest before now policy pid start seen held failed given todo s) (s' : State) (bytes : List ℕ) → now.unnoted ≡ HouseTook (length bytes) ∷ [] → now.let_in ≡ true → ((t : ℕ) → HOUSE ≢ t → among t (0 ∷ without HOUSE (here s')) ≡ false → among t todo ≡ false)
-      → bytes ≡ queue_in s HOUSE → 0 < length bytes → Waiting bytes HOUSE s v.picked v.replies v.journal → s' ≡ taken s HOUSE (length bytes) → GoesAlone s s' (Takes HOUSE bytes true) → Serving May Rest before (record now { unnoted = []; calls = now.calls ++ Receives bytes ∷ [] }) policy pid start (seen-with (HouseTook (length bytes) ∷ []) seen) held failed given (0 ∷ without HOUSE (here s')) s'
+  pub house-takes : {todo : List ℕ} (v : Serving May Rest before now policy pid start seen held failed given todo s) (s' : EngineState) (bytes : List ℕ) → now.unnoted ≡ HouseTook (length bytes) ∷ [] → now.let_in ≡ true → ((t : ℕ) → HOUSE ≢ t → among t (0 ∷ without HOUSE (here s')) ≡ false → among t todo ≡ false)
+      → bytes ≡ queue_in s HOUSE → 0 < length bytes → Waiting bytes HOUSE s v.picked v.replies v.journal → s' ≡ took_and_listed s HOUSE (length bytes) → GoesAlone s s' (Takes HOUSE bytes true) → Serving May Rest before (record now { unnoted = []; calls = now.calls ++ Receives bytes ∷ [] }) policy pid start (seen-with (HouseTook (length bytes) ∷ []) seen) held failed given (0 ∷ without HOUSE (here s')) s'
   house-takes {todo} v s' bytes e within covers queue some waiting is goes =
       let n : ℕ = length bytes in
       let mark : Mark = House (HouseTook n) in
       let alike = house-client.takes v.journal bytes true n refl in
       let same : SameRun s s' = took-run s s' HOUSE n is in
-      let st0 : Stands v.picked v.replies s' (Takes HOUSE bytes true ∷ v.journal) v.closed = goes v.picked v.replies v.journal v.closed v.stands ((λ nz. queue-present s HOUSE bytes queue some nz), refl) in
+      let st0 : RepresentsSoFar v.picked v.replies s' (Takes HOUSE bytes true ∷ v.journal) v.closed = goes v.picked v.replies v.journal v.closed v.stands ((λ nz. queue-present s HOUSE bytes queue some nz), refl) in
       serve-alone v (record now { unnoted = []; calls = now.calls ++ Receives bytes ∷ [] }) (seen-with (HouseTook n ∷ []) seen) held failed given (0 ∷ without HOUSE (here s')) s' mark
       (stands-alike (Takes HOUSE bytes true ∷ v.journal) (mark ∷ v.journal) v.picked v.replies s' v.closed alike st0)
       (λ picks replies. ap asks_of_rows (sym (alike.log (by_lists s'.core.policy s'.pid picks replies))) ∙ took-asks s s' HOUSE bytes true v.journal same picks replies) record {

@@ -17,9 +17,9 @@ use Rattle.mux_outside.specs.declared.mark.Mark.TheVariants.{Waits, Accepts, Get
 use Rattle.mux_history.specs.declared.limits.TheConstants.{HOUSE}
 use Rattle.mux_history.specs.Policy.{Policy}
 use Rattle.mux_history.specs.Journal.{IsLawful, is_accepted}
-use Rattle.mux_history.specs.Promises.{is_asked, turns_in}
+use Rattle.mux_history.specs.Promises.{is_house_request, turns_in}
 use Rattle.mux_history.proofs.Wires.{wire-keeps}
-use Rattle.mux_state.specs.State.{State}
+use Rattle.mux_state.specs.State.{EngineState}
 use Rattle.mux_state.specs.Events.{EngineKeeps, here}
 use Rattle.mux_state.specs.declared.event.Event.TheVariants.{Accepted, HouseSays}
 use Rattle.mux_state.specs.Stands.{GoesOn}
@@ -114,14 +114,14 @@ reply-fewer Refused client id asks fits = fewer-ask client id asks fits
 reply-fewer (Port port) client id asks fits = fewer-ask client id asks (any-less (λ a. is_ask client id a && a.opening) (is_ask client id) asks (λ a h. and-first' (is_ask client id a) a.opening h) fits)
 reply-fewer Later client id asks fits = absurd fits
 
-module _ {May : HouseReply → Type 0} {Rest : Resting} {before : Option (List HouseMark)} {now : Side} {policy : Policy} {pid : ℕ} {start : Option (List Mark)} {seen : Seen} {held failed : List ℕ} {given : ℕ} {todo : List ℕ} {s : State}
+module _ {May : HouseReply → Type 0} {Rest : Resting} {before : Option (List HouseMark)} {now : Side} {policy : Policy} {pid : ℕ} {start : Option (List Mark)} {seen : Seen} {held failed : List ℕ} {given : ℕ} {todo : List ℕ} {s : EngineState}
     (v : Serving May Rest before now policy pid start seen held failed given todo s) where
   -- ---- it is admitted
 
   alone : v.journal ≡ [] → is_accepted HOUSE v.journal ≡ false
   alone e = ap (is_accepted HOUSE) e
 
-  pub house-let-in : {May' : HouseReply → Type 0} {recorded recorded' : Option (List HouseMark)} {s' : State} → v.journal ≡ [] → Rest.present ≡ true → s.ended ≡ None → s.refused ≡ [] → ((t : ℕ) → among t (0 ∷ here s') ≡ false → among t todo ≡ false) → GoesOn May' recorded recorded' s s' (Accepts HOUSE) → EngineKeeps (Accepted HOUSE) s s'
+  pub house-let-in : {May' : HouseReply → Type 0} {recorded recorded' : Option (List HouseMark)} {s' : EngineState} → v.journal ≡ [] → Rest.present ≡ true → s.ended ≡ None → s.refused ≡ [] → ((t : ℕ) → among t (0 ∷ here s') ≡ false → among t todo ≡ false) → GoesOn May' recorded recorded' s s' (Accepts HOUSE) → EngineKeeps (Accepted HOUSE) s s'
       → Serving May Rest before (record now { let_in = true }) policy pid start (seen-with (HouseIn ∷ []) seen) held failed given (0 ∷ here s') s'
   house-let-in {s' = s'} first there live admitted covers goes keeps =
       let g0 = goes v.picked v.replies v.journal v.closed v.stands ((λ e. absurd (omega (arith, e))), alone first, refl) in
@@ -145,9 +145,9 @@ module _ {May : HouseReply → Type 0} {Rest : Resting} {before : Option (List H
 
   -- all that was requested is noted where only this answer isn't
   all-asked : (client id : ℕ) (reply : HouseReply) → now.unnoted ≡ HouseAnswer client id reply ∷ [] → ask_marks_in (house_marks v.journal) ≡ v.stands.asks
-  all-asked client id reply e = sym (filter-append is_asked (house_marks v.journal) (HouseAnswer client id reply ∷ []) ∙ append-nil (ask_marks_in (house_marks v.journal))) ∙ (ap (λ (l : List HouseMark). ask_marks_in (house_marks v.journal ++ l)) (sym e) ∙ v.asked)
+  all-asked client id reply e = sym (filter-append is_house_request (house_marks v.journal) (HouseAnswer client id reply ∷ []) ∙ append-nil (ask_marks_in (house_marks v.journal))) ∙ (ap (λ (l : List HouseMark). ask_marks_in (house_marks v.journal ++ l)) (sym e) ∙ v.asked)
 
-  pub house-answers : {May' : HouseReply → Type 0} {recorded recorded' : Option (List HouseMark)} {s' : State} (client id : ℕ) (reply : HouseReply) → now.unnoted ≡ HouseAnswer client id reply ∷ [] → now.let_in ≡ true → is_accepted client v.journal ≡ true → ReplyFits reply client id (opens_after (house_marks v.journal) []) → s.ended ≡ None → ((t : ℕ) → among t (0 ∷ here s') ≡ false → among t todo ≡ false)
+  pub house-answers : {May' : HouseReply → Type 0} {recorded recorded' : Option (List HouseMark)} {s' : EngineState} (client id : ℕ) (reply : HouseReply) → now.unnoted ≡ HouseAnswer client id reply ∷ [] → now.let_in ≡ true → is_accepted client v.journal ≡ true → ReplyFits reply client id (opens_after (house_marks v.journal) []) → s.ended ≡ None → ((t : ℕ) → among t (0 ∷ here s') ≡ false → among t todo ≡ false)
       → GoesOn May' recorded recorded' s s' (House (HouseAnswer client id reply)) → EngineKeeps (HouseSays client id reply) s s' → Serving May Rest before (record now { unnoted = [] }) policy pid start (seen-with (HouseAnswer client id reply ∷ []) seen) held failed given (0 ∷ here s') s'
   house-answers {s' = s'} client id reply e within asked due live covers goes keeps =
       let m : HouseMark = HouseAnswer client id reply in

@@ -11,9 +11,9 @@ use Rattle.mux_history.specs.Journal.{is_own_stream}
 use Rattle.mux_history.specs.Promises.{not_own}
 use Rattle.mux_peers.specs.State.{ClientState}
 use Rattle.mux_peers.specs.Among.{is_present}
-use Rattle.mux_state.specs.State.{State, in_client, is_here, numbers}
+use Rattle.mux_state.specs.State.{EngineState, in_client, is_here, numbers}
 use Rattle.mux_state.specs.Events.{here}
-use Rattle.mux_engine.specs.Serving.{is_open}
+use Rattle.mux_engine.specs.Serving.{is_stream_open}
 
 pub true-false : {A : Type 0} → true ≡ false → A
 true-false e = absurd (cc)
@@ -158,21 +158,21 @@ among-numbers k (c ∷ cs) = ap (λ b. (c.peer.number == k) || b) (among-numbers
     or-cond true b = refl
     or-cond false b = refl
 
-pub among-here : (s : State) (t : ℕ) → among t (here s) ≡ is_here s t
+pub among-here : (s : EngineState) (t : ℕ) → among t (here s) ≡ is_here s t
 among-here s t = list_any-append (λ (i : ℕ). i == t) (numbers s.clients) s.refused ∙ ap (λ b. b || among t s.refused) (among-numbers t s.clients)
 
-pub among-open : (s : State) (t : ℕ) → among t (0 ∷ here s) ≡ is_open s t
+pub among-open : (s : EngineState) (t : ℕ) → among t (0 ∷ here s) ≡ is_stream_open s t
 among-open s t = ap (λ b. b || among t (here s)) (test-swap 0 t) ∙ ap (λ b. (t == 0) || b) (among-here s t)
 
 -- the same streams are open where the same clients are here
-pub same-open : (s s' : State) (t : ℕ) → here s' ≡ here s → is_open s' t ≡ is_open s t
+pub same-open : (s s' : EngineState) (t : ℕ) → here s' ≡ here s → is_stream_open s' t ≡ is_stream_open s t
 same-open s s' t e = sym (among-open s' t) ∙ (ap (λ l. among t (0 ∷ l)) e ∙ among-open s t)
 
 -- an open stream but the server's is of a client that is here
-pub open-here : (s : State) (k : ℕ) → is_open s k ≡ true → k ≢ 0 → is_here s k ≡ true
+pub open-here : (s : EngineState) (k : ℕ) → is_stream_open s k ≡ true → k ≢ 0 → is_here s k ≡ true
 open-here s k opened nz = sym (ap (λ b. b || is_here s k) (test-other k 0 nz)) ∙ opened
 
-pub here-open : (s : State) (k : ℕ) → is_here s k ≡ true → is_open s k ≡ true
+pub here-open : (s : EngineState) (k : ℕ) → is_here s k ≡ true → is_stream_open s k ≡ true
 here-open s k h = ap (λ b. (k == 0) || b) h ∙ or-true (k == 0)
 
 pub look-none : {A : Type 0} (none : A) (look : ClientState → A) (k : ℕ) (cs : List ClientState) → is_present cs k ≡ false → in_client none look cs k ≡ none

@@ -7,13 +7,13 @@ use Rattle.mux_outside.specs.declared.mark.Mark.{Mark}
 use Rattle.mux_outside.specs.declared.mark.Mark.TheVariants.{Waits, Accepts, Gets, Ends, Frees, Fails, Takes, Holds, WriteFails, Joins, House}
 use Rattle.mux_outside.specs.Streams.{among}
 use Rattle.mux_history.specs.Policy.{Policy}
-use Rattle.mux_history.specs.Rows.{Row, rows_of, is_out, is_end, is_ended, loses, is_refusal, Item, Gone, Took, ServerFailed}
+use Rattle.mux_history.specs.Rows.{Row, rows_of, is_out, is_end, is_run_over, loses, is_refusal, Item, Gone, Took, ServerFailed}
 use Rattle.mux_history.specs.Pending.{pending, pending_down, pending_up}
 use Rattle.mux_history.specs.Steps.{TakeStep, take_row}
 use Rattle.mux_history.specs.Settings.{by_lists}
 use Rattle.mux_history.specs.Log.{Setting, makes_next, more_all, more_of, next_row}
 use Rattle.mux_history.specs.Journal.{items_in, is_accepted, is_blocked, is_own_stream, lets_in, log_of_journal, unless_own}
-use Rattle.mux_history.specs.Promises.{IsSettled, has_failed, listens, stops, write_failed}
+use Rattle.mux_history.specs.Promises.{IsSettled, has_failed, is_still_accepting, serves_stop, write_failed}
 use Rattle.mux_history.proofs.OwnRows.{idle_row}
 use Rattle.mux_history.proofs.PendingSteps.{take-leaves}
 use Rattle.mux_peers.proofs.Losses.{gone-row}
@@ -54,22 +54,22 @@ and-last true b e = e
 and-last false b e = true-false (sym e)
 
 -- where clients are accepted, they were accepted before
-pub log-listens : (set : Setting) (mark : Mark) (before : List Mark) → listens (log_of_journal set (mark ∷ before)) ≡ true → listens (log_of_journal set before) ≡ true
-log-listens set mark before = log-keeps (λ rows. listens rows ≡ true → listens (log_of_journal set before) ≡ true) (λ row rows h e. h (and-last (not (stops row (rows_of row.client rows))) (listens rows) e)) set mark before (λ e. e)
+pub log-listens : (set : Setting) (mark : Mark) (before : List Mark) → is_still_accepting (log_of_journal set (mark ∷ before)) ≡ true → is_still_accepting (log_of_journal set before) ≡ true
+log-listens set mark before = log-keeps (λ rows. is_still_accepting rows ≡ true → is_still_accepting (log_of_journal set before) ≡ true) (λ row rows h e. h (and-last (not (serves_stop row (rows_of row.client rows))) (is_still_accepting rows) e)) set mark before (λ e. e)
 
 or-last : (a b : Bool) → (a || b) ≡ false → b ≡ false
 or-last true b e = true-false e
 or-last false b e = e
 
 -- where the run goes on, it went on before
-pub log-live : (set : Setting) (mark : Mark) (before : List Mark) → is_ended (log_of_journal set (mark ∷ before)) ≡ false → is_ended (log_of_journal set before) ≡ false
-log-live set mark before = log-keeps (λ rows. is_ended rows ≡ false → is_ended (log_of_journal set before) ≡ false) (λ row rows h e. h (or-last (is_end row.fate) (is_ended rows) e)) set mark before (λ e. e)
+pub log-live : (set : Setting) (mark : Mark) (before : List Mark) → is_run_over (log_of_journal set (mark ∷ before)) ≡ false → is_run_over (log_of_journal set before) ≡ false
+log-live set mark before = log-keeps (λ rows. is_run_over rows ≡ false → is_run_over (log_of_journal set before) ≡ false) (λ row rows h e. h (or-last (is_end row.fate) (is_run_over rows) e)) set mark before (λ e. e)
 
 -- ---- bytes that are accepted
 
 -- they make a row
 pub took-log : (policy : Policy) (pid : ℕ) (picks : List ℕ) (replies : List HouseReply) (rows : List Row) (t n : ℕ) → more_of (by_lists policy pid picks replies) rows (Took t n) ≡ take_row t n ∷ rows
-took-log policy pid picks replies rows t n = more-yes (by_lists policy pid picks replies) rows (Took t n) (by_end (is_ended rows))
+took-log policy pid picks replies rows t n = more-yes (by_lists policy pid picks replies) rows (Took t n) (by_end (is_run_over rows))
   where
     by_end : (b : Bool) → (elim b as (λ _. Bool) [ true ↦ true | false ↦ true ]) ≡ true
     by_end true = refl
@@ -88,7 +88,7 @@ gone-client : (policy : Policy) (pid : ℕ) (picks : List ℕ) (replies : List H
 gone-client policy pid picks replies k rows = ap (λ (row : Row). row.client) (gone-row policy pid picks replies k rows)
 
 -- and out
-pub lost-out : (policy : Policy) (pid : ℕ) (picks : List ℕ) (replies : List HouseReply) (k : ℕ) (marks : List Mark) → k ≢ 0 → is_own_stream k ≡ false → (let set : Setting = by_lists policy pid picks replies in is_ended (log_of_journal set marks) ≡ false → is_out (rows_of k (log_of_journal set (WriteFails k ∷ marks))) ≡ true)
+pub lost-out : (policy : Policy) (pid : ℕ) (picks : List ℕ) (replies : List HouseReply) (k : ℕ) (marks : List Mark) → k ≢ 0 → is_own_stream k ≡ false → (let set : Setting = by_lists policy pid picks replies in is_run_over (log_of_journal set marks) ≡ false → is_out (rows_of k (log_of_journal set (WriteFails k ∷ marks))) ≡ true)
 lost-out policy pid picks replies k marks nz client live = ap (λ r. is_out (rows_of k r)) (lost-log policy pid picks replies k marks nz client) ∙ by_out (is_out (rows_of k rows)) refl
   where
     set : Setting
@@ -108,9 +108,9 @@ no-wish : (b c : Bool) → (not (b && false) && c) ≡ c
 no-wish true c = refl
 no-wish false c = refl
 
--- it wishes nothing
-pub lost-listens : (policy : Policy) (pid : ℕ) (picks : List ℕ) (replies : List HouseReply) (k : ℕ) (marks : List Mark) → k ≢ 0 → is_own_stream k ≡ false → (let set : Setting = by_lists policy pid picks replies in listens (log_of_journal set (WriteFails k ∷ marks)) ≡ listens (log_of_journal set marks))
-lost-listens policy pid picks replies k marks nz client = ap listens (lost-log policy pid picks replies k marks nz client) ∙ by_made (makes_next rows (Gone k))
+-- it requests nothing
+pub lost-listens : (policy : Policy) (pid : ℕ) (picks : List ℕ) (replies : List HouseReply) (k : ℕ) (marks : List Mark) → k ≢ 0 → is_own_stream k ≡ false → (let set : Setting = by_lists policy pid picks replies in is_still_accepting (log_of_journal set (WriteFails k ∷ marks)) ≡ is_still_accepting (log_of_journal set marks))
+lost-listens policy pid picks replies k marks nz client = ap is_still_accepting (lost-log policy pid picks replies k marks nz client) ∙ by_made (makes_next rows (Gone k))
   where
     set : Setting
     set = by_lists policy pid picks replies
@@ -118,8 +118,8 @@ lost-listens policy pid picks replies k marks nz client = ap listens (lost-log p
     rows : List Row
     rows = log_of_journal set marks
 
-    by_made : (b : Bool) → listens (elim b as (λ _. List Row) [ false ↦ rows | true ↦ next_row set rows (Gone k) ∷ rows ]) ≡ listens rows
-    by_made true = ap (λ (row : Row). listens (row ∷ rows)) (gone-row policy pid picks replies k rows) ∙ no-wish true (listens rows)
+    by_made : (b : Bool) → is_still_accepting (elim b as (λ _. List Row) [ false ↦ rows | true ↦ next_row set rows (Gone k) ∷ rows ]) ≡ is_still_accepting rows
+    by_made true = ap (λ (row : Row). is_still_accepting (row ∷ rows)) (gone-row policy pid picks replies k rows) ∙ no-wish true (is_still_accepting rows)
     by_made false = refl
 
 -- ---- the other streams

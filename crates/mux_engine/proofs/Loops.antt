@@ -16,11 +16,11 @@ use Rattle.mux_history.specs.Settings.{by_lists}
 use Rattle.mux_history.specs.Promises.{IsSettled, has_output, is_empty}
 use Rattle.mux_peers.specs.State.{ClientState}
 use Rattle.mux_peers.specs.Among.{is_present}
-use Rattle.mux_state.specs.State.{State, queue_in, waiting_clients, waiting_in}
+use Rattle.mux_state.specs.State.{EngineState, queue_in, waiting_clients, waiting_streams}
 use Rattle.mux_state.specs.Events.{here}
 use Rattle.mux_state.specs.Stands.{log}
-use Rattle.mux_engine.specs.Counted.{Counts, Cut}
-use Rattle.mux_engine.specs.Serving.{Serving, is_open}
+use Rattle.mux_engine.specs.Counted.{CountsOfCall, CountsOfCutCall}
+use Rattle.mux_engine.specs.Serving.{Serving, is_stream_open}
 use Rattle.mux_engine.specs.Sides.{Resting, Side}
 use Rattle.mux_engine.proofs.Lists.{among-here, among-less, apart-or-left, either, here-open, none-without, or-true, test-other, true-false, without-other}
 use Rattle.mux_engine.proofs.Marks.{log-is}
@@ -37,7 +37,7 @@ pub zero-among : (k : ℕ) (todo : List ℕ) → among 0 (k ∷ (0 ∷ todo)) �
 zero-among k todo = or-true (k == 0)
 
 -- after one offer more is to be offered, or nothing
-pub on-more : {May : HouseReply → Type 0} {Rest : Resting} {before : Option (List HouseMark)} {now : Side} {policy : Policy} {pid : ℕ} {start : Option (List Mark)} {seen : Seen} {held failed : List ℕ} {given : ℕ} {s : State} (k : ℕ) (todo : List ℕ) (more : Bool) → more ≡ true
+pub on-more : {May : HouseReply → Type 0} {Rest : Resting} {before : Option (List HouseMark)} {now : Side} {policy : Policy} {pid : ℕ} {start : Option (List Mark)} {seen : Seen} {held failed : List ℕ} {given : ℕ} {s : EngineState} (k : ℕ) (todo : List ℕ) (more : Bool) → more ≡ true
     → Serving May Rest before now policy pid start seen held failed given (cond more (k ∷ (k ∷ todo)) (without k (k ∷ todo))) s → Serving May Rest before now policy pid start seen held failed given (k ∷ todo) s
 on-more {May} {Rest} {before} {now} {policy} {pid} {start} {seen} {held} {failed} {given} {s} k todo more e v =
     serve-todo (subst (λ (m : Bool). Serving May Rest before now policy pid start seen held failed given (cond m (k ∷ (k ∷ todo)) (without k (k ∷ todo))) s) e v) (k ∷ todo) (λ t a. inl (by_test t (k == t) a))
@@ -46,12 +46,12 @@ on-more {May} {Rest} {before} {now} {policy} {pid} {start} {seen} {held} {failed
     by_test t true a = true-false a
     by_test t false a = a
 
-pub on-done : {May : HouseReply → Type 0} {Rest : Resting} {before : Option (List HouseMark)} {now : Side} {policy : Policy} {pid : ℕ} {start : Option (List Mark)} {seen : Seen} {held failed : List ℕ} {given : ℕ} {s : State} (k : ℕ) (todo : List ℕ) (more : Bool) → more ≡ false
+pub on-done : {May : HouseReply → Type 0} {Rest : Resting} {before : Option (List HouseMark)} {now : Side} {policy : Policy} {pid : ℕ} {start : Option (List Mark)} {seen : Seen} {held failed : List ℕ} {given : ℕ} {s : EngineState} (k : ℕ) (todo : List ℕ) (more : Bool) → more ≡ false
     → Serving May Rest before now policy pid start seen held failed given (cond more (k ∷ (k ∷ todo)) (without k (k ∷ todo))) s → Serving May Rest before now policy pid start seen held failed given todo s
 on-done {May} {Rest} {before} {now} {policy} {pid} {start} {seen} {held} {failed} {given} {s} k todo more e v =
     narrower k (subst (λ (m : Bool). Serving May Rest before now policy pid start seen held failed given (cond m (k ∷ (k ∷ todo)) (without k (k ∷ todo))) s) e v)
 
-pub counts-err : {A E : Type 0} (r : Result A E) (waits : ℕ) (old new : CallCounts) → IsErr r → Cut waits old new → Counts waits r old new
+pub counts-err : {A E : Type 0} (r : Result A E) (waits : ℕ) (old new : CallCounts) → IsErr r → CountsOfCutCall waits old new → CountsOfCall waits r old new
 counts-err (Ok x) waits old new h c = absurd (let z : false ≡ true = h in cc)
 counts-err (Err e) waits old new h c = c
 
@@ -81,7 +81,7 @@ abbrev pub clients-of : List ℕ → List ℕ
 clients-of waiting = without HOUSE (without 0 waiting)
 
 -- those that wait and the server's stream are left to be offered something
-pub only-waiting : {May : HouseReply → Type 0} {Rest : Resting} {before : Option (List HouseMark)} {now : Side} {policy : Policy} {pid : ℕ} {start : Option (List Mark)} {seen : Seen} {held failed : List ℕ} {given : ℕ} {s : State} (left : List ℕ) (v : Serving May Rest before now policy pid start seen held failed given (0 ∷ (without HOUSE (here s) ++ left)) s) (waiting : List ℕ)
+pub only-waiting : {May : HouseReply → Type 0} {Rest : Resting} {before : Option (List HouseMark)} {now : Side} {policy : Policy} {pid : ℕ} {start : Option (List Mark)} {seen : Seen} {held failed : List ℕ} {given : ℕ} {s : EngineState} (left : List ℕ) (v : Serving May Rest before now policy pid start seen held failed given (0 ∷ (without HOUSE (here s) ++ left)) s) (waiting : List ℕ)
     → ((t : ℕ) → among t v.closed ≡ false → (picks : List ℕ) (later : List HouseReply) → among t waiting ≡ has_output (log s (v.picked ++ picks) (v.replies ++ later) v.journal) t)
     → Serving May Rest before now policy pid start seen held failed given (clients-of waiting ++ (0 ∷ left)) s
 only-waiting {policy = policy} {pid = pid} {s = s} left v waiting waits = serve-todo v (clients-of waiting ++ (0 ∷ left)) (λ t a. by_part t (neither t (clients-of waiting) (0 ∷ left) a))
@@ -120,7 +120,7 @@ waiting-present t (c ∷ cs) a = by_empty (waiting-present t cs) (is_empty c.pee
     by_empty ih false e = by_head ih (c.peer.number == t) e
 
 -- more are left to be offered something
-pub more-left : {May : HouseReply → Type 0} {Rest : Resting} {before : Option (List HouseMark)} {now : Side} {policy : Policy} {pid : ℕ} {start : Option (List Mark)} {seen : Seen} {held failed : List ℕ} {given : ℕ} {s : State} (left : List ℕ) (v : Serving May Rest before now policy pid start seen held failed given left s) → Serving May Rest before now policy pid start seen held failed given (0 ∷ (without HOUSE (here s) ++ left)) s
+pub more-left : {May : HouseReply → Type 0} {Rest : Resting} {before : Option (List HouseMark)} {now : Side} {policy : Policy} {pid : ℕ} {start : Option (List Mark)} {seen : Seen} {held failed : List ℕ} {given : ℕ} {s : EngineState} (left : List ℕ) (v : Serving May Rest before now policy pid start seen held failed given left s) → Serving May Rest before now policy pid start seen held failed given (0 ∷ (without HOUSE (here s) ++ left)) s
 more-left {s = s} left v = serve-todo v (0 ∷ (without HOUSE (here s) ++ left)) (λ t a. inl (neither t (without HOUSE (here s)) left (apart-or-left 0 t (without HOUSE (here s) ++ left) a).1).1)
 
 -- the server is not the forwarder
@@ -128,38 +128,38 @@ pub no-zero : 0 ≢ HOUSE
 no-zero e = absurd (omega (arith, e))
 
 -- a client that waits is here, and is not the forwarder
-pub record IsClient (s : State) (t : ℕ) : Type 0 where
-  pub opened : is_open s t ≡ true
+pub record IsClient (s : EngineState) (t : ℕ) : Type 0 where
+  pub opened : is_stream_open s t ≡ true
   pub no_server : t ≢ 0
   pub no_house : t ≢ HOUSE
 
 gone-from : (k t : ℕ) (xs : List ℕ) → among t (without k xs) ≡ true → t ≢ k
 gone-from k t xs a e = true-false (sym a ∙ (ap (λ i. among i (without k xs)) e ∙ none-without k xs))
 
-pub waits-open : (s : State) (t : ℕ) → among t (clients-of (waiting_in s)) ≡ true → IsClient s t
+pub waits-open : (s : EngineState) (t : ℕ) → among t (clients-of (waiting_streams s)) ≡ true → IsClient s t
 waits-open s t a = record {
-  opened = here-open s t (ap (λ b. b || among t s.refused) (waiting-present t s.clients (by_server (is_empty s.up.waiting) (test-other 0 t (λ e. server (sym e))) (sym (without-other 0 t (waiting_in s) (λ e. server (sym e))) ∙ inside))));
+  opened = here-open s t (ap (λ b. b || among t s.refused) (waiting-present t s.clients (by_server (is_empty s.up.waiting) (test-other 0 t (λ e. server (sym e))) (sym (without-other 0 t (waiting_streams s) (λ e. server (sym e))) ∙ inside))));
   no_server = server;
-  no_house = gone-from HOUSE t (without 0 (waiting_in s)) a;
+  no_house = gone-from HOUSE t (without 0 (waiting_streams s)) a;
 }
   where
-    inside : among t (without 0 (waiting_in s)) ≡ true
-    inside = sym (without-other HOUSE t (without 0 (waiting_in s)) (λ e. gone-from HOUSE t (without 0 (waiting_in s)) a (sym e))) ∙ a
+    inside : among t (without 0 (waiting_streams s)) ≡ true
+    inside = sym (without-other HOUSE t (without 0 (waiting_streams s)) (λ e. gone-from HOUSE t (without 0 (waiting_streams s)) a (sym e))) ∙ a
 
     server : t ≢ 0
-    server = gone-from 0 t (waiting_in s) inside
+    server = gone-from 0 t (waiting_streams s) inside
 
     by_server : (b : Bool) → (0 == t) ≡ false → among t (cond b (waiting_clients s.clients) (0 ∷ waiting_clients s.clients)) ≡ true → among t (waiting_clients s.clients) ≡ true
     by_server true e h = h
     by_server false e h = sym (ap (λ b. b || among t (waiting_clients s.clients)) e) ∙ h
 
-pub todo-is : {May : HouseReply → Type 0} {Rest : Resting} {before : Option (List HouseMark)} {now : Side} {policy : Policy} {pid : ℕ} {start : Option (List Mark)} {seen : Seen} {held failed : List ℕ} {given : ℕ} {s : State} (todo todo' : List ℕ) → todo ≡ todo'
+pub todo-is : {May : HouseReply → Type 0} {Rest : Resting} {before : Option (List HouseMark)} {now : Side} {policy : Policy} {pid : ℕ} {start : Option (List Mark)} {seen : Seen} {held failed : List ℕ} {given : ℕ} {s : EngineState} (todo todo' : List ℕ) → todo ≡ todo'
     → Serving May Rest before now policy pid start seen held failed given todo s → Serving May Rest before now policy pid start seen held failed given todo' s
 todo-is {May} {Rest} {before} {now} {policy} {pid} {start} {seen} {held} {failed} {given} {s} todo todo' e v = subst (λ x. Serving May Rest before now policy pid start seen held failed given x s) e v
 
 -- ---- clients are accepted no more
 
-pub serve-hushed : {May : HouseReply → Type 0} {Rest : Resting} {before : Option (List HouseMark)} {now : Side} {policy : Policy} {pid : ℕ} {start : Option (List Mark)} {seen : Seen} {held failed : List ℕ} {given : ℕ} {todo : List ℕ} {s : State} (v : Serving May Rest before now policy pid start seen held failed given todo s)
+pub serve-hushed : {May : HouseReply → Type 0} {Rest : Resting} {before : Option (List HouseMark)} {now : Side} {policy : Policy} {pid : ℕ} {start : Option (List Mark)} {seen : Seen} {held failed : List ℕ} {given : ℕ} {todo : List ℕ} {s : EngineState} (v : Serving May Rest before now policy pid start seen held failed given todo s)
     → (s.ended ≡ None → s.listening ≡ false) → Serving May Rest before now policy pid start (record seen { listens = false }) held failed given todo s
 serve-hushed {now = now} {todo = todo} v none = serve-as v now false todo (still-noted v) (λ live l. true-false (sym l ∙ none live)) (λ t a. inl a)
 
@@ -170,5 +170,5 @@ none-waits [] rest e = refl
 none-waits (b ∷ q) rest e = absurd (let z : (0 ∷ rest) ≡ [] = e in cc)
 
 -- nothing waits for the server
-pub server-idle : {May : HouseReply → Type 0} {Rest : Resting} {before : Option (List HouseMark)} {now : Side} {policy : Policy} {pid : ℕ} {start : Option (List Mark)} {seen : Seen} {held failed : List ℕ} {given : ℕ} {todo : List ℕ} {s : State} → Serving May Rest before now policy pid start seen held failed given todo s → s.waiting ≡ [] → queue_in s 0 ≡ []
+pub server-idle : {May : HouseReply → Type 0} {Rest : Resting} {before : Option (List HouseMark)} {now : Side} {policy : Policy} {pid : ℕ} {start : Option (List Mark)} {seen : Seen} {held failed : List ℕ} {given : ℕ} {todo : List ℕ} {s : EngineState} → Serving May Rest before now policy pid start seen held failed given todo s → s.waiting ≡ [] → queue_in s 0 ≡ []
 server-idle {s = s} v none = none-waits s.up.waiting (waiting_clients s.clients) (sym (v.stands.at [] []).rows.waiting_is ∙ none)

@@ -11,7 +11,7 @@ use Rattle.mux_outside.specs.declared.mark.Mark.TheVariants.{House}
 use Rattle.mux_outside.specs.declared.start_ask.StartAsk.{StartAsk}
 use Rattle.mux_history.specs.Policy.{Policy}
 use Rattle.mux_history.proofs.Wires.{wire-keeps}
-use Rattle.mux_state.specs.State.{State}
+use Rattle.mux_state.specs.State.{EngineState}
 use Rattle.mux_state.proofs.Twins.{own-silent, stands-alike}
 use Rattle.mux_engine.specs.Serving.{Serving}
 use Rattle.mux_engine.specs.Sides.{Resting, Side}
@@ -26,7 +26,7 @@ use Rattle.mux_engine.proofs.Recorded.{records-none, recorded-none}
 abbrev pub seen-with : List HouseMark → Seen → Seen
 seen-with marks seen = record seen { recorded = option_map (λ (m : List Mark). m ++ map (λ (a : HouseMark). House a) marks) seen.recorded }
 
-module _ {May : HouseReply → Type 0} {Rest : Resting} {before : Option (List HouseMark)} {policy : Policy} {pid : ℕ} {start : Option (List Mark)} {held failed : List ℕ} {given : ℕ} {todo : List ℕ} {s : State} where
+module _ {May : HouseReply → Type 0} {Rest : Resting} {before : Option (List HouseMark)} {policy : Policy} {pid : ℕ} {start : Option (List Mark)} {held failed : List ℕ} {given : ℕ} {todo : List ℕ} {s : EngineState} where
   -- the first of the requests that are not noted
   note-one : {now : Side} {seen : Seen} (v : Serving May Rest before now policy pid start seen held failed given todo s) (client id : ℕ) (opening : Bool) (ask : StartAsk) (reply : HouseReply) (rest : List HouseMark) → now.unnoted ≡ HouseAsked client id opening ask reply ∷ rest
       → Serving May Rest before (record now { unnoted = rest }) policy pid start (seen-with (HouseAsked client id opening ask reply ∷ []) seen) held failed given todo s

@@ -20,7 +20,7 @@ use Rattle.mux_outside.specs.declared.turn.Wrote.{Wrote}
 use Rattle.mux_outside.specs.declared.turn.Wrote.TheVariants as wrote
 use Rattle.mux_history.specs.declared.limits.TheConstants.{HOUSE}
 use Rattle.mux_history.specs.Policy.{Policy}
-use Rattle.mux_history.specs.Rows.{rows_of, is_out, is_ended}
+use Rattle.mux_history.specs.Rows.{rows_of, is_out, is_run_over}
 use Rattle.mux_history.specs.Pending.{pending}
 use Rattle.mux_history.specs.Solo.{run_end_of}
 use Rattle.mux_history.specs.Log.{Setting}
@@ -28,13 +28,13 @@ use Rattle.mux_history.specs.Settings.{by_lists}
 use Rattle.mux_history.specs.Journal.{is_own_stream, log_of_journal}
 use Rattle.mux_history.specs.Promises.{IsFront, turns_in}
 use Rattle.mux_history.proofs.Wires.{wire-keeps}
-use Rattle.mux_state.specs.State.{State}
+use Rattle.mux_state.specs.State.{EngineState}
 use Rattle.mux_state.specs.Events.{here}
 use Rattle.mux_state.specs.Stands.{GoesBy, log}
 use Rattle.mux_state.proofs.Over.{some-end}
 use Rattle.mux_engine.specs.Places.{IsTaking, own_in}
 use Rattle.mux_engine.specs.Run.{IsOfWire}
-use Rattle.mux_engine.specs.Serving.{IsRunSound, Promised, Serving, is_open}
+use Rattle.mux_engine.specs.Serving.{IsRunSound, Promised, Serving, is_stream_open}
 use Rattle.mux_engine.specs.SilentAnswers.{AcceptsAs}
 use Rattle.mux_engine.specs.Sides.{Resting, Side}
 use Rattle.mux_engine.proofs.Called.{calls-none, calls-other}
@@ -50,7 +50,7 @@ use Rattle.mux_engine.proofs.Recorded.{records-none, recorded-none}
 -- ---- the engine after it
 
 -- an engine that goes on with the same streams and the same end
-pub record SameRun (s s' : State) : Type 0 where
+pub record SameRun (s s' : EngineState) : Type 0 where
   pub policy : s'.core.policy ≡ s.core.policy
   pub pid : s'.pid ≡ s.pid
   pub streams : here s' ≡ here s
@@ -58,7 +58,7 @@ pub record SameRun (s s' : State) : Type 0 where
   pub listening : s'.listening ≡ s.listening
 
 -- what waits for a stream, as the engine shows it
-abbrev pub Waiting : List ℕ → ℕ → State → List ℕ → List HouseReply → List Mark → Type 0
+abbrev pub Waiting : List ℕ → ℕ → EngineState → List ℕ → List HouseReply → List Mark → Type 0
 Waiting bytes k s picked replies marks = (picks : List ℕ) (later : List HouseReply) → bytes ≡ pending k (log s (picked ++ picks) (replies ++ later) marks)
 
 -- ---- bytes that were accepted
@@ -67,8 +67,8 @@ Waiting bytes k s picked replies marks = (picks : List ℕ) (later : List HouseR
 front-of : (set : Setting) (k : ℕ) (journal : List Mark) (bytes : List ℕ) → is_own_stream k ≡ false → IsFront bytes (pending k (log_of_journal set journal)) → MatchBool (is_own_stream k) (Unit {0}) (IsFront bytes (pending k (log_of_journal set journal)))
 front-of set k journal bytes e front = subst (λ (b : Bool). MatchBool b (Unit {0}) (IsFront bytes (pending k (log_of_journal set journal)))) (sym e) front
 
-pub next-takes : {May : HouseReply → Type 0} {Rest : Resting} {before : Option (List HouseMark)} {now : Side} {policy : Policy} {pid : ℕ} {start : Option (List Mark)} {seen : Seen} {held failed : List ℕ} {given : ℕ} {todo : List ℕ} {s : State} (v : Serving May Rest before now policy pid start seen held failed given todo s) (s' : State) (k n : ℕ) (bytes : List ℕ)
-    → is_open s k ≡ true → k ≢ HOUSE → SameRun s s' → AreBytes bytes → 1 ≤ n → n ≤ length bytes → AcceptsAs seen s → Waiting bytes k s v.picked v.replies v.journal
+pub next-takes : {May : HouseReply → Type 0} {Rest : Resting} {before : Option (List HouseMark)} {now : Side} {policy : Policy} {pid : ℕ} {start : Option (List Mark)} {seen : Seen} {held failed : List ℕ} {given : ℕ} {todo : List ℕ} {s : EngineState} (v : Serving May Rest before now policy pid start seen held failed given todo s) (s' : EngineState) (k n : ℕ) (bytes : List ℕ)
+    → is_stream_open s k ≡ true → k ≢ HOUSE → SameRun s s' → AreBytes bytes → 1 ≤ n → n ≤ length bytes → AcceptsAs seen s → Waiting bytes k s v.picked v.replies v.journal
     → NextEvent Rest before now now policy pid v.picked v.replies [] s s' v.journal seen (seen_after_write (wrote.Took n) k bytes seen) held failed given (k ∷ todo) (Takes k (take n bytes) seen.listens)
 next-takes {May} {Rest} {before} {now} {policy} {pid} {start} {seen} {held} {failed} {given} {todo} {s} v s' k n bytes opened ne same are one fits accepts waiting =
     let mark : Mark = Takes k (take n bytes) seen.listens in
@@ -111,8 +111,8 @@ next-takes {May} {Rest} {before} {now} {policy} {pid} {start} {seen} {held} {fai
 
 -- ---- a stream that is blocked now
 
-pub next-holds : {May : HouseReply → Type 0} {Rest : Resting} {before : Option (List HouseMark)} {now : Side} {policy : Policy} {pid : ℕ} {start : Option (List Mark)} {seen : Seen} {held failed : List ℕ} {given : ℕ} {todo : List ℕ} {s : State} (v : Serving May Rest before now policy pid start seen held failed given todo s) (k : ℕ) (bytes : List ℕ)
-    → is_open s k ≡ true → k ≢ HOUSE → AreBytes bytes → 0 < length bytes → NextEvent Rest before now now policy pid v.picked v.replies [] s s v.journal seen (seen_after_write wrote.Later k bytes seen) (held ++ k ∷ []) failed given (without k todo) (Holds k)
+pub next-holds : {May : HouseReply → Type 0} {Rest : Resting} {before : Option (List HouseMark)} {now : Side} {policy : Policy} {pid : ℕ} {start : Option (List Mark)} {seen : Seen} {held failed : List ℕ} {given : ℕ} {todo : List ℕ} {s : EngineState} (v : Serving May Rest before now policy pid start seen held failed given todo s) (k : ℕ) (bytes : List ℕ)
+    → is_stream_open s k ≡ true → k ≢ HOUSE → AreBytes bytes → 0 < length bytes → NextEvent Rest before now now policy pid v.picked v.replies [] s s v.journal seen (seen_after_write wrote.Later k bytes seen) (held ++ k ∷ []) failed given (without k todo) (Holds k)
 next-holds {May} {Rest} {before} {now} {policy} {pid} {start} {seen} {held} {failed} {given} {todo} {s} v k bytes opened ne are some =
     let mark : Mark = Holds k in
     let there : among k seen.streams ≡ true = stream-open v k opened ne in
@@ -155,8 +155,8 @@ next-holds {May} {Rest} {before} {now} {policy} {pid} {start} {seen} {held} {fai
 -- ---- a stream that failed
 
 -- of the server that is the end; a client's farewell is left to the server's stream
-pub next-fails : {May : HouseReply → Type 0} {Rest : Resting} {before : Option (List HouseMark)} {now : Side} {policy : Policy} {pid : ℕ} {start : Option (List Mark)} {seen : Seen} {held failed : List ℕ} {given : ℕ} {todo : List ℕ} {s : State} (v : Serving May Rest before now policy pid start seen held failed given todo s) {recorded recorded' : Option (List HouseMark)} {s' : State} (k : ℕ) (bytes : List ℕ) (g : GoesBy May recorded recorded' v.picked v.replies s s' (WriteFails k) v.journal v.closed)
-    → g.asks ≡ [] → is_open s k ≡ true → k ≢ HOUSE → AreBytes bytes → 0 < length bytes → among 0 (k ∷ todo) ≡ true → s'.core.policy ≡ s.core.policy → s'.pid ≡ s.pid → here s' ≡ here s → (s'.ended ≡ None → s.ended ≡ None) → (k ≡ 0 → s'.ended ≢ None)
+pub next-fails : {May : HouseReply → Type 0} {Rest : Resting} {before : Option (List HouseMark)} {now : Side} {policy : Policy} {pid : ℕ} {start : Option (List Mark)} {seen : Seen} {held failed : List ℕ} {given : ℕ} {todo : List ℕ} {s : EngineState} (v : Serving May Rest before now policy pid start seen held failed given todo s) {recorded recorded' : Option (List HouseMark)} {s' : EngineState} (k : ℕ) (bytes : List ℕ) (g : GoesBy May recorded recorded' v.picked v.replies s s' (WriteFails k) v.journal v.closed)
+    → g.asks ≡ [] → is_stream_open s k ≡ true → k ≢ HOUSE → AreBytes bytes → 0 < length bytes → among 0 (k ∷ todo) ≡ true → s'.core.policy ≡ s.core.policy → s'.pid ≡ s.pid → here s' ≡ here s → (s'.ended ≡ None → s.ended ≡ None) → (k ≡ 0 → s'.ended ≢ None)
     → NextEvent Rest before now now policy pid (v.picked ++ g.picks) (v.replies ++ g.replies) g.asks s s' v.journal seen (seen_after_write wrote.Failed k bytes seen) held failed given (without k todo) (WriteFails k)
 next-fails {May} {Rest} {before} {now} {policy} {pid} {start} {seen} {held} {failed} {given} {todo} {s} v {s' = s'} k bytes g unasked opened ne are some zero same_policy same_pid same on over =
     let mark : Mark = WriteFails k in
@@ -183,7 +183,7 @@ next-fails {May} {Rest} {before} {now} {policy} {pid} {start} {seen} {held} {fai
           let rs : List HouseReply = (v.replies ++ g.replies) ++ later in
           let set : Setting = by_lists policy pid ps rs in
           let old : IsRunSound set v.journal todo s = sound-at v g.picks g.replies (v.picked ++ g.picks) (v.replies ++ g.replies) refl refl picks later in
-          let live-rows : s.ended ≡ None → is_ended (log_of_journal set v.journal) ≡ false = λ l.
+          let live-rows : s.ended ≡ None → is_run_over (log_of_journal set v.journal) ≡ false = λ l.
           sym (some-end (log_of_journal set v.journal)) ∙ ap is_some (ap run_end_of (sym (log-is s policy pid ps rs v.journal v.policy_is v.pid_is)) ∙ (sym (stood-at v.stands g.picks g.replies (v.picked ++ g.picks) (v.replies ++ g.replies) refl refl picks later).rows.ended_is ∙ l)) in
           record {
             promise = record { takes = tt; waits = tt; speaks = tt; open_streams = tt; answers = tt; after_end = tt; silence = tt };
@@ -206,26 +206,26 @@ next-fails {May} {Rest} {before} {now} {policy} {pid} {start} {seen} {held} {fai
 
 -- ---- running out of memory
 
-wrote-of-wire : {May : HouseReply → Type 0} {Rest : Resting} {before : Option (List HouseMark)} {now : Side} {policy : Policy} {pid : ℕ} {start : Option (List Mark)} {seen : Seen} {held failed : List ℕ} {given : ℕ} {todo : List ℕ} {s : State} (v : Serving May Rest before now policy pid start seen held failed given todo s) (answer : Wrote) (k : ℕ) (bytes : List ℕ)
+wrote-of-wire : {May : HouseReply → Type 0} {Rest : Resting} {before : Option (List HouseMark)} {now : Side} {policy : Policy} {pid : ℕ} {start : Option (List Mark)} {seen : Seen} {held failed : List ℕ} {given : ℕ} {todo : List ℕ} {s : EngineState} (v : Serving May Rest before now policy pid start seen held failed given todo s) (answer : Wrote) (k : ℕ) (bytes : List ℕ)
     → among k seen.streams ≡ true → AreBytes bytes → 0 < length bytes → WroteFits answer (length bytes) → IsOfWire (reverse (write_marks answer k bytes seen.listens) ++ v.journal)
 wrote-of-wire {seen = seen} v answer k bytes there are some fits =
     of-streams seen.streams (blocked_after_write answer k seen.blocked) seen.last (reverse (write_marks answer k bytes seen.listens) ++ v.journal)
     ((wire-keeps seen v.journal).write answer k bytes are some there fits v.of_wire)
 
 -- none to note that the stream is blocked
-pub cut-holds : {May : HouseReply → Type 0} {Rest : Resting} {before : Option (List HouseMark)} {now : Side} {policy : Policy} {pid : ℕ} {start : Option (List Mark)} {seen : Seen} {held failed : List ℕ} {given : ℕ} {todo : List ℕ} {s : State} (v : Serving May Rest before now policy pid start seen held failed given todo s) (seen' : Seen) (k : ℕ) (bytes : List ℕ)
+pub cut-holds : {May : HouseReply → Type 0} {Rest : Resting} {before : Option (List HouseMark)} {now : Side} {policy : Policy} {pid : ℕ} {start : Option (List Mark)} {seen : Seen} {held failed : List ℕ} {given : ℕ} {todo : List ℕ} {s : EngineState} (v : Serving May Rest before now policy pid start seen held failed given todo s) (seen' : Seen) (k : ℕ) (bytes : List ℕ)
     → (IsTrue (is_own k) → IsTaking k v.journal) → among k seen.streams ≡ true → AreBytes bytes → 0 < length bytes → seen' ≡ seen_after_write wrote.Later k bytes seen → Promised May Rest before now.recorded policy pid start seen'.recorded given
 cut-holds {now = now} {given = given} v seen' k bytes takes there are some e =
     cut-next v now.recorded seen'.recorded given (Holds k) [] now.unnoted (ap (λ (x : Seen). x.recorded) e) (records-none now.recorded) (sym (append-nil now.unnoted)) (wrote-of-wire v wrote.Later k bytes there are some tt) (holds-placed v.journal k takes (house-other v k there)) (let w : turns_in v.journal ≡ given = v.turns in omega arith) (λ set. tt) (λ e. refl) (on-next v (Holds k))
     (λ set. inr (0, refl)) (λ picks later. record { takes = tt; waits = tt; speaks = tt; open_streams = tt; answers = tt; after_end = tt; silence = tt })
 
 -- none for the event of a stream that failed
-pub cut-fails : {May : HouseReply → Type 0} {Rest : Resting} {before : Option (List HouseMark)} {now : Side} {policy : Policy} {pid : ℕ} {start : Option (List Mark)} {seen : Seen} {held failed : List ℕ} {given : ℕ} {todo : List ℕ} {s : State} (v : Serving May Rest before now policy pid start seen held failed given todo s) (seen' : Seen) (k : ℕ) (bytes : List ℕ)
+pub cut-fails : {May : HouseReply → Type 0} {Rest : Resting} {before : Option (List HouseMark)} {now : Side} {policy : Policy} {pid : ℕ} {start : Option (List Mark)} {seen : Seen} {held failed : List ℕ} {given : ℕ} {todo : List ℕ} {s : EngineState} (v : Serving May Rest before now policy pid start seen held failed given todo s) (seen' : Seen) (k : ℕ) (bytes : List ℕ)
     → (IsTrue (is_own k) → IsTaking k v.journal) → among k seen.streams ≡ true → AreBytes bytes → 0 < length bytes → seen' ≡ seen_after_write wrote.Failed k bytes seen → Promised May Rest before now.recorded policy pid start seen'.recorded given
 cut-fails {now = now} {given = given} v seen' k bytes takes there are some e =
     cut-next v now.recorded seen'.recorded given (WriteFails k) [] now.unnoted (ap (λ (x : Seen). x.recorded) e) (records-none now.recorded) (sym (append-nil now.unnoted)) (wrote-of-wire v wrote.Failed k bytes there are some tt) (fails-placed v.journal k takes (house-other v k there)) (let w : turns_in v.journal ≡ given = v.turns in omega arith) (λ set. tt) (λ e. refl) (on-next v (WriteFails k))
     (λ set. inr (0, refl)) (λ picks later. record { takes = tt; waits = tt; speaks = tt; open_streams = tt; answers = tt; after_end = tt; silence = tt })
 
 -- none for the write
-pub cut-starved : {May : HouseReply → Type 0} {Rest : Resting} {before : Option (List HouseMark)} {now : Side} {policy : Policy} {pid : ℕ} {start : Option (List Mark)} {seen : Seen} {held failed : List ℕ} {given : ℕ} {todo : List ℕ} {s : State} (v : Serving May Rest before now policy pid start seen held failed given todo s) (seen' : Seen) (k : ℕ) (bytes : List ℕ) → seen' ≡ seen_after_write wrote.NoMemory k bytes seen → Promised May Rest before now.recorded policy pid start seen'.recorded given
+pub cut-starved : {May : HouseReply → Type 0} {Rest : Resting} {before : Option (List HouseMark)} {now : Side} {policy : Policy} {pid : ℕ} {start : Option (List Mark)} {seen : Seen} {held failed : List ℕ} {given : ℕ} {todo : List ℕ} {s : EngineState} (v : Serving May Rest before now policy pid start seen held failed given todo s) (seen' : Seen) (k : ℕ) (bytes : List ℕ) → seen' ≡ seen_after_write wrote.NoMemory k bytes seen → Promised May Rest before now.recorded policy pid start seen'.recorded given
 cut-starved {seen = seen} v seen' k bytes e = cut-still v seen'.recorded (ap (λ (x : Seen). x.recorded) e ∙ recorded-none seen.recorded)

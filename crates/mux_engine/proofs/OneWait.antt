@@ -18,16 +18,16 @@ use Rattle.mux_outside.specs.declared.turn.Turn.{Turn}
 use Rattle.mux_outside.specs.declared.turn.Turn.TheVariants as turn
 use Rattle.mux_outside.specs.declared.turn.Want.{Want}
 use Rattle.mux_history.specs.declared.ended.Ended.{Ended}
-use Rattle.mux_state.specs.State.{State}
+use Rattle.mux_state.specs.State.{EngineState}
 use Rattle.mux_state.specs.Events.{here}
 use Rattle.mux_state.specs.declared.event.Event.{Event}
 use Rattle.mux_engine.specs.Asking.{AppliesEvent}
 use Rattle.mux_engine.specs.Came.{OverBy}
-use Rattle.mux_engine.specs.Counted.{Counts}
+use Rattle.mux_engine.specs.Counted.{CountsOfCall}
 use Rattle.mux_engine.specs.Owned.{waits_for_own}
 use Rattle.mux_engine.specs.Rests.{EndsSo}
 use Rattle.mux_engine.specs.Serving.{RunsOn, ServedWith, Serving, scene, scene_of}
-use Rattle.mux_engine.specs.Sides.{Housed, IsAlone, RestsOf, SameHouse, StaysHouse, Together, noted}
+use Rattle.mux_engine.specs.Sides.{Housed, IsAlone, RestsOf, SameHouse, StaysHouse, Together, all_marks_noted}
 use Rattle.mux_engine.specs.Turns.{IsEventOf, IsOwnOf, failed_received, held_received, own_received, want_of}
 use Rattle.mux_engine.specs.Wires.{IsIdleWire, Untouched, Works}
 use Rattle.mux_engine.specs.declared.room.Lists.{Lists}
@@ -58,14 +58,14 @@ together-of (Err e) house wire lists housed alone held = tt
 -- ---- a turn that was given
 
 -- what is so after it; the lists are then those whose streams are these
-pub record TurnDone {A E T : Type 0} (result : Result A E) (May : HouseReply → Type 0) (state : T → HouseState) (house house' : T) (wire wire' : WireState) (faults faults' : Faults) (lists : Lists) (held own failed : List ℕ) (s s' : State) : Type 0 where
+pub record TurnDone {A E T : Type 0} (result : Result A E) (May : HouseReply → Type 0) (state : T → HouseState) (house house' : T) (wire wire' : WireState) (faults faults' : Faults) (lists : Lists) (held own failed : List ℕ) (s s' : EngineState) : Type 0 where
   pub serving : RunsOn result May state house house' (scene wire lists s) (scene_of wire' held failed s') 1 (λ x. 1) [] (λ x. 0 ∷ here s')
   pub together : (lists' : Lists) → lists'.own ≡ own → lists'.held ≡ held → OnOk result (Together (state house') wire' lists')
   pub stays : StaysHouse result (state house) (state house')
   pub ended : EndsSo result (state house).known.present s'.ended wire wire' faults faults'
 
 -- before the wait there was no memory
-pub turn-unlisted : {A E T : Type 0} (r : Result A E) (May : HouseReply → Type 0) (state : T → HouseState) (house : T) (wire : WireState) (faults : Faults) (lists : Lists) (held own failed : List ℕ) (s : State) → IsErr r → TurnDone r May state house house wire wire faults faults lists held own failed s s
+pub turn-unlisted : {A E T : Type 0} (r : Result A E) (May : HouseReply → Type 0) (state : T → HouseState) (house : T) (wire : WireState) (faults : Faults) (lists : Lists) (held own failed : List ℕ) (s : EngineState) → IsErr r → TurnDone r May state house house wire wire faults faults lists held own failed s s
 turn-unlisted r May state house wire faults lists held own failed s is = record {
   serving = λ first calls before policy pid start given hands v. on-err r _ _ is (promised-more given (given + 1) (omega arith) (cut-still v _ refl));
   together = λ lists' e f. on-err r _ _ is tt;
@@ -95,7 +95,7 @@ pub works-event : {A E : Type 0} (r : Result A E) {old mid new : WireState} {f g
 works-event r {old = old} {mid = mid} e t waiting want bytes next after cause applied =
     let waited : Works 1 r old mid _ _ = record {
       keeps = keeps-wait t waiting want bytes after cause;
-      calls = subst (λ (x : CallCounts). Counts 1 r old.calls x) (sym (ap (λ (x : WireState). x.calls) after)) (counts-event r e t bytes old.calls next);
+      calls = subst (λ (x : CallCounts). CountsOfCall 1 r old.calls x) (sym (ap (λ (x : WireState). x.calls) after)) (counts-event r e t bytes old.calls next);
     } in works-recorded r waited applied
 
 -- it reported something of the master's own
@@ -109,9 +109,9 @@ own-fed (recorded.Failed k) t bytes next = ap is_starved next.1
 pub works-own-turn : {A E : Type 0} (r : Result A E) {old new : WireState} {f g : Faults} (o : OwnTurn) (t : Turn) (waiting : List ℕ) (want : Want) (bytes : List ℕ) → IsOwnOf o t bytes → new ≡ state_after_wait t waiting want bytes new.tally old → TurnFaults t f g → Works 1 r old new f g
 works-own-turn r o t waiting want bytes next after cause = works-wait r t waiting want bytes (own-fed o t bytes next) after cause
 
-module _ {T : Type 0} {May : HouseReply → Type 0} {state : T → HouseState} {house : T} {wire : WireState} {lists : Lists} {s : State} {t : Turn} {bytes : List ℕ} (wire1 : WireState) (faults faults1 : Faults)
+module _ {T : Type 0} {May : HouseReply → Type 0} {state : T → HouseState} {house : T} {wire : WireState} {lists : Lists} {s : EngineState} {t : Turn} {bytes : List ℕ} (wire1 : WireState) (faults faults1 : Faults)
     (served : ServedWith May state house (scene wire lists s) []) (b : BeginsTurn (state house) wire lists s) (w : HasWaited wire.seen wire1.seen lists.own lists.failed (state house).queue s t bytes) where
-  at : (first : T) (calls : List HouseCall) → HandsOn (state first).stands (state house).stands calls → AtWait (RestsOf state (state house).known.present first) (noted (state house).recorded (state house).known calls) wire.seen lists.own lists.held lists.failed (state house).queue s
+  at : (first : T) (calls : List HouseCall) → HandsOn (state first).stands (state house).stands calls → AtWait (RestsOf state (state house).known.present first) (all_marks_noted (state house).recorded (state house).known calls) wire.seen lists.own lists.held lists.failed (state house).queue s
   at first calls hands = at-wait state first house calls wire lists s b hands
 
   -- where there is no forwarder no stream was accepted
@@ -120,7 +120,7 @@ module _ {T : Type 0} {May : HouseReply → Type 0} {state : T → HouseState} {
 
   -- ---- an event
 
-  module _ {A E : Type 0} (r : Result A E) (house' : T) (wire2 : WireState) (faults2 : Faults) (s' : State) (asks : List HouseMark) (e : Event) (next : IsEventOf e t bytes) (h : AppliesEvent r May e s s' asks (state house) (state house') wire1.seen wire2.seen) where
+  module _ {A E : Type 0} (r : Result A E) (house' : T) (wire2 : WireState) (faults2 : Faults) (s' : EngineState) (asks : List HouseMark) (e : Event) (next : IsEventOf e t bytes) (h : AppliesEvent r May e s s' asks (state house) (state house') wire1.seen wire2.seen) where
     event-serving : OnOk r (HandsOn (state house).stands (state house').stands (calls_of asks)) → RunsOn r May state house house' (scene wire lists s) (scene_of wire2 lists.held lists.failed s') 1 (λ x. 1) [] (λ x. 0 ∷ here s')
     event-serving handed first calls before policy pid start given hands v =
         both-ok r _ (λ on step. handed-more _ (calls_of asks) hands step on)
@@ -181,7 +181,7 @@ module _ {T : Type 0} {May : HouseReply → Type 0} {state : T → HouseState} {
   pub turn-freed : {A E : Type 0} (x : A) (k : ℕ) (held : List ℕ) → is_own k ≡ false → t ≡ turn.Writable k → held ≡ without k lists.held → TurnDone {E = E} (Ok x) May state house house wire wire1 faults faults1 lists held lists.own lists.failed s s
   turn-freed {E = E} x k held client is held_is = record {
     serving = λ first calls before policy pid start given hands v. handed-none _ hands
-        (subst (λ (l : List ℕ). Serving May (RestsOf state (state house).known.present first) before (noted (state house).recorded (state house).known calls) policy pid start wire1.seen l lists.failed (given + 1) (0 ∷ here s) s) (sym held_is)
+        (subst (λ (l : List ℕ). Serving May (RestsOf state (state house).known.present first) before (all_marks_noted (state house).recorded (state house).known calls) policy pid start wire1.seen l lists.failed (given + 1) (0 ∷ here s) s) (sym held_is)
         (turn-frees v (at first calls hands) w k client is));
     together = λ lists' e f. record {
       housed = subst (λ (l : List ℕ). Housed (state house).known wire1.seen l) (sym e) (room-housed w k is (state house).known b.together.housed);

@@ -25,14 +25,14 @@ use Rattle.mux_history.specs.Journal.{is_accepted, is_blocked, is_own_stream}
 use Rattle.mux_history.specs.Promises.{has_failed, not_own}
 use Rattle.mux_history.specs.Wires.{OfWire, is_connect}
 use Rattle.mux_history.proofs.Wires.{wire-keeps}
-use Rattle.mux_state.specs.State.{State}
+use Rattle.mux_state.specs.State.{EngineState}
 use Rattle.mux_state.proofs.Twins.{own-silent, stands-alike}
 use Rattle.mux_engine.specs.Answers.{opens_after}
 use Rattle.mux_engine.specs.Called.{calls_at}
 use Rattle.mux_engine.specs.Orders.{HasOrdered, OrderMadeBy, failed_carried, held_carried, known_carried, makes, more_recorded, seen_carried, told_carried}
 use Rattle.mux_engine.specs.Places.{listeners_ordered, own_ordered}
 use Rattle.mux_engine.specs.Serving.{IsFreeForOwn, IsUnseen, IsUnused, Promised, Serving}
-use Rattle.mux_engine.specs.Sides.{Resting, Side, ask_marks_in, noted, noting}
+use Rattle.mux_engine.specs.Sides.{Resting, Side, ask_marks_in, all_marks_noted, noting}
 use Rattle.mux_engine.proofs.Called.{CallsOn, calls-recorded}
 use Rattle.mux_engine.proofs.Closed.{both-tests, was-among}
 use Rattle.mux_engine.proofs.Cuts.{cut-here, serve-recorded}
@@ -71,7 +71,7 @@ not-among k (x ∷ xs) own = by_own (is_own x) refl (not-among k xs own)
     by_own true e ih = ih
     by_own false e ih = ap (λ c. c || among k (not_own xs)) (test-other x k (λ q. true-false (sym own ∙ (ap is_own (sym q) ∙ e)))) ∙ ih
 
-module _ {May : HouseReply → Type 0} {Rest : Resting} {before : Option (List HouseMark)} {now : Side} {policy : Policy} {pid : ℕ} {start : Option (List Mark)} {seen : Seen} {held failed : List ℕ} {given : ℕ} {todo : List ℕ} {s : State}
+module _ {May : HouseReply → Type 0} {Rest : Resting} {before : Option (List HouseMark)} {now : Side} {policy : Policy} {pid : ℕ} {start : Option (List Mark)} {seen : Seen} {held failed : List ℕ} {given : ℕ} {todo : List ℕ} {s : EngineState}
     (v : Serving May Rest before now policy pid start seen held failed given todo s) where
   -- an order that makes no stream and closes none
   placed-plain : (order : Order) (number : Option ℕ) → is_connect (HouseOrder order number) ≡ false → (seen' : Seen) → seen'.streams ≡ seen.streams → seen'.blocked ≡ seen.blocked → seen'.last ≡ seen.last → seen'.last_own ≡ seen.last_own → seen'.listens ≡ seen.listens
@@ -183,34 +183,34 @@ module _ {May : HouseReply → Type 0} {Rest : Resting} {before : Option (List H
   done-side order number recorded' = record now { recorded = recorded'; unnoted = []; calls = now.calls ++ calls_of (more_recorded order number) }
 
   notes-of : (order : Order) (number : Option ℕ) (recorded' : Option (List HouseMark)) → now.unnoted ≡ order_marks (Some order) → recorded' ≡ option_map (λ l. l ++ more_recorded order number) now.recorded → order_marks (Some order) ++ more_recorded order number ≡ HouseOrder order number ∷ [] → ask_marks_in (more_recorded order number) ≡ [] → now.asks ≡ opens_after (more_recorded order number) now.asks → Notes now (done-side order number recorded') (House (HouseOrder order number)) []
-  notes-of order number recorded' noted e same none opens = record {
+  notes-of order number recorded' all_marks_noted e same none opens = record {
     more = more_recorded order number;
     recorded_is = e;
-    noted_is = sym (ap (λ l. l ++ more_recorded order number) noted ∙ same);
+    noted_is = sym (ap (λ l. l ++ more_recorded order number) all_marks_noted ∙ same);
     asks_are = none;
     opens_are = opens;
   }
 
   called-of : (order : Order) (number : Option ℕ) (recorded' : Option (List HouseMark)) → now.unnoted ≡ order_marks (Some order) → order_marks (Some order) ++ more_recorded order number ≡ HouseOrder order number ∷ [] → (set : Setting) → CallsOn now (done-side order number recorded') (calls_at set v.journal (House (HouseOrder order number)))
-  called-of order number recorded' noted same set = calls-recorded now (done-side order number recorded') (HouseOrder order number ∷ []) (more_recorded order number) (sym (ap (λ l. l ++ more_recorded order number) noted ∙ same)) refl
+  called-of order number recorded' all_marks_noted same set = calls-recorded now (done-side order number recorded') (HouseOrder order number ∷ []) (more_recorded order number) (sym (ap (λ l. l ++ more_recorded order number) all_marks_noted ∙ same)) refl
 
   -- all of it
   pub order-done : now.let_in ≡ true → s.ended ≡ None → (order : Order) (number : Option ℕ) (recorded' : Option (List HouseMark)) → OrderMadeBy order number seen → OwnedBy order → now.unnoted ≡ order_marks (Some order) → recorded' ≡ option_map (λ l. l ++ more_recorded order number) now.recorded
       → Serving May Rest before (done-side order number recorded') policy pid start (seen-noted (HouseOrder order number) (seen_carried order number seen)) (held_carried order number held) (failed_carried order failed) (given + 1) todo s
-  order-done inside live (Listen host port) (Some n) recorded' made own noted e = noted-order inside live (Listen host port) (Some n) (done-side (Listen host port) (Some n) recorded') _ _ _ (λ t client. refl) (notes-of (Listen host port) (Some n) recorded' noted e refl refl refl) (called-of (Listen host port) (Some n) recorded' noted refl) refl refl refl (placed-listens host port n made)
-  order-done inside live (Listen host port) None recorded' made own noted e = noted-order inside live (Listen host port) None (done-side (Listen host port) None recorded') _ _ _ (λ t client. refl) (notes-of (Listen host port) None recorded' noted e refl refl refl) (called-of (Listen host port) None recorded' noted refl) refl refl refl (placed-plain (Listen host port) None refl _ refl refl refl refl refl (λ t. refl) (owns-order (Listen host port) None _ refl refl v.places.streams))
-  order-done inside live (Connect host port) (Some n) recorded' made own noted e = noted-order inside live (Connect host port) (Some n) (done-side (Connect host port) (Some n) recorded') _ _ _ (λ t client. connects-other host port n t (λ q. true-false (sym (new-own n made) ∙ (ap is_own_stream q ∙ client)))) (notes-of (Connect host port) (Some n) recorded' noted e refl refl refl) (called-of (Connect host port) (Some n) recorded' noted refl) refl refl refl (placed-connects host port n made)
-  order-done inside live (Connect host port) None recorded' made own noted e = noted-order inside live (Connect host port) None (done-side (Connect host port) None recorded') _ _ _ (λ t client. refl) (notes-of (Connect host port) None recorded' noted e refl refl refl) (called-of (Connect host port) None recorded' noted refl) refl refl refl (placed-plain (Connect host port) None refl _ refl refl refl refl refl (λ t. refl) (owns-order (Connect host port) None _ refl refl v.places.streams))
-  order-done inside live (Unlisten l) None recorded' made own noted e = noted-order inside live (Unlisten l) None (done-side (Unlisten l) None recorded') _ _ _ (λ t client. refl) (notes-of (Unlisten l) None recorded' noted e refl refl refl) (called-of (Unlisten l) None recorded' noted refl) refl refl refl (placed-plain (Unlisten l) None refl _ refl refl refl refl refl (λ t. refl) (owns-order (Unlisten l) None _ refl refl v.places.streams))
-  order-done inside live (Pause k) None recorded' made own noted e = noted-order inside live (Pause k) None (done-side (Pause k) None recorded') _ _ _ (λ t client. refl) (notes-of (Pause k) None recorded' noted e refl refl refl) (called-of (Pause k) None recorded' noted refl) refl refl refl (placed-plain (Pause k) None refl _ refl refl refl refl refl (λ t. refl) (owns-order (Pause k) None _ refl refl (v.places.streams ∙ sym (pause-numbers true k seen.own))))
-  order-done inside live (Resume k) None recorded' made own noted e = noted-order inside live (Resume k) None (done-side (Resume k) None recorded') _ _ _ (λ t client. refl) (notes-of (Resume k) None recorded' noted e refl refl refl) (called-of (Resume k) None recorded' noted refl) refl refl refl (placed-plain (Resume k) None refl _ refl refl refl refl refl (λ t. refl) (owns-order (Resume k) None _ refl refl (v.places.streams ∙ sym (pause-numbers false k seen.own))))
-  order-done inside live (Finish k) None recorded' made own noted e = noted-order inside live (Finish k) None (done-side (Finish k) None recorded') _ _ _ (λ t client. refl) (notes-of (Finish k) None recorded' noted e refl refl refl) (called-of (Finish k) None recorded' noted refl) refl refl refl (placed-plain (Finish k) None refl _ refl refl refl refl refl (λ t. refl) (owns-order (Finish k) None _ refl refl (v.places.streams ∙ sym (finish-numbers k seen.own))))
-  order-done inside live (Close k) None recorded' made own noted e = noted-order inside live (Close k) None (done-side (Close k) None recorded') _ _ _ (λ t client. refl) (notes-of (Close k) None recorded' noted e refl refl refl) (called-of (Close k) None recorded' noted refl) refl refl refl (placed-closes k own)
-  order-done inside live (Unlisten l) (Some n) recorded' made own noted e = absurd (let z : Some n ≡ None = made in cc)
-  order-done inside live (Pause k) (Some n) recorded' made own noted e = absurd (let z : Some n ≡ None = made in cc)
-  order-done inside live (Resume k) (Some n) recorded' made own noted e = absurd (let z : Some n ≡ None = made in cc)
-  order-done inside live (Finish k) (Some n) recorded' made own noted e = absurd (let z : Some n ≡ None = made in cc)
-  order-done inside live (Close k) (Some n) recorded' made own noted e = absurd (let z : Some n ≡ None = made in cc)
+  order-done inside live (Listen host port) (Some n) recorded' made own all_marks_noted e = noted-order inside live (Listen host port) (Some n) (done-side (Listen host port) (Some n) recorded') _ _ _ (λ t client. refl) (notes-of (Listen host port) (Some n) recorded' all_marks_noted e refl refl refl) (called-of (Listen host port) (Some n) recorded' all_marks_noted refl) refl refl refl (placed-listens host port n made)
+  order-done inside live (Listen host port) None recorded' made own all_marks_noted e = noted-order inside live (Listen host port) None (done-side (Listen host port) None recorded') _ _ _ (λ t client. refl) (notes-of (Listen host port) None recorded' all_marks_noted e refl refl refl) (called-of (Listen host port) None recorded' all_marks_noted refl) refl refl refl (placed-plain (Listen host port) None refl _ refl refl refl refl refl (λ t. refl) (owns-order (Listen host port) None _ refl refl v.places.streams))
+  order-done inside live (Connect host port) (Some n) recorded' made own all_marks_noted e = noted-order inside live (Connect host port) (Some n) (done-side (Connect host port) (Some n) recorded') _ _ _ (λ t client. connects-other host port n t (λ q. true-false (sym (new-own n made) ∙ (ap is_own_stream q ∙ client)))) (notes-of (Connect host port) (Some n) recorded' all_marks_noted e refl refl refl) (called-of (Connect host port) (Some n) recorded' all_marks_noted refl) refl refl refl (placed-connects host port n made)
+  order-done inside live (Connect host port) None recorded' made own all_marks_noted e = noted-order inside live (Connect host port) None (done-side (Connect host port) None recorded') _ _ _ (λ t client. refl) (notes-of (Connect host port) None recorded' all_marks_noted e refl refl refl) (called-of (Connect host port) None recorded' all_marks_noted refl) refl refl refl (placed-plain (Connect host port) None refl _ refl refl refl refl refl (λ t. refl) (owns-order (Connect host port) None _ refl refl v.places.streams))
+  order-done inside live (Unlisten l) None recorded' made own all_marks_noted e = noted-order inside live (Unlisten l) None (done-side (Unlisten l) None recorded') _ _ _ (λ t client. refl) (notes-of (Unlisten l) None recorded' all_marks_noted e refl refl refl) (called-of (Unlisten l) None recorded' all_marks_noted refl) refl refl refl (placed-plain (Unlisten l) None refl _ refl refl refl refl refl (λ t. refl) (owns-order (Unlisten l) None _ refl refl v.places.streams))
+  order-done inside live (Pause k) None recorded' made own all_marks_noted e = noted-order inside live (Pause k) None (done-side (Pause k) None recorded') _ _ _ (λ t client. refl) (notes-of (Pause k) None recorded' all_marks_noted e refl refl refl) (called-of (Pause k) None recorded' all_marks_noted refl) refl refl refl (placed-plain (Pause k) None refl _ refl refl refl refl refl (λ t. refl) (owns-order (Pause k) None _ refl refl (v.places.streams ∙ sym (pause-numbers true k seen.own))))
+  order-done inside live (Resume k) None recorded' made own all_marks_noted e = noted-order inside live (Resume k) None (done-side (Resume k) None recorded') _ _ _ (λ t client. refl) (notes-of (Resume k) None recorded' all_marks_noted e refl refl refl) (called-of (Resume k) None recorded' all_marks_noted refl) refl refl refl (placed-plain (Resume k) None refl _ refl refl refl refl refl (λ t. refl) (owns-order (Resume k) None _ refl refl (v.places.streams ∙ sym (pause-numbers false k seen.own))))
+  order-done inside live (Finish k) None recorded' made own all_marks_noted e = noted-order inside live (Finish k) None (done-side (Finish k) None recorded') _ _ _ (λ t client. refl) (notes-of (Finish k) None recorded' all_marks_noted e refl refl refl) (called-of (Finish k) None recorded' all_marks_noted refl) refl refl refl (placed-plain (Finish k) None refl _ refl refl refl refl refl (λ t. refl) (owns-order (Finish k) None _ refl refl (v.places.streams ∙ sym (finish-numbers k seen.own))))
+  order-done inside live (Close k) None recorded' made own all_marks_noted e = noted-order inside live (Close k) None (done-side (Close k) None recorded') _ _ _ (λ t client. refl) (notes-of (Close k) None recorded' all_marks_noted e refl refl refl) (called-of (Close k) None recorded' all_marks_noted refl) refl refl refl (placed-closes k own)
+  order-done inside live (Unlisten l) (Some n) recorded' made own all_marks_noted e = absurd (let z : Some n ≡ None = made in cc)
+  order-done inside live (Pause k) (Some n) recorded' made own all_marks_noted e = absurd (let z : Some n ≡ None = made in cc)
+  order-done inside live (Resume k) (Some n) recorded' made own all_marks_noted e = absurd (let z : Some n ≡ None = made in cc)
+  order-done inside live (Finish k) (Some n) recorded' made own all_marks_noted e = absurd (let z : Some n ≡ None = made in cc)
+  order-done inside live (Close k) (Some n) recorded' made own all_marks_noted e = absurd (let z : Some n ≡ None = made in cc)
 
   -- an order is no request
   no-asks : (order : Order) (number : Option ℕ) → ask_marks_in (more_recorded order number) ≡ []
@@ -226,8 +226,8 @@ module _ {May : HouseReply → Type 0} {Rest : Resting} {before : Option (List H
   pub order-noted : {E : Type 0} (r : Result (Unit {0}) E) (order : Order) (number : Option ℕ) (side : Side) (seen0 seen' : Seen) (held' failed' : List ℕ) → now.let_in ≡ true → s.ended ≡ None → OrderMadeBy order number seen → OwnedBy order → now.unnoted ≡ order_marks (Some order)
       → side.recorded ≡ option_map (λ l. l ++ more_recorded order number) now.recorded → side.asks ≡ now.asks → side.unnoted ≡ [] → side.let_in ≡ now.let_in → side.calls ≡ now.calls ++ calls_of (more_recorded order number) → seen0 ≡ seen_carried order number seen → seen0.recorded ≡ seen.recorded → seen' ≡ seen_after_note r (HouseOrder order number) seen0 → held' ≡ held_carried order number held → failed' ≡ failed_carried order failed
       → MatchResult r (λ x. Serving May Rest before side policy pid start seen' held' failed' (given + 1) todo s) (λ e. Promised May Rest before side.recorded policy pid start seen'.recorded (given + 1))
-  order-noted (Ok x) order number side seen0 seen' held' failed' inside live made own noted recorded asks unnoted within called carried same after held_is failed_is =
-      let done : Serving May Rest before (done-side order number side.recorded) policy pid start (seen-noted (HouseOrder order number) (seen_carried order number seen)) (held_carried order number held) (failed_carried order failed) (given + 1) todo s = order-done inside live order number side.recorded made own noted recorded in
+  order-noted (Ok x) order number side seen0 seen' held' failed' inside live made own all_marks_noted recorded asks unnoted within called carried same after held_is failed_is =
+      let done : Serving May Rest before (done-side order number side.recorded) policy pid start (seen-noted (HouseOrder order number) (seen_carried order number seen)) (held_carried order number held) (failed_carried order failed) (given + 1) todo s = order-done inside live order number side.recorded made own all_marks_noted recorded in
       let at : Serving May Rest before side policy pid start (seen-noted (HouseOrder order number) (seen_carried order number seen)) (held_carried order number held) (failed_carried order failed) (given + 1) todo s =
       subst (λ (l : List OpenAsk). Serving May Rest before (record side { asks = l }) policy pid start (seen-noted (HouseOrder order number) (seen_carried order number seen)) (held_carried order number held) (failed_carried order failed) (given + 1) todo s) (sym asks)
       (subst (λ (l : List HouseMark). Serving May Rest before (record side { asks = now.asks; unnoted = l }) policy pid start (seen-noted (HouseOrder order number) (seen_carried order number seen)) (held_carried order number held) (failed_carried order failed) (given + 1) todo s) (sym unnoted)
@@ -236,7 +236,7 @@ module _ {May : HouseReply → Type 0} {Rest : Resting} {before : Option (List H
       subst (λ (l : List ℕ). Serving May Rest before side policy pid start seen' l failed' (given + 1) todo s) (sym held_is)
       (subst (λ (l : List ℕ). Serving May Rest before side policy pid start seen' (held_carried order number held) l (given + 1) todo s) (sym failed_is)
       (subst (λ (x : Seen). Serving May Rest before side policy pid start x (held_carried order number held) (failed_carried order failed) (given + 1) todo s) (sym (after ∙ ap (λ (x : Seen). seen-noted (HouseOrder order number) x) carried)) at))
-  order-noted (Err e) order number side seen0 seen' held' failed' inside live made own noted recorded asks unnoted within called carried same after held_is failed_is =
+  order-noted (Err e) order number side seen0 seen' held' failed' inside live made own all_marks_noted recorded asks unnoted within called carried same after held_is failed_is =
       cut-here v side.recorded seen'.recorded (given + 1) (more_recorded order number) (ap (λ (x : Seen). x.recorded) after ∙ same) recorded (no-asks order number) (omega arith)
 
 -- ---- where it makes something
@@ -284,13 +284,13 @@ carried-recorded (Finish k) number seen = refl
 carried-recorded (Close k) number seen = refl
 
 -- it was made and recorded, and there was no memory to keep it
-pub order-lost : {May : HouseReply → Type 0} {Rest : Resting} {before : Option (List HouseMark)} {now : Side} {policy : Policy} {pid : ℕ} {start : Option (List Mark)} {seen : Seen} {held failed : List ℕ} {given : ℕ} {todo : List ℕ} {s : State} (v : Serving May Rest before now policy pid start seen held failed given todo s)
+pub order-lost : {May : HouseReply → Type 0} {Rest : Resting} {before : Option (List HouseMark)} {now : Side} {policy : Policy} {pid : ℕ} {start : Option (List Mark)} {seen : Seen} {held failed : List ℕ} {given : ℕ} {todo : List ℕ} {s : EngineState} (v : Serving May Rest before now policy pid start seen held failed given todo s)
     → now.let_in ≡ true → s.ended ≡ None → (order : Order) (n : ℕ) (recorded' : Option (List HouseMark)) (marks' : Option (List Mark)) → OrderMadeBy order (Some n) seen → OwnedBy order → now.unnoted ≡ order_marks (Some order) → recorded' ≡ option_map (λ l. l ++ more_recorded order (Some n)) now.recorded → marks' ≡ option_map (λ m. m ++ House (HouseOrder order (Some n)) ∷ []) seen.recorded → Promised May Rest before recorded' policy pid start marks' (given + 1)
-order-lost {seen = seen} {given = given} v inside live order n recorded' marks' made own noted recorded e =
-    cut-here (order-done v inside live order (Some n) recorded' made own noted recorded) recorded' marks' (given + 1) []
+order-lost {seen = seen} {given = given} v inside live order n recorded' marks' made own all_marks_noted recorded e =
+    cut-here (order-done v inside live order (Some n) recorded' made own all_marks_noted recorded) recorded' marks' (given + 1) []
     (e ∙ ap (λ (t : Option (List Mark)). option_map (λ (m : List Mark). m ++ House (HouseOrder order (Some n)) ∷ []) t) (sym (carried-recorded order (Some n) seen))) (records-none recorded') refl (omega arith)
 
--- its asks and whether it is there stay
+-- its requests and whether it is there stay
 pub record SameSide (old new : Known) : Type 0 where
   pub asks : new.asks ≡ old.asks
   pub present : new.present ≡ old.present
@@ -353,7 +353,7 @@ order-side (Close k) known = record { asks = refl; present = refl }
 pub given-side : (order : Order) (known known' : Known) → known' ≡ known_after_order (Some order) known → SameSide known known'
 given-side order known known' e = subst (SameSide known) (sym e) (order-side order known)
 
-pub order-given : {May : HouseReply → Type 0} {Rest : Resting} {before : Option (List HouseMark)} {policy : Policy} {pid : ℕ} {start : Option (List Mark)} {seen : Seen} {held failed : List ℕ} {given : ℕ} {todo : List ℕ} {s : State} {calls : List HouseCall} (order : Order) (recorded recorded' : Option (List HouseMark)) (known known' : Known)
-    → recorded' ≡ option_map (λ l. l ++ order_marks (Some order)) recorded → known' ≡ known_after_order (Some order) known → Serving May Rest before (noted recorded known calls) policy pid start seen held failed given todo s → Serving May Rest before (noting (order_marks (Some order)) recorded' known' (calls ++ calls_of (order_marks (Some order)))) policy pid start seen held failed given todo s
+pub order-given : {May : HouseReply → Type 0} {Rest : Resting} {before : Option (List HouseMark)} {policy : Policy} {pid : ℕ} {start : Option (List Mark)} {seen : Seen} {held failed : List ℕ} {given : ℕ} {todo : List ℕ} {s : EngineState} {calls : List HouseCall} (order : Order) (recorded recorded' : Option (List HouseMark)) (known known' : Known)
+    → recorded' ≡ option_map (λ l. l ++ order_marks (Some order)) recorded → known' ≡ known_after_order (Some order) known → Serving May Rest before (all_marks_noted recorded known calls) policy pid start seen held failed given todo s → Serving May Rest before (noting (order_marks (Some order)) recorded' known' (calls ++ calls_of (order_marks (Some order)))) policy pid start seen held failed given todo s
 order-given {calls = calls} order recorded recorded' known known' e f v = let side = given-side order known known' f in
     serve-recorded v (noting (order_marks (Some order)) recorded' known' (calls ++ calls_of (order_marks (Some order)))) (order_marks (Some order)) e refl (order-unasked order) (subst (λ (l : List OpenAsk). All (λ (a : OpenAsk). IsTrue (is_accepted a.client v.journal)) l) (sym side.asks) v.askers) (side.asks ∙ sym (order-opens order known.asks)) side.present refl

@@ -11,17 +11,17 @@ use Rattle.mux_outside.specs.declared.mark.Mark.TheVariants.{Waits, Accepts, Get
 use Rattle.mux_outside.specs.declared.house_mark.HouseMark.TheVariants.{HouseIn, HouseSaid, HouseTook, HouseAsked, HouseAnswer, HouseOrder}
 use Rattle.mux_history.specs.declared.limits.TheConstants.{HOUSE}
 use Rattle.mux_history.specs.Choices.{pick_of, with_reply}
-use Rattle.mux_history.specs.Controls.{greeted, house_sends}
+use Rattle.mux_history.specs.Controls.{client_has_greeted, house_sends}
 use Rattle.mux_history.specs.Farewell.{farewell}
 use Rattle.mux_history.specs.Summary.{Summary, read_summary}
 use Rattle.mux_history.specs.Heard.{Breaks, Dest, Disconnects, ToClient, ToMaster, dest, for_client, for_lost, received_for, received_summary}
 use Rattle.mux_history.specs.Journal.{IsLawful, bytes_of, received_item, is_own_stream, items_in, log_of_journal, new_received, new_sayings, sent_item, server_end, unless_own}
 use Rattle.mux_history.specs.Kept.{ForEach}
-use Rattle.mux_history.specs.Log.{Setting, admits, all_recorded, bare, fitting, goes, received_row, is_took, makes_next, makes_row, more_all, more_of, new_answers, queued, row_of, sent_by_client, treat, with_farewell}
+use Rattle.mux_history.specs.Log.{Setting, admits, all_recorded, bare_row, frames_that_fit, goes, received_row, is_took, makes_next, makes_row, more_all, more_of, new_answers, queued, row_of, sent_by_client, treat, with_farewell}
 use Rattle.mux_history.specs.Pending.{joined, pending_down, took_by, waiting_down}
 use Rattle.mux_history.specs.Policy.{Policy}
 use Rattle.mux_history.specs.Right.{AreFresh}
-use Rattle.mux_history.specs.Rows.{Admit, BadServer, Gone, Heard, HouseSays, Item, Row, RunEnd, Says, ServerCut, ServerEnd, ServerFailed, Took, any_of, is_admit, is_ended, is_lost, is_out, is_refusal, loses, rows_of}
+use Rattle.mux_history.specs.Rows.{Admit, BadServer, Gone, Heard, HouseSays, Item, Row, RunEnd, Says, ServerCut, ServerEnd, ServerFailed, Took, any_of, is_admit, is_run_over, is_lost, is_out, is_refusal, loses, rows_of}
 use Rattle.mux_history.specs.Said.{Outcome, silent}
 use Rattle.mux_history.specs.Settings.{by_lists}
 use Rattle.mux_history.proofs.Bools.{or-yes, same-number}
@@ -33,7 +33,7 @@ use Rattle.mux_history.proofs.RightLogs.{LogKnown, RowKnown, right-known}
 use Rattle.mux_bounds.proofs.Entries.{EachItem, by-more, lists, log-first, next, tails, with-reply}
 use Rattle.mux_bounds.proofs.Knowns.{LetFirst, greeted-in, to-greeted}
 use Rattle.mux_peers.proofs.Steps.{entered-among}
-use Rattle.mux_state.specs.State.{State}
+use Rattle.mux_state.specs.State.{EngineState}
 use Rattle.mux_state.specs.Stands.{RowsFit}
 use Rattle.mux_engine.proofs.Lists.{true-false}
 
@@ -48,10 +48,10 @@ farewell-down row own = by_loss (loses row)
 
 lost-recorded : (item : Item) (k : ℕ) (o : Outcome) (own : List Row) → is_lost own ≡ true → o.recorded ≡ [] → (row_of item k o own).down ≡ []
 lost-recorded item k o own lost none =
-    farewell-down (queued (all_recorded (bare item k o) own) (bare item k o) own) own
-    ∙ ap (fitting (waiting_down own)) (ap (λ b. elim (goes o.ends && not b) as (λ _. List (List ℕ)) [ true ↦ o.recorded ++ new_answers (bare item k o) own | false ↦ o.recorded ]) lost ∙ (by_fate (goes o.ends) ∙ none))
+    farewell-down (queued (all_recorded (bare_row item k o) own) (bare_row item k o) own) own
+    ∙ ap (frames_that_fit (waiting_down own)) (ap (λ b. elim (goes o.ends && not b) as (λ _. List (List ℕ)) [ true ↦ o.recorded ++ new_answers (bare_row item k o) own | false ↦ o.recorded ]) lost ∙ (by_fate (goes o.ends) ∙ none))
   where
-    by_fate : (b : Bool) → (elim (b && false) as (λ _. List (List ℕ)) [ true ↦ o.recorded ++ new_answers (bare item k o) own | false ↦ o.recorded ]) ≡ o.recorded
+    by_fate : (b : Bool) → (elim (b && false) as (λ _. List (List ℕ)) [ true ↦ o.recorded ++ new_answers (bare_row item k o) own | false ↦ o.recorded ]) ≡ o.recorded
     by_fate true = refl
     by_fate false = refl
 
@@ -67,7 +67,7 @@ heard-nothing own p lost = by_read (read_summary p)
 -- out, and lost or silent ever since
 pub record ReceivesNothing (k : ℕ) (rows : List Row) : Type 0 where
   pub out : is_out (rows_of k rows) ≡ true
-  pub silent : (is_lost (rows_of k rows) ≡ true) ⊎ (greeted (rows_of k rows) ≡ false)
+  pub silent : (is_lost (rows_of k rows) ≡ true) ⊎ (client_has_greeted (rows_of k rows) ≡ false)
 
 -- it accepts nothing, and does not admit this client
 abbrev pub Passes : ℕ → Item → Type 0
@@ -85,17 +85,17 @@ abbrev Leaves : ℕ → List Row → Row → Type 0
 Leaves k rows row = row.client ≡ k → RecordsNothing k rows row
 
 module _ (policy : Policy) (pid : ℕ) (k : ℕ) (real : k ≢ 0) where
-  not-own : (rows : List Row) (item : Item) (j : ℕ) (o : Outcome) → ReceivesNothing k rows → makes_next rows item ≡ true → (is_ended rows ≡ false → makes_next rows item ≡ not (is_out (rows_of j rows))) → (is_ended rows ≡ true → makes_next rows item ≡ false) → Leaves k rows (row_of item j o (rows_of j rows))
-  not-own rows item j o is makes live over mine = by_ended (is_ended rows) refl
+  not-own : (rows : List Row) (item : Item) (j : ℕ) (o : Outcome) → ReceivesNothing k rows → makes_next rows item ≡ true → (is_run_over rows ≡ false → makes_next rows item ≡ not (is_out (rows_of j rows))) → (is_run_over rows ≡ true → makes_next rows item ≡ false) → Leaves k rows (row_of item j o (rows_of j rows))
+  not-own rows item j o is makes live over mine = by_ended (is_run_over rows) refl
     where
       same : j ≡ k
       same = sym (client-of item j o (rows_of j rows)) ∙ mine
 
-      by_ended : (b : Bool) → is_ended rows ≡ b → RecordsNothing k rows (row_of item j o (rows_of j rows))
+      by_ended : (b : Bool) → is_run_over rows ≡ b → RecordsNothing k rows (row_of item j o (rows_of j rows))
       by_ended true e = let bad : true ≡ false = sym makes ∙ over e in absurd (let h = bad in cc)
       by_ended false e = let bad : true ≡ false = sym makes ∙ (live e ∙ ap not (ap (λ i. is_out (rows_of i rows)) same ∙ is.out)) in absurd (let h = bad in cc)
 
-  after-end : (rows : List Row) (item : Item) → is_took item ≡ false → is_ended rows ≡ true → makes_next rows item ≡ false
+  after-end : (rows : List Row) (item : Item) → is_took item ≡ false → is_run_over rows ≡ true → makes_next rows item ≡ false
   after-end rows item other e = ap (λ b. elim b as (λ _. Bool) [ true ↦ is_took item | false ↦ makes_row rows item ]) e ∙ other
 
   no-server : (rows : List Row) (row : Row) → row.client ≡ 0 → Leaves k rows row
@@ -153,7 +153,7 @@ module _ (policy : Policy) (pid : ℕ) (k : ℕ) (real : k ≢ 0) where
       }
       by_client false e = record {
         waits = ap pending_down (other e);
-        silent = record { out = ap is_out (other e) ∙ is.out; silent = subst (λ (l : List Row). (is_lost l ≡ true) ⊎ (greeted l ≡ false)) (sym (other e)) is.silent };
+        silent = record { out = ap is_out (other e) ∙ is.out; silent = subst (λ (l : List Row). (is_lost l ≡ true) ⊎ (client_has_greeted l ≡ false)) (sym (other e)) is.silent };
       }
 
   stays-none : (rows : List Row) → ReceivesNothing k rows → Stays rows rows
@@ -245,22 +245,22 @@ waits-on policy pid k real picks given mark before spares is known = (stays-item
 -- ---- a client that was closed
 
 -- it receives nothing more
-closed-receives : {taken : ℕ} {drawn : List HouseMark} {s : State} {closed : List ℕ} {rows : List Row} → RowsFit taken drawn s closed rows → ForEach LetFirst rows → (k : ℕ) → among k closed ≡ true → ReceivesNothing k rows
+closed-receives : {taken : ℕ} {drawn : List HouseMark} {s : EngineState} {closed : List ℕ} {rows : List Row} → RowsFit taken drawn s closed rows → ForEach LetFirst rows → (k : ℕ) → among k closed ≡ true → ReceivesNothing k rows
 closed-receives {rows = rows} fit first k c = record { out = fit.closed_out k c; silent = by_admitted (any_of is_admit (rows_of k rows)) refl }
   where
-    by_greeted : any_of is_admit (rows_of k rows) ≡ false → (b : Bool) → greeted (rows_of k rows) ≡ b → b ≡ false
+    by_greeted : any_of is_admit (rows_of k rows) ≡ false → (b : Bool) → client_has_greeted (rows_of k rows) ≡ b → b ≡ false
     by_greeted e false f = refl
     by_greeted e true f = true-false (sym (greeted-in rows k first f) ∙ e)
 
-    by_admitted : (b : Bool) → any_of is_admit (rows_of k rows) ≡ b → (is_lost (rows_of k rows) ≡ true) ⊎ (greeted (rows_of k rows) ≡ false)
+    by_admitted : (b : Bool) → any_of is_admit (rows_of k rows) ≡ b → (is_lost (rows_of k rows) ≡ true) ⊎ (client_has_greeted (rows_of k rows) ≡ false)
     by_admitted true e = inl (sym (fit.known k (entered-among k rows e)).out_is ∙ fit.closed_out k c)
-    by_admitted false e = inr (by_greeted e (greeted (rows_of k rows)) refl)
+    by_admitted false e = inr (by_greeted e (client_has_greeted (rows_of k rows)) refl)
 
 known-log : (policy : Policy) (pid : ℕ) (picks : List ℕ) (replies : List HouseReply) (journal : List Mark) → IsLawful journal → AreFresh (log_of_journal (by_lists policy pid picks replies) journal) → LogKnown policy pid (log_of_journal (by_lists policy pid picks replies) journal)
 known-log policy pid picks replies journal lawful fresh = right-known policy pid picks replies journal 0 (log_of_journal (by_lists policy pid picks replies) journal) lawful ((logs-right policy pid picks replies journal).whole fresh)
 
 -- and what waits for it stays
-pub waits-closed : {taken : ℕ} {drawn : List HouseMark} {s : State} {closed : List ℕ} (policy : Policy) (pid : ℕ) (picks : List ℕ) (replies : List HouseReply) (mark : Mark) (before : List Mark) → RowsFit taken drawn s closed (log_of_journal (by_lists policy pid picks replies) before)
+pub waits-closed : {taken : ℕ} {drawn : List HouseMark} {s : EngineState} {closed : List ℕ} (policy : Policy) (pid : ℕ) (picks : List ℕ) (replies : List HouseReply) (mark : Mark) (before : List Mark) → RowsFit taken drawn s closed (log_of_journal (by_lists policy pid picks replies) before)
     → IsLawful (mark ∷ before) → AreFresh (log_of_journal (by_lists policy pid picks replies) (mark ∷ before)) → (k : ℕ) → k ≢ 0 → among k closed ≡ true → Spares k mark
     → pending_down (rows_of k (log_of_journal (by_lists policy pid picks replies) (mark ∷ before))) ≡ pending_down (rows_of k (log_of_journal (by_lists policy pid picks replies) before))
 waits-closed policy pid picks replies mark before fit lawful fresh k real c spares =

@@ -20,10 +20,10 @@ use Rattle.mux_history.specs.declared.limits.TheConstants.{HOUSE}
 use Rattle.mux_history.specs.Journal.{is_accepted}
 use Rattle.mux_history.specs.Policy.{Policy}
 use Rattle.mux_peers.specs.Asked.{RecordsAsks}
-use Rattle.mux_state.specs.State.{State}
+use Rattle.mux_state.specs.State.{EngineState}
 use Rattle.mux_state.specs.Events.{MarkRecords}
 use Rattle.mux_state.specs.declared.event.Event.{Event}
-use Rattle.mux_state.specs.Stands.{GoesBy, IsAllowed, Stands}
+use Rattle.mux_state.specs.Stands.{GoesBy, IsAllowed, RepresentsSoFar}
 use Rattle.mux_engine.specs.Asking.{Applied, AppliesSo}
 use Rattle.mux_engine.specs.OwnFaults.{OwnCounted}
 use Rattle.mux_engine.specs.Serving.{IsUnseen, Serving}
@@ -64,25 +64,25 @@ asks-are asks more e = held e
     held h = cc
 
 -- an event that a mark records which may come now
-pub record MayCome (e : Event) (s : State) (journal : List Mark) : Type 0 where
+pub record MayCome (e : Event) (s : EngineState) (journal : List Mark) : Type 0 where
   pub mark : Mark
   pub records : MarkRecords e mark
   pub allowed : IsAllowed s journal mark
 
-module _ {picked : List ℕ} {replies : List HouseReply} {s : State} {journal : List Mark} {closed : List ℕ} (st : Stands picked replies s journal closed) {e : Event} (comes : MayCome e s journal) where
-  applies-counted : {May : HouseReply → Type 0} (s' : State) (asks : List HouseMark) (recorded recorded' : Option (List HouseMark)) (known known' : Known) (seen seen' : Seen) (n : ℕ) (faults faults' : ℕ) → faults' ≡ faults → AppliesSo May e s s' asks recorded recorded' known known' seen seen' n → OwnCounted seen.recorded seen'.recorded faults faults'
+module _ {picked : List ℕ} {replies : List HouseReply} {s : EngineState} {journal : List Mark} {closed : List ℕ} (st : RepresentsSoFar picked replies s journal closed) {e : Event} (comes : MayCome e s journal) where
+  applies-counted : {May : HouseReply → Type 0} (s' : EngineState) (asks : List HouseMark) (recorded recorded' : Option (List HouseMark)) (known known' : Known) (seen seen' : Seen) (n : ℕ) (faults faults' : ℕ) → faults' ≡ faults → AppliesSo May e s s' asks recorded recorded' known known' seen seen' n → OwnCounted seen.recorded seen'.recorded faults faults'
   applies-counted {May} s' asks recorded recorded' known known' seen seen' n faults faults' same h =
       let g : GoesBy May (Some []) (Some asks) picked replies s s' comes.mark journal closed = h.goes comes.mark comes.records picked replies journal closed st comes.allowed in
       let each : EachAsked Anyone asks = subst (EachAsked Anyone) (sym (asks-are asks g.asks g.recorded)) (goes-asked Anyone g h.keeps.policy h.keeps.pid (said-by comes.mark)) in
       own-asks Anyone n asks seen seen' faults faults' each h.seen_is same
 
-  pub applied-counted : {A E : Type 0} (r : Result A E) (May : HouseReply → Type 0) (s' : State) (asks : List HouseMark) (recorded recorded' : Option (List HouseMark)) (known known' : Known) (seen seen' : Seen) (faults faults' : ℕ) → faults' ≡ faults → Applied r May e s s' asks recorded recorded' known known' seen seen' → OwnCounted seen.recorded seen'.recorded faults faults'
+  pub applied-counted : {A E : Type 0} (r : Result A E) (May : HouseReply → Type 0) (s' : EngineState) (asks : List HouseMark) (recorded recorded' : Option (List HouseMark)) (known known' : Known) (seen seen' : Seen) (faults faults' : ℕ) → faults' ≡ faults → Applied r May e s s' asks recorded recorded' known known' seen seen' → OwnCounted seen.recorded seen'.recorded faults faults'
   applied-counted (Ok x) May s' asks recorded recorded' known known' seen seen' faults faults' same h = applies-counted s' asks recorded recorded' known known' seen seen' (length asks) faults faults' same h
   applied-counted (Err x) May s' asks recorded recorded' known known' seen seen' faults faults' same (inl u) = own-still seen.recorded seen'.recorded faults faults' (ap (λ (y : Seen). y.recorded) u.seen_is) (omega (arith, same))
   applied-counted (Err x) May s' asks recorded recorded' known known' seen seen' faults faults' same (inr p) = applies-counted s' asks recorded recorded' known known' seen seen' p.0 faults faults' same p.1
 
 -- what the forwarder sends as a client
-pub house-comes : (e : Event) (s : State) (journal : List Mark) (bytes : List ℕ) → is_accepted HOUSE journal ≡ true → AreBytes bytes → MarkRecords e (Gets HOUSE bytes) → MayCome e s journal
+pub house-comes : (e : Event) (s : EngineState) (journal : List Mark) (bytes : List ℕ) → is_accepted HOUSE journal ≡ true → AreBytes bytes → MarkRecords e (Gets HOUSE bytes) → MayCome e s journal
 house-comes e s journal bytes within are records = record { mark = Gets HOUSE bytes; records = records; allowed = ((λ nz. within), are, refl) }
 
 -- ---- a turn of the wire
@@ -90,7 +90,7 @@ house-comes e s journal bytes within are records = record { mark = Gets HOUSE by
 few-clients : (last k : ℕ) → k ≡ last + 1 → last < LAST_CLIENT → k ≤ LAST_CLIENT
 few-clients last k e lt = omega arith
 
-module _ {May : HouseReply → Type 0} {Rest : Resting} {before : Option (List HouseMark)} {now : Side} {policy : Policy} {pid : ℕ} {start : Option (List Mark)} {seen : Seen} {held failed : List ℕ} {given : ℕ} {todo : List ℕ} {s : State}
+module _ {May : HouseReply → Type 0} {Rest : Resting} {before : Option (List HouseMark)} {now : Side} {policy : Policy} {pid : ℕ} {start : Option (List Mark)} {seen : Seen} {held failed : List ℕ} {given : ℕ} {todo : List ℕ} {s : EngineState}
     (v : Serving May Rest before now policy pid start seen held failed given todo s) where
   accepted : (k : ℕ) → is_own k ≡ false → among k seen.streams ≡ true → k ≢ 0 → is_accepted k v.journal ≡ true
   accepted k client found nz = (at-stream v.stands k (open-stream v k client found)).accepted nz

@@ -130,7 +130,7 @@ pub own-note : {E : Type 0} (r : Result (Unit {0}) E) (mark : HouseMark) (old ne
 own-note (Ok x) mark old new m n made e f = own-recorded old.recorded new.recorded (House mark ∷ []) m n (ap (λ (x : Seen). x.recorded) e) (ap (λ b. cond b (House mark ∷ []) []) made) (same-later m n f)
 own-note (Err x) mark old new m n made e f = own-still old.recorded new.recorded m n (ap (λ (x : Seen). x.recorded) e) (same-later m n f)
 
--- asks of clients are none
+-- requests of clients are none
 asks-made : (P : ℕ → Type 0) (n : ℕ) (asks : List HouseMark) → EachAsked P asks → filter is_order_unmade (map (λ (a : HouseMark). House a) (take n asks)) ≡ []
 asks-made P zero asks each = refl
 asks-made P (suc n) [] each = refl

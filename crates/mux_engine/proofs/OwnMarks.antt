@@ -21,7 +21,7 @@ use Rattle.mux_history.specs.Settings.{by_lists}
 use Rattle.mux_history.specs.Journal.{is_own_stream, log_of_journal}
 use Rattle.mux_history.specs.Promises.{IsFront, TakesFront, has_failed}
 use Rattle.mux_history.proofs.Wires.{wire-keeps}
-use Rattle.mux_state.specs.State.{State}
+use Rattle.mux_state.specs.State.{EngineState}
 use Rattle.mux_state.proofs.Twins.{own-silent, stands-alike}
 use Rattle.mux_engine.specs.Called.{if_own}
 use Rattle.mux_engine.specs.Serving.{Serving}
@@ -36,7 +36,7 @@ use Rattle.mux_engine.proofs.Places.{house-other, house-shut, placed-by, placed-
 use Rattle.mux_engine.proofs.Quiet.{notes-calling, notes-none, serve-quiet}
 use Rattle.mux_engine.proofs.Silent.{holds-alike}
 
-module _ {May : HouseReply → Type 0} {Rest : Resting} {before : Option (List HouseMark)} {now : Side} {policy : Policy} {pid : ℕ} {start : Option (List Mark)} {seen : Seen} {held failed : List ℕ} {given : ℕ} {todo : List ℕ} {s : State}
+module _ {May : HouseReply → Type 0} {Rest : Resting} {before : Option (List HouseMark)} {now : Side} {policy : Policy} {pid : ℕ} {start : Option (List Mark)} {seen : Seen} {held failed : List ℕ} {given : ℕ} {todo : List ℕ} {s : EngineState}
     (v : Serving May Rest before now policy pid start seen held failed given todo s) (k : ℕ) (own : IsTrue (is_own k)) (found : among k seen.streams ≡ true) where
   -- its number is not that of the forwarder
   pub own-is : is_own_stream k ≡ true
@@ -56,7 +56,7 @@ module _ {May : HouseReply → Type 0} {Rest : Resting} {before : Option (List H
       by_failed false e = refl
       by_failed true e = true-false (sym (v.failed_are k is found e) ∙ sound)
 
-  -- it took bytes
+  -- it accepted bytes
   pub own-takes : (n : ℕ) (bytes : List ℕ) (seen' : Seen) → is_finished k seen.own ≡ false → among k failed ≡ false → now.unnoted ≡ [] → AreBytes bytes → 0 < length bytes → WroteFits (wrote.Took n) (length bytes) → AcceptsAs seen s → seen' ≡ seen_after_write (wrote.Took n) k bytes seen → Serving May Rest before (calling now (call.Takes k (take n bytes) ∷ [])) policy pid start seen' held failed given todo s
   own-takes n bytes seen' unfinished unfailed none are some fits accepts e =
       let mark : Mark = Takes k (take n bytes) seen.listens in

@@ -24,7 +24,7 @@ use Rattle.mux_history.specs.Journal.{is_blocked, is_own_stream}
 use Rattle.mux_history.specs.Promises.{has_failed, not_own}
 use Rattle.mux_history.specs.Wires.{OfWire}
 use Rattle.mux_peers.specs.Among.{numbers}
-use Rattle.mux_state.specs.State.{State}
+use Rattle.mux_state.specs.State.{EngineState}
 use Rattle.mux_state.specs.Events.{here}
 use Rattle.mux_state.proofs.Twins.{own-silent, stands-alike}
 use Rattle.std.proofs.lemmas.List.Folds.{list_any-append}
@@ -46,7 +46,7 @@ use Rattle.mux_engine.proofs.Todo.{serve-todo}
 freed : (k t : ℕ) (journal : List Mark) (b : Bool) → (k == t) ≡ b → is_blocked t (Frees k ∷ journal) ≡ (elim b as (λ _. Bool) [ true ↦ false | false ↦ is_blocked t journal ])
 freed k t journal b e = ap (λ c. elim c as (λ _. Bool) [ true ↦ false | false ↦ is_blocked t journal ]) e
 
-module _ {May : HouseReply → Type 0} {Rest : Resting} {before : Option (List HouseMark)} {now : Side} {policy : Policy} {pid : ℕ} {start : Option (List Mark)} {seen : Seen} {held failed : List ℕ} {given : ℕ} {s : State}
+module _ {May : HouseReply → Type 0} {Rest : Resting} {before : Option (List HouseMark)} {now : Side} {policy : Policy} {pid : ℕ} {start : Option (List Mark)} {seen : Seen} {held failed : List ℕ} {given : ℕ} {s : EngineState}
     (v : Serving May Rest before now policy pid start seen held failed given [] s) where
   -- all are to be offered what waits for them again
   pub offered-again : Serving May Rest before now policy pid start seen held failed given (0 ∷ here s) s

@@ -16,10 +16,10 @@ use Rattle.mux_history.specs.Rows.{rows_of, is_out}
 use Rattle.mux_history.specs.Journal.{is_accepted, is_blocked, is_known, is_own_stream}
 use Rattle.mux_history.specs.Promises.{has_failed, not_own}
 use Rattle.mux_history.specs.Wires.{OfWire}
-use Rattle.mux_state.specs.State.{State}
+use Rattle.mux_state.specs.State.{EngineState}
 use Rattle.mux_state.specs.Events.{here}
-use Rattle.mux_state.specs.Stands.{Stands, EngineRepresents, log}
-use Rattle.mux_engine.specs.Serving.{IsFreeForOwn, IsUnseen, IsUnused, Serving, is_open}
+use Rattle.mux_state.specs.Stands.{RepresentsSoFar, EngineRepresents, log}
+use Rattle.mux_engine.specs.Serving.{IsFreeForOwn, IsUnseen, IsUnused, Serving, is_stream_open}
 use Rattle.mux_engine.specs.Sides.{Resting, SameSockets, Side}
 use Rattle.mux_engine.proofs.Lists.{among-not-own, among-open, not-own-stream, open-here, own-or-house, test-other, true-false}
 use Rattle.mux_engine.proofs.Logs.{failed-more}
@@ -28,11 +28,11 @@ use Rattle.mux_engine.proofs.Owns.{Owns}
 
 -- ---- a stream that is open
 
-pub record AtStream (s : State) (marks : List Mark) (closed : List ℕ) (k : ℕ) : Type 0 where
+pub record AtStream (s : EngineState) (marks : List Mark) (closed : List ℕ) (k : ℕ) : Type 0 where
   pub not_closed : among k closed ≡ false
   pub accepted : k ≢ 0 → is_accepted k marks ≡ true
 
-pub at-stream : {picked : List ℕ} {replies : List HouseReply} {s : State} {marks : List Mark} {closed : List ℕ} (st : Stands picked replies s marks closed) (k : ℕ) → is_open s k ≡ true → AtStream s marks closed k
+pub at-stream : {picked : List ℕ} {replies : List HouseReply} {s : EngineState} {marks : List Mark} {closed : List ℕ} (st : RepresentsSoFar picked replies s marks closed) (k : ℕ) → is_stream_open s k ≡ true → AtStream s marks closed k
 at-stream {picked} {replies} {s} {marks} {closed} st k opened = record { not_closed = by_closed (among k closed) refl; accepted = λ nz. by_accepted nz (is_accepted k marks) refl }
   where
     v : EngineRepresents (picked ++ []) (replies ++ []) (length picked) st.asks s marks closed
@@ -52,24 +52,24 @@ at-stream {picked} {replies} {s} {marks} {closed} st k opened = record { not_clo
 server-own : is_own 0 ≡ false
 server-own = refl
 
-module _ {May : HouseReply → Type 0} {Rest : Resting} {before : Option (List HouseMark)} {now : Side} {policy : Policy} {pid : ℕ} {start : Option (List Mark)} {seen : Seen} {held failed : List ℕ} {given : ℕ} {todo : List ℕ} {s : State} (v : Serving May Rest before now policy pid start seen held failed given todo s) where
+module _ {May : HouseReply → Type 0} {Rest : Resting} {before : Option (List HouseMark)} {now : Side} {policy : Policy} {pid : ℕ} {start : Option (List Mark)} {seen : Seen} {held failed : List ℕ} {given : ℕ} {todo : List ℕ} {s : EngineState} (v : Serving May Rest before now policy pid start seen held failed given todo s) where
   -- the streams that are open but for the master's own are those of the engine
-  among-places : (k : ℕ) → is_own k ≡ false → among k seen.streams ≡ is_open s k
+  among-places : (k : ℕ) → is_own k ≡ false → among k seen.streams ≡ is_stream_open s k
   among-places k e = sym (among-not-own k seen.streams e) ∙ (ap (among k) v.open_are ∙ (ap (λ b. (0 == k) || b) (among-not-own k (here s) e) ∙ among-open s k))
 
   -- a client that is here is none of the master's own streams
-  pub open-own : (k : ℕ) → is_open s k ≡ true → k ≢ HOUSE → is_own k ≡ false
+  pub open-own : (k : ℕ) → is_stream_open s k ≡ true → k ≢ HOUSE → is_own k ≡ false
   open-own k opened ne = elim (eqb_tells k 0) [
     | inl q ↦ ap is_own q.1 ∙ server-own
     | inr q ↦ own-or-house k (v.apart k (sym (ap (λ b. b || among k (here s)) (test-other 0 k (λ z. q.1 (sym z)))) ∙ (among-open s k ∙ opened))) ne
   ]
 
   -- the wire has it open
-  pub stream-open : (k : ℕ) → is_open s k ≡ true → k ≢ HOUSE → among k seen.streams ≡ true
+  pub stream-open : (k : ℕ) → is_stream_open s k ≡ true → k ≢ HOUSE → among k seen.streams ≡ true
   stream-open k opened ne = among-places k (open-own k opened ne) ∙ opened
 
   -- a stream that the wire has open is open
-  pub open-stream : (k : ℕ) → is_own k ≡ false → among k seen.streams ≡ true → is_open s k ≡ true
+  pub open-stream : (k : ℕ) → is_own k ≡ false → among k seen.streams ≡ true → is_stream_open s k ≡ true
   open-stream k e found = sym (among-places k e) ∙ found
 
   -- so is the server's
@@ -100,7 +100,7 @@ module _ {May : HouseReply → Type 0} {Rest : Resting} {before : Option (List H
   apart-unused k j found free e = true-false (sym found ∙ (ap (λ i. among i seen.streams) e ∙ (v.unused j free).not_open))
 
   -- after a mark of this stream of the wire, where the same are open
-  pub placed-by : (mark : Mark) (seen' : Seen) (held' failed' : List ℕ) (s' : State) (k : ℕ) → among k seen.streams ≡ true → OfWire seen'.streams seen'.blocked seen'.last (mark ∷ v.journal)
+  pub placed-by : (mark : Mark) (seen' : Seen) (held' failed' : List ℕ) (s' : EngineState) (k : ℕ) → among k seen.streams ≡ true → OfWire seen'.streams seen'.blocked seen'.last (mark ∷ v.journal)
       → seen'.streams ≡ seen.streams → seen'.last ≡ seen.last → seen'.last_own ≡ seen.last_own → seen'.listens ≡ seen.listens → here s' ≡ here s → held' ≡ seen'.blocked
       → among k seen'.blocked ≡ is_blocked k (mark ∷ v.journal) → ((t : ℕ) → k ≢ t → among t seen'.blocked ≡ among t seen.blocked) → ((t : ℕ) → k ≢ t → is_blocked t (mark ∷ v.journal) ≡ is_blocked t v.journal)
       → ((t : ℕ) → is_accepted t (mark ∷ v.journal) ≡ is_accepted t v.journal) → ((t : ℕ) → k ≢ t → has_failed t (mark ∷ v.journal) ≡ has_failed t v.journal)
@@ -134,7 +134,7 @@ module _ {May : HouseReply → Type 0} {Rest : Resting} {before : Option (List H
   }
 
   -- after one that records nothing of a stream
-  pub placed-still : (mark : Mark) (seen' : Seen) (s' : State) → OfWire seen'.streams seen'.blocked seen'.last (mark ∷ v.journal)
+  pub placed-still : (mark : Mark) (seen' : Seen) (s' : EngineState) → OfWire seen'.streams seen'.blocked seen'.last (mark ∷ v.journal)
       → seen'.streams ≡ seen.streams → seen'.blocked ≡ seen.blocked → seen'.last ≡ seen.last → seen'.last_own ≡ seen.last_own → seen'.listens ≡ seen.listens → here s' ≡ here s
       → ((t : ℕ) → is_blocked t (mark ∷ v.journal) ≡ is_blocked t v.journal) → ((t : ℕ) → is_accepted t (mark ∷ v.journal) ≡ is_accepted t v.journal) → ((t : ℕ) → has_failed t (mark ∷ v.journal) ≡ has_failed t v.journal)
       → Owns v.journal seen' mark → Placed s' v.journal seen seen' held failed mark

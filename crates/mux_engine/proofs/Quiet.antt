@@ -17,8 +17,8 @@ use Rattle.mux_history.specs.Settings.{by_lists}
 use Rattle.mux_history.specs.Journal.{is_accepted, is_blocked, is_own_stream, log_of_journal}
 use Rattle.mux_history.specs.Promises.{turns_in, write_failed}
 use Rattle.mux_peers.specs.Asked.{asks_of_rows}
-use Rattle.mux_state.specs.State.{State}
-use Rattle.mux_state.specs.Stands.{Stands}
+use Rattle.mux_state.specs.State.{EngineState}
+use Rattle.mux_state.specs.Stands.{RepresentsSoFar}
 use Rattle.mux_engine.specs.Called.{calls_at}
 use Rattle.mux_engine.specs.Run.{RestedAt, is_by_house}
 use Rattle.mux_engine.specs.Serving.{IsRunSound, Serving}
@@ -36,7 +36,7 @@ notes-none now mark e = record { more = []; recorded_is = records-none now.recor
 pub notes-calling : (now : Side) (calls : List HouseCall) (mark : Mark) → house_mark mark ≡ [] → Notes now (calling now calls) mark []
 notes-calling now calls mark e = record { more = []; recorded_is = records-none now.recorded; noted_is = ap (λ l. l ++ now.unnoted) e ∙ sym (append-nil now.unnoted); asks_are = refl; opens_are = refl }
 
-module _ {May : HouseReply → Type 0} {Rest : Resting} {before : Option (List HouseMark)} {now : Side} {policy : Policy} {pid : ℕ} {start : Option (List Mark)} {seen : Seen} {held failed : List ℕ} {given : ℕ} {todo : List ℕ} {s : State} (v : Serving May Rest before now policy pid start seen held failed given todo s) where
+module _ {May : HouseReply → Type 0} {Rest : Resting} {before : Option (List HouseMark)} {now : Side} {policy : Policy} {pid : ℕ} {start : Option (List Mark)} {seen : Seen} {held failed : List ℕ} {given : ℕ} {todo : List ℕ} {s : EngineState} (v : Serving May Rest before now policy pid start seen held failed given todo s) where
   -- whoever asked was accepted
   pub askers-more : (mark : Mark) → All (λ (a : OpenAsk). IsTrue (is_accepted a.client (mark ∷ v.journal))) now.asks
   askers-more mark k d lt = accepted-more mark v.journal _ (v.askers k d lt)
@@ -51,7 +51,7 @@ module _ {May : HouseReply → Type 0} {Rest : Resting} {before : Option (List H
     pub absent : Rest.present ≡ false → is_by_house mark ≡ false
     pub house : is_accepted HOUSE (mark ∷ v.journal) ≡ is_accepted HOUSE v.journal
 
-  pub serve-quiet : (now' : Side) (seen' : Seen) (held' failed' : List ℕ) (given' : ℕ) (mark : Mark) → IsQuiet mark → Stands v.picked v.replies s (mark ∷ v.journal) v.closed → Notes now now' mark [] → ((set : Setting) → CallsOn now now' (calls_at set v.journal mark)) → now'.asks ≡ now.asks → now'.let_in ≡ now.let_in
+  pub serve-quiet : (now' : Side) (seen' : Seen) (held' failed' : List ℕ) (given' : ℕ) (mark : Mark) → IsQuiet mark → RepresentsSoFar v.picked v.replies s (mark ∷ v.journal) v.closed → Notes now now' mark [] → ((set : Setting) → CallsOn now now' (calls_at set v.journal mark)) → now'.asks ≡ now.asks → now'.let_in ≡ now.let_in
       → seen'.recorded ≡ option_map (λ m. m ++ mark ∷ []) seen.recorded → turns_in (mark ∷ v.journal) ≡ given' → Placed s v.journal seen seen' held' failed' mark → Serving May Rest before now' policy pid start seen' held' failed' given' todo s
   serve-quiet now' seen' held' failed' given' mark q st notes called asks within recorded turns placed =
       serve-alone v now' seen' held' failed' given' todo s mark st (λ picks replies. ap asks_of_rows (sym (q.log (by_lists s.core.policy s.pid picks replies)))) record {

@@ -7,7 +7,7 @@ use Rattle.mux_outside.specs.declared.house.HouseReply.{HouseReply}
 use Rattle.mux_outside.specs.declared.house_mark.HouseMark.{HouseMark}
 use Rattle.mux_outside.specs.declared.mark.Mark.{Mark}
 use Rattle.mux_history.specs.Policy.{Policy}
-use Rattle.mux_state.specs.State.{State, closed_by}
+use Rattle.mux_state.specs.State.{EngineState, closed_by}
 use Rattle.mux_state.specs.Stands.{IsFirstLost}
 use Rattle.mux_engine.specs.Owned.{IsOwnOffered}
 use Rattle.mux_engine.specs.Rests.{IsHouseReady}
@@ -22,7 +22,7 @@ offered-less queue held failed k t other (inl empty) = inl empty
 offered-less queue held failed k t other (inr (inl blocked)) = inr (inl (without-other k t held other ∙ blocked))
 offered-less queue held failed k t other (inr (inr fails)) = inr (inr fails)
 
-pub ready-closed : {May : HouseReply → Type 0} {Rest : Resting} {before : Option (List HouseMark)} {now : Side} {policy : Policy} {pid : ℕ} {start : Option (List Mark)} {seen : Seen} {held failed : List ℕ} {given : ℕ} {todo : List ℕ} {s : State} (v : Serving May Rest before now policy pid start seen held failed given todo s) (k : ℕ) → IsFirstLost k s.leaving
+pub ready-closed : {May : HouseReply → Type 0} {Rest : Resting} {before : Option (List HouseMark)} {now : Side} {policy : Policy} {pid : ℕ} {start : Option (List Mark)} {seen : Seen} {held failed : List ℕ} {given : ℕ} {todo : List ℕ} {s : EngineState} (v : Serving May Rest before now policy pid start seen held failed given todo s) (k : ℕ) → IsFirstLost k s.leaving
     → (known : Known) (quiet : Quiet) (queue : ℕ → List ℕ) (fails own : List ℕ) → Housed known seen own → IsHouseReady known quiet queue held fails own s → IsHouseReady known quiet queue (without k held) fails own (closed_by s k)
 ready-closed {seen = seen} {held = held} {s = s} v k first known quiet queue fails own housed ready = record {
   no_more = record {

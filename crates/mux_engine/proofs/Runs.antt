@@ -27,9 +27,9 @@ use Rattle.mux_history.specs.Wires.{OfWire}
 use Rattle.mux_history.proofs.Wires.{wire-keeps}
 use Rattle.mux_bounds.specs.Bounds.{IsLog}
 use Rattle.mux_peers.specs.Asked.{asks_of_rows, RecordsAsks}
-use Rattle.mux_state.specs.State.{State, numbers}
+use Rattle.mux_state.specs.State.{EngineState, numbers}
 use Rattle.mux_state.specs.Events.{here}
-use Rattle.mux_state.specs.Stands.{Stands, EngineRepresents, log}
+use Rattle.mux_state.specs.Stands.{RepresentsSoFar, EngineRepresents, log}
 use Rattle.mux_engine.specs.Answers.{opens_after}
 use Rattle.mux_engine.specs.Called.{calls_in}
 use Rattle.mux_engine.specs.Owned.{IsOwnOffered}
@@ -117,7 +117,7 @@ run-of May Rest stands last present before now policy pid turns start seen refus
 }
 
 -- a stream of the master's own that was offered what waits for it is settled
-own-settled : {May : HouseReply → Type 0} {Rest : Resting} {before : Option (List HouseMark)} {now : Side} {policy : Policy} {pid : ℕ} {start : Option (List Mark)} {seen : Seen} {held failed : List ℕ} {given : ℕ} {todo : List ℕ} {s : State} (v : Serving May Rest before now policy pid start seen held failed given todo s) (queue : ℕ → List ℕ)
+own-settled : {May : HouseReply → Type 0} {Rest : Resting} {before : Option (List HouseMark)} {now : Side} {policy : Policy} {pid : ℕ} {start : Option (List Mark)} {seen : Seen} {held failed : List ℕ} {given : ℕ} {todo : List ℕ} {s : EngineState} (v : Serving May Rest before now policy pid start seen held failed given todo s) (queue : ℕ → List ℕ)
     → ((t : ℕ) → is_one t seen.own ≡ true → IsOwnOffered (queue t) held failed t) → (t : ℕ) → IsTrue (is_one t (own_in v.journal)) → IsOwnSettled queue v.journal t
 own-settled {seen = seen} v queue offered t one =
     let is : is_one t seen.own ≡ true = ap (is_one t) v.places.own ∙ one in
@@ -131,7 +131,7 @@ own-settled {seen = seen} v queue offered t one =
 
 module _ (May : HouseReply → Type 0) (Rest : Resting) (stands : List HouseCall → Type 0) (last : HouseState) (before : Option (List HouseMark)) (policy : Policy) (pid turns : ℕ) (start : Option (List Mark)) (refused : Option ℕ) where
   -- each stream was offered what waits for it, and the run ends so
-  pub ends-run : (now : Side) (seen : Seen) (held failed : List ℕ) (given : ℕ) (s : State) (answer : Ended) (v : Serving May Rest before now policy pid start seen held failed given [] s) → now.unnoted ≡ [] → HandsOn stands last.stands now.calls → ((t : ℕ) → is_one t seen.own ≡ true → IsOwnOffered (last.queue t) held failed t) → given ≤ turns → EndsAs turns v.journal refused s.ended answer
+  pub ends-run : (now : Side) (seen : Seen) (held failed : List ℕ) (given : ℕ) (s : EngineState) (answer : Ended) (v : Serving May Rest before now policy pid start seen held failed given [] s) → now.unnoted ≡ [] → HandsOn stands last.stands now.calls → ((t : ℕ) → is_one t seen.own ≡ true → IsOwnOffered (last.queue t) held failed t) → given ≤ turns → EndsAs turns v.journal refused s.ended answer
       → IsRun May Rest.rests stands last Rest.present policy pid turns before now.recorded start seen refused answer
   ends-run now seen held failed given s answer v noted hands offered le ends =
       let picks : List ℕ = v.picked ++ [] in
@@ -235,7 +235,7 @@ starts-starved May Rest house policy pid recorded given = record {
 }
 
 -- a new engine is served
-pub starts : (May : HouseReply → Type 0) (Rest : Resting) (now : Side) (policy : Policy) (pid : ℕ) (seen : Seen) (s : State) → Stands [] [] s [] [] → s.core.policy ≡ policy → s.pid ≡ pid → s.clients ≡ [] → s.refused ≡ []
+pub starts : (May : HouseReply → Type 0) (Rest : Resting) (now : Side) (policy : Policy) (pid : ℕ) (seen : Seen) (s : EngineState) → RepresentsSoFar [] [] s [] [] → s.core.policy ≡ policy → s.pid ≡ pid → s.clients ≡ [] → s.refused ≡ []
     → now.asks ≡ [] → now.unnoted ≡ [] → now.let_in ≡ false → now.calls ≡ [] → seen.streams ≡ 0 ∷ [] → seen.blocked ≡ [] → seen.listens ≡ true → seen.own ≡ [] → seen.listeners ≡ [] → (v : Serving May Rest now.recorded now policy pid seen.recorded seen [] [] 0 (0 ∷ here s) s) × (v.journal ≡ [])
 starts May Rest now policy pid seen s stands e f clients refused unasked noted outside uncalled streams blocked listens own listeners =
     let none : here s ≡ [] = ap (λ cs. numbers cs ++ s.refused) clients ∙ refused in

@@ -16,8 +16,8 @@ use Rattle.mux_history.specs.Settings.{by_lists}
 use Rattle.mux_history.specs.Journal.{bytes_of, is_own_stream, log_of_journal, new_received, new_sayings, unless_own}
 use Rattle.mux_peers.specs.Among.{numbers}
 use Rattle.mux_peers.specs.State.{ClientState}
-use Rattle.mux_state.specs.State.{State}
-use Rattle.mux_state.specs.Stands.{BytesFit, ClientReads, EachReads, IsStrange, RowsFit, ServerReads, Stands, EngineRepresents, log}
+use Rattle.mux_state.specs.State.{EngineState}
+use Rattle.mux_state.specs.Stands.{BytesFit, ClientReads, EachReads, IsStrange, RowsFit, ServerReads, RepresentsSoFar, EngineRepresents, log}
 use Rattle.mux_state.specs.Twins.{AreTwins}
 use Rattle.mux_engine.proofs.Lists.{test-other, true-false}
 
@@ -63,7 +63,7 @@ given-reads k bytes marks (c ∷ cs) apart each = (
     later t true a = refl
     later t false a = a
 
-given-fit : (s : State) (k : ℕ) (bytes : List ℕ) (marks : List Mark) (closed : List ℕ) (rows : List Row) → is_own_stream k ≡ true → AreBytes bytes → ((t : ℕ) → among t (numbers s.clients) ≡ true → k ≢ t) → BytesFit s marks closed rows → BytesFit s (Gets k bytes ∷ marks) closed rows
+given-fit : (s : EngineState) (k : ℕ) (bytes : List ℕ) (marks : List Mark) (closed : List ℕ) (rows : List Row) → is_own_stream k ≡ true → AreBytes bytes → ((t : ℕ) → among t (numbers s.clients) ≡ true → k ≢ t) → BytesFit s marks closed rows → BytesFit s (Gets k bytes ∷ marks) closed rows
 given-fit s k bytes marks closed rows own are apart f = record {
   are_bytes = λ t. given-are k t bytes marks are (f.are_bytes t);
   clients = λ live. given-reads k bytes marks s.clients apart (f.clients live);
@@ -73,7 +73,7 @@ given-fit s k bytes marks closed rows own are apart f = record {
       record { not_here = v.not_here; not_closed_yet = v.not_closed_yet; no_bytes = λ nz. given-bytes k j bytes marks (λ e. true-false (sym own ∙ (ap is_own_stream e ∙ nz.1))) ∙ v.no_bytes nz };
 }
 
-pub stands-given : (picked : List ℕ) (given : List HouseReply) (s : State) (k : ℕ) (bytes : List ℕ) (marks : List Mark) (closed : List ℕ) → is_own_stream k ≡ true → AreBytes bytes → ((t : ℕ) → among t (numbers s.clients) ≡ true → k ≢ t) → Stands picked given s marks closed → Stands picked given s (Gets k bytes ∷ marks) closed
+pub stands-given : (picked : List ℕ) (given : List HouseReply) (s : EngineState) (k : ℕ) (bytes : List ℕ) (marks : List Mark) (closed : List ℕ) → is_own_stream k ≡ true → AreBytes bytes → ((t : ℕ) → among t (numbers s.clients) ≡ true → k ≢ t) → RepresentsSoFar picked given s marks closed → RepresentsSoFar picked given s (Gets k bytes ∷ marks) closed
 stands-given picked given s k bytes marks closed own are apart st = record {
   asks = st.asks;
   each = st.each;

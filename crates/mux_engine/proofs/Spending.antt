@@ -8,7 +8,7 @@ use Rattle.mux_outside.specs.CallCounts.{CallCounts}
 use Rattle.mux_history.specs.declared.ended.Ended.{Ended}
 use Rattle.mux_history.specs.declared.ended.Ended.TheVariants as ended
 use Rattle.mux_engine.specs.Came.{Came}
-use Rattle.mux_engine.specs.Counted.{Cut, Spent, RunStops, Turned, Waited, Well}
+use Rattle.mux_engine.specs.Counted.{CountsOfCutCall, Spent, RunStops, Turned, Waited, CountsOfWholeCall}
 use Rattle.mux_engine.proofs.Arms.{well-none, well-on}
 use Rattle.mux_engine.proofs.Comes.{came-none, came-then}
 use Rattle.mux_engine.proofs.Counting.{cut-none}
@@ -19,21 +19,21 @@ use Rattle.mux_engine.proofs.Lists.{true-false}
 pub spent-none : (present : Bool) (c : CallCounts) → Spent present true 0 c c
 spent-none present c = record {
   few = omega arith;
-  all_waited = λ p q. let w : Well 0 c c = well-none c in w.waited;
+  all_waited = λ p q. let w : CountsOfWholeCall 0 c c = well-none c in w.waited;
   one = λ p q. true-false q;
   wants = refl;
   late = λ z. refl;
   came = came-none c;
 }
 
-as-well : (present : Bool) (n : ℕ) (a b : CallCounts) → Spent present true n a b → present ≡ false → Well n a b
+as-well : (present : Bool) (n : ℕ) (a b : CallCounts) → Spent present true n a b → present ≡ false → CountsOfWholeCall n a b
 as-well present n a b s p = record { waited = s.all_waited p refl; wants = s.wants; late = s.late; came = s.came }
 
 -- one turn more
 pub spent-on : (present : Bool) (n : ℕ) (a b c : CallCounts) → Spent present true n a b → Turned present true b c → Spent present true (n + 1) a c
 spent-on present n a b c s (inl w) = let f : b.waits ≤ a.waits + n = s.few in let m : c.waits ≤ b.waits + 1 = w.waited.most in record {
   few = omega arith;
-  all_waited = λ p q. let v : Well (n + 1) a c = well-on n 1 (n + 1) a b c refl (as-well present n a b s p) w in v.waited;
+  all_waited = λ p q. let v : CountsOfWholeCall (n + 1) a c = well-on n 1 (n + 1) a b c refl (as-well present n a b s p) w in v.waited;
   one = λ p q. true-false q;
   wants = w.wants ∙ s.wants;
   late = λ z. w.late (s.wants ∙ z) ∙ s.late z;
@@ -49,12 +49,12 @@ spent-on present n a b c s (inr w) = let f : b.waits ≤ a.waits + n = s.few in 
 }
 
 -- the forwarder used a turn, which waits for none
-pub turned-stepped : (present on : Bool) (b c : CallCounts) → (present ≡ false → ⊥) → Well 0 b c → Turned present on b c
+pub turned-stepped : (present on : Bool) (b c : CallCounts) → (present ≡ false → ⊥) → CountsOfWholeCall 0 b c → Turned present on b c
 turned-stepped true on b c there w = inr (w, inl refl)
 turned-stepped false on b c there w = absurd (there refl)
 
 -- a wait may have been cut short as memory ran out
-pub cut-one-more : (b c : CallCounts) → Cut 0 b c → Cut 1 b c
+pub cut-one-more : (b c : CallCounts) → CountsOfCutCall 0 b c → CountsOfCutCall 1 b c
 cut-one-more b c w = let f : c.waits ≤ b.waits + 0 = w.few in record { few = omega arith; wants = w.wants; late = w.late; came = w.came }
 
 counted-on : (n a b c : ℕ) → n ≢ 0 → Waited n a b → min b (2 ^ 64 - 1) ≤ c → counted a ≤ c
@@ -76,7 +76,7 @@ came-turned on present b c (inl w) = w.came
 came-turned on present b c (inr w) = w.0.came
 
 -- the last one
-pub spent-over : (present : Bool) (n turns : ℕ) (a b c : CallCounts) → n < turns → Spent present true n a b → Turned present false b c → (n ≡ 0 → present ≡ false → Well 1 b c) → Spent present false turns a c
+pub spent-over : (present : Bool) (n turns : ℕ) (a b c : CallCounts) → n < turns → Spent present true n a b → Turned present false b c → (n ≡ 0 → present ≡ false → CountsOfWholeCall 1 b c) → Spent present false turns a c
 spent-over present n turns a b c less s t first =
     let m = few-more false present b c t in
     let f : b.waits ≤ a.waits + n = s.few in let g : c.waits ≤ b.waits + 1 = m.0 in
@@ -91,12 +91,12 @@ spent-over present n turns a b c less s t first =
   where
     one : present ≡ false → counted a.waits ≤ c.waits
     one p = elim (eqb_tells n 0) [
-      | inl q ↦ let w : Well 1 b c = first q.1 p in counted-one a.waits b.waits c.waits (subst (λ k. Waited k a.waits b.waits) q.1 (s.all_waited p refl)) w.waited
+      | inl q ↦ let w : CountsOfWholeCall 1 b c = first q.1 p in counted-one a.waits b.waits c.waits (subst (λ k. Waited k a.waits b.waits) q.1 (s.all_waited p refl)) w.waited
       | inr q ↦ counted-on n a.waits b.waits c.waits q.1 (s.all_waited p refl) (none-lost false present b c t)
     ]
 
 -- one that was cut short as memory ran out
-pub spent-cut : (present : Bool) (n turns : ℕ) (a b c : CallCounts) → n < turns → Spent present true n a b → Cut 1 b c → Cut turns a c
+pub spent-cut : (present : Bool) (n turns : ℕ) (a b c : CallCounts) → n < turns → Spent present true n a b → CountsOfCutCall 1 b c → CountsOfCutCall turns a c
 spent-cut present n turns a b c less s w =
     let f : b.waits ≤ a.waits + n = s.few in let g : c.waits ≤ b.waits + 1 = w.few in let e : b.wants ≡ a.wants = s.wants in let h : c.wants ≤ b.wants + 1 = w.wants in
     record { few = omega arith; wants = omega arith; late = λ z. w.late (s.wants ∙ z) ∙ s.late z; came = came-then a b c s.came w.came }
@@ -113,7 +113,7 @@ some-waited : (n a b : ℕ) → n ≢ 0 → Waited n a b → counted a ≤ b
 some-waited n a b nz w = let l : min (a + n) (2 ^ 64 - 1) ≤ b = w.least in omega arith
 
 -- one that was cut short as memory ran out
-pub stops-cut : (present : Bool) (turns : ℕ) (a b : CallCounts) → Cut turns a b → RunStops present turns ended.OutOfMemory a b
+pub stops-cut : (present : Bool) (turns : ℕ) (a b : CallCounts) → CountsOfCutCall turns a b → RunStops present turns ended.OutOfMemory a b
 stops-cut present turns a b c = record {
   few = c.few;
   spent = λ p e h. absurd (let z : ended.OutOfMemory ≡ ended.Spent = e in cc);
@@ -124,28 +124,28 @@ stops-cut present turns a b c = record {
 }
 
 -- calls after those that left the counts as they were
-pub cut-from : (n : ℕ) (a b c : CallCounts) → b ≡ a → Cut n b c → Cut n a c
-cut-from n a b c e w = subst (λ (x : CallCounts). Cut n x c) e w
+pub cut-from : (n : ℕ) (a b c : CallCounts) → b ≡ a → CountsOfCutCall n b c → CountsOfCutCall n a c
+cut-from n a b c e w = subst (λ (x : CallCounts). CountsOfCutCall n x c) e w
 
 -- none
-pub cut-idle : (n : ℕ) (a b : CallCounts) → b ≡ a → Cut n a b
-cut-idle n a b e = subst (λ (x : CallCounts). Cut n a x) (sym e) (cut-none n a)
+pub cut-idle : (n : ℕ) (a b : CallCounts) → b ≡ a → CountsOfCutCall n a b
+cut-idle n a b e = subst (λ (x : CallCounts). CountsOfCutCall n a x) (sym e) (cut-none n a)
 
-pub stops-starved : {E : Type 0} (r : Result Ended E) (present : Bool) (turns : ℕ) (a b : CallCounts) → IsErr r → Cut turns a b → RunStops present turns (result_unwrap_or r ended.OutOfMemory) a b
+pub stops-starved : {E : Type 0} (r : Result Ended E) (present : Bool) (turns : ℕ) (a b : CallCounts) → IsErr r → CountsOfCutCall turns a b → RunStops present turns (result_unwrap_or r ended.OutOfMemory) a b
 stops-starved (Ok x) present turns a b h c = absurd (let z : false ≡ true = h in cc)
 stops-starved (Err e) present turns a b h c = stops-cut present turns a b c
 
 -- turns that were given, and then calls that were cut short as memory ran out
-pub spent-cuts : (present all : Bool) (turns : ℕ) (a b c : CallCounts) → Spent present all turns a b → Cut 0 b c → Cut turns a c
+pub spent-cuts : (present all : Bool) (turns : ℕ) (a b c : CallCounts) → Spent present all turns a b → CountsOfCutCall 0 b c → CountsOfCutCall turns a c
 spent-cuts present all turns a b c s w =
     let f : b.waits ≤ a.waits + turns = s.few in let g : c.waits ≤ b.waits + 0 = w.few in let e : b.wants ≡ a.wants = s.wants in let h : c.wants ≤ b.wants + 1 = w.wants in
     record { few = omega arith; wants = omega arith; late = λ z. w.late (s.wants ∙ z) ∙ s.late z; came = came-then a b c s.came w.came }
 
 -- turns that were given, and then no wait
-pub spent-then : (present all : Bool) (turns : ℕ) (a b c : CallCounts) → Spent present all turns a b → Well 0 b c → Spent present all turns a c
+pub spent-then : (present all : Bool) (turns : ℕ) (a b c : CallCounts) → Spent present all turns a b → CountsOfWholeCall 0 b c → Spent present all turns a c
 spent-then present all turns a b c s w = let f : b.waits ≤ a.waits + turns = s.few in let m : c.waits ≤ b.waits + 0 = w.waited.most in record {
   few = omega arith;
-  all_waited = λ p q. let v : Well turns a c = well-on turns 0 turns a b c (omega arith) (record { waited = s.all_waited p q; wants = s.wants; late = s.late; came = s.came }) w in v.waited;
+  all_waited = λ p q. let v : CountsOfWholeCall turns a c = well-on turns 0 turns a b c (omega arith) (record { waited = s.all_waited p q; wants = s.wants; late = s.late; came = s.came }) w in v.waited;
   one = λ p q. kept (s.one p q);
   wants = w.wants ∙ s.wants;
   late = λ z. w.late (s.wants ∙ z) ∙ s.late z;

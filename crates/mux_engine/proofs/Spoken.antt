@@ -19,7 +19,7 @@ use Rattle.mux_history.specs.declared.limits.TheConstants.{HOUSE, READING_STOPS_
 use Rattle.mux_history.specs.Journal.{is_accepted}
 use Rattle.mux_history.specs.Policy.{Policy}
 use Rattle.mux_peers.specs.Asked.{RecordsAsks}
-use Rattle.mux_state.specs.State.{State, queue_in}
+use Rattle.mux_state.specs.State.{EngineState, queue_in}
 use Rattle.mux_state.specs.Events.{MarkRecords, here}
 use Rattle.mux_state.specs.declared.event.Event.{Event}
 use Rattle.mux_state.specs.declared.event.Event.TheVariants.{Accepted, FromClient, ClientEnd, ClientFailed, HouseSays, FromServer, ServerEnd, ServerFailed}
@@ -27,7 +27,7 @@ use Rattle.mux_engine.specs.Asking.{AppliesEvent}
 use Rattle.mux_engine.specs.Came.{EndsFor}
 use Rattle.mux_engine.specs.Rests.{EndsByAsk, IsByRow}
 use Rattle.mux_engine.specs.Serving.{Promised, Serving}
-use Rattle.mux_engine.specs.Sides.{Resting, Side, noted}
+use Rattle.mux_engine.specs.Sides.{Resting, Side, all_marks_noted}
 use Rattle.mux_engine.specs.Turns.{want_of}
 use Rattle.mux_engine.proofs.Causes.{EndsSo}
 use Rattle.mux_engine.proofs.Cuts.{cut-here, serve-recorded}
@@ -109,8 +109,8 @@ pub record IsPiece (e : Event) (bytes : List ℕ) : Type 0 where
   pub few : length bytes ≤ 65536
   pub are : AreBytes bytes
 
-module _ {May : HouseReply → Type 0} {Rest : Resting} {before : Option (List HouseMark)} {policy : Policy} {pid : ℕ} {start : Option (List Mark)} {seen : Seen} {held failed : List ℕ} {given : ℕ} {s : State} {calls : List HouseCall} {house house' : HouseState} {bytes : List ℕ}
-    (said : Said house house' bytes) (v : Serving May Rest before (noted house.recorded house.known calls) policy pid start seen held failed given [] s) (live : s.ended ≡ None) (within : house.known.present ≡ true) (room : want_of s ≡ Read) where
+module _ {May : HouseReply → Type 0} {Rest : Resting} {before : Option (List HouseMark)} {policy : Policy} {pid : ℕ} {start : Option (List Mark)} {seen : Seen} {held failed : List ℕ} {given : ℕ} {s : EngineState} {calls : List HouseCall} {house house' : HouseState} {bytes : List ℕ}
+    (said : Said house house' bytes) (v : Serving May Rest before (all_marks_noted house.recorded house.known calls) policy pid start seen held failed given [] s) (live : s.ended ≡ None) (within : house.known.present ≡ true) (room : want_of s ≡ Read) where
   -- what it sent is not noted yet
   abbrev unnoted-yet : Side
   unnoted-yet = record { recorded = house'.recorded; asks = house'.known.asks; unnoted = HouseSaid bytes ∷ []; let_in = house'.known.present; calls = calls ++ calls_of (HouseSaid bytes ∷ []) }
@@ -126,10 +126,10 @@ module _ {May : HouseReply → Type 0} {Rest : Resting} {before : Option (List H
     said-at : EventAt outgoing live e (seen-with (HouseSaid bytes ∷ []) seen) (given + 1)
     said-at = house-said outgoing live e bytes refl (ap (λ (k : Known). k.present) said.same ∙ within) piece.is said.some piece.few piece.are (room-of (length (queue_in s 0)) READING_STOPS_AT room)
 
-    pub said-applies : {A E : Type 0} (r : Result A E) (s' : State) (asks : List HouseMark) (house'' : HouseState) (seen0 seen'' : Seen) → seen0 ≡ seen-with (HouseSaid bytes ∷ []) seen
-        → AppliesEvent r May e s s' asks house' house'' seen0 seen'' → MatchResult r (λ x. Serving May Rest before (noted house''.recorded house''.known ((calls ++ calls_of (HouseSaid bytes ∷ [])) ++ calls_of asks)) policy pid start seen'' held failed (given + 1) (0 ∷ here s') s') (λ x. Promised May Rest before house''.recorded policy pid start seen''.recorded (given + 1))
+    pub said-applies : {A E : Type 0} (r : Result A E) (s' : EngineState) (asks : List HouseMark) (house'' : HouseState) (seen0 seen'' : Seen) → seen0 ≡ seen-with (HouseSaid bytes ∷ []) seen
+        → AppliesEvent r May e s s' asks house' house'' seen0 seen'' → MatchResult r (λ x. Serving May Rest before (all_marks_noted house''.recorded house''.known ((calls ++ calls_of (HouseSaid bytes ∷ [])) ++ calls_of asks)) policy pid start seen'' held failed (given + 1) (0 ∷ here s') s') (λ x. Promised May Rest before house''.recorded policy pid start seen''.recorded (given + 1))
     said-applies r s' asks house'' seen0 seen'' after h = event-applies outgoing live e (seen-with (HouseSaid bytes ∷ []) seen) (given + 1) said-at r s' asks house'.recorded house''.recorded house'.known house''.known seen0 seen'' after refl refl refl h
 
-    pub said-ends : {A E : Type 0} (r : Result A E) (s' : State) (asks : List HouseMark) (house'' : HouseState) (seen0 seen'' : Seen) → AppliesEvent r May e s s' asks house' house'' seen0 seen'' → OnOk r (EndsSo e s'.ended)
+    pub said-ends : {A E : Type 0} (r : Result A E) (s' : EngineState) (asks : List HouseMark) (house'' : HouseState) (seen0 seen'' : Seen) → AppliesEvent r May e s s' asks house' house'' seen0 seen'' → OnOk r (EndsSo e s'.ended)
     said-ends (Ok x) s' asks house'' seen0 seen'' h = event-ends outgoing live e (seen-with (HouseSaid bytes ∷ []) seen) (given + 1) said-at s' asks house'.recorded house''.recorded house'.known house''.known seen0 seen'' (length asks) h
     said-ends (Err x) s' asks house'' seen0 seen'' h = tt

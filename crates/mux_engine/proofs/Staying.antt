@@ -14,13 +14,13 @@ use Rattle.mux_history.specs.Settings.{by_lists}
 use Rattle.mux_history.specs.Journal.{is_accepted}
 use Rattle.mux_history.specs.Promises.{IsSettled}
 use Rattle.mux_peers.specs.Asked.{RecordsAsks}
-use Rattle.mux_state.specs.State.{State}
+use Rattle.mux_state.specs.State.{EngineState}
 use Rattle.mux_engine.specs.Answers.{opens_after}
 use Rattle.mux_engine.specs.Called.{calls_in}
 use Rattle.mux_engine.specs.Serving.{IsRunSound, IsUnused, Serving}
 use Rattle.mux_engine.specs.Sides.{Resting, Side, ask_marks_in, house_marks}
 
-module _ {May : HouseReply → Type 0} {Rest : Resting} {before : Option (List HouseMark)} {now : Side} {policy : Policy} {pid : ℕ} {start : Option (List Mark)} {seen : Seen} {held failed : List ℕ} {given : ℕ} {todo : List ℕ} {s : State} where
+module _ {May : HouseReply → Type 0} {Rest : Resting} {before : Option (List HouseMark)} {now : Side} {policy : Policy} {pid : ℕ} {start : Option (List Mark)} {seen : Seen} {held failed : List ℕ} {given : ℕ} {todo : List ℕ} {s : EngineState} where
   -- of the forwarder this is noted after the journal
   pub record IsNoted (v : Serving May Rest before now policy pid start seen held failed given todo s) (now' : Side) : Type 0 where
     pub house : RecordsAsks before now'.recorded (house_marks v.journal ++ now'.unnoted)

@@ -16,11 +16,11 @@ use Rattle.mux_history.specs.declared.ended.Ended.{Ended}
 use Rattle.mux_history.specs.declared.ended.Ended.TheVariants as ended
 use Rattle.mux_history.specs.declared.limits.TheConstants.{HOUSE}
 use Rattle.mux_history.specs.Policy.{Policy}
-use Rattle.mux_state.specs.State.{State}
+use Rattle.mux_state.specs.State.{EngineState}
 use Rattle.mux_state.specs.Events.{here}
 use Rattle.mux_engine.specs.Owned.{IsOwnOffered}
 use Rattle.mux_engine.specs.Rests.{EndsByAsk, EndsSo, HasAnswered, HasNoMore, HasNoMoreFor, HasOffered, IsHouseReady, StaysReady, WaitsAlone}
-use Rattle.mux_engine.specs.Serving.{Serving, StaysOrFails, is_open}
+use Rattle.mux_engine.specs.Serving.{Serving, StaysOrFails, is_stream_open}
 use Rattle.mux_engine.specs.Sides.{Housed, IsAlone, OrderedNothing, Resting, SentNothing, SameHouse, SameSockets, Side, StaysHouse, Together}
 use Rattle.mux_engine.specs.Wires.{NoFault, Works}
 use Rattle.mux_engine.specs.declared.room.Lists.{Lists}
@@ -36,33 +36,33 @@ use Rattle.mux_engine.proofs.Wired.{works-any}
 -- ---- what is left to be offered
 
 -- where there is no forwarder nothing waits for it
-pub none-handed : {May : HouseReply → Type 0} {Rest : Resting} {before : Option (List HouseMark)} {now : Side} {policy : Policy} {pid : ℕ} {start : Option (List Mark)} {seen : Seen} {held failed : List ℕ} {given : ℕ} {s : State} (v : Serving May Rest before now policy pid start seen held failed given (0 ∷ here s) s) → now.let_in ≡ false
+pub none-handed : {May : HouseReply → Type 0} {Rest : Resting} {before : Option (List HouseMark)} {now : Side} {policy : Policy} {pid : ℕ} {start : Option (List Mark)} {seen : Seen} {held failed : List ℕ} {given : ℕ} {s : EngineState} (v : Serving May Rest before now policy pid start seen held failed given (0 ∷ here s) s) → now.let_in ≡ false
     → Serving May Rest before now policy pid start seen held failed (given + 0) (0 ∷ without HOUSE (here s)) s
 none-handed {May} {Rest} {before} {now} {policy} {pid} {start} {seen} {held} {failed} {given} {s} v out =
     subst (λ (n : ℕ). Serving May Rest before now policy pid start seen held failed n (0 ∷ without HOUSE (here s)) s) (sym (more-none given))
     (serve-todo v (0 ∷ without HOUSE (here s)) (λ t a. inl (elim (eqb_tells HOUSE t) [
-      | inl q ↦ ap (λ i. among i (0 ∷ here s)) (sym q.1) ∙ (among-open s HOUSE ∙ by_open (is_open s HOUSE) refl)
+      | inl q ↦ ap (λ i. among i (0 ∷ here s)) (sym q.1) ∙ (among-open s HOUSE ∙ by_open (is_stream_open s HOUSE) refl)
       | inr q ↦ ap (λ b. (0 == t) || b) (sym (without-other HOUSE t (here s) q.1)) ∙ a
     ])))
   where
-    by_open : (b : Bool) → is_open s HOUSE ≡ b → b ≡ false
+    by_open : (b : Bool) → is_stream_open s HOUSE ≡ b → b ≡ false
     by_open false e = refl
     by_open true e = true-false (sym ((at-stream v.stands HOUSE e).accepted (λ z. absurd (omega (arith, z)))) ∙ (v.house_in ∙ out))
 
 -- the forwarder is to be handed over again what waits for it
-pub handed-again : {May : HouseReply → Type 0} {Rest : Resting} {before : Option (List HouseMark)} {now : Side} {policy : Policy} {pid : ℕ} {start : Option (List Mark)} {seen : Seen} {held failed : List ℕ} {given : ℕ} {s : State} (v : Serving May Rest before now policy pid start seen held failed given (0 ∷ without HOUSE (here s)) s)
+pub handed-again : {May : HouseReply → Type 0} {Rest : Resting} {before : Option (List HouseMark)} {now : Side} {policy : Policy} {pid : ℕ} {start : Option (List Mark)} {seen : Seen} {held failed : List ℕ} {given : ℕ} {s : EngineState} (v : Serving May Rest before now policy pid start seen held failed given (0 ∷ without HOUSE (here s)) s)
     → Serving May Rest before now policy pid start seen held failed given (0 ∷ here s) s
 handed-again {s = s} v = serve-todo v (0 ∷ here s) (λ t a. inl (let p = apart-or-left 0 t (here s) a in ap (λ b. b || among t (without HOUSE (here s))) (test-other 0 t p.0) ∙ among-less HOUSE t (here s) p.1))
 
 -- all the other streams are
-pub to-flush : {May : HouseReply → Type 0} {Rest : Resting} {before : Option (List HouseMark)} {now : Side} {policy : Policy} {pid : ℕ} {start : Option (List Mark)} {seen : Seen} {held failed : List ℕ} {given : ℕ} {s : State} (v : Serving May Rest before now policy pid start seen held failed (given + 0) (0 ∷ without HOUSE (here s)) s)
+pub to-flush : {May : HouseReply → Type 0} {Rest : Resting} {before : Option (List HouseMark)} {now : Side} {policy : Policy} {pid : ℕ} {start : Option (List Mark)} {seen : Seen} {held failed : List ℕ} {given : ℕ} {s : EngineState} (v : Serving May Rest before now policy pid start seen held failed (given + 0) (0 ∷ without HOUSE (here s)) s)
     → Serving May Rest before now policy pid start seen held failed given (0 ∷ (without HOUSE (here s) ++ [])) s
 to-flush {May} {Rest} {before} {now} {policy} {pid} {start} {seen} {held} {failed} {given} {s} v =
     subst (λ (l : List ℕ). Serving May Rest before now policy pid start seen held failed given (0 ∷ l) s) (sym (append-nil (without HOUSE (here s))))
     (subst (λ (n : ℕ). Serving May Rest before now policy pid start seen held failed n (0 ∷ without HOUSE (here s)) s) (more-none given) v)
 
 -- no turn was given
-pub a-turn : {May : HouseReply → Type 0} {Rest : Resting} {before : Option (List HouseMark)} {now : Side} {policy : Policy} {pid : ℕ} {start : Option (List Mark)} {seen : Seen} {held failed : List ℕ} {given : ℕ} {todo : List ℕ} {s : State} → Serving May Rest before now policy pid start seen held failed (given + 0) todo s → Serving May Rest before now policy pid start seen held failed given todo s
+pub a-turn : {May : HouseReply → Type 0} {Rest : Resting} {before : Option (List HouseMark)} {now : Side} {policy : Policy} {pid : ℕ} {start : Option (List Mark)} {seen : Seen} {held failed : List ℕ} {given : ℕ} {todo : List ℕ} {s : EngineState} → Serving May Rest before now policy pid start seen held failed (given + 0) todo s → Serving May Rest before now policy pid start seen held failed given todo s
 a-turn {May} {Rest} {before} {now} {policy} {pid} {start} {seen} {held} {failed} {given} {todo} {s} v = subst (λ (n : ℕ). Serving May Rest before now policy pid start seen held failed n todo s) (more-none given) v
 
 -- ---- the forwarder
@@ -98,12 +98,12 @@ no-more-held house lists held holds h = record {
 }
 
 -- where it sends nothing either its streams were offered what waits for them
-pub on-unsaid : {E : Type 0} (r : Result Bool E) (old new : HouseState) (seen seen' : Seen) (s s' : State) (lists : Lists) → HasOffered old lists → IfOk r (λ more. more ≡ false → SentNothing old new seen seen' s s') → IfOk r (λ more. more ≡ false → HasOffered new lists)
+pub on-unsaid : {E : Type 0} (r : Result Bool E) (old new : HouseState) (seen seen' : Seen) (s s' : EngineState) (lists : Lists) → HasOffered old lists → IfOk r (λ more. more ≡ false → SentNothing old new seen seen' s s') → IfOk r (λ more. more ≡ false → HasOffered new lists)
 on-unsaid (Ok b) old new seen seen' s s' lists offered said = λ e t a. subst (λ (l : List ℕ). IsOwnOffered l lists.held lists.failed t) (sym ((said e).same.queues t)) (offered t a)
 on-unsaid (Err e) old new seen seen' s s' lists offered said = tt
 
 -- streams of clients are closed: those of the master's own stay as they were
-pub offered-closed : {seen seen' : Seen} {held held' : List ℕ} {s s' : State} (house : HouseState) (failed own : List ℕ) → StaysReady seen seen' held held' s s' → Housed house.known seen own → ((t : ℕ) → among t own ≡ true → IsOwnOffered (house.queue t) held failed t) → (t : ℕ) → among t own ≡ true → IsOwnOffered (house.queue t) held' failed t
+pub offered-closed : {seen seen' : Seen} {held held' : List ℕ} {s s' : EngineState} (house : HouseState) (failed own : List ℕ) → StaysReady seen seen' held held' s s' → Housed house.known seen own → ((t : ℕ) → among t own ≡ true → IsOwnOffered (house.queue t) held failed t) → (t : ℕ) → among t own ≡ true → IsOwnOffered (house.queue t) held' failed t
 offered-closed house failed own stays housed offered =
     let absent : Known = record house.known { present = false } in
     let none : Housed absent _ own = record { ordering = housed.ordering; listeners = housed.listeners; streams = housed.streams; own_is = housed.own_is; places = housed.places } in
@@ -113,7 +113,7 @@ offered-closed house failed own stays housed offered =
     }).no_more.offered
 
 -- and it sends nothing: it is at rest
-pub no-more-said : (old new : HouseState) (seen seen' : Seen) (s s' : State) (held failed own : List ℕ) → SameHouse old.known new.known → old.known.present ≡ true → HasNoMore old.known old.quiet old.queue held failed own → SentNothing old new seen seen' s s' → IsHouseReady new.known new.quiet new.queue held failed own s'
+pub no-more-said : (old new : HouseState) (seen seen' : Seen) (s s' : EngineState) (held failed own : List ℕ) → SameHouse old.known new.known → old.known.present ≡ true → HasNoMore old.known old.quiet old.queue held failed own → SentNothing old new seen seen' s s' → IsHouseReady new.known new.quiet new.queue held failed own s'
 no-more-said old new seen seen' s s' held failed own known there h said = record {
   no_more = record {
     orders = λ present. ap (λ (q : Quiet). q.orders) said.same.quiet ∙ h.orders there;
@@ -143,7 +143,7 @@ together-ordered (Err e) old new wire lists there housed stays held_is = tt
 -- ---- how a run ends
 
 -- without a forwarder that was admitted no turn is used
-pub waits-err : {E : Type 0} (r : Result Bool E) (old new : State) → IsErr r → WaitsAlone r old new
+pub waits-err : {E : Type 0} (r : Result Bool E) (old new : EngineState) → IsErr r → WaitsAlone r old new
 waits-err (Ok x) old new e = true-false (sym e)
 waits-err (Err x) old new e = record { waits = λ is. let z : Err x ≡ Ok true = is in cc; idle = λ none. tt }
 
@@ -190,7 +190,7 @@ on-false (Ok b) f h = λ e. f (h e)
 on-false (Err e) f h = tt
 
 -- it sent nothing
-pub on-said : {E : Type 0} (r : Result Bool E) (old new : HouseState) (seen seen' : Seen) (s s' : State) (held failed own : List ℕ) → OnOk r (SameHouse old.known new.known) → old.known.present ≡ true → HasNoMore old.known old.quiet old.queue held failed own → IfOk r (λ more. more ≡ false → SentNothing old new seen seen' s s')
+pub on-said : {E : Type 0} (r : Result Bool E) (old new : HouseState) (seen seen' : Seen) (s s' : EngineState) (held failed own : List ℕ) → OnOk r (SameHouse old.known new.known) → old.known.present ≡ true → HasNoMore old.known old.quiet old.queue held failed own → IfOk r (λ more. more ≡ false → SentNothing old new seen seen' s s')
     → IfOk r (λ more. more ≡ false → s'.ended ≡ None → IsHouseReady new.known new.quiet new.queue held failed own s')
 on-said (Ok b) old new seen seen' s s' held failed own known there h said = λ e live. no-more-said old new seen seen' s s' held failed own known there h (said e)
 on-said (Err e) old new seen seen' s s' held failed own known there h said = tt

@@ -21,7 +21,7 @@ use Rattle.mux_history.specs.Wires.{OfWire}
 use Rattle.mux_bounds.specs.Bounds.{IsLog}
 use Rattle.mux_peers.specs.Asked.{RecordsAsks, asks_of_rows, known_after}
 use Rattle.mux_peers.specs.Starved.{BeginsWithAsked}
-use Rattle.mux_state.specs.State.{State, numbers}
+use Rattle.mux_state.specs.State.{EngineState, numbers}
 use Rattle.mux_state.specs.declared.event.Event.{Event}
 use Rattle.mux_state.specs.declared.event.Event.TheVariants.{Accepted, FromClient, ClientEnd, ClientFailed, HouseSays, FromServer, ServerEnd, ServerFailed}
 use Rattle.mux_state.specs.Events.{Arrives, SameStreams, MarkRecords, here}
@@ -48,10 +48,10 @@ use Rattle.mux_engine.proofs.Turns.{IsRecorded, recorded-promise}
 
 -- ---- who is here after an event
 
-pub same-here : (old new : State) → SameStreams old new → here new ≡ here old
+pub same-here : (old new : EngineState) → SameStreams old new → here new ≡ here old
 same-here old new s = ap (λ l. l ++ new.refused) s.clients ∙ ap (λ l. numbers old.clients ++ l) s.refused
 
-pub one-more : (k : ℕ) (old new : State) → old.refused ≡ [] → Arrives (Accepted k) old new → here new ≡ here old ++ k ∷ []
+pub one-more : (k : ℕ) (old new : EngineState) → old.refused ≡ [] → Arrives (Accepted k) old new → here new ≡ here old ++ k ∷ []
 one-more k old new none (inl l) =
     ap (λ r. numbers new.clients ++ r) (l.refused ∙ none) ∙ (append-nil (numbers new.clients) ∙ (l.clients ∙ ap (λ xs. xs ++ k ∷ []) (sym (ap (λ r. numbers old.clients ++ r) none ∙ append-nil (numbers old.clients)))))
 one-more k old new none (inr r) = ap (λ l. l ++ new.refused) r.clients ∙ (ap (λ l. numbers old.clients ++ l) r.refused ∙ sym (append_assoc (numbers old.clients) old.refused (k ∷ [])))
@@ -61,7 +61,7 @@ client-of (Accepts k) = k
 client-of mark = 0
 
 -- after an arrival
-pub came : (e : Event) (k : ℕ) (old new : State) → MarkRecords e (Accepts k) → old.refused ≡ [] → Arrives e old new → here new ≡ here old ++ k ∷ []
+pub came : (e : Event) (k : ℕ) (old new : EngineState) → MarkRecords e (Accepts k) → old.refused ≡ [] → Arrives e old new → here new ≡ here old ++ k ∷ []
 came (Accepted j) k old new t none a = subst (λ i. here new ≡ here old ++ i ∷ []) (sym (ap client-of t)) (one-more j old new none a)
 came (FromClient j bytes) k old new t none a = absurd (let z = t.1 in cc)
 came (ClientEnd j) k old new t none a = absurd (let z = t.1 in cc)
@@ -76,7 +76,7 @@ abbrev pub NotAccepts : Mark → Type 0
 NotAccepts (Accepts k) = ⊥
 NotAccepts mark = Unit {0}
 
-pub stayed : (e : Event) (mark : Mark) (old new : State) → MarkRecords e mark → NotAccepts mark → Arrives e old new → here new ≡ here old
+pub stayed : (e : Event) (mark : Mark) (old new : EngineState) → MarkRecords e mark → NotAccepts mark → Arrives e old new → here new ≡ here old
 stayed (Accepted j) mark old new t n a = absurd (subst NotAccepts t n)
 stayed (FromClient j bytes) mark old new t n a = same-here old new a
 stayed (ClientEnd j) mark old new t n a = same-here old new a
@@ -95,7 +95,7 @@ asks-are asks more e = held e
     held h = cc
 
 -- the same event with a mark that records the same
-pub goes-twin : {May : HouseReply → Type 0} {recorded recorded' : Option (List HouseMark)} {picked : List ℕ} {replies : List HouseReply} {s s' : State} (twin mark : Mark) {marks : List Mark} {closed : List ℕ} → AreTwins (twin ∷ marks) (mark ∷ marks) → GoesBy May recorded recorded' picked replies s s' twin marks closed → GoesBy May recorded recorded' picked replies s s' mark marks closed
+pub goes-twin : {May : HouseReply → Type 0} {recorded recorded' : Option (List HouseMark)} {picked : List ℕ} {replies : List HouseReply} {s s' : EngineState} (twin mark : Mark) {marks : List Mark} {closed : List ℕ} → AreTwins (twin ∷ marks) (mark ∷ marks) → GoesBy May recorded recorded' picked replies s s' twin marks closed → GoesBy May recorded recorded' picked replies s s' mark marks closed
 goes-twin {picked = picked} {replies = replies} {s = s} {s' = s'} twin mark {marks} {closed} alike g = record {
   picks = g.picks;
   replies = g.replies;
@@ -106,7 +106,7 @@ goes-twin {picked = picked} {replies = replies} {s = s} {s' = s'} twin mark {mar
   asked = λ p r. ap asks_of_rows (sym (alike.log (by_lists s'.core.policy s'.pid ((picked ++ g.picks) ++ p) ((replies ++ g.replies) ++ r)))) ∙ g.asked p r;
 }
 
-module _ {May : HouseReply → Type 0} {Rest : Resting} {before : Option (List HouseMark)} {now : Side} {policy : Policy} {pid : ℕ} {start : Option (List Mark)} {seen : Seen} {held failed : List ℕ} {given : ℕ} {s : State}
+module _ {May : HouseReply → Type 0} {Rest : Resting} {before : Option (List HouseMark)} {now : Side} {policy : Policy} {pid : ℕ} {start : Option (List Mark)} {seen : Seen} {held failed : List ℕ} {given : ℕ} {s : EngineState}
     (v : Serving May Rest before now policy pid start seen held failed given [] s) (live : s.ended ≡ None) where
   -- an event that was reported, as by its twin, and how the streams are then
   pub record EventAt (e : Event) (seen' : Seen) (given' : ℕ) : Type 0 where
@@ -130,10 +130,10 @@ module _ {May : HouseReply → Type 0} {Rest : Resting} {before : Option (List H
     pub cut : (set : Setting) → IsLog set (mark ∷ v.journal) (log_of_journal set v.journal)
     pub house : is_accepted HOUSE (mark ∷ v.journal) ≡ is_accepted HOUSE v.journal
     pub right : IsMarkPlaced v.journal mark
-    pub placed : (s' : State) → (s.ended ≡ None → Arrives e s s') → Placed s' v.journal seen seen' held failed mark
+    pub placed : (s' : EngineState) → (s.ended ≡ None → Arrives e s s') → Placed s' v.journal seen seen' held failed mark
 
   -- the engine applied it, and so many of the requests were noted
-  pub event-goes : (e : Event) (seen' : Seen) (given' : ℕ) (at : EventAt e seen' given') (s' : State) (asks : List HouseMark) (recorded recorded' : Option (List HouseMark)) (known known' : Known) (seen'' : Seen) (n : ℕ) → now.recorded ≡ recorded → now.asks ≡ known.asks → AppliesSo May e s s' asks recorded recorded' known known' seen' seen'' n
+  pub event-goes : (e : Event) (seen' : Seen) (given' : ℕ) (at : EventAt e seen' given') (s' : EngineState) (asks : List HouseMark) (recorded recorded' : Option (List HouseMark)) (known known' : Known) (seen'' : Seen) (n : ℕ) → now.recorded ≡ recorded → now.asks ≡ known.asks → AppliesSo May e s s' asks recorded recorded' known known' seen' seen'' n
       → Serving May Rest before (record { recorded = recorded'; asks = known'.asks; unnoted = drop n asks; let_in = now.let_in; calls = now.calls ++ calls_of asks }) policy pid start seen'' held failed given' (0 ∷ here s') s'
   event-goes e seen' given' at s' asks recorded recorded' known known' seen'' n same_recorded same_asks h =
       let g : GoesBy May (Some []) (Some asks) v.picked v.replies s s' at.mark v.journal v.closed = goes-twin at.twin at.mark at.alike (h.goes at.twin at.records v.picked v.replies v.journal v.closed v.stands at.allowed) in
@@ -150,7 +150,7 @@ module _ {May : HouseReply → Type 0} {Rest : Resting} {before : Option (List H
       (note-some n asks (λ k. is_accepted k (at.mark ∷ v.journal) ≡ true) each first refl))
 
   -- and may end by it
-  pub event-ends : (e : Event) (seen' : Seen) (given' : ℕ) (at : EventAt e seen' given') (s' : State) (asks : List HouseMark) (recorded recorded' : Option (List HouseMark)) (known known' : Known) (seen0 seen'' : Seen) (n : ℕ) → AppliesSo May e s s' asks recorded recorded' known known' seen0 seen'' n → EndsSo e s'.ended
+  pub event-ends : (e : Event) (seen' : Seen) (given' : ℕ) (at : EventAt e seen' given') (s' : EngineState) (asks : List HouseMark) (recorded recorded' : Option (List HouseMark)) (known known' : Known) (seen0 seen'' : Seen) (n : ℕ) → AppliesSo May e s s' asks recorded recorded' known known' seen0 seen'' n → EndsSo e s'.ended
   event-ends e seen' given' at s' asks recorded recorded' known known' seen0 seen'' n h = record {
     may = h.ends at.twin at.records v.picked v.replies v.journal v.closed v.stands at.allowed live;
     by = event-by v.stands (h.goes at.twin at.records v.picked v.replies v.journal v.closed v.stands at.allowed) h.keeps.policy h.keeps.pid live e at.records;

@@ -17,7 +17,7 @@ use Rattle.mux_history.specs.Log.{Setting}
 use Rattle.mux_history.specs.Journal.{IsLawful, is_blocked, is_own_stream, log_of_journal}
 use Rattle.mux_history.specs.Promises.{IsSettled, SpeaksInTime, write_failed}
 use Rattle.mux_history.proofs.Bools.{or-left, or-right}
-use Rattle.mux_state.specs.State.{State, is_here}
+use Rattle.mux_state.specs.State.{EngineState, is_here}
 use Rattle.mux_state.specs.Events.{here}
 use Rattle.mux_state.specs.Stands.{GoesBy, RowsFit}
 use Rattle.mux_state.proofs.Over.{some-end}
@@ -72,8 +72,8 @@ recorded-promise set (Fails k) journal h on speaks answers = record { takes = tt
 recorded-promise set (House m) journal h on speaks answers = record { takes = tt; waits = tt; speaks = speaks; open_streams = tt; answers = answers; after_end = after-live set journal (House m) on; silence = tt }
 recorded-promise set mark journal h on speaks answers = absurd h
 
-module _ {May : HouseReply → Type 0} {Rest : Resting} {before : Option (List HouseMark)} {now : Side} {policy : Policy} {pid : ℕ} {start : Option (List Mark)} {seen : Seen} {held failed : List ℕ} {given : ℕ} {todo : List ℕ} {s : State}
-    (v : Serving May Rest before now policy pid start seen held failed given todo s) {recorded recorded' : Option (List HouseMark)} {s' : State} (mark : Mark) (g : GoesBy May recorded recorded' v.picked v.replies s s' mark v.journal v.closed)
+module _ {May : HouseReply → Type 0} {Rest : Resting} {before : Option (List HouseMark)} {now : Side} {policy : Policy} {pid : ℕ} {start : Option (List Mark)} {seen : Seen} {held failed : List ℕ} {given : ℕ} {todo : List ℕ} {s : EngineState}
+    (v : Serving May Rest before now policy pid start seen held failed given todo s) {recorded recorded' : Option (List HouseMark)} {s' : EngineState} (mark : Mark) (g : GoesBy May recorded recorded' v.picked v.replies s s' mark v.journal v.closed)
     (same_policy : s'.core.policy ≡ s.core.policy) (same_pid : s'.pid ≡ s.pid) (is : IsRecorded mark) (lawful : IsLawful (mark ∷ v.journal)) (covers : (t : ℕ) → among t (0 ∷ here s') ≡ false → among t todo ≡ false) where
   abbrev picks-then : List ℕ → List ℕ
   picks-then picks = (v.picked ++ g.picks) ++ picks

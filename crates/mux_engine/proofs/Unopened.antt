@@ -11,7 +11,7 @@ use Rattle.mux_outside.specs.declared.house_mark.HouseMark.{HouseMark}
 use Rattle.mux_outside.specs.declared.turn.Turn.{Turn}
 use Rattle.mux_outside.specs.declared.turn.Turn.TheVariants as turn
 use Rattle.mux_outside.specs.declared.turn.Want.{Want}
-use Rattle.mux_state.specs.State.{State}
+use Rattle.mux_state.specs.State.{EngineState}
 use Rattle.mux_state.specs.declared.event.Event.{Event}
 use Rattle.mux_engine.specs.Asking.{Applied}
 use Rattle.mux_engine.specs.Sides.{Housed, IsAlone}
@@ -31,7 +31,7 @@ pub wait-opens : (t : Turn) (todo : List ℕ) (want : Want) (bytes : List ℕ) (
 wait-opens t todo want bytes known seen seen' own h alone fits is out = ap (λ (y : Seen). y.last_own) is ∙ none-joins t seen (sym h.listeners ∙ alone.listeners out) fits
 
 -- an event opens none
-pub event-opens : {A E : Type 0} (r : Result A E) (May : HouseReply → Type 0) (e : Event) (s s' : State) (asks : List HouseMark) (recorded recorded' : Option (List HouseMark)) (known known' : Known) (seen seen' : Seen) → Applied r May e s s' asks recorded recorded' known known' seen seen' → seen'.last_own ≡ seen.last_own
+pub event-opens : {A E : Type 0} (r : Result A E) (May : HouseReply → Type 0) (e : Event) (s s' : EngineState) (asks : List HouseMark) (recorded recorded' : Option (List HouseMark)) (known known' : Known) (seen seen' : Seen) → Applied r May e s s' asks recorded recorded' known known' seen seen' → seen'.last_own ≡ seen.last_own
 event-opens (Ok x) May e s s' asks recorded recorded' known known' seen seen' h = ap (λ (y : Seen). y.last_own) h.seen_is
 event-opens (Err x) May e s s' asks recorded recorded' known known' seen seen' (inl u) = ap (λ (y : Seen). y.last_own) u.seen_is
 event-opens (Err x) May e s s' asks recorded recorded' known known' seen seen' (inr p) = ap (λ (y : Seen). y.last_own) p.1.seen_is

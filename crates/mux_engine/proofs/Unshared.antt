@@ -16,7 +16,7 @@ use Rattle.mux_history.specs.Log.{Setting, more_all, more_of, makes_next, next_r
 use Rattle.mux_history.specs.Settings.{by_lists}
 use Rattle.mux_history.specs.Right.{AreFresh, IsRight}
 use Rattle.mux_history.specs.Journal.{IsLawful, house_items, is_own_stream, items_in, log_of_journal, taken_by, bytes_taken_in}
-use Rattle.mux_history.specs.Promises.{IsCut, IsFront, TakesFront, Throughout, is_asked}
+use Rattle.mux_history.specs.Promises.{IsCut, IsFront, TakesFront, Throughout, is_house_request}
 use Rattle.mux_history.proofs.Journals.{logs-right}
 use Rattle.mux_history.proofs.Written.{adds-up}
 use Rattle.mux_bounds.specs.Bounds.{IsLog}
@@ -103,14 +103,14 @@ module _ (policy : Policy) (pid : ℕ) (picks : List ℕ) (given : List HouseRep
           (of-mark setting k client before (sym (adds-up setting before takes.1 k client)) mark takes.0)
           (subst (λ r. IsFront (given_to k (log_of_journal setting before)) (given_to k r)) (sym e) (gives-more setting k (log_of_journal setting before) (take n (items_in before mark))))
 
-      -- asks take nothing
+      -- requests accept nothing
       house-mark : (m : HouseMark) (before : List Mark) → (IsCut setting before rows → IsFront (taken_by k before) (given_to k rows)) → Throughout (TakesFront setting) (House m ∷ before) → (b : Bool) → MatchBool b (IsCut setting before rows) ((n : ℕ) × (rows ≡ more_all setting (log_of_journal setting before) (take n (house_items before m)))) → IsFront (taken_by k (House m ∷ before)) (given_to k rows)
       house-mark m before earlier takes true cut = subst (λ (l : List ℕ). IsFront l (given_to k rows)) (sym (append-nil (taken_by k before))) (earlier cut)
       house-mark m before earlier takes false (n, e) = one (House m) before takes n e
 
       cut-begins : (journal : List Mark) → Throughout (TakesFront setting) journal → IsCut setting journal rows → IsFront (taken_by k journal) (given_to k rows)
       cut-begins [] takes cut = (given_to k rows, refl)
-      cut-begins (House m ∷ before) takes cut = house-mark m before (λ c. cut-begins before takes.1 c) takes (is_asked m) cut
+      cut-begins (House m ∷ before) takes cut = house-mark m before (λ c. cut-begins before takes.1 c) takes (is_house_request m) cut
       cut-begins (Waits waiting want streams shown ∷ before) takes (n, e) = one (Waits waiting want streams shown) before takes n e
       cut-begins (Accepts j ∷ before) takes (n, e) = one (Accepts j) before takes n e
       cut-begins (Gets j bytes ∷ before) takes (n, e) = one (Gets j bytes) before takes n e

@@ -15,10 +15,10 @@ use Rattle.mux_history.specs.Pending.{pending, pending_down, pending_up}
 use Rattle.mux_history.specs.Promises.{has_output, is_empty}
 use Rattle.mux_history.proofs.OwnRows.{idle_row}
 use Rattle.mux_peers.specs.State.{ClientState}
-use Rattle.mux_peers.specs.Stands.{is_lost}
+use Rattle.mux_peers.specs.Stands.{is_standing_lost}
 use Rattle.mux_peers.specs.Among.{EachFits, is_present}
 use Rattle.mux_peers.proofs.Stood.{out_is, own_row}
-use Rattle.mux_state.specs.State.{State, is_here, numbers, served_in, waiting_clients}
+use Rattle.mux_state.specs.State.{EngineState, is_here, numbers, served_in, waiting_clients}
 use Rattle.mux_state.specs.Stands.{RowsFit, not_closed}
 use Rattle.mux_engine.proofs.Lists.{or-true, true-false}
 
@@ -70,7 +70,7 @@ kept-loss k closed (l ∷ ls) c h = elim (eqb_tells l.0 k) [
     by_kept true ih = ap (λ b. (l.0 == k) || b) ih ∙ or-true (l.0 == k)
     by_kept false ih = ih
 
-pub none-lost : {taken : ℕ} {drawn : List HouseMark} {s : State} {closed : List ℕ} {rows : List Row} → RowsFit taken drawn s closed rows → s.leaving ≡ [] → (k : ℕ) → is_here s k ≡ true → is_out (rows_of k rows) ≡ false
+pub none-lost : {taken : ℕ} {drawn : List HouseMark} {s : EngineState} {closed : List ℕ} {rows : List Row} → RowsFit taken drawn s closed rows → s.leaving ≡ [] → (k : ℕ) → is_here s k ≡ true → is_out (rows_of k rows) ≡ false
 none-lost {taken} {drawn} {s} {closed} {rows} fit none k here_is = by_out (is_out (rows_of k rows)) refl
   where
     open_is : (b : Bool) → among k closed ≡ b → b ≡ false
@@ -89,7 +89,7 @@ either rest b = elim b as (λ _. Bool) [ true ↦ true | false ↦ rest ]
 pub all-served : (rows : List Row) (cs : List ClientState) → EachFits rows cs → ((k : ℕ) → is_present cs k ≡ true → is_out (rows_of k rows) ≡ false) → numbers cs ≡ served_in cs
 all-served rows [] each h = refl
 all-served rows (c ∷ cs) each h =
-    let going : is_lost c.peer.standing ≡ false = ap is_lost each.0.peer.standing_is ∙ (sym (out_is (rows_of c.peer.number rows)) ∙ h c.peer.number (ap (either (is_present cs c.peer.number)) (eq-eqb c.peer.number c.peer.number refl))) in
+    let going : is_standing_lost c.peer.standing ≡ false = ap is_standing_lost each.0.peer.standing_is ∙ (sym (out_is (rows_of c.peer.number rows)) ∙ h c.peer.number (ap (either (is_present cs c.peer.number)) (eq-eqb c.peer.number c.peer.number refl))) in
     ap (λ l. c.peer.number ∷ l) (all-served rows cs each.1 (λ k p. h k (by_head (c.peer.number == k) k p))) ∙ sym (ap (λ b. cond b (served_in cs) (c.peer.number ∷ served_in cs)) going)
   where
     by_head : (b : Bool) (k : ℕ) → is_present cs k ≡ true → either (is_present cs k) b ≡ true
@@ -110,7 +110,7 @@ waiting-filter rows (c ∷ cs) each =
     flip false l = refl
 
 -- they are the open ones for which something waits
-pub waiting-are : {taken : ℕ} {drawn : List HouseMark} {s : State} {closed : List ℕ} {rows : List Row} → RowsFit taken drawn s closed rows → s.waiting ≡ filter (has_output rows) (0 ∷ numbers s.clients)
+pub waiting-are : {taken : ℕ} {drawn : List HouseMark} {s : EngineState} {closed : List ℕ} {rows : List Row} → RowsFit taken drawn s closed rows → s.waiting ≡ filter (has_output rows) (0 ∷ numbers s.clients)
 waiting-are {taken} {drawn} {s} {closed} {rows} fit =
     fit.waiting_is
     ∙ (ap (λ l. cond (is_empty s.up.waiting) l (0 ∷ l)) (waiting-filter rows s.clients fit.fit.each)

@@ -24,14 +24,14 @@ use Rattle.mux_history.specs.Log.{Setting}
 use Rattle.mux_history.specs.Journal.{is_blocked, is_own_stream, log_of_journal}
 use Rattle.mux_history.specs.Promises.{MayWaitForOwn, WaitsRight, OpenRight, has_failed, has_output, is_empty, not_own, write_failed}
 use Rattle.mux_state.proofs.Over.{some-end}
-use Rattle.mux_state.specs.State.{State, numbers, waiting_clients}
+use Rattle.mux_state.specs.State.{EngineState, numbers, waiting_clients}
 use Rattle.mux_state.specs.Events.{here}
 use Rattle.mux_state.specs.Stands.{RowsFit}
 use Rattle.mux_state.proofs.Twins.{stands-alike}
 use Rattle.mux_engine.specs.Called.{calls_in}
 use Rattle.mux_engine.specs.Owned.{IsOwnOffered, waits_for_own}
 use Rattle.mux_engine.specs.Places.{listeners_in, own_in, unfailed_in}
-use Rattle.mux_engine.specs.Serving.{IsRunSound, Serving, is_open}
+use Rattle.mux_engine.specs.Serving.{IsRunSound, Serving, is_stream_open}
 use Rattle.mux_engine.specs.Sides.{Resting, Side, house_marks}
 use Rattle.mux_engine.specs.Turns.{want_of}
 use Rattle.mux_engine.proofs.Called.{calls-none}
@@ -116,7 +116,7 @@ filter-both P Q (x ∷ xs) = by_first (P x) (filter-both P Q xs)
     by_first false ih = ih
 
 -- where all streams were offered what waits for them, the forwarder was handed over all
-pub handed-all : {May : HouseReply → Type 0} {Rest : Resting} {before : Option (List HouseMark)} {now : Side} {policy : Policy} {pid : ℕ} {start : Option (List Mark)} {seen : Seen} {held failed : List ℕ} {given : ℕ} {s : State}
+pub handed-all : {May : HouseReply → Type 0} {Rest : Resting} {before : Option (List HouseMark)} {now : Side} {policy : Policy} {pid : ℕ} {start : Option (List Mark)} {seen : Seen} {held failed : List ℕ} {given : ℕ} {s : EngineState}
     (v : Serving May Rest before now policy pid start seen held failed given [] s) (picks : List ℕ) (later : List HouseReply) → pending HOUSE (log_of_journal (by_lists policy pid (v.picked ++ picks) (v.replies ++ later)) v.journal) ≡ []
 handed-all v picks later = elim ((v.sound picks later).settled HOUSE refl refl) [
   | inl e ↦ e
@@ -135,7 +135,7 @@ pub record Offered (seen : Seen) (own held failed : List ℕ) (queue : ℕ → L
   pub numbered : (t : ℕ) → IsTrue (is_one t seen.own) → IsTrue (is_own t)
   pub offered : (t : ℕ) → among t own ≡ true → IsOwnOffered (queue t) held failed t
 
-module _ {May : HouseReply → Type 0} {Rest : Resting} {before : Option (List HouseMark)} {now : Side} {policy : Policy} {pid : ℕ} {start : Option (List Mark)} {seen : Seen} {held failed : List ℕ} {given : ℕ} {s : State}
+module _ {May : HouseReply → Type 0} {Rest : Resting} {before : Option (List HouseMark)} {now : Side} {policy : Policy} {pid : ℕ} {start : Option (List Mark)} {seen : Seen} {held failed : List ℕ} {given : ℕ} {s : EngineState}
     (v : Serving May Rest before now policy pid start seen held failed given [] s) (none : s.leaving ≡ []) (admitted : s.refused ≡ []) (live : s.ended ≡ None) {own : List ℕ} {queue : ℕ → List ℕ} (o : Offered seen own held failed queue) where
   abbrev setting : List ℕ → List HouseReply → Setting
   setting picks later = by_lists policy pid (v.picked ++ picks) (v.replies ++ later)
@@ -164,7 +164,7 @@ module _ {May : HouseReply → Type 0} {Rest : Resting} {before : Option (List H
 
   -- a stream of a client or the server that is waited for is open, and something waits for it
   pub record IsWaiting (t : ℕ) : Type 0 where
-    pub open_is : is_open s t ≡ true
+    pub open_is : is_stream_open s t ≡ true
     pub output : has_output (rows [] []) t ≡ true
     pub no_house : t ≢ HOUSE
 
@@ -177,7 +177,7 @@ module _ {May : HouseReply → Type 0} {Rest : Resting} {before : Option (List H
         no_house = λ e. not-empty (pending t (rows [] [])) p.1 (ap (λ i. pending i (rows [] [])) e ∙ handed-all v [] []);
       }
 
-  not-out : (t : ℕ) → is_open s t ≡ true → is_out (rows_of t (rows [] [])) ≡ false
+  not-out : (t : ℕ) → is_stream_open s t ≡ true → is_out (rows_of t (rows [] [])) ≡ false
   not-out t shown = elim (eqb_tells t 0) [
     | inl q ↦ ap (λ i. is_out (rows_of i (rows [] []))) q.1 ∙ (fits [] []).server_in
     | inr q ↦ none-lost (fits [] []) none t (open-here s t shown q.1)

@@ -23,7 +23,7 @@ use Rattle.mux_outside.specs.declared.turn.Wrote.{Wrote}
 use Rattle.mux_outside.specs.declared.turn.Wrote.TheVariants as wrote
 use Rattle.mux_outside.specs.declared.whose.Whose.{Whose}
 use Rattle.mux_outside.specs.declared.whose.Whose.TheVariants.{Server, Client, Own}
-use Rattle.mux_engine.specs.Counted.{Counts, Cut, Well}
+use Rattle.mux_engine.specs.Counted.{CountsOfCall, CountsOfCutCall, CountsOfWholeCall}
 use Rattle.mux_engine.specs.OwnFaults.{OrderCounted, is_order_unmade}
 use Rattle.mux_engine.specs.Wires.{IsIdleWire, KeepsWire, NoFault, Untouched, Works, WorksOwn}
 use Rattle.mux_engine.proofs.Arms.{counts-on, counts-well, cut-one, fault-later, le-of, well-none, well-one, well-wait}
@@ -64,7 +64,7 @@ worked-none w f = record { keeps = keeps-none w f; calls = well-none w.calls }
 pub worked-own-none : (w : WireState) (f : Faults) → WorkedOwn w w f f
 worked-own-none w f = record { works = worked-none w f; no_fault = no-fault-none f }
 
--- ---- what holds whatever came of a call
+-- ---- what holds whatever the outcome of a call
 
 pub works-any : {A E : Type 0} {n : ℕ} {old new : WireState} {f f' : Faults} (r : Result A E) → Worked n old new f f' → Works n r old new f f'
 works-any {n = n} {old} {new} r w = record { keeps = w.keeps; calls = counts-well n r old.calls new.calls w.calls }
@@ -142,7 +142,7 @@ keeps-idle {old} {new} {f} {f'} i = record {
 pub works-idle : {A E : Type 0} {old new : WireState} {f f' : Faults} (r : Result A E) → IsIdleWire old new f f' → Works 0 r old new f f'
 works-idle {old = old} {new} r i = record {
   keeps = keeps-idle i;
-  calls = subst (λ (x : CallCounts). Counts 0 r old.calls x) (sym i.untouched.calls) (counts-well 0 r old.calls old.calls (well-none old.calls));
+  calls = subst (λ (x : CallCounts). CountsOfCall 0 r old.calls x) (sym i.untouched.calls) (counts-well 0 r old.calls old.calls (well-none old.calls));
 }
 
 pub works-own-idle : {A E : Type 0} {old new : WireState} {f f' : Faults} (r : Result A E) → IsIdleWire old new f f' → WorksOwn r old new f f'
@@ -252,7 +252,7 @@ keeps-write {old} {new} {f} {f'} answer k bytes e cause = record {
 pub worked-write : {old new : WireState} {f f' : Faults} (answer : Wrote) (k : ℕ) (bytes : List ℕ) → is_starved_write answer ≡ false → new ≡ state_after_write answer k bytes new.tally old → WroteFaults answer k f f' → Worked 0 old new f f'
 worked-write {old} {new} answer k bytes fed e cause = record {
   keeps = keeps-write answer k bytes e cause;
-  calls = subst (λ (x : CallCounts). Well 0 old.calls x) (sym (ap (λ (x : WireState). x.calls) e ∙ ap (λ (b : Bool). calls_after_one b old.calls) fed)) (well-one old.calls);
+  calls = subst (λ (x : CallCounts). CountsOfWholeCall 0 old.calls x) (sym (ap (λ (x : WireState). x.calls) e ∙ ap (λ (b : Bool). calls_after_one b old.calls) fed)) (well-one old.calls);
 }
 
 pub works-write : {A E : Type 0} {old new : WireState} {f f' : Faults} (r : Result A E) (answer : Wrote) (k : ℕ) (bytes : List ℕ) → is_starved_write answer ≡ false → new ≡ state_after_write answer k bytes new.tally old → WroteFaults answer k f f' → Works 0 r old new f f'
@@ -262,7 +262,7 @@ works-write r answer k bytes fed e cause = works-any r (worked-write answer k by
 pub works-starved : {A E : Type 0} {old new : WireState} {f f' : Faults} (x : E) (k : ℕ) (bytes : List ℕ) → new ≡ state_after_write wrote.NoMemory k bytes new.tally old → WroteFaults wrote.NoMemory k f f' → Works {A = A} {E = E} 0 (Err x) old new f f'
 works-starved {old = old} {new} x k bytes e cause = record {
   keeps = keeps-write wrote.NoMemory k bytes e cause;
-  calls = subst (λ (x : CallCounts). Cut 0 old.calls x) (sym (ap (λ (x : WireState). x.calls) e)) (cut-one old.calls);
+  calls = subst (λ (x : CallCounts). CountsOfCutCall 0 old.calls x) (sym (ap (λ (x : WireState). x.calls) e)) (cut-one old.calls);
 }
 
 -- to one of the master's own streams
@@ -310,7 +310,7 @@ keeps-wait {old} {new} {f} {f'} t waiting want bytes e cause = record {
 pub worked-wait : {old new : WireState} {f f' : Faults} (t : Turn) (waiting : List ℕ) (want : Want) (bytes : List ℕ) → is_starved t ≡ false → new ≡ state_after_wait t waiting want bytes new.tally old → TurnFaults t f f' → Worked 1 old new f f'
 worked-wait {old} {new} t waiting want bytes fed e cause = record {
   keeps = keeps-wait t waiting want bytes e cause;
-  calls = subst (λ (x : CallCounts). Well 1 old.calls x) (sym (ap (λ (x : WireState). x.calls) e)) (well-wait t old.calls fed);
+  calls = subst (λ (x : CallCounts). CountsOfWholeCall 1 old.calls x) (sym (ap (λ (x : WireState). x.calls) e)) (well-wait t old.calls fed);
 }
 
 pub works-wait : {A E : Type 0} {old new : WireState} {f f' : Faults} (r : Result A E) (t : Turn) (waiting : List ℕ) (want : Want) (bytes : List ℕ) → is_starved t ≡ false → new ≡ state_after_wait t waiting want bytes new.tally old → TurnFaults t f f' → Works 1 r old new f f'
@@ -320,7 +320,7 @@ works-wait r t waiting want bytes fed e cause = works-any r (worked-wait t waiti
 pub works-wait-err : {A E : Type 0} {old new : WireState} {f f' : Faults} (x : E) (t : Turn) (waiting : List ℕ) (want : Want) (bytes : List ℕ) → new ≡ state_after_wait t waiting want bytes new.tally old → TurnFaults t f f' → Works {A = A} {E = E} 1 (Err x) old new f f'
 works-wait-err {old = old} {new} x t waiting want bytes e cause = record {
   keeps = keeps-wait t waiting want bytes e cause;
-  calls = subst (λ (x : CallCounts). Cut 1 old.calls x) (sym (ap (λ (x : WireState). x.calls) e)) (cut-wait t old.calls);
+  calls = subst (λ (x : CallCounts). CountsOfCutCall 1 old.calls x) (sym (ap (λ (x : WireState). x.calls) e)) (cut-wait t old.calls);
 }
 
 -- a wire that only gave something after its wait, and of which all orders that got no number were
@@ -328,5 +328,5 @@ works-wait-err {old = old} {new} x t waiting want bytes e cause = record {
 pub works-recorded : {A E : Type 0} {n : ℕ} {old new : WireState} {f f' : Faults} (r : Result A E) {mid : WireState} {g : Faults} → Works n r old mid f g → IsIdleWire mid new g f' → Works n r old new f f'
 works-recorded {n = n} {old} {new} {f} {f'} r {mid} {g} w i = record {
   keeps = keeps-then w.keeps (keeps-idle i);
-  calls = subst (λ (x : CallCounts). Counts n r old.calls x) (sym i.untouched.calls) w.calls;
+  calls = subst (λ (x : CallCounts). CountsOfCall n r old.calls x) (sym i.untouched.calls) w.calls;
 }

@@ -5,11 +5,11 @@ use Rattle.mux_outside.specs.declared.mark.Mark.{Mark}
 use Rattle.mux_outside.specs.declared.mark.Mark.TheVariants.{House}
 use Rattle.mux_history.specs.Journal.{log_of_journal}
 use Rattle.mux_history.specs.Log.{Setting}
-use Rattle.mux_history.specs.Rows.{is_ended}
+use Rattle.mux_history.specs.Rows.{is_run_over}
 
 -- no row has ended the run
 abbrev pub NoneEnded : Setting → List Mark → Type 0
-NoneEnded setting before = is_ended (log_of_journal setting before) ≡ false
+NoneEnded setting before = is_run_over (log_of_journal setting before) ≡ false
 
 -- After a row ended the connection, the forwarder gives no order, sends nothing and answers nothing.
 -- What waits for it may be handed over to it, and its streams may accept what waits for them.

@@ -12,15 +12,15 @@ use Rattle.mux_peers.specs.Asked.{asks_of_rows}
 use Rattle.mux_engine.specs.Sides.{ask_marks_in, house_marks}
 
 -- the open requests after a mark of the forwarder: one that it defers is open until it answers it
-abbrev pub opens_by : HouseMark → List OpenAsk → List OpenAsk
-opens_by (HouseAsked client id opening ask reply) opens = asks_after reply client id opening opens
-opens_by (HouseAnswer client id reply) opens = without_ask client id opens
-opens_by mark opens = opens
+abbrev pub requests_after_mark : HouseMark → List OpenAsk → List OpenAsk
+requests_after_mark (HouseAsked client id opening ask reply) opens = asks_after reply client id opening opens
+requests_after_mark (HouseAnswer client id reply) opens = without_ask client id opens
+requests_after_mark mark opens = opens
 
 -- those after such marks, the oldest first
 abbrev pub opens_after : List HouseMark → List OpenAsk → List OpenAsk
 opens_after [] opens = opens
-opens_after (mark ∷ marks) opens = opens_after marks (opens_by mark opens)
+opens_after (mark ∷ marks) opens = opens_after marks (requests_after_mark mark opens)
 
 -- it gives a client's request with this id a later reply
 pub record AnswersOne (setting : Setting) (before : List Mark) (client id : ℕ) (reply : HouseReply) :

@@ -11,11 +11,11 @@ use Rattle.mux_peers.specs.Asked.{known_after, RecordsAsks}
 use Rattle.mux_state.specs.declared.event.Event.{Event}
 use Rattle.mux_state.specs.Events.{EndsBy, EngineKeeps, MarkRecords}
 use Rattle.mux_state.specs.Stands.{CutsShort, GoesOn}
-use Rattle.mux_state.specs.State.{State}
+use Rattle.mux_state.specs.State.{EngineState}
 
 -- the engine applied the event, this was requested of the forwarder, and so many requests were
 -- noted
-pub record AppliesSo (May : HouseReply → Type 0) (e : Event) (s s' : State) (asks : List HouseMark)
+pub record AppliesSo (May : HouseReply → Type 0) (e : Event) (s s' : EngineState) (asks : List HouseMark)
     (recorded recorded' : Option (List HouseMark)) (known known' : Known) (seen seen' : Seen) (n : ℕ) :
     Type 0 where
   pub goes : (mark : Mark) → MarkRecords e mark → GoesOn May (Some []) (Some asks) s s' mark
@@ -28,13 +28,13 @@ pub record AppliesSo (May : HouseReply → Type 0) (e : Event) (s s' : State) (a
   }
 
 -- there was no memory for the event, and the forwarder recorded perhaps the first of its requests
-pub record Unheeded (May : HouseReply → Type 0) (e : Event) (s : State)
+pub record Unheeded (May : HouseReply → Type 0) (e : Event) (s : EngineState)
     (recorded recorded' : Option (List HouseMark)) (seen seen' : Seen) : Type 0 where
   pub cut : (mark : Mark) → MarkRecords e mark → CutsShort May recorded recorded' s mark
   pub seen_is : seen' ≡ seen
 
--- all asks were noted; or there was no memory for the event, or to note all of them
-abbrev pub Applied : {A E : Type 0} → Result A E → (HouseReply → Type 0) → Event → State → State
+-- all requests were noted; or there was no memory for the event, or to note all of them
+abbrev pub Applied : {A E : Type 0} → Result A E → (HouseReply → Type 0) → Event → EngineState → EngineState
     → List HouseMark → Option (List HouseMark) → Option (List HouseMark) → Known → Known → Seen
     → Seen → Type 0
 Applied (Ok x) May e s s' asks recorded recorded' known known' seen seen' =
@@ -44,7 +44,7 @@ Applied (Err x) May e s s' asks recorded recorded' known known' seen seen' =
     ⊎ ((n : ℕ) × AppliesSo May e s s' asks recorded recorded' known known' seen seen' n)
 
 -- the same of a forwarder
-abbrev pub AppliesEvent : {A E : Type 0} → Result A E → (HouseReply → Type 0) → Event → State → State
+abbrev pub AppliesEvent : {A E : Type 0} → Result A E → (HouseReply → Type 0) → Event → EngineState → EngineState
     → List HouseMark → HouseState → HouseState → Seen → Seen → Type 0
 AppliesEvent result May e s s' asks house house' seen seen' =
     Applied result May e s s' asks house.recorded house'.recorded house.known house'.known seen seen'

@@ -20,13 +20,13 @@ bytes_got t [] = []
 bytes_got t (one ∷ calls) = got_by t one ++ bytes_got t calls
 
 -- the bytes of a stream that were reported to it as accepted, by a call and by all of them
-abbrev pub took_by : ℕ → HouseCall → List ℕ
-took_by t (call.Takes stream bytes) = if stream == t then bytes else []
-took_by t _ = []
+abbrev pub accepted_by_call : ℕ → HouseCall → List ℕ
+accepted_by_call t (call.Takes stream bytes) = if stream == t then bytes else []
+accepted_by_call t _ = []
 
 abbrev pub bytes_took : ℕ → List HouseCall → List ℕ
 bytes_took t [] = []
-bytes_took t (one ∷ calls) = took_by t one ++ bytes_took t calls
+bytes_took t (one ∷ calls) = accepted_by_call t one ++ bytes_took t calls
 
 -- it is given what a stream of its own gave: all of it, once and in that order
 abbrev pub IsGivenAll : Type 0
@@ -38,8 +38,8 @@ abbrev pub IsRecordedAll : Type 0
 IsRecordedAll = (setting : Setting) (journal : List Mark) (t : ℕ) → is_own_stream t ≡ true
     → bytes_took t (calls_in setting journal) ≡ taken_by t journal
 
--- a worked journal: a stream that was joined and gives "hello", and one that the forwarder ordered,
--- which is connected and fails
+-- a worked journal: a stream that was accepted and gives "hello", and one that the forwarder
+-- ordered, which is connected and fails
 abbrev pub OwnStreamsAreCalled : Type 0
 OwnStreamsAreCalled = (setting : Setting) → calls_in setting (reverse own_streams)
     ≡ Turns (Joined 9223372036854775808 9223372036854775809)

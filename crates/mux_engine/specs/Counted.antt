@@ -14,29 +14,29 @@ pub record Waited (waits old new : ℕ) : Type 0 where
 
 -- so many calls of `wait`, none that ran out of memory, and none after one that did; no count of
 -- what came fell
-pub record Well (waits : ℕ) (old new : CallCounts) : Type 0 where
+pub record CountsOfWholeCall (waits : ℕ) (old new : CallCounts) : Type 0 where
   pub waited : Waited waits old.waits new.waits
   pub wants : new.wants ≡ old.wants
   pub late : old.wants ≡ 0 → new.late ≡ old.late
   pub came : Came old new
 
 -- at most so many calls of `wait`, and at most one call that ran out of memory, which was the last
-pub record Cut (waits : ℕ) (old new : CallCounts) : Type 0 where
+pub record CountsOfCutCall (waits : ℕ) (old new : CallCounts) : Type 0 where
   pub few : new.waits ≤ old.waits + waits
   pub wants : new.wants ≤ old.wants + 1
   pub late : old.wants ≡ 0 → new.late ≡ old.late
   pub came : Came old new
 
 -- running out of memory cuts a call short
-abbrev pub Counts : {A E : Type 0} → ℕ → Result A E → CallCounts → CallCounts → Type 0
-Counts waits (Ok x) old new = Well waits old new
-Counts waits (Err e) old new = Cut waits old new
+abbrev pub CountsOfCall : {A E : Type 0} → ℕ → Result A E → CallCounts → CallCounts → Type 0
+CountsOfCall waits (Ok x) old new = CountsOfWholeCall waits old new
+CountsOfCall waits (Err e) old new = CountsOfCutCall waits old new
 
 -- a turn of a run: it made one call of `wait`; or none, where there is a forwarder or the run
 -- doesn't go on
 abbrev pub Turned : Bool → Bool → CallCounts → CallCounts → Type 0
 Turned present on old new =
-    Well 1 old new ⊎ (Well 0 old new × ((present ≡ true) ⊎ (on ≡ false)))
+    CountsOfWholeCall 1 old new ⊎ (CountsOfWholeCall 0 old new × ((present ≡ true) ⊎ (on ≡ false)))
 
 -- the turns of a run: where there is no forwarder, it made as many calls of `wait` as it has turns,
 -- or one at least where it doesn't go on; where there is one, no more than those

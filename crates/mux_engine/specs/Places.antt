@@ -78,7 +78,7 @@ GivesOwn before (Gets t bytes) = IsTrue (is_own t) → IsGiving t (own_in before
 GivesOwn before (Ends t) = IsTrue (is_own t) → IsGiving t (own_in before)
 GivesOwn before mark = Unit {0}
 
--- it is one of those that are open and takes bytes: it is not finished, and has not failed
+-- it is one of those that are open and accepts bytes: it is not finished, and has not failed
 pub record IsTaking (t : ℕ) (before : List Mark) : Type 0 where
   pub is : IsTrue (is_one t (own_in before))
   pub unfinished : is_finished t (own_in before) ≡ false

@@ -10,7 +10,7 @@ use Rattle.mux_outside.specs.declared.turn.Want.TheVariants.{Read}
 use Rattle.mux_history.specs.declared.ended.Ended.{Ended}
 use Rattle.mux_history.specs.declared.ended.Ended.TheVariants.{ServerFailed, Spent, StartRefused}
 use Rattle.mux_history.specs.declared.limits.TheConstants.{HOUSE}
-use Rattle.mux_state.specs.State.{State}
+use Rattle.mux_state.specs.State.{EngineState}
 use Rattle.mux_engine.specs.Came.{Came, EndsFor, OverBy}
 use Rattle.mux_engine.specs.Counted.{RunStops}
 use Rattle.mux_engine.specs.Owned.{IsOwnOffered}
@@ -27,7 +27,7 @@ pub record HasNoMore (known : Known) (quiet : Quiet) (queue : ℕ → List ℕ)
 
 -- and where more is read, it is at rest
 pub record IsHouseReady (known : Known) (quiet : Quiet) (queue : ℕ → List ℕ) (held failed own : List ℕ)
-    (s : State) : Type 0 where
+    (s : EngineState) : Type 0 where
   pub no_more : HasNoMore known quiet queue held failed own
   pub rests : IsTrue known.present → want_of s ≡ Read → IsAtRest quiet
 
@@ -38,7 +38,7 @@ HasNoMoreFor house lists =
 
 -- it waits for nothing of the forwarder: that has nothing to order and nothing to answer, each of
 -- its streams was offered what waits for it, and where more is read it is at rest
-abbrev pub IsReadyFor : HouseState → Lists → State → Type 0
+abbrev pub IsReadyFor : HouseState → Lists → EngineState → Type 0
 IsReadyFor house lists s =
     IsHouseReady house.known house.quiet house.queue lists.held lists.failed lists.own s
 
@@ -53,17 +53,17 @@ pub record HasAnswered (house : HouseState) (lists : Lists) : Type 0 where
   pub offered : HasOffered house lists
 
 -- a run without a forwarder used no turn for one, and where nothing waited for a stream it goes on
-pub record WaitsAlone {E : Type 0} (result : Result Bool E) (old new : State) : Type 0 where
+pub record WaitsAlone {E : Type 0} (result : Result Bool E) (old new : EngineState) : Type 0 where
   pub waits : result ≢ Ok true
   pub idle : old.waiting ≡ [] → OnOk result (new.ended ≡ None)
 
 -- no stream is left to be closed
-pub record HasNoneToClose (s : State) : Type 0 where
+pub record HasNoneToClose (s : EngineState) : Type 0 where
   pub closed : s.leaving ≡ []
   pub refused : s.refused ≡ []
 
 -- whatever forwarder is ready for a wait stays so, and knows the wire's streams
-abbrev pub StaysReady : Seen → Seen → List ℕ → List ℕ → State → State → Type 0
+abbrev pub StaysReady : Seen → Seen → List ℕ → List ℕ → EngineState → EngineState → Type 0
 StaysReady seen seen' held held' s s' =
     (known : Known) (quiet : Quiet) (queue : ℕ → List ℕ) (failed own : List ℕ)
     → Housed known seen own

@@ -22,7 +22,7 @@ use Rattle.mux_history.specs.Solo.{solo}
 use Rattle.mux_history.specs.Right.{AreFresh, IsAdmitted, TakesPick}
 use Rattle.mux_history.specs.Journal.{IsLawful, Records, bytes_of, is_blocked, log_of_journal, taken_by}
 use Rattle.mux_history.specs.Kept.{AtEach, ForEach, Kept, OwnWords}
-use Rattle.mux_history.specs.Promises.{ConnectionEnds, IsFront, MayGive, OpenStreams, Settled, Throughout, Written, has_failed, is_asked, turns_in}
+use Rattle.mux_history.specs.Promises.{ConnectionEnds, IsFront, MayGive, OpenStreams, Settled, Throughout, Written, has_failed, is_house_request, turns_in}
 use Rattle.mux_history.specs.Wires.{ReadsWhenAsked}
 use Rattle.mux_isolation.specs.Bytes.{GivesAlike, SendsAlike}
 use Rattle.mux_isolation.specs.Laws.{WaitsBounded}
@@ -58,7 +58,7 @@ Rested Rest setting before journal = Throughout (RestedAt Rest setting before) j
 
 -- a mark of what a forwarder does by itself
 abbrev pub is_by_house : Mark → Bool
-is_by_house (House mark) = not (is_asked mark)
+is_by_house (House mark) = not (is_house_request mark)
 is_by_house mark = false
 
 -- nothing waits for this stream of the master's own, or it is blocked, or it failed

@@ -26,31 +26,31 @@ use Rattle.mux_history.specs.Promises.{IsSettled, MayGive, has_failed, not_own, 
 use Rattle.mux_history.specs.Wires.{OfWire}
 use Rattle.mux_bounds.specs.Bounds.{IsLog}
 use Rattle.mux_peers.specs.Asked.{asks_of_rows, RecordsAsks}
-use Rattle.mux_state.specs.State.{State, is_here, queue_in}
+use Rattle.mux_state.specs.State.{EngineState, is_here, queue_in}
 use Rattle.mux_state.specs.Events.{here}
-use Rattle.mux_state.specs.Stands.{Stands}
+use Rattle.mux_state.specs.Stands.{RepresentsSoFar}
 use Rattle.mux_engine.specs.Answers.{opens_after}
 use Rattle.mux_engine.specs.Called.{Handed, calls_in}
 use Rattle.mux_engine.specs.Places.{HasPlaces, KeepsOwn}
 use Rattle.mux_engine.specs.Rests.{refusal_after}
 use Rattle.mux_engine.specs.Run.{AsksOn, IsOfWire, IsRun, KeepsMarks, Rested, is_by_house}
-use Rattle.mux_engine.specs.Sides.{Resting, RestsOf, Side, Together, ask_marks_in, house_marks, noted, outside}
+use Rattle.mux_engine.specs.Sides.{Resting, RestsOf, Side, Together, ask_marks_in, house_marks, all_marks_noted, outside}
 use Rattle.mux_engine.specs.SilentAnswers.{AcceptsAs}
 use Rattle.mux_engine.specs.declared.room.Lists.{Lists}
 
 -- a stream that is open: the server's, and that of a client that is here
-abbrev pub is_open : State → ℕ → Bool
-is_open s t = (t == 0) || is_here s t
+abbrev pub is_stream_open : EngineState → ℕ → Bool
+is_stream_open s t = (t == 0) || is_here s t
 
 -- a stream that is open and is none of the forwarder
-pub record CanBeOffered (stream : ℕ) (s : State) : Type 0 where
-  pub opened : is_open s stream ≡ true
+pub record CanBeOffered (stream : ℕ) (s : EngineState) : Type 0 where
+  pub opened : is_stream_open s stream ≡ true
   pub no_house : stream ≢ HOUSE
 
 -- all that was promised so far: while the run goes on, a client to whose stream a write failed is
 -- out; and the streams that are not in `todo` were offered what waits for them. No row records
 -- anything of the master's own streams
-pub record IsRunSound (setting : Setting) (journal : List Mark) (todo : List ℕ) (s : State) :
+pub record IsRunSound (setting : Setting) (journal : List Mark) (todo : List ℕ) (s : EngineState) :
     Type 0 where
   pub kept : KeepsMarks setting journal
   pub failed_out : (t : ℕ) → is_own_stream t ≡ false → write_failed t journal ≡ true
@@ -88,7 +88,7 @@ IsFreeForOwn last k = (IsTrue (is_own k) × (last < k)) ⊎ (k ≡ HOUSE)
 pub record Serving (May : HouseReply → Type 0) (Rest : Resting)
     (before : Option (List HouseMark)) (now : Side) (policy : Policy) (pid : ℕ)
     (start : Option (List Mark)) (seen : Seen) (held failed : List ℕ) (given : ℕ)
-    (todo : List ℕ) (s : State) : Type 0 where
+    (todo : List ℕ) (s : EngineState) : Type 0 where
   pub journal : List Mark
   pub closed : List ℕ
   pub picked : List ℕ
@@ -96,7 +96,7 @@ pub record Serving (May : HouseReply → Type 0) (Rest : Resting)
   pub policy_is : s.core.policy ≡ policy
   pub pid_is : s.pid ≡ pid
   pub may : MayGive May replies
-  pub stands : Stands picked replies s journal closed
+  pub stands : RepresentsSoFar picked replies s journal closed
   pub house : RecordsAsks before now.recorded (house_marks journal ++ now.unnoted)
   pub asked : ask_marks_in (house_marks journal ++ now.unnoted) ≡ stands.asks
   pub called : (picks : List ℕ) (given_later : List HouseReply)
@@ -137,19 +137,19 @@ pub record Scene : Type 0 where
   pub seen : Seen
   pub held : List ℕ
   pub failed : List ℕ
-  pub engine : State
+  pub engine : EngineState
 
-abbrev pub scene_of : WireState → List ℕ → List ℕ → State → Scene
+abbrev pub scene_of : WireState → List ℕ → List ℕ → EngineState → Scene
 scene_of wire held failed engine =
     record { seen = wire.seen; held = held; failed = failed; engine = engine }
 
-abbrev pub scene : WireState → Lists → State → Scene
+abbrev pub scene : WireState → Lists → EngineState → Scene
 scene wire lists engine = scene_of wire lists.held lists.failed engine
 
 -- a run was served so far, whatever came before, and whichever streams are to be offered what waits
 -- for them
 pub record IsRunServed {T : Type 0} (May : HouseReply → Type 0) (state : T → HouseState) (seen : Seen)
-    (held : List ℕ) (s : State) : Type 0 where
+    (held : List ℕ) (s : EngineState) : Type 0 where
   pub present : Bool
   pub first : T
   pub before : Option (List HouseMark)
@@ -183,12 +183,12 @@ pub record ServedAs {T : Type 0} (noted_of : HouseState → List HouseCall → S
 abbrev pub ServedWith : {T : Type 0} → (HouseReply → Type 0) → (T → HouseState) → T → Scene
     → List ℕ → Type 0
 ServedWith May state house now todo =
-    ServedAs (λ house calls. noted house.recorded house.known calls) May state house now todo
+    ServedAs (λ house calls. all_marks_noted house.recorded house.known calls) May state house now todo
 
 -- a run goes on with this forwarder: it was served so far, and the server's stream and those of the
 -- clients that are here are to be offered what waits for them
 pub record IsOngoing {T : Type 0} (May : HouseReply → Type 0) (state : T → HouseState) (house : T)
-    (wire : WireState) (lists : Lists) (s : State) : Type 0 where
+    (wire : WireState) (lists : Lists) (s : EngineState) : Type 0 where
   pub served : ServedWith May state house (scene wire lists s) (0 ∷ here s)
   pub together : Together (state house) wire lists
   pub on : s.ended ≡ None
@@ -246,7 +246,7 @@ pub record Promised (May : HouseReply → Type 0) (Rest : Resting)
 -- `rest`, or what was promised is left. The forwarder is not called meanwhile
 abbrev pub ServesOn :
     {A E T : Type 0} → Result A E → (HouseReply → Type 0) → (T → HouseState) → Seen → Seen
-    → List ℕ → List ℕ → List ℕ → (A → List ℕ) → State → State → Type 0
+    → List ℕ → List ℕ → List ℕ → (A → List ℕ) → EngineState → EngineState → Type 0
 ServesOn {T = T} result May state seen seen' held held' todo rest s s' =
     (present : Bool) (first : T) (before : Option (List HouseMark)) (now : Side)
     (policy : Policy) (pid : ℕ) (start : Option (List Mark)) (failed : List ℕ) (given : ℕ)
@@ -261,7 +261,7 @@ ServesOn {T = T} result May state seen seen' held held' todo rest s s' =
 -- the server's stream and those of the clients were to be offered what waits for them, and more
 -- streams perhaps
 abbrev pub OffersOn : {A E T : Type 0} → Result A E → (HouseReply → Type 0) → (T → HouseState) → Seen
-    → Seen → List ℕ → List ℕ → State → State → (List ℕ → List ℕ) → Type 0
+    → Seen → List ℕ → List ℕ → EngineState → EngineState → (List ℕ → List ℕ) → Type 0
 OffersOn result May state seen seen' held held' s s' rest =
     (left : List ℕ)
     → ServesOn result May state seen seen' held held' (0 ∷ (without HOUSE (here s) ++ left))
@@ -270,7 +270,7 @@ OffersOn result May state seen seen' held held' s s' rest =
 -- whatever came before, whatever is noted, and whichever streams are still to be offered what waits
 -- for them: a run that was served is served on
 abbrev pub StaysServed : {T : Type 0} → (HouseReply → Type 0) → (T → HouseState) → Seen → Seen
-    → List ℕ → List ℕ → State → State → Type 0
+    → List ℕ → List ℕ → EngineState → EngineState → Type 0
 StaysServed {T = T} May state seen seen' held held' s s' =
     (present : Bool) (first : T) (before : Option (List HouseMark)) (now : Side)
     (policy : Policy) (pid : ℕ) (start : Option (List Mark)) (failed : List ℕ) (given : ℕ)
@@ -288,7 +288,7 @@ abbrev pub OwnOn :
 OwnOn {T = T} result May state house house' seen seen' held held' failed failed' =
     (present : Bool) (first : T) (before : Option (List HouseMark)) (now : Side)
     (policy : Policy) (pid : ℕ) (start : Option (List Mark)) (given : ℕ) (todo : List ℕ)
-    (s : State) → AcceptsAs seen s → now.unnoted ≡ []
+    (s : EngineState) → AcceptsAs seen s → now.unnoted ≡ []
     → HandsOn (state first).stands (state house).stands now.calls
     → Serving May (RestsOf state present first) before now policy pid start seen held failed given
     todo s
@@ -313,7 +313,7 @@ RunsFrom {T = T} result now May state house house' old new most more todo rest =
     → MatchResult result
     (λ x. Handed (state first).stands (state house').stands (λ all.
     Serving May (RestsOf state (state house).known.present first) before
-    (noted (state house').recorded (state house').known all) policy pid start new.seen new.held
+    (all_marks_noted (state house').recorded (state house').known all) policy pid start new.seen new.held
     new.failed (given + more x) (rest x) new.engine))
     (λ e. Promised May (RestsOf state (state house).known.present first) before (state house').recorded
     policy pid start new.seen.recorded (given + most))
@@ -323,11 +323,11 @@ abbrev pub RunsOn :
     {A E T : Type 0} → Result A E → (HouseReply → Type 0) → (T → HouseState) → T → T → Scene → Scene
     → ℕ → (A → ℕ) → List ℕ → (A → List ℕ) → Type 0
 RunsOn result May state house house' old new most more todo rest =
-    RunsFrom result (noted (state house).recorded (state house).known) May state house house' old new
+    RunsFrom result (all_marks_noted (state house).recorded (state house).known) May state house house' old new
     most more todo rest
 
 -- the streams that are to be offered what waits for them, unless all were
-abbrev pub to_offer : Bool → State → List ℕ
+abbrev pub to_offer : Bool → EngineState → List ℕ
 to_offer true s = []
 to_offer false s = 0 ∷ here s
 
@@ -335,7 +335,7 @@ to_offer false s = 0 ∷ here s
 abbrev pub EndsTurn :
     Bool → ℕ → (HouseReply → Type 0) → Resting
     → Option (List HouseMark) → Side → Policy → ℕ → Option (List Mark) → Seen → List ℕ → List ℕ
-    → List ℕ → State → Type 0
+    → List ℕ → EngineState → Type 0
 EndsTurn on given May Rest before now policy pid start seen held failed todo s =
     Serving May Rest before now policy pid start seen held failed (given + 1) todo s
     ⊎ ((on ≡ false) × Serving May Rest before now policy pid start seen held failed given todo s)
@@ -344,7 +344,7 @@ EndsTurn on given May Rest before now policy pid start seen held failed todo s =
 pub record Spends (all : Bool) (turns : ℕ) (May : HouseReply → Type 0)
     (Rest : Resting) (before : Option (List HouseMark)) (now : Side)
     (policy : Policy) (pid : ℕ) (start : Option (List Mark)) (seen : Seen) (held failed : List ℕ)
-    (todo : List ℕ) (s : State) : Type 0 where
+    (todo : List ℕ) (s : EngineState) : Type 0 where
   pub given : ℕ
   pub most : given ≤ turns
   pub all_given : all ≡ true → given ≡ turns
@@ -358,12 +358,12 @@ TurnsOn {T = T} result May state house house' old new settled =
     (pid : ℕ) (start : Option (List Mark)) (given : ℕ)
     → HandsOn (state first).stands (state house).stands calls
     → Serving May (RestsOf state (state house).known.present first) before
-    (noted (state house).recorded (state house).known calls) policy pid start old.seen old.held
+    (all_marks_noted (state house).recorded (state house).known calls) policy pid start old.seen old.held
     old.failed given (0 ∷ here old.engine) old.engine
     → MatchResult result
     (λ on. Handed (state first).stands (state house').stands (λ all.
     EndsTurn on given May (RestsOf state (state house).known.present first) before
-    (noted (state house').recorded (state house').known all) policy pid start new.seen new.held
+    (all_marks_noted (state house').recorded (state house').known all) policy pid start new.seen new.held
     new.failed (to_offer settled new.engine) new.engine))
     (λ e. Promised May (RestsOf state (state house).known.present first) before (state house').recorded
     policy pid start new.seen.recorded (given + 1))
@@ -376,12 +376,12 @@ SpendsTurns {T = T} result turns May state house house' old new settled =
     (pid : ℕ) (start : Option (List Mark))
     → HandsOn (state first).stands (state house).stands calls
     → Serving May (RestsOf state (state house).known.present first) before
-    (noted (state house).recorded (state house).known calls) policy pid start old.seen old.held
+    (all_marks_noted (state house).recorded (state house).known calls) policy pid start old.seen old.held
     old.failed 0 (0 ∷ here old.engine) old.engine
     → MatchResult result
     (λ all. Handed (state first).stands (state house').stands (λ handed.
     Spends all turns May (RestsOf state (state house).known.present first) before
-    (noted (state house').recorded (state house').known handed) policy pid start new.seen new.held
+    (all_marks_noted (state house').recorded (state house').known handed) policy pid start new.seen new.held
     new.failed (to_offer settled new.engine) new.engine))
     (λ e. Promised May (RestsOf state (state house).known.present first) before (state house').recorded
     policy pid start new.seen.recorded turns)
@@ -390,7 +390,7 @@ SpendsTurns {T = T} result turns May state house house' old new settled =
 
 -- before all else a forwarder that is present is admitted
 abbrev pub LetsHouseIn : {A E T : Type 0} → Result A E → (HouseReply → Type 0) → (T → HouseState) → Seen
-    → Seen → State → State → Type 0
+    → Seen → EngineState → EngineState → Type 0
 LetsHouseIn {T = T} result May state seen seen' s s' =
     (present : Bool) (first : T) (before : Option (List HouseMark)) (now : Side) (policy : Policy)
     (pid : ℕ) (start : Option (List Mark)) (held failed : List ℕ) (given : ℕ)
@@ -404,7 +404,7 @@ LetsHouseIn {T = T} result May state seen seen' s s' =
 
 -- before all else this forwarder is admitted, where it is present
 abbrev pub Enters : {A E T : Type 0} → Result A E → (HouseReply → Type 0) → (T → HouseState) → T
-    → Seen → Seen → State → State → Type 0
+    → Seen → Seen → EngineState → EngineState → Type 0
 Enters {T = T} result May state house seen seen' s s' =
     (first : T) (calls : List HouseCall) (before : Option (List HouseMark)) (policy : Policy)
     (pid : ℕ) (start : Option (List Mark)) (held failed : List ℕ) (given : ℕ)
@@ -413,14 +413,14 @@ Enters {T = T} result May state house seen seen' s s' =
     (0 ∷ here s) s) → v.journal ≡ []
     → MatchResult result
     (λ done. Serving May (RestsOf state (state house).known.present first) before
-    (noted (state house).recorded (state house).known calls) policy pid start seen' held failed given
+    (all_marks_noted (state house).recorded (state house).known calls) policy pid start seen' held failed given
     (0 ∷ here s') s' × (s'.ended ≡ None))
     (λ e. Promised May (RestsOf state (state house).known.present first) before (state house).recorded
     policy pid start seen'.recorded given)
 
 -- a whole run that begins with this forwarder, of which nothing was noted
 abbrev pub RunsWhole : {T : Type 0} → Ended → ℕ → (HouseReply → Type 0) → (T → HouseState) → T → T
-    → Seen → Seen → State → Type 0
+    → Seen → Seen → EngineState → Type 0
 RunsWhole answer turns May state house house' seen seen' s =
     (before : Option (List HouseMark)) (policy : Policy) (pid : ℕ) (start : Option (List Mark))
     → (v : Serving May (RestsOf state (state house).known.present house) before
@@ -439,13 +439,13 @@ StaysOrFails old new faults faults' = ((new ≡ old) × (faults.server ≤ fault
 
 -- a stream was offered what waits for it: those of the clients that are here stay, and only a failure
 -- of the server's stream ended the run
-pub record IsOfferedTo (stream : ℕ) (old new : State) (faults faults' : Faults) : Type 0 where
+pub record IsOfferedTo (stream : ℕ) (old new : EngineState) (faults faults' : Faults) : Type 0 where
   pub streams : here new ≡ here old
   pub ended : StaysOrFails old.ended new.ended faults faults'
   pub client : stream ≢ 0 → new.ended ≡ old.ended
 
 -- less waits for it, and it is not blocked; and clients are accepted only as the engine does
-pub record CanTakeMore (stream : ℕ) (old new : State) (seen : Seen) : Type 0 where
+pub record CanTakeMore (stream : ℕ) (old new : EngineState) (seen : Seen) : Type 0 where
   pub less : length (queue_in new stream) < length (queue_in old stream)
   pub free : among stream seen.blocked ≡ false
   pub silence : AcceptsAs seen new

@@ -1,4 +1,4 @@
--- What is kept of a house, and what its marks and the wire's streams are to each other.
+-- What is kept of a forwarder, and what its marks and the wire's streams are to each other.
 use Rattle.std.specs.Prelude.{◌≡◌, ◌<◌, ◌≤◌, ℕ, Bool, true, false, not, List, [], ◌∷◌, ◌++◌, filter, length, Option, Some, None, IsTrue, OnOk, Result}
 use Rattle.mux_outside.specs.House.{HouseState, IsAtRest, Known, OffersSame, OpenAsk, Quiet}
 use Rattle.mux_outside.specs.HouseCalls.{HandsOn, HouseCall}
@@ -16,14 +16,14 @@ use Rattle.mux_outside.specs.declared.mark.Mark.{Mark}
 use Rattle.mux_outside.specs.declared.mark.Mark.TheVariants.{House}
 use Rattle.mux_history.specs.declared.ended.Ended.{Ended}
 use Rattle.mux_history.specs.declared.limits.TheConstants.{HOUSE}
-use Rattle.mux_history.specs.Promises.{is_asked, is_empty}
-use Rattle.mux_state.specs.State.{State}
+use Rattle.mux_history.specs.Promises.{is_house_request, is_empty}
+use Rattle.mux_state.specs.State.{EngineState}
 use Rattle.mux_engine.specs.Turns.{failed_received, held_received, own_received}
 use Rattle.mux_engine.specs.declared.room.Lists.{Lists}
 
 -- ---- the forwarder's marks of a journal
 
--- the mark of a forwarder, which it records too unless it is that it is let in
+-- the mark of a forwarder, which it records too unless it is that it is admitted
 abbrev pub house_mark : Mark → List HouseMark
 house_mark (House HouseIn) = []
 house_mark (House mark) = mark ∷ []
@@ -34,14 +34,14 @@ abbrev pub house_marks : List Mark → List HouseMark
 house_marks [] = []
 house_marks (mark ∷ before) = house_marks before ++ house_mark mark
 
--- its asks
+-- its requests
 abbrev pub ask_marks_in : List HouseMark → List HouseMark
-ask_marks_in marks = filter is_asked marks
+ask_marks_in marks = filter is_house_request marks
 
 -- ---- a forwarder and what is noted of it
 
--- what it recorded; its open asks; the last of what it recorded, which is not noted yet; whether it
--- was let in as a client; and its calls since the run began
+-- what it recorded; its open requests; the last of what it recorded, which is not noted yet;
+-- whether it was admitted as a client; and its calls since the run began
 pub record Side : Type 0 where
   pub recorded : Option (List HouseMark)
   pub asks : List OpenAsk
@@ -49,7 +49,7 @@ pub record Side : Type 0 where
   pub let_in : Bool
   pub calls : List HouseCall
 
--- a forwarder that is let in where it is present, with this that is not noted yet
+-- a forwarder that is admitted where it is present, with this that is not noted yet
 abbrev pub noting : List HouseMark → Option (List HouseMark) → Known → List HouseCall → Side
 noting unnoted recorded known calls = record {
   recorded = recorded;
@@ -60,12 +60,12 @@ noting unnoted recorded known calls = record {
 }
 
 -- all of it is noted
-abbrev pub noted : Option (List HouseMark) → Known → List HouseCall → Side
-noted recorded known calls = noting [] recorded known calls
+abbrev pub all_marks_noted : Option (List HouseMark) → Known → List HouseCall → Side
+all_marks_noted recorded known calls = noting [] recorded known calls
 
--- one that was not let in yet
+-- one that was not admitted yet
 abbrev pub outside : Option (List HouseMark) → Known → List HouseCall → Side
-outside recorded known calls = record (noted recorded known calls) { let_in = false }
+outside recorded known calls = record (all_marks_noted recorded known calls) { let_in = false }
 
 -- how a forwarder is right before a wait: it has nothing to order and nothing to answer, and it is
 -- at rest where more is read; and no forwarding of the start was refused where none may be
@@ -124,7 +124,7 @@ pub record SameSockets (old new : Seen) : Type 0 where
   pub silence : new.listens ≡ true → old.listens ≡ true
 
 -- and the same are blocked
-pub record SameStreams (old new : Seen) : Type 0 where
+pub record SameStreamsSeen (old new : Seen) : Type 0 where
   pub places : SameSockets old new
   pub blocked : new.blocked ≡ old.blocked
 
@@ -157,7 +157,7 @@ pub record Together (house : HouseState) (wire : WireState) (lists : Lists) : Ty
   pub alone : IsAlone house.known
   pub held_is : lists.held ≡ wire.seen.blocked
 
--- only its asks changed
+-- only its requests changed
 pub record SameHouse (old new : Known) : Type 0 where
   pub present : new.present ≡ old.present
   pub ordering : new.ordering ≡ old.ordering
@@ -170,7 +170,7 @@ pub record StaysHouse {A E : Type 0} (result : Result A E) (old new : HouseState
   pub present : OnOk result (new.known.present ≡ old.known.present)
   pub must : new.must ≡ old.must
 
--- of what is known of it only its asks changed
+-- of what is known of it only its requests changed
 pub record OnlyAsked {A E : Type 0} (result : Result A E) (old new : HouseState) : Type 0 where
   pub known : OnOk result (SameHouse old.known new.known)
   pub must : new.must ≡ old.must
@@ -197,13 +197,13 @@ pub record AnsweredNothing (old new : HouseState) : Type 0 where
   pub answers : new.quiet.answers ≡ true
   pub queues : (t : ℕ) → new.queue t ≡ old.queue t
 
--- it had an answer to one of its asks, or none
+-- it had an answer to one of its requests, or none
 abbrev pub AnsweredOr : Bool → HouseState → HouseState → Type 0
 AnsweredOr true old new = length new.known.asks < length old.known.asks
 AnsweredOr false old new = AnsweredNothing old new
 
--- it had nothing to say, and nothing changed
-pub record SentNothing (old new : HouseState) (seen seen' : Seen) (s s' : State) : Type 0 where
+-- it had nothing to send, and nothing changed
+pub record SentNothing (old new : HouseState) (seen seen' : Seen) (s s' : EngineState) : Type 0 where
   pub same : OffersSame old new
   pub says : new.quiet.says ≡ true
   pub engine : s' ≡ s

@@ -12,12 +12,12 @@ use Rattle.mux_outside.specs.declared.turn.Want.TheVariants.{Read, WriteOnly}
 use Rattle.mux_history.specs.declared.limits.TheConstants.{READING_STOPS_AT}
 use Rattle.mux_state.specs.declared.event.Event.{Event}
 use Rattle.mux_state.specs.Events.{MarkRecords}
-use Rattle.mux_state.specs.State.{State, queue_in}
+use Rattle.mux_state.specs.State.{EngineState, queue_in}
 use Rattle.mux_engine.specs.declared.events.NextEvent.{NextEvent}
 use Rattle.mux_engine.specs.declared.events.NextEvent.TheVariants as next
 
 -- while 4,194,304 bytes or more wait for the server, nothing is read
-abbrev pub want_of : State → Want
+abbrev pub want_of : EngineState → Want
 want_of s = if nat_lt (length (queue_in s 0)) READING_STOPS_AT then Read else WriteOnly
 
 -- the event that a turn reports

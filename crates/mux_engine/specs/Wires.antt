@@ -3,7 +3,7 @@ use Rattle.std.specs.Prelude.{◌≡◌, ◌≤◌, ℕ, [], ◌∷◌, Result, 
 use Rattle.mux_outside.specs.Faults.{Faults}
 use Rattle.mux_outside.specs.Seen.{Seen}
 use Rattle.mux_outside.specs.WireState.{WireState}
-use Rattle.mux_engine.specs.Counted.{Counts}
+use Rattle.mux_engine.specs.Counted.{CountsOfCall}
 use Rattle.mux_engine.specs.OwnFaults.{OwnCounted}
 
 -- it is open as `open` leaves it: the server's stream alone, and clients are accepted
@@ -44,7 +44,7 @@ pub record IsIdleWire (old new : WireState) (faults faults' : Faults) : Type 0 w
 pub record Works {A E : Type 0} (waits : ℕ) (result : Result A E) (old new : WireState)
     (faults faults' : Faults) : Type 0 where
   pub keeps : KeepsWire old new faults faults'
-  pub calls : Counts waits result old.calls new.calls
+  pub calls : CountsOfCall waits result old.calls new.calls
 
 -- writes to the master's own streams alone
 pub record WorksOwn {A E : Type 0} (result : Result A E) (old new : WireState)

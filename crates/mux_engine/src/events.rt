@@ -15,7 +15,7 @@ pub enum NextEvent<'a> {
     Event(Event<'a>),
     /// Something of the master's own listeners and streams.
     Own(OwnTurn<'a>),
-    /// The server's stream or a client's takes bytes again.
+    /// The server's stream or a client's accepts bytes again.
     Freed(u64),
     /// There was no memory.
     NoMemory,

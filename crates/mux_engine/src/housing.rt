@@ -6,11 +6,11 @@ ghost use Rattle.mux_outside.specs.declared.turn.Want.TheVariants.{Read as ToRea
 ghost use Rattle.mux_history.specs.declared.limits.TheConstants.{HOUSE as TheHouse};
 ghost use Rattle.mux_history.specs.Journal.{is_accepted};
 ghost use Rattle.mux_state.specs.Events.{here};
-ghost use Rattle.mux_state.specs.Stands.{Stands};
+ghost use Rattle.mux_state.specs.Stands.{RepresentsSoFar};
 ghost use Rattle.mux_engine.specs.OwnFaults.{OwnCounted};
 ghost use Rattle.mux_engine.specs.Rests.{EndsByAsk, EndsSo, HasAnswered, HasNoMoreFor, HasOffered, IsReadyFor, WaitsAlone};
 ghost use Rattle.mux_engine.specs.Serving.{IsOngoing, LetsHouseIn, RunsOn, ServedWith, scene, scene_of};
-ghost use Rattle.mux_engine.specs.Sides.{AnsweredOr, OnlyAsked, SentNothing, SameKnown, SameSockets, SameStreams, StaysHouse, Together};
+ghost use Rattle.mux_engine.specs.Sides.{AnsweredOr, OnlyAsked, SentNothing, SameKnown, SameSockets, SameStreamsSeen, StaysHouse, Together};
 ghost use Rattle.mux_engine.specs.SilentAnswers.{AcceptsAs};
 ghost use Rattle.mux_engine.specs.Turns.{want_of};
 ghost use Rattle.mux_engine.specs.Wires.{IsIdleWire, Untouched, Works, WorksOwn};
@@ -64,7 +64,7 @@ pub fn hand_over<W: Wire, H: House>(
     ensures house { SameKnown result (H.state house.old) (H.state house.new) }
     ensures ended { engine.new.ended ≡ engine.old.ended }
     ensures silence { OnOk result (AcceptsAs (W.state wire.new).seen engine.new) }
-    ensures streams { SameStreams (W.state wire.old).seen (W.state wire.new).seen }
+    ensures streams { SameStreamsSeen (W.state wire.old).seen (W.state wire.new).seen }
     ensures wire { IsIdleWire (W.state wire.old) (W.state wire.new) (W.faults wire.old)
         (W.faults wire.new) }
 {
@@ -102,7 +102,7 @@ fn reply<W: Wire, H: House>(
     ensures on { (held failed todo : List ℕ) → ServedWith H.may H.state house.old
         (scene_of (W.state wire.old) held failed engine.old) todo
         → OnOk result (engine.new.ended ≡ None) }
-    ensures streams { SameStreams (W.state wire.old).seen (W.state wire.new).seen }
+    ensures streams { SameStreamsSeen (W.state wire.old).seen (W.state wire.new).seen }
     ensures wire { IsIdleWire (W.state wire.old) (W.state wire.new) (W.faults wire.old)
         (W.faults wire.new) }
 {
@@ -193,9 +193,9 @@ fn speak<W: Wire, H: House>(
     ensures ends { (held failed : List ℕ) → ServedWith H.may H.state house.old
         (scene_of (W.state wire.old) held failed engine.old) []
         → OnOk result (EndsByAsk engine.new.ended) }
-    ensures streams { SameStreams (W.state wire.old).seen (W.state wire.new).seen }
+    ensures streams { SameStreamsSeen (W.state wire.old).seen (W.state wire.new).seen }
     ensures counted { (picked : List ℕ) (replies : List TheReply) (journal : List TheMark)
-        (closed : List ℕ) → Stands picked replies engine.old journal closed
+        (closed : List ℕ) → RepresentsSoFar picked replies engine.old journal closed
         → is_accepted TheHouse journal ≡ true
         → OwnCounted (W.state wire.old).seen.recorded (W.state wire.new).seen.recorded
         (W.faults wire.old).own (W.faults wire.new).own }

@@ -1,7 +1,7 @@
 ghost use Rattle.std.specs.Prelude.{◌≡◌, ℕ, true, false, List, IfOk, OnOk, None, Some, if◌then◌else◌};
 ghost use Rattle.mux_outside.specs.House.{order_marks};
 ghost use Rattle.mux_outside.specs.declared.order.Order.TheVariants.{Connect as TheConnect};
-ghost use Rattle.mux_state.specs.State.{State as TheState};
+ghost use Rattle.mux_state.specs.State.{EngineState as TheState};
 ghost use Rattle.mux_engine.specs.Orders.{Carries, CarryCounted, HasOrdered, IsMade, makes as does_make};
 ghost use Rattle.mux_engine.specs.Serving.{RunsFrom, RunsOn, scene};
 ghost use Rattle.mux_engine.specs.Sides.{Housed, OrderedNothing, StaysHouse, noting};
@@ -11,7 +11,7 @@ use crate::room::Lists;
 use mux_outside::{FileError, House, HouseMark, Order, Wire};
 use ssh_fields::{OutOfMemory, Text};
 
-// The number that was made. Want of memory is no refusal.
+// The number that was made. Running out of memory is no refusal.
 fn made_by(made: Result<u64, FileError>) -> Result<Option<u64>, OutOfMemory>
     ensures { IsMade made result }
 {

@@ -8,7 +8,7 @@ ghost use Rattle.mux_history.specs.declared.limits.TheConstants.{HOUSE as TheHou
 ghost use Rattle.mux_state.specs.Events.{went_of, here};
 ghost use Rattle.mux_engine.specs.Called.{HasSentNothing, StandsGreeting};
 ghost use Rattle.mux_engine.specs.Came.{EndedBy};
-ghost use Rattle.mux_engine.specs.Counted.{Cut, Spent, Turned, Well};
+ghost use Rattle.mux_engine.specs.Counted.{CountsOfCutCall, Spent, Turned, CountsOfWholeCall};
 ghost use Rattle.mux_engine.specs.Rests.{EndsSo, GoesOnSo, HasCalled, HasEnded, HasNoneToClose, HasOffered};
 ghost use Rattle.mux_engine.specs.Rests.{IsReadyFor, LeavesPlaces, ended_as, refusal_after, start_refusal_of};
 ghost use Rattle.mux_engine.specs.Run.{RunKept};
@@ -147,11 +147,11 @@ fn one_turn<W: Wire, H: House>(
     ensures ended { EndsSo result (H.state house.old).known.present engine.new.ended
         (W.state wire.old) (W.state wire.new) (W.faults wire.old) (W.faults wire.new) }
     ensures idle { engine.old.waiting ≡ [] → (H.state house.old).known.present ≡ false
-        → IfOk result (λ on. Well 1 (W.state wire.old).calls (W.state wire.new).calls) }
+        → IfOk result (λ on. CountsOfWholeCall 1 (W.state wire.old).calls (W.state wire.new).calls) }
     ensures calls { MatchResult result
         (λ on. Turned (H.state house.old).known.present on (W.state wire.old).calls
         (W.state wire.new).calls)
-        (λ e. Cut 1 (W.state wire.old).calls (W.state wire.new).calls) }
+        (λ e. CountsOfCutCall 1 (W.state wire.old).calls (W.state wire.new).calls) }
     ensures wire { KeepsWire (W.state wire.old) (W.state wire.new) (W.faults wire.old)
         (W.faults wire.new) }
 {
@@ -196,7 +196,7 @@ fn turns_of<W: Wire, H: House>(
     ensures calls { MatchResult result
         (λ all. Spent (H.state house.old).known.present all turns (W.state wire.old).calls
         (W.state wire.new).calls)
-        (λ e. Cut turns (W.state wire.old).calls (W.state wire.new).calls) }
+        (λ e. CountsOfCutCall turns (W.state wire.old).calls (W.state wire.new).calls) }
     ensures idle { turns ≡ 0 → (house.new ≡ house.old) × (engine.new ≡ engine.old)
         × NoFault (W.faults wire.old) (W.faults wire.new) }
     ensures wire { KeepsWire (W.state wire.old) (W.state wire.new) (W.faults wire.old)

@@ -4,7 +4,7 @@ ghost use Rattle.mux_state.specs.Events.{here};
 ghost use Rattle.mux_state.specs.State.{queue_in};
 ghost use Rattle.mux_engine.specs.Rests.{HasNoneToClose, StaysReady};
 ghost use Rattle.mux_engine.specs.Serving.{CanBeOffered, CanTakeMore, IsOfferedTo, IsRunServed, OffersOn, ServesOn, StaysOrFails, StaysServed};
-ghost use Rattle.mux_engine.specs.Sides.{SameSockets, SameStreams};
+ghost use Rattle.mux_engine.specs.Sides.{SameSockets, SameStreamsSeen};
 ghost use Rattle.mux_engine.specs.SilentAnswers.{AcceptsAs};
 ghost use Rattle.mux_engine.specs.Wires.{IsIdleWire, NoFault, Works};
 
@@ -137,7 +137,7 @@ pub fn stop_accepting<W: Wire, H: House>(engine: &Engine, wire: &mut W)
     ensures receives { engine.now.ended ≡ None
         → (W.state wire.new).seen.listens ≡ engine.now.listening }
     ensures silence { AcceptsAs (W.state wire.new).seen engine.now }
-    ensures streams { SameStreams (W.state wire.old).seen (W.state wire.new).seen }
+    ensures streams { SameStreamsSeen (W.state wire.old).seen (W.state wire.new).seen }
     ensures wire { IsIdleWire (W.state wire.old) (W.state wire.new) (W.faults wire.old)
         (W.faults wire.new) }
 {
@@ -149,7 +149,7 @@ pub fn stop_accepting<W: Wire, H: House>(engine: &Engine, wire: &mut W)
 
 // Offers each stream what waits for it: the server's last, since a client that is lost leaves its
 // farewell to it. The forwarder was handed what waits for it before. Where clients are accepted no
-// more, none is once a client can read the answer to its wish.
+// more, none is once a client can read the answer to its request.
 pub fn flush<W: Wire, H: House>(
     engine: &mut Engine,
     wire: &mut W,

@@ -21,13 +21,13 @@ most_read number = if is_own number then LONGEST_OWN_READ else LONGEST_PIECE
 
 -- over a channel that records its bytes, the new piece has the first of them, so many at most, and all
 -- that are gone; without bytes the piece stays
-abbrev pub ReceivesBytes : ReadResult → ℕ → Option (List ℕ) → Option (List ℕ) → List ℕ → List ℕ → Type 0
-ReceivesBytes (Bytes n) most before now old new =
+abbrev pub ReadsPiece : ReadResult → ℕ → Option (List ℕ) → Option (List ℕ) → List ℕ → List ℕ → Type 0
+ReadsPiece (Bytes n) most before now old new =
     (0 < n) × (n ≡ length new) × (n ≤ LONGEST_PIECE) × (n ≤ most) × Consumes before now new
-ReceivesBytes End most before now old new = (new ≡ old) × Consumes before now [] × IsAtEnd now
-ReceivesBytes Nothing most before now old new = (new ≡ old) × Keeps before now
-ReceivesBytes Interrupted most before now old new = (new ≡ old) × Keeps before now
-ReceivesBytes Failed most before now old new = (new ≡ old) × Keeps before now
+ReadsPiece End most before now old new = (new ≡ old) × Consumes before now [] × IsAtEnd now
+ReadsPiece Nothing most before now old new = (new ≡ old) × Keeps before now
+ReadsPiece Interrupted most before now old new = (new ≡ old) × Keeps before now
+ReadsPiece Failed most before now old new = (new ≡ old) × Keeps before now
 
 -- the turn that a stream of this number gives
 abbrev pub received_turn : ReadResult → ℕ → Option Turn

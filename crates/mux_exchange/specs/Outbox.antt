@@ -3,8 +3,8 @@ use Rattle.std.specs.Prelude.{◌<◌, ◌≤◌, ◌+◌, ℕ, List, length, ta
 use Rattle.std.specs.Global.{Vec}
 use Rattle.std.specs.Io.KnownBytes.{Appends}
 use Rattle.mux_exchange.specs.declared.outbox.TheConstants.{LONGEST_OUTBOX, SENT_AT_ONCE}
-use Rattle.mux_exchange.specs.declared.outbox.Given.{Given}
-use Rattle.mux_exchange.specs.declared.outbox.Given.TheVariants.{All, Waits, Failed}
+use Rattle.mux_exchange.specs.declared.outbox.OutboxProgress.{OutboxProgress}
+use Rattle.mux_exchange.specs.declared.outbox.OutboxProgress.TheVariants.{All, Waits, Failed}
 
 -- it has no more bytes than it may hold, and room for so many
 pub record IsOutbox (bytes : Vec ℕ) : Type 0 where
@@ -17,7 +17,7 @@ IsKept before bytes =
     (length bytes < SENT_AT_ONCE) × (length before + length bytes ≤ LONGEST_OUTBOX)
 
 -- over a channel that records its bytes, all bytes were added, or the first of them
-abbrev pub GivesAtEnd : Given → Option (List ℕ) → Option (List ℕ) → List ℕ → Type 0
+abbrev pub GivesAtEnd : OutboxProgress → Option (List ℕ) → Option (List ℕ) → List ℕ → Type 0
 GivesAtEnd All before now bytes = Appends before now bytes
 GivesAtEnd Waits before now bytes = (n : ℕ) × Appends before now (take n bytes)
 GivesAtEnd Failed before now bytes = (n : ℕ) × Appends before now (take n bytes)

@@ -8,7 +8,7 @@ use std::io;
 
 /// What bytes are read from and written to. A read leaves what was written, and a write what is to
 /// be read.
-pub trait Channel {
+pub trait ByteChannel {
     // the bytes that reads will give from here on, where they are recorded
     ghost remaining: { Self → Option (List ℕ) } = { λ _. None };
 

@@ -1,9 +1,9 @@
 //! The outcome of one read of a stream and of one write to it.
 ghost use Rattle.std.specs.Prelude.{◌≡◌, ◌≢◌, ◌<◌, length, IfErr, IfOk};
 ghost use Rattle.std.specs.IoError.{error_kind};
-ghost use Rattle.mux_exchange.specs.Exchange.{IsLastWord, ReceivesBytes, Sends, received_again, received_last, received_len, received_turn, most_read, sent_wrote};
+ghost use Rattle.mux_exchange.specs.Exchange.{IsLastWord, ReadsPiece, Sends, received_again, received_last, received_len, received_turn, most_read, sent_wrote};
 
-use crate::channel::Channel;
+use crate::channel::ByteChannel;
 use mux_outside::{LONGEST_PIECE, Piece, Turn, Wrote, is_own};
 use std::io::ErrorKind;
 use std::{io, mem};
@@ -109,14 +109,14 @@ pub fn most_read(number: u64) -> usize
 
 /// Reads once, so many bytes at most. Bytes that come are put in place of those of the piece, and
 /// else it stays. The spare piece is what is read into.
-pub fn receive<S: Channel>(
+pub fn receive<S: ByteChannel>(
     from: &mut S,
     most: usize,
     spare: &mut Piece,
     into: &mut Piece,
 ) -> ReadResult
     requires { 0 < most }
-    ensures bytes { ReceivesBytes result most (S.remaining from.old) (S.remaining from.new) into.old into.new }
+    ensures bytes { ReadsPiece result most (S.remaining from.old) (S.remaining from.new) into.old into.new }
     ensures apart { S.contents from.new ≡ S.contents from.old }
 {
     let got = from.read_once(spare, most);
@@ -129,14 +129,14 @@ pub fn receive<S: Channel>(
 
 /// Reads a stream once of which a write failed: what it still gives, and where nothing is left its
 /// failure.
-pub fn receive_last_words<S: Channel>(
+pub fn receive_last_words<S: ByteChannel>(
     from: &mut S,
     most: usize,
     spare: &mut Piece,
     into: &mut Piece,
 ) -> ReadResult
     requires { 0 < most }
-    ensures bytes { ReceivesBytes result most (S.remaining from.old) (S.remaining from.new) into.old into.new }
+    ensures bytes { ReadsPiece result most (S.remaining from.old) (S.remaining from.new) into.old into.new }
     ensures apart { S.contents from.new ≡ S.contents from.old }
     ensures last { IsLastWord result }
 {
@@ -170,7 +170,7 @@ fn received_of(got: &io::Result<usize>) -> ReadResult
 }
 
 /// Writes once.
-pub fn send<W: Channel>(to: &mut W, bytes: &[u8]) -> Sent
+pub fn send<W: ByteChannel>(to: &mut W, bytes: &[u8]) -> Sent
     requires { 0 < length bytes.now }
     ensures bytes { Sends result (W.contents to.old) (W.contents to.new) bytes.now }
     ensures apart { W.remaining to.new ≡ W.remaining to.old }

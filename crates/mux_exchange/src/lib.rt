@@ -5,8 +5,8 @@ mod channel;
 mod exchange;
 mod outbox;
 
-pub use channel::Channel;
+pub use channel::ByteChannel;
 pub use exchange::{
     LONGEST_OWN_READ, ReadResult, Sent, most_read, receive, receive_last_words, send,
 };
-pub use outbox::{Given, LONGEST_OUTBOX, Outbox, SENT_AT_ONCE};
+pub use outbox::{LONGEST_OUTBOX, Outbox, OutboxProgress, SENT_AT_ONCE};

@@ -4,7 +4,7 @@ ghost use Rattle.std.specs.Io.KnownBytes.{Appends, Keeps, append_known};
 ghost use Rattle.mux_exchange.specs.Exchange.{Sends};
 ghost use Rattle.mux_exchange.specs.Outbox.{GivesAtEnd, IsKept};
 
-use crate::channel::Channel;
+use crate::channel::ByteChannel;
 use crate::exchange::{Sent, send};
 use std::alloc::{AllocError, Global};
 use std::marker::Model;
@@ -23,7 +23,7 @@ pub struct Outbox {
 
 /// How far the bytes of an outbox were written.
 #[derive(Clone, Copy, PartialEq, Eq)]
-pub enum Given {
+pub enum OutboxProgress {
     /// All of them.
     All,
     /// The stream accepts none of the rest for now.
@@ -61,7 +61,7 @@ impl Outbox {
 
     /// Accepts bytes for a stream, after those before: few ones are kept where there is room, and
     /// otherwise all before are written to the stream, and then these.
-    pub fn send<W: Channel>(&mut self, to: &mut W, bytes: &[u8]) -> Sent
+    pub fn send<W: ByteChannel>(&mut self, to: &mut W, bytes: &[u8]) -> Sent
         requires { 0 < length bytes.now }
         ensures sends { Sends result (append_known (W.contents to.old) self.old)
             (append_known (W.contents to.new) self.new) bytes.now }
@@ -74,9 +74,9 @@ impl Outbox {
             return Sent::Took(bytes.len());
         }
         match self.give(to) {
-            Given::All => send(to, bytes),
-            Given::Waits => Sent::Waits,
-            Given::Failed => Sent::Failed,
+            OutboxProgress::All => send(to, bytes),
+            OutboxProgress::Waits => Sent::Waits,
+            OutboxProgress::Failed => Sent::Failed,
         }
     }
 
@@ -94,11 +94,11 @@ impl Outbox {
     }
 
     /// Writes to the stream what it accepts.
-    pub fn give<W: Channel>(&mut self, to: &mut W) -> Given
+    pub fn give<W: ByteChannel>(&mut self, to: &mut W) -> OutboxProgress
         ensures bytes { Keeps (append_known (W.contents to.old) self.old)
             (append_known (W.contents to.new) self.new) }
         ensures apart { W.remaining to.new ≡ W.remaining to.old }
-        ensures all { result ≡ Given.All → self.new ≡ [] }
+        ensures all { result ≡ OutboxProgress.All → self.new ≡ [] }
         ensures bound { length self.new ≤ LONGEST_OUTBOX }
     {
         let (count, given) = give_front(&self.bytes, to);
@@ -107,7 +107,7 @@ impl Outbox {
     }
 
     /// Writes to a stream that is dropped next what it accepts, and drops the rest.
-    pub fn end<W: Channel>(&mut self, to: &mut W) -> Given
+    pub fn end<W: ByteChannel>(&mut self, to: &mut W) -> OutboxProgress
         ensures gives { GivesAtEnd result (W.contents to.old) (W.contents to.new) self.old }
         ensures apart { W.remaining to.new ≡ W.remaining to.old }
         ensures none { self.new ≡ [] }
@@ -119,23 +119,23 @@ impl Outbox {
 }
 
 // Writes these bytes to a stream until it accepts none: how many it accepted.
-fn give_front<W: Channel>(bytes: &[u8], to: &mut W) -> (usize, Given)
+fn give_front<W: ByteChannel>(bytes: &[u8], to: &mut W) -> (usize, OutboxProgress)
     ensures bound { result.0 ≤ length bytes.now }
-    ensures all { result.1 ≡ Given.All → result.0 ≡ length bytes.now }
+    ensures all { result.1 ≡ OutboxProgress.All → result.0 ≡ length bytes.now }
     ensures bytes { Appends (W.contents to.old) (W.contents to.new) (take result.0 bytes.now) }
     ensures apart { W.remaining to.new ≡ W.remaining to.old }
 {
     let mut count = 0;
     for _ in 0..u64::MAX {
         if count >= bytes.len() {
-            return (count, Given::All);
+            return (count, OutboxProgress::All);
         }
         match send(to, &bytes[count..]) {
             Sent::Took(more) => count += more,
             Sent::Interrupted => {}
-            Sent::Waits => return (count, Given::Waits),
-            Sent::Failed => return (count, Given::Failed),
+            Sent::Waits => return (count, OutboxProgress::Waits),
+            Sent::Failed => return (count, OutboxProgress::Failed),
         }
     }
-    (count, Given::Waits)
+    (count, OutboxProgress::Waits)
 }

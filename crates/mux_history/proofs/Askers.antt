@@ -9,14 +9,14 @@ use Rattle.mux_history.specs.Summary.{Confirmation, Summary, Open, Refuses, Requ
 use Rattle.mux_history.specs.Controls.{house_sends}
 use Rattle.mux_history.specs.Heard.{Breaks, Dest, Disconnects, ToClient, ToMaster, dest, dest_asker, dest_summary, dest_success, received_for, received_master}
 use Rattle.mux_history.specs.Keys.{learns_port}
-use Rattle.mux_history.specs.Ledger.{asked}
-use Rattle.mux_history.specs.Log.{admits, bare, received_row, sent_by_client, treat}
+use Rattle.mux_history.specs.Ledger.{request_count}
+use Rattle.mux_history.specs.Log.{admits, bare_row, received_row, sent_by_client, treat}
 use Rattle.mux_history.specs.Policy.{Policy}
-use Rattle.mux_history.specs.Requests.{Ask, asker, asks, asks_of, is_reply, is_sent, replies, reply_in, wanted_by}
+use Rattle.mux_history.specs.Requests.{Ask, asker, wanted_requests, asks_of, is_reply, is_sent, replies, reply_in, wanted_by}
 use Rattle.mux_history.specs.Rows.{Admit, BadServer, Gone, Heard, HouseSays, Item, Row, RunEnd, Says, ServerCut, ServerEnd, ServerFailed, Took, is_end, rows_of}
 use Rattle.mux_history.specs.Said.{silent}
 use Rattle.ssh_grammar.specs.Messages.{Cancel, Forward, Global, KeepAlive, OtherName}
-use Rattle.ssh_grammar.specs.SpellMessage.{wants}
+use Rattle.ssh_grammar.specs.SpellMessage.{wants_reply}
 use Rattle.ssh_grammar.specs.declared.fault.Bad.{Bad}
 use Rattle.mux_history.specs.declared.broke.Break.TheVariants as broke
 use Rattle.mux_history.proofs.Dests.{Asked, dest-err, dest-ok, refuses-asked, succeeds-asked}
@@ -38,13 +38,13 @@ asks-of-no k j e true None = refl
 asks-of-no k j e false o = refl
 
 -- a client's requests are looked up in its rows
-pub asks-local : (k : ℕ) (rows : List Row) → filter (asks_for k) (asks rows) ≡ asks (rows_of k rows)
+pub asks-local : (k : ℕ) (rows : List Row) → filter (asks_for k) (wanted_requests rows) ≡ wanted_requests (rows_of k rows)
 asks-local k [] = refl
 asks-local k (row ∷ before) = choose (asks-local k before) (row.client == k) refl
   where
-    choose : filter (asks_for k) (asks before) ≡ asks (rows_of k before) → (b : Bool) → (row.client == k) ≡ b → filter (asks_for k) (asks (row ∷ before)) ≡ asks (rows_of k (row ∷ before))
-    choose ih true e = filter-append (asks_for k) (asks before) (asks_of row.client (is_sent row) (wanted_by row)) ∙ (ap (λ xs. xs ++ filter (asks_for k) (asks_of row.client (is_sent row) (wanted_by row))) ih ∙ (ap (λ xs. asks (rows_of k before) ++ xs) (asks-of-yes k row.client e (is_sent row) (wanted_by row)) ∙ sym (ap asks (filter-yes (λ (r : Row). r.client == k) row before e))))
-    choose ih false e = filter-append (asks_for k) (asks before) (asks_of row.client (is_sent row) (wanted_by row)) ∙ (ap (λ xs. xs ++ filter (asks_for k) (asks_of row.client (is_sent row) (wanted_by row))) ih ∙ (ap (λ xs. asks (rows_of k before) ++ xs) (asks-of-no k row.client e (is_sent row) (wanted_by row)) ∙ (append-nil (asks (rows_of k before)) ∙ sym (ap asks (filter-no (λ (r : Row). r.client == k) row before e)))))
+    choose : filter (asks_for k) (wanted_requests before) ≡ wanted_requests (rows_of k before) → (b : Bool) → (row.client == k) ≡ b → filter (asks_for k) (wanted_requests (row ∷ before)) ≡ wanted_requests (rows_of k (row ∷ before))
+    choose ih true e = filter-append (asks_for k) (wanted_requests before) (asks_of row.client (is_sent row) (wanted_by row)) ∙ (ap (λ xs. xs ++ filter (asks_for k) (asks_of row.client (is_sent row) (wanted_by row))) ih ∙ (ap (λ xs. wanted_requests (rows_of k before) ++ xs) (asks-of-yes k row.client e (is_sent row) (wanted_by row)) ∙ sym (ap wanted_requests (filter-yes (λ (r : Row). r.client == k) row before e))))
+    choose ih false e = filter-append (asks_for k) (wanted_requests before) (asks_of row.client (is_sent row) (wanted_by row)) ∙ (ap (λ xs. xs ++ filter (asks_for k) (asks_of row.client (is_sent row) (wanted_by row))) ih ∙ (ap (λ xs. wanted_requests (rows_of k before) ++ xs) (asks-of-no k row.client e (is_sent row) (wanted_by row)) ∙ (append-nil (wanted_requests (rows_of k before)) ∙ sym (ap wanted_requests (filter-no (λ (r : Row). r.client == k) row before e)))))
 
 -- ---- first in, first out
 
@@ -76,18 +76,18 @@ count-next test (x ∷ xs) (suc i) a got = by_head (count-next test xs i a got) 
 
 -- the replies so far answer the first requests
 pub record Orderly (rows : List Row) : Type 0 where
-  pub within : length (replies rows) ≤ length (asks rows)
-  pub each : (k : ℕ) → length (replies (rows_of k rows)) ≡ length (filter (asks_for k) (take (length (replies rows)) (asks rows)))
+  pub within : length (replies rows) ≤ length (wanted_requests rows)
+  pub each : (k : ℕ) → length (replies (rows_of k rows)) ≡ length (filter (asks_for k) (take (length (replies rows)) (wanted_requests rows)))
 
 pub orderly-none : Orderly []
 orderly-none = record { within = omega arith; each = λ k. refl }
 
 -- so the asker is the client's own oldest
-pub asker-local : (rows : List Row) (k : ℕ) → Orderly rows → (asked : Asked rows k) → asker (rows_of k rows) ≡ Some asked.ask
-asker-local rows k orderly asked =
+pub asker-local : (rows : List Row) (k : ℕ) → Orderly rows → (request_count : Asked rows k) → asker (rows_of k rows) ≡ Some request_count.ask
+asker-local rows k orderly request_count =
     ap (λ xs. slice_get xs (length (replies (rows_of k rows)))) (sym (asks-local k rows))
-    ∙ (ap (slice_get (filter (asks_for k) (asks rows))) (orderly.each k)
-    ∙ get-filter (asks_for k) (asks rows) (length (replies rows)) asked.ask asked.is (same asked.ask.client k asked.client))
+    ∙ (ap (slice_get (filter (asks_for k) (wanted_requests rows))) (orderly.each k)
+    ∙ get-filter (asks_for k) (wanted_requests rows) (length (replies rows)) request_count.ask request_count.is (same request_count.ask.client k request_count.client))
   where
     same : (a b : ℕ) → a ≡ b → (a == b) ≡ true
     same a b e = grind (arith, nat_tests)
@@ -104,13 +104,13 @@ rows-count k row before = by_case (row.client == k) refl
 -- a row that is no reply
 orderly-still : (row : Row) (before : List Row) → reply_in row.item ≡ [] → Orderly before → Orderly (row ∷ before)
 orderly-still row before none orderly = record {
-  within = let f = ap length count in let g = length-append (asks before) (asks_of row.client (is_sent row) (wanted_by row)) in let h = orderly.within in omega arith;
+  within = let f = ap length count in let g = length-append (wanted_requests before) (asks_of row.client (is_sent row) (wanted_by row)) in let h = orderly.within in omega arith;
   each = λ k.
       rows-count k row before
       ∙ (by_case k (row.client == k)
       ∙ (orderly.each k
-      ∙ (ap (λ xs. length (filter (asks_for k) xs)) (sym (take-append-le (length (replies before)) (asks before) (asks_of row.client (is_sent row) (wanted_by row)) orderly.within))
-      ∙ ap (λ n. length (filter (asks_for k) (take n (asks (row ∷ before))))) (sym (ap length count)))));
+      ∙ (ap (λ xs. length (filter (asks_for k) xs)) (sym (take-append-le (length (replies before)) (wanted_requests before) (asks_of row.client (is_sent row) (wanted_by row)) orderly.within))
+      ∙ ap (λ n. length (filter (asks_for k) (take n (wanted_requests (row ∷ before))))) (sym (ap length count)))));
 }
   where
     count : replies (row ∷ before) ≡ replies before
@@ -122,25 +122,25 @@ orderly-still row before none orderly = record {
 
 -- a reply, to the client that asked first
 orderly-reply : (row : Row) (before : List Row) (p : List ℕ) → reply_in row.item ≡ p ∷ [] → asks_of row.client (is_sent row) (wanted_by row) ≡ [] → Asked before row.client → Orderly before → Orderly (row ∷ before)
-orderly-reply row before p reply silent_row asked orderly = record {
-  within = let f = ap length count in let g = ap length still in let h = slice_get_within (asks before) (length (replies before)) asked.ask asked.is in let i = length-append (replies before) (p ∷ []) in omega arith;
+orderly-reply row before p reply silent_row request_count orderly = record {
+  within = let f = ap length count in let g = ap length still in let h = slice_get_within (wanted_requests before) (length (replies before)) request_count.ask request_count.is in let i = length-append (replies before) (p ∷ []) in omega arith;
   each = λ k.
       let g = length-append (replies before) (p ∷ []) in
       let at : length (replies (row ∷ before)) ≡ suc (length (replies before)) = ap length count ∙ omega arith in
       rows-count k row before
       ∙ (by_case k (row.client == k)
       ∙ (ap (λ n. n + one_if (row.client == k)) (orderly.each k)
-      ∙ (ap (λ c. length (filter (asks_for k) (take (length (replies before)) (asks before))) + one_if (c == k)) (sym asked.client)
-      ∙ (sym (count-next (asks_for k) (asks before) (length (replies before)) asked.ask asked.is)
-      ∙ (ap (λ n. length (filter (asks_for k) (take n (asks before)))) (sym at)
+      ∙ (ap (λ c. length (filter (asks_for k) (take (length (replies before)) (wanted_requests before))) + one_if (c == k)) (sym request_count.client)
+      ∙ (sym (count-next (asks_for k) (wanted_requests before) (length (replies before)) request_count.ask request_count.is)
+      ∙ (ap (λ n. length (filter (asks_for k) (take n (wanted_requests before)))) (sym at)
       ∙ ap (λ xs. length (filter (asks_for k) (take (length (replies (row ∷ before))) xs))) (sym still))))));
 }
   where
     count : replies (row ∷ before) ≡ replies before ++ p ∷ []
     count = ap (λ r. replies before ++ r) reply
 
-    still : asks (row ∷ before) ≡ asks before
-    still = ap (λ xs. asks before ++ xs) silent_row ∙ append-nil (asks before)
+    still : wanted_requests (row ∷ before) ≡ wanted_requests before
+    still = ap (λ xs. wanted_requests before ++ xs) silent_row ∙ append-nil (wanted_requests before)
 
     by_case : (k : ℕ) (b : Bool) → length (replies (rows_of k before)) + length (elim b as (λ _. List (List ℕ)) [ true ↦ reply_in row.item | false ↦ [] ]) ≡ length (replies (rows_of k before)) + one_if b
     by_case k true = let f = ap length reply in omega arith
@@ -169,7 +169,7 @@ orderly-message : (before : List Row) → Orderly before → (k : ℕ) (p : List
 orderly-message before orderly k p (Succeeds rest) reads e row item client = orderly-reply row before p (ap reply_in item ∙ is-a-reply p (Succeeds rest) reads refl) (heard-asks row.client p row item) (subst (Asked before) (sym client) (succeeds-asked before rest k e)) orderly
 orderly-message before orderly k p Refuses reads e row item client = orderly-reply row before p (ap reply_in item ∙ is-a-reply p Refuses reads refl) (heard-asks row.client p row item) (subst (Asked before) (sym client) (refuses-asked before k e)) orderly
 orderly-message before orderly k p (Transport number) reads e row item client = orderly-still row before (ap reply_in item ∙ no-reply p (Transport number) reads refl) orderly
-orderly-message before orderly k p (Requests what wants) reads e row item client = orderly-still row before (ap reply_in item ∙ no-reply p (Requests what wants) reads refl) orderly
+orderly-message before orderly k p (Requests what wants_reply) reads e row item client = orderly-still row before (ap reply_in item ∙ no-reply p (Requests what wants_reply) reads refl) orderly
 orderly-message before orderly k p (Open what s w max) reads e row item client = orderly-still row before (ap reply_in item ∙ no-reply p (Open what s w max) reads refl) orderly
 orderly-message before orderly k p (Confirmation n s w max) reads e row item client = orderly-still row before (ap reply_in item ∙ no-reply p (Confirmation n s w max) reads refl) orderly
 orderly-message before orderly k p (Within n act) reads e row item client = orderly-still row before (ap reply_in item ∙ no-reply p (Within n act) reads refl) orderly
@@ -205,7 +205,7 @@ orderly-master before orderly p to row item = by_case (read_summary p) refl
     by_message (Succeeds rest) reads e = absurd (master-asker (asker before) (dest_success rest) (success-never rest) e)
     by_message Refuses reads e = absurd (master-asker (asker before) (λ a. ToClient a.client) to_client_never e)
     by_message (Transport number) reads e = other (Transport number) reads refl
-    by_message (Requests what wants) reads e = other (Requests what wants) reads refl
+    by_message (Requests what wants_reply) reads e = other (Requests what wants_reply) reads refl
     by_message (Open what s w max) reads e = other (Open what s w max) reads refl
     by_message (Confirmation n s w max) reads e = other (Confirmation n s w max) reads refl
     by_message (Within n act) reads e = other (Within n act) reads refl
@@ -215,7 +215,7 @@ orderly-master before orderly p to row item = by_case (read_summary p) refl
     by_case (Ok m) reads = by_message m reads (sym (dest-ok before p m reads) ∙ to)
 
 orderly-heard : (before : List Row) → Orderly before → (p : List ℕ) (d : Dest) → dest before p ≡ d → OrderlyNext before (received_row before p d)
-orderly-heard before orderly p ToMaster e going = orderly-master before orderly p e (bare (Heard p) 0 (received_master p)) refl
+orderly-heard before orderly p ToMaster e going = orderly-master before orderly p e (bare_row (Heard p) 0 (received_master p)) refl
 orderly-heard before orderly p (ToClient k) e going = row-parts (OrderlyNext before) (Heard p) k (received_for (rows_of k before) p) (rows_of k before) (λ fw parting down fate going'. to_client k e (as_row (Heard p) k (received_for (rows_of k before) p).sent fw down fate) refl refl) going
   where
     to_client : (k : ℕ) → dest before p ≡ ToClient k → (row : Row) → row.item ≡ Heard p → row.client ≡ k → Orderly (row ∷ before)

@@ -3,10 +3,10 @@ use Rattle.std.proofs.Common.{◌≡◌, ℕ, List, [], ◌∷◌, ◌++◌, len
 use Rattle.std.specs.Prelude.{◌==◌, ◌&&◌, filter, not, is_none, Result}
 use Rattle.std.proofs.lemmas.List.Elements.{filter-append}
 use Rattle.mux_history.specs.Channels.{is_number}
-use Rattle.mux_history.specs.Forwardings.{Forwarding, change_first, current, dropped, forwarded, forwardings_of, is_forwarding_free_at, is_request, of_client, replied, requested, stopped}
+use Rattle.mux_history.specs.Forwardings.{Forwarding, change_first, current, dropped, forwarded, forwardings_of, is_forwarding_free_at, is_request, of_client, forwarding_after_reply, forwardings_after_request, stopped}
 use Rattle.mux_history.specs.Summary.{Summary, Refuses, Requests, Succeeds, read_summary, reading}
 use Rattle.mux_history.specs.Keys.{bound, has_key}
-use Rattle.mux_history.specs.Requests.{asks, is_sent, replies}
+use Rattle.mux_history.specs.Requests.{wanted_requests, is_sent, replies}
 use Rattle.mux_history.specs.Rows.{Heard, Item, Row, Says, loses, rows_of}
 use Rattle.mux_history.specs.Steps.{CurrentStep, SamePlaces, next_current}
 use Rattle.ssh_grammar.specs.Messages.{Cancel, Forward, KeepAlive, Key, OtherName}
@@ -74,7 +74,7 @@ on-first test g never (f ∷ fs) = by_case (on-first test g never fs) (is_on f) 
 
 -- ---- what a row does
 
-replied-stays : (n : ℕ) (m : Summary) → StaysOver (replied n m)
+replied-stays : (n : ℕ) (m : Summary) → StaysOver (forwarding_after_reply n m)
 replied-stays n (Succeeds rest) f over = by_case (is_request f n) (is_number f.cancel n)
   where
     by_case : (a b : Bool) → (elim a as (λ _. Forwarding) [ true ↦ record f { live = Some (bound f.key rest) } | false ↦ elim b as (λ _. Forwarding) [ true ↦ record f { over = true } | false ↦ f ] ]).over ≡ true
@@ -102,7 +102,7 @@ free-on k key f off = ap (λ b. (f.client == k) && (b && (is_none f.cancel && (h
 on-append : (fs new : List Forwarding) → filter is_on (fs ++ new) ≡ filter is_on (filter is_on fs ++ new)
 on-append fs new = filter-append is_on fs new ∙ (ap (λ ys. ys ++ filter is_on new) (sym (on-twice fs)) ∙ sym (filter-append is_on (filter is_on fs) new))
 
-on-requested : (k n : ℕ) (m : Summary) (fs : List Forwarding) → filter is_on (requested k n m fs) ≡ filter is_on (requested k n m (filter is_on fs))
+on-requested : (k n : ℕ) (m : Summary) (fs : List Forwarding) → filter is_on (forwardings_after_request k n m fs) ≡ filter is_on (forwardings_after_request k n m (filter is_on fs))
 on-requested k n (Requests (Forward key) wants) fs = on-append fs _
 on-requested k n (Requests (Cancel key) wants) fs = on-first (is_forwarding_free_at k key) (stopped wants n) (free-on k key) fs
 on-requested k n (Requests KeepAlive wants) fs = sym (on-twice fs)
@@ -112,8 +112,8 @@ on-requested k n m fs = sym (on-twice fs)
 -- a row's request or reply, by the places of its client's next request and next reply
 abbrev pub forwarded_at : Row → ℕ → ℕ → List Forwarding → List Forwarding
 forwarded_at row request reply fs = elim row.item [
-  | Says k outgoing given ↦ elim outgoing [ Payload p ↦ elim (is_sent row) [ true ↦ reading p (λ m. requested row.client request m fs) fs | false ↦ fs ] | _ ↦ fs ]
-  | Heard p ↦ reading p (λ m. map (of_client row.client (replied reply m)) fs) fs
+  | Says k outgoing given ↦ elim outgoing [ Payload p ↦ elim (is_sent row) [ true ↦ reading p (λ m. forwardings_after_request row.client request m fs) fs | false ↦ fs ] | _ ↦ fs ]
+  | Heard p ↦ reading p (λ m. map (of_client row.client (forwarding_after_reply reply m)) fs) fs
   | _ ↦ fs
 ]
 
@@ -124,13 +124,13 @@ on-forwarded row a r fs = by_item row.item
     by_reading (Err bad) g each = sym (on-twice fs)
     by_reading (Ok m) g each = each m
 
-    by_sent : (b : Bool) (p : List ℕ) → filter is_on (elim b as (λ _. List Forwarding) [ true ↦ reading p (λ m. requested row.client a m fs) fs | false ↦ fs ]) ≡ filter is_on (elim b as (λ _. List Forwarding) [ true ↦ reading p (λ m. requested row.client a m (filter is_on fs)) (filter is_on fs) | false ↦ filter is_on fs ])
-    by_sent true p = by_reading (read_summary p) (requested row.client a) (λ m. on-requested row.client a m fs)
+    by_sent : (b : Bool) (p : List ℕ) → filter is_on (elim b as (λ _. List Forwarding) [ true ↦ reading p (λ m. forwardings_after_request row.client a m fs) fs | false ↦ fs ]) ≡ filter is_on (elim b as (λ _. List Forwarding) [ true ↦ reading p (λ m. forwardings_after_request row.client a m (filter is_on fs)) (filter is_on fs) | false ↦ filter is_on fs ])
+    by_sent true p = by_reading (read_summary p) (forwardings_after_request row.client a) (λ m. on-requested row.client a m fs)
     by_sent false p = sym (on-twice fs)
 
     by_item : (item : Item) → filter is_on (forwarded_at (record row { item = item }) a r fs) ≡ filter is_on (forwarded_at (record row { item = item }) a r (filter is_on fs))
     by_item (Says j (Payload p) given) = by_sent (is_sent row) p
-    by_item (Heard p) = by_reading (read_summary p) (λ m. map (of_client row.client (replied r m))) (λ m. on-map (of_client row.client (replied r m)) (of-client-stays row.client (replied r m) (replied-stays r m)) fs)
+    by_item (Heard p) = by_reading (read_summary p) (λ m. map (of_client row.client (forwarding_after_reply r m))) (λ m. on-map (of_client row.client (forwarding_after_reply r m)) (of-client-stays row.client (forwarding_after_reply r m) (replied-stays r m)) fs)
     by_item item = sym (on-twice fs)
 
 pub on-dropped : (row : Row) (xs ys : List Forwarding) → filter is_on xs ≡ filter is_on ys → filter is_on (dropped row xs) ≡ filter is_on (dropped row ys)
@@ -149,11 +149,11 @@ on-dropped row xs ys same = by_case (loses row)
 pub same-places : (row : Row) (own others : List Row) (fs : List Forwarding) → SamePlaces own others → next_current row own fs ≡ next_current row others fs
 same-places row own others fs same =
     ap (λ n. filter is_on (dropped row (forwarded_at row n (length (replies own)) fs))) same.request
-    ∙ ap (λ n. filter is_on (dropped row (forwarded_at row (length (asks others)) n fs))) same.reply
+    ∙ ap (λ n. filter is_on (dropped row (forwarded_at row (length (wanted_requests others)) n fs))) same.reply
 
 pub current-step : (row : Row) (before : List Row) → CurrentStep row before
 current-step row before = record {
   goes_on = on-dropped row (forwarded row (rows_of row.client before) (forwardings_of before)) (forwarded row (rows_of row.client before) (current before))
-      (on-forwarded row (length (asks (rows_of row.client before))) (length (replies (rows_of row.client before))) (forwardings_of before));
+      (on-forwarded row (length (wanted_requests (rows_of row.client before))) (length (replies (rows_of row.client before))) (forwardings_of before));
   places = λ others same. same-places row (rows_of row.client before) others (current before) same;
 }

@@ -4,13 +4,13 @@ use Rattle.std.specs.Prelude.{◌==◌, ◌&&◌, not}
 use Rattle.mux_history.specs.Channels.{Channel, holder, live_in}
 use Rattle.mux_history.specs.Forwardings.{Forwarding, live_at}
 use Rattle.mux_history.specs.Summary.{Act, Confirmation, Fails, Summary, Open, Refuses, Requests, Succeeds, Transport, Within, read_summary, summary_recipient_of}
-use Rattle.mux_history.specs.Heard.{Breaks, Dest, ToClient, ToMaster, dest, dest_asker, dest_confirmation, dest_summary, dest_open, dest_success, dest_within, is_pending, pending_open}
+use Rattle.mux_history.specs.Heard.{Breaks, Dest, ToClient, ToMaster, dest, dest_asker, dest_confirmation, dest_summary, dest_open, dest_success, dest_within, is_open_pending, pending_open}
 use Rattle.mux_history.specs.Keys.{learns_port}
 use Rattle.mux_history.specs.Ledger.{breach}
 use Rattle.mux_history.specs.Requests.{Ask, asker}
 use Rattle.mux_history.specs.Rows.{Row}
 use Rattle.ssh_grammar.specs.Messages.{Cancel, Forward, Forwarded, Global, KeepAlive, Key, Opens, OtherName}
-use Rattle.ssh_grammar.specs.SpellMessage.{wants}
+use Rattle.ssh_grammar.specs.SpellMessage.{wants_reply}
 use Rattle.ssh_grammar.specs.declared.fault.Bad.{Bad}
 use Rattle.ssh_grammar.specs.declared.fault.Breach.{Breach}
 use Rattle.ssh_grammar.specs.declared.side.Side.TheVariants.{Down}
@@ -57,7 +57,7 @@ pub record Reached (rows : List Row) (n k : ℕ) : Type 0 where
 pub record Awaited (rows : List Row) (n k : ℕ) : Type 0 where
   pub channel : Channel
   pub is : holder rows n ≡ Some channel
-  pub waits : is_pending channel ≡ true
+  pub waits : is_open_pending channel ≡ true
   pub client : channel.client ≡ k
 
 pub record Confirmed (rows : List Row) (n s k : ℕ) : Type 0 where
@@ -67,13 +67,13 @@ pub record Confirmed (rows : List Row) (n s k : ℕ) : Type 0 where
 awaited-by : (rows : List Row) (n k : ℕ) (d : Channel → Dest) → ((x : Channel) → d x ≡ ToClient k → x.client ≡ k) → (elim (pending_open rows n) as (λ _. Dest) [ None ↦ Breaks (broke.NotPending n) | Some x ↦ d x ]) ≡ ToClient k → Awaited rows n k
 awaited-by rows n k d to e = by_holder (holder rows n) refl e
   where
-    by_pending : (x : Channel) (b : Bool) → holder rows n ≡ Some x → is_pending x ≡ b → (elim (elim b as (λ _. Option Channel) [ true ↦ Some x | false ↦ None ]) as (λ _. Dest) [ None ↦ Breaks (broke.NotPending n) | Some x ↦ d x ]) ≡ ToClient k → Awaited rows n k
+    by_pending : (x : Channel) (b : Bool) → holder rows n ≡ Some x → is_open_pending x ≡ b → (elim (elim b as (λ _. Option Channel) [ true ↦ Some x | false ↦ None ]) as (λ _. Dest) [ None ↦ Breaks (broke.NotPending n) | Some x ↦ d x ]) ≡ ToClient k → Awaited rows n k
     by_pending x true held waits e = record { channel = x; is = held; waits = waits; client = to x e }
     by_pending x false held waits e = cc
 
-    by_holder : (o : Option Channel) → holder rows n ≡ o → (elim (elim o as (λ _. Option Channel) [ None ↦ None | Some x ↦ elim (is_pending x) as (λ _. Option Channel) [ true ↦ Some x | false ↦ None ] ]) as (λ _. Dest) [ None ↦ Breaks (broke.NotPending n) | Some x ↦ d x ]) ≡ ToClient k → Awaited rows n k
+    by_holder : (o : Option Channel) → holder rows n ≡ o → (elim (elim o as (λ _. Option Channel) [ None ↦ None | Some x ↦ elim (is_open_pending x) as (λ _. Option Channel) [ true ↦ Some x | false ↦ None ] ]) as (λ _. Dest) [ None ↦ Breaks (broke.NotPending n) | Some x ↦ d x ]) ≡ ToClient k → Awaited rows n k
     by_holder None held e = cc
-    by_holder (Some x) held e = by_pending x (is_pending x) held refl e
+    by_holder (Some x) held e = by_pending x (is_open_pending x) held refl e
 
 pub confirmed : (rows : List Row) (n s k : ℕ) → dest_confirmation rows n s ≡ ToClient k → Confirmed rows n s k
 confirmed rows n s k e = by_live (live_in rows s) refl e
@@ -133,7 +133,7 @@ reached rows (Confirmation n' s w max) n k some e = let same : n' ≡ n = cc in 
 reached rows (Within n' Fails) n k some e = let same : n' ≡ n = cc in subst (λ (i : ℕ). Reached rows i k) same (reach rows n' k (fails-awaited rows n' k e))
 reached rows (Within n' act) n k some e = let same : n' ≡ n = cc in subst (λ (i : ℕ). Reached rows i k) same (reach-legal rows n' act k (legal-by rows n' act k e))
 reached rows (Transport number) n k some e = cc
-reached rows (Requests what wants) n k some e = cc
+reached rows (Requests what wants_reply) n k some e = cc
 reached rows (Succeeds rest) n k some e = cc
 reached rows Refuses n k some e = cc
 reached rows (Open what s w max) n k some e = cc

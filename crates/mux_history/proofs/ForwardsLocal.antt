@@ -5,14 +5,14 @@ use Rattle.std.proofs.lemmas.List.{append-nil}
 use Rattle.std.proofs.lemmas.List.Elements.{filter-append}
 use Rattle.std.proofs.lemmas.Bool.Decides.{nat_tests}
 use Rattle.mux_history.specs.Channels.{is_number}
-use Rattle.mux_history.specs.Forwardings.{Forwarding, change_first, dropped, forwarded, forwardings_of, is_forwarding_free_at, is_request, live_at, of_client, replied, requested, stopped}
+use Rattle.mux_history.specs.Forwardings.{Forwarding, change_first, dropped, forwarded, forwardings_of, is_forwarding_free_at, is_request, live_at, of_client, forwarding_after_reply, forwardings_after_request, stopped}
 use Rattle.mux_history.specs.Summary.{Summary, Refuses, Requests, Succeeds, read_summary, reading}
 use Rattle.mux_history.specs.Keys.{bound, has_key}
-use Rattle.mux_history.specs.Requests.{asks, is_sent, replies}
+use Rattle.mux_history.specs.Requests.{wanted_requests, is_sent, replies}
 use Rattle.mux_history.specs.Rows.{Heard, Item, Row, Says, loses, rows_of}
 use Rattle.ssh_grammar.specs.Messages.{Cancel, Forward, KeepAlive, Key, OtherName}
 use Rattle.ssh_grammar.specs.Said.{Payload}
-use Rattle.ssh_grammar.specs.SpellMessage.{wants}
+use Rattle.ssh_grammar.specs.SpellMessage.{wants_reply}
 use Rattle.ssh_grammar.specs.declared.fault.Bad.{Bad}
 use Rattle.mux_history.proofs.Finds.{filter-no, filter-yes, find-no, find-yes}
 use Rattle.mux_history.proofs.OwnRows.{rows-twice, same-client}
@@ -65,7 +65,7 @@ apart a c k e f = grind (arith, nat_tests)
 of-client-other : (k c : ℕ) (g : Forwarding → Forwarding) → (c == k) ≡ false → (f : Forwarding) → (f.client == k) ≡ true → of_client c g f ≡ f
 of-client-other k c g other f mine = rw (apart f.client c k mine other, of_client) refl
 
-replied-keeps : (n : ℕ) (m : Summary) (f : Forwarding) → (replied n m f).client ≡ f.client
+replied-keeps : (n : ℕ) (m : Summary) (f : Forwarding) → (forwarding_after_reply n m f).client ≡ f.client
 replied-keeps n (Succeeds rest) f = by_case (is_request f n) (is_number f.cancel n)
   where
     by_case : (a b : Bool) → (elim a as (λ _. Forwarding) [ true ↦ record f { live = Some (bound f.key rest) } | false ↦ elim b as (λ _. Forwarding) [ true ↦ record f { over = true } | false ↦ f ] ]).client ≡ f.client
@@ -82,7 +82,7 @@ replied-keeps n m f = refl
 
 -- ---- cancels
 
-stopped-keeps : (wants : Bool) (n : ℕ) (f : Forwarding) → (stopped wants n f).client ≡ f.client
+stopped-keeps : (wants_reply : Bool) (n : ℕ) (f : Forwarding) → (stopped wants_reply n f).client ≡ f.client
 stopped-keeps true n f = refl
 stopped-keeps false n f = refl
 
@@ -129,18 +129,18 @@ free-other k c e key f mine = rw (apart f.client c k mine e, is_forwarding_free_
 
 -- ---- what a row does
 
-requested-mine : (k c n : ℕ) (m : Summary) (fs : List Forwarding) → (c == k) ≡ true → filter (for_of k) (requested c n m fs) ≡ requested c n m (filter (for_of k) fs)
-requested-mine k c n (Requests (Forward key) wants) fs e = filter-append (for_of k) fs _ ∙ ap (λ ys. filter (for_of k) fs ++ ys) (filter-yes (for_of k) (record { client = c; key = key; request = n; live = None; cancel = None; over = false }) [] e)
-requested-mine k c n (Requests (Cancel key) wants) fs e = first-mine k (is_forwarding_free_at c key) (stopped wants n) (stopped-keeps wants n) (free-mine k c e key) fs
-requested-mine k c n (Requests KeepAlive wants) fs e = refl
-requested-mine k c n (Requests OtherName wants) fs e = refl
+requested-mine : (k c n : ℕ) (m : Summary) (fs : List Forwarding) → (c == k) ≡ true → filter (for_of k) (forwardings_after_request c n m fs) ≡ forwardings_after_request c n m (filter (for_of k) fs)
+requested-mine k c n (Requests (Forward key) wants_reply) fs e = filter-append (for_of k) fs _ ∙ ap (λ ys. filter (for_of k) fs ++ ys) (filter-yes (for_of k) (record { client = c; key = key; request = n; live = None; cancel = None; over = false }) [] e)
+requested-mine k c n (Requests (Cancel key) wants_reply) fs e = first-mine k (is_forwarding_free_at c key) (stopped wants_reply n) (stopped-keeps wants_reply n) (free-mine k c e key) fs
+requested-mine k c n (Requests KeepAlive wants_reply) fs e = refl
+requested-mine k c n (Requests OtherName wants_reply) fs e = refl
 requested-mine k c n m fs e = refl
 
-requested-other : (k c n : ℕ) (m : Summary) (fs : List Forwarding) → (c == k) ≡ false → filter (for_of k) (requested c n m fs) ≡ filter (for_of k) fs
-requested-other k c n (Requests (Forward key) wants) fs e = filter-append (for_of k) fs _ ∙ (ap (λ ys. filter (for_of k) fs ++ ys) (filter-no (for_of k) (record { client = c; key = key; request = n; live = None; cancel = None; over = false }) [] e) ∙ append-nil (filter (for_of k) fs))
-requested-other k c n (Requests (Cancel key) wants) fs e = first-other k (is_forwarding_free_at c key) (stopped wants n) (stopped-keeps wants n) (free-other k c e key) fs
-requested-other k c n (Requests KeepAlive wants) fs e = refl
-requested-other k c n (Requests OtherName wants) fs e = refl
+requested-other : (k c n : ℕ) (m : Summary) (fs : List Forwarding) → (c == k) ≡ false → filter (for_of k) (forwardings_after_request c n m fs) ≡ filter (for_of k) fs
+requested-other k c n (Requests (Forward key) wants_reply) fs e = filter-append (for_of k) fs _ ∙ (ap (λ ys. filter (for_of k) fs ++ ys) (filter-no (for_of k) (record { client = c; key = key; request = n; live = None; cancel = None; over = false }) [] e) ∙ append-nil (filter (for_of k) fs))
+requested-other k c n (Requests (Cancel key) wants_reply) fs e = first-other k (is_forwarding_free_at c key) (stopped wants_reply n) (stopped-keeps wants_reply n) (free-other k c e key) fs
+requested-other k c n (Requests KeepAlive wants_reply) fs e = refl
+requested-other k c n (Requests OtherName wants_reply) fs e = refl
 requested-other k c n m fs e = refl
 
 pub forwarded-mine : (k : ℕ) (row : Row) (own : List Row) (fs : List Forwarding) → (row.client == k) ≡ true → filter (for_of k) (forwarded row own fs) ≡ forwarded row own (filter (for_of k) fs)
@@ -150,13 +150,13 @@ forwarded-mine k row own fs e = by_item row.item
     by_reading (Err bad) g each = refl
     by_reading (Ok m) g each = each m
 
-    by_sent : (b : Bool) (p : List ℕ) → filter (for_of k) (elim b as (λ _. List Forwarding) [ true ↦ reading p (λ m. requested row.client (length (asks own)) m fs) fs | false ↦ fs ]) ≡ (elim b as (λ _. List Forwarding) [ true ↦ reading p (λ m. requested row.client (length (asks own)) m (filter (for_of k) fs)) (filter (for_of k) fs) | false ↦ filter (for_of k) fs ])
-    by_sent true p = by_reading (read_summary p) (requested row.client (length (asks own))) (λ m. requested-mine k row.client (length (asks own)) m fs e)
+    by_sent : (b : Bool) (p : List ℕ) → filter (for_of k) (elim b as (λ _. List Forwarding) [ true ↦ reading p (λ m. forwardings_after_request row.client (length (wanted_requests own)) m fs) fs | false ↦ fs ]) ≡ (elim b as (λ _. List Forwarding) [ true ↦ reading p (λ m. forwardings_after_request row.client (length (wanted_requests own)) m (filter (for_of k) fs)) (filter (for_of k) fs) | false ↦ filter (for_of k) fs ])
+    by_sent true p = by_reading (read_summary p) (forwardings_after_request row.client (length (wanted_requests own))) (λ m. requested-mine k row.client (length (wanted_requests own)) m fs e)
     by_sent false p = refl
 
     by_item : (item : Item) → filter (for_of k) (forwarded (record row { item = item }) own fs) ≡ forwarded (record row { item = item }) own (filter (for_of k) fs)
     by_item (Says j (Payload p) reply) = by_sent (is_sent row) p
-    by_item (Heard p) = by_reading (read_summary p) (λ m. map (of_client row.client (replied (length (replies own)) m))) (λ m. keep-map k (of_client row.client (replied (length (replies own)) m)) (of-client-keeps row.client (replied (length (replies own)) m) (replied-keeps (length (replies own)) m)) fs)
+    by_item (Heard p) = by_reading (read_summary p) (λ m. map (of_client row.client (forwarding_after_reply (length (replies own)) m))) (λ m. keep-map k (of_client row.client (forwarding_after_reply (length (replies own)) m)) (of-client-keeps row.client (forwarding_after_reply (length (replies own)) m) (replied-keeps (length (replies own)) m)) fs)
     by_item item = refl
 
 forwarded-other : (k : ℕ) (row : Row) (own : List Row) (fs : List Forwarding) → (row.client == k) ≡ false → filter (for_of k) (forwarded row own fs) ≡ filter (for_of k) fs
@@ -166,13 +166,13 @@ forwarded-other k row own fs e = by_item row.item
     by_reading (Err bad) g each = refl
     by_reading (Ok m) g each = each m
 
-    by_sent : (b : Bool) (p : List ℕ) → filter (for_of k) (elim b as (λ _. List Forwarding) [ true ↦ reading p (λ m. requested row.client (length (asks own)) m fs) fs | false ↦ fs ]) ≡ filter (for_of k) fs
-    by_sent true p = by_reading (read_summary p) (requested row.client (length (asks own))) (λ m. requested-other k row.client (length (asks own)) m fs e)
+    by_sent : (b : Bool) (p : List ℕ) → filter (for_of k) (elim b as (λ _. List Forwarding) [ true ↦ reading p (λ m. forwardings_after_request row.client (length (wanted_requests own)) m fs) fs | false ↦ fs ]) ≡ filter (for_of k) fs
+    by_sent true p = by_reading (read_summary p) (forwardings_after_request row.client (length (wanted_requests own))) (λ m. requested-other k row.client (length (wanted_requests own)) m fs e)
     by_sent false p = refl
 
     by_item : (item : Item) → filter (for_of k) (forwarded (record row { item = item }) own fs) ≡ filter (for_of k) fs
     by_item (Says j (Payload p) reply) = by_sent (is_sent row) p
-    by_item (Heard p) = by_reading (read_summary p) (λ m. map (of_client row.client (replied (length (replies own)) m))) (λ m. other-map k (of_client row.client (replied (length (replies own)) m)) (of-client-keeps row.client (replied (length (replies own)) m) (replied-keeps (length (replies own)) m)) (of-client-other k row.client (replied (length (replies own)) m) e) fs)
+    by_item (Heard p) = by_reading (read_summary p) (λ m. map (of_client row.client (forwarding_after_reply (length (replies own)) m))) (λ m. other-map k (of_client row.client (forwarding_after_reply (length (replies own)) m)) (of-client-keeps row.client (forwarding_after_reply (length (replies own)) m) (replied-keeps (length (replies own)) m)) (of-client-other k row.client (forwarding_after_reply (length (replies own)) m) e) fs)
     by_item item = refl
 
 dropped-mine : (k : ℕ) (row : Row) (fs : List Forwarding) → filter (for_of k) (dropped row fs) ≡ dropped row (filter (for_of k) fs)

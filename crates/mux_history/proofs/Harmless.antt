@@ -10,7 +10,7 @@ use Rattle.mux_history.specs.Kept.{Cancelling, ClientIsGone, Closing, Every, IsM
 use Rattle.mux_history.specs.Keys.{bound}
 use Rattle.mux_history.specs.Requests.{Ask, asker}
 use Rattle.mux_history.specs.Rows.{Row, is_lost}
-use Rattle.mux_history.specs.Said.{Outcome, sends, silent, records}
+use Rattle.mux_history.specs.Said.{Outcome, sends_payload, silent, records}
 use Rattle.ssh_fields.specs.Fields.{str, u32}
 use Rattle.ssh_grammar.specs.Frames.{frame_payload}
 use Rattle.ssh_grammar.specs.Messages.{Cancel, Forward, Global, Key}
@@ -124,7 +124,7 @@ pub masters-heard : (own : List Row) (p : List ℕ) → Every IsMasters (receive
 masters-heard own p = by_case (read_summary p)
   where
     by_message : (m : Summary) → Every IsMasters (for_client own p m).sent
-    by_message (Open what s w max) = elim (nat_lt (length (held_of own)) 256) as (λ b. Every IsMasters (elim b as (λ _. Outcome) [ true ↦ records (frame_payload p) | false ↦ sends (open_failure s 4 (codes "too many channels")) ]).sent) [ true ↦ tt | false ↦ ((TooManyChannels s, refl), tt) ]
+    by_message (Open what s w max) = elim (nat_lt (length (held_of own)) 256) as (λ b. Every IsMasters (elim b as (λ _. Outcome) [ true ↦ records (frame_payload p) | false ↦ sends_payload (open_failure s 4 (codes "too many channels")) ]).sent) [ true ↦ tt | false ↦ ((TooManyChannels s, refl), tt) ]
     by_message (Confirmation n s w max) = tt
     by_message (Within n act) = tt
     by_message m = tt

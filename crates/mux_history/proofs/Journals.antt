@@ -7,7 +7,7 @@ use Rattle.mux_history.specs.Journal.{items, items_in, log_of_journal}
 use Rattle.mux_history.specs.Laws.{LogsAreRight}
 use Rattle.mux_history.specs.Log.{Setting, log_of, more_all}
 use Rattle.mux_history.specs.Policy.{Policy}
-use Rattle.mux_history.specs.Promises.{IsCut, is_asked}
+use Rattle.mux_history.specs.Promises.{IsCut, is_house_request}
 use Rattle.mux_history.specs.Right.{AreFresh, IsRight}
 use Rattle.mux_history.specs.Rows.{Item, Row}
 use Rattle.mux_history.specs.Settings.{by_lists}

@@ -3,12 +3,12 @@ use Rattle.std.proofs.Common.{◌≡◌, ℕ, List, [], ◌∷◌, ◌++◌, tru
 use Rattle.std.specs.Prelude.{◌==◌, Result, min, ◌^◌, ◌-◌}
 use Rattle.std.proofs.lemmas.List.{append-nil}
 use Rattle.std.proofs.lemmas.Bool.Decides.{nat_tests}
-use Rattle.mux_history.specs.Channels.{Channel, after_item, begun_by, channels_of, received_by, is_number, live_in, opened_down, with_down, with_ups}
-use Rattle.mux_history.specs.Controls.{greeted, house_sends, sent_body}
+use Rattle.mux_history.specs.Channels.{Channel, after_item, begun_by, channels_of, channel_after_item, is_number, live_in, opened_down, with_down, with_ups}
+use Rattle.mux_history.specs.Controls.{client_has_greeted, house_sends, sent_body}
 use Rattle.mux_history.specs.Summary.{Confirmation, Summary, Open, Refuses, Requests, Succeeds, Transport, Within, read_summary, reading}
-use Rattle.mux_history.specs.Heard.{Breaks, Dest, Disconnects, ToClient, ToMaster, dest, dest_summary, finishes, received_for, received_master, next_index}
+use Rattle.mux_history.specs.Heard.{Breaks, Dest, Disconnects, ToClient, ToMaster, dest, dest_summary, outcome_of_end, received_for, received_master, next_index}
 use Rattle.mux_history.specs.Kept.{Every}
-use Rattle.mux_history.specs.Log.{admits, bare, received_row, sent_by_client, treat}
+use Rattle.mux_history.specs.Log.{admits, bare_row, received_row, sent_by_client, treat}
 use Rattle.mux_history.specs.Policy.{Policy}
 use Rattle.mux_history.specs.Rows.{Admit, BadServer, Fate, Gone, Heard, HouseSays, Item, Row, RunEnd, Says, ServerCut, ServerEnd, ServerFailed, Took, rows_of}
 use Rattle.mux_history.specs.Said.{Outcome, sent_payload, silent}
@@ -110,10 +110,10 @@ module _ (before : List Row) (good : AreApart (channels_of before)) (k : ℕ) (p
 
 -- ---- any row
 
-good-bare : (before : List Row) → AreApart (channels_of before) → (item : Item) (o : Outcome) → Every Quiet o.sent → begun_by 0 o.sent item ≡ [] → AreApart (Next (bare item 0 o) (channels_of before))
-good-bare before good item o quiet none = good-still (bare item 0 o) (channels_of before) tt (item-master (bare item 0 o) refl) none good
+good-bare : (before : List Row) → AreApart (channels_of before) → (item : Item) (o : Outcome) → Every Quiet o.sent → begun_by 0 o.sent item ≡ [] → AreApart (Next (bare_row item 0 o) (channels_of before))
+good-bare before good item o quiet none = good-still (bare_row item 0 o) (channels_of before) tt (item-master (bare_row item 0 o) refl) none good
 
-good-mute : (before : List Row) → AreApart (channels_of before) → (row : Row) → Every Quiet row.farewell → row.up ≡ [] → ((x : Channel) → received_by row.item x ≡ x) → begun_by row.client [] row.item ≡ [] → AreApart (Next row (channels_of before))
+good-mute : (before : List Row) → AreApart (channels_of before) → (row : Row) → Every Quiet row.farewell → row.up ≡ [] → ((x : Channel) → channel_after_item row.item x ≡ x) → begun_by row.client [] row.item ≡ [] → AreApart (Next row (channels_of before))
 good-mute before good row parting none stays begun = good-still row (channels_of before) parting (λ x s. item-ids row x (subst (Every Quiet) (sym none) tt) (subst (Ids x) (sym (stays x)) (ids-self x))) (ap (λ u. begun_by row.client u row.item) none ∙ begun) good
 
 abbrev GoodNext : List Row → Row → Type 0
@@ -122,21 +122,21 @@ GoodNext before row = IsFresh before row → AreApart (channels_of (row ∷ befo
 good-heard-row : (before : List Row) → AreApart (channels_of before) → (p : List ℕ) (d : Dest) → dest before p ≡ d → GoodNext before (received_row before p d)
 good-heard-row before good p ToMaster e fresh = good-bare before good (Heard p) (received_master p) (quiet-master p) refl
 good-heard-row before good p (ToClient k) e fresh = row-parts (GoodNext before) (Heard p) k (received_for (rows_of k before) p) (rows_of k before) (λ fw parting down fate fresh'. good-heard before good k p (received_for (rows_of k before) p).sent (quiet-heard (rows_of k before) p) fw parting down fate e) fresh
-good-heard-row before good p Disconnects e fresh = good-bare before good (Heard p) (finishes ended.Disconnected) tt refl
-good-heard-row before good p (Breaks why) e fresh = good-bare before good (Heard p) (finishes (ended.Broke (min (next_index before) (2 ^ 64 - 1)) why)) tt refl
+good-heard-row before good p Disconnects e fresh = good-bare before good (Heard p) (outcome_of_end ended.Disconnected) tt refl
+good-heard-row before good p (Breaks why) e fresh = good-bare before good (Heard p) (outcome_of_end (ended.Broke (min (next_index before) (2 ^ 64 - 1)) why)) tt refl
 
 -- the channels stay apart by each right row
 pub good-treat : (policy : Policy) (pid pick : ℕ) (before : List Row) (item : Item) → AreApart (channels_of before) → LawfulItem before item → IsFresh before (treat policy pid pick before item) → AreApart (channels_of (treat policy pid pick before item ∷ before))
 good-treat policy pid pick before (Admit k) good lawful fresh = row-parts (GoodNext before) (Admit k) k (admits before) (rows_of k before) (λ fw parting down fate fresh'. good-mute before good (as_row (Admit k) k (admits before).sent fw down fate) parting (admits-sent before) (λ x. refl) refl) fresh
 good-treat policy pid pick before (Says k (Payload p) reply) good lawful fresh = row-parts (GoodNext before) (Says k (Payload p) reply) k (sent_payload policy k (rows_of k before) pick p) (rows_of k before) (λ fw parting down fate fresh'. good-said before good k lawful.0 p reply fw parting down fate policy pick lawful.1 fresh') fresh
-good-treat policy pid pick before (Says k (Body body) reply) good lawful fresh = row-parts (GoodNext before) (Says k (Body body) reply) k (sent_body pid k reply (greeted (rows_of k before)) body) (rows_of k before) (λ fw parting down fate fresh'. good-mute before good (as_row (Says k (Body body) reply) k (sent_body pid k reply (greeted (rows_of k before)) body).sent fw down fate) parting (body-sent pid k reply (greeted (rows_of k before)) body) (λ x. refl) refl) fresh
+good-treat policy pid pick before (Says k (Body body) reply) good lawful fresh = row-parts (GoodNext before) (Says k (Body body) reply) k (sent_body pid k reply (client_has_greeted (rows_of k before)) body) (rows_of k before) (λ fw parting down fate fresh'. good-mute before good (as_row (Says k (Body body) reply) k (sent_body pid k reply (client_has_greeted (rows_of k before)) body).sent fw down fate) parting (body-sent pid k reply (client_has_greeted (rows_of k before)) body) (λ x. refl) refl) fresh
 good-treat policy pid pick before (Says k (BadFraming fault) reply) good lawful fresh = row-parts (GoodNext before) (Says k (BadFraming fault) reply) k (sent_by_client policy pid k (rows_of k before) pick (BadFraming fault) reply) (rows_of k before) (λ fw parting down fate fresh'. good-mute before good (as_row (Says k (BadFraming fault) reply) k [] fw down fate) parting refl (λ x. refl) refl) fresh
 good-treat policy pid pick before (HouseSays k id given) good lawful fresh = row-parts (GoodNext before) (HouseSays k id given) k (house_sends (rows_of k before) id given) (rows_of k before) (λ fw parting down fate fresh'. good-mute before good (as_row (HouseSays k id given) k (house_sends (rows_of k before) id given).sent fw down fate) parting (house-sent (rows_of k before) id given) (λ x. refl) refl) fresh
 good-treat policy pid pick before (Gone k) good lawful fresh = row-parts (GoodNext before) (Gone k) k silent (rows_of k before) (λ fw parting down fate fresh'. good-mute before good (as_row (Gone k) k [] fw down fate) parting refl (λ x. refl) refl) fresh
 good-treat policy pid pick before (Heard p) good lawful fresh = good-heard-row before good p (dest before p) refl fresh
-good-treat policy pid pick before (BadServer fault) good lawful fresh = good-bare before good (BadServer fault) (finishes (ended.Broke (min (next_index before) (2 ^ 64 - 1)) (broke.Frame fault))) tt refl
-good-treat policy pid pick before ServerEnd good lawful fresh = good-bare before good ServerEnd (finishes ended.ServerEnd) tt refl
-good-treat policy pid pick before (ServerCut left) good lawful fresh = good-bare before good (ServerCut left) (finishes (ended.Broke (min (next_index before) (2 ^ 64 - 1)) (broke.Cut left))) tt refl
-good-treat policy pid pick before ServerFailed good lawful fresh = good-bare before good ServerFailed (finishes ended.ServerFailed) tt refl
-good-treat policy pid pick before (Took stream size) good lawful fresh = good-mute before good (bare (Took stream size) stream silent) tt refl (λ x. refl) refl
+good-treat policy pid pick before (BadServer fault) good lawful fresh = good-bare before good (BadServer fault) (outcome_of_end (ended.Broke (min (next_index before) (2 ^ 64 - 1)) (broke.Frame fault))) tt refl
+good-treat policy pid pick before ServerEnd good lawful fresh = good-bare before good ServerEnd (outcome_of_end ended.ServerEnd) tt refl
+good-treat policy pid pick before (ServerCut left) good lawful fresh = good-bare before good (ServerCut left) (outcome_of_end (ended.Broke (min (next_index before) (2 ^ 64 - 1)) (broke.Cut left))) tt refl
+good-treat policy pid pick before ServerFailed good lawful fresh = good-bare before good ServerFailed (outcome_of_end ended.ServerFailed) tt refl
+good-treat policy pid pick before (Took stream size) good lawful fresh = good-mute before good (bare_row (Took stream size) stream silent) tt refl (λ x. refl) refl
 good-treat policy pid pick before (RunEnd cause) good lawful fresh = good-bare before good (RunEnd cause) silent tt refl

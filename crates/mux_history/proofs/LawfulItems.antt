@@ -2,7 +2,7 @@
 use Rattle.std.proofs.Common.{◌≡◌, ℕ, List, [], ◌∷◌, true, false, Bool, refl, ◌∙◌, ap, Some, None}
 use Rattle.std.specs.Prelude.{◌||◌, ◌&&◌}
 use Rattle.mux_history.specs.Choices.{Choices, FromLists, pick_of, replies_given, reply_at, with_reply}
-use Rattle.mux_history.specs.Controls.{body_asks, greeted, house_sends}
+use Rattle.mux_history.specs.Controls.{body_asks, client_has_greeted, house_sends}
 use Rattle.mux_history.specs.Heard.{Breaks, Dest, Disconnects, ToClient, ToMaster, dest, received_for}
 use Rattle.mux_history.specs.Log.{admits, received_row, log_of, makes_next, more_of, row_of, sent_by_client, treat}
 use Rattle.mux_history.specs.Policy.{Policy}
@@ -52,19 +52,19 @@ module _ (policy : Policy) (pid : ℕ) (picks : List ℕ) (replies : List HouseR
 
   -- the reply changes nothing of what is asked of an item
   pub reply-admits : (k : ℕ) (rows : List Row) (item : Item) → admits_client k (with_reply lists rows item) ≡ admits_client k item
-  reply-admits k rows (Says j (Body body) reply) = elim (greeted (rows_of j rows) && body_asks body) as (λ b. admits_client k (elim b as (λ _. Item) [ true ↦ Says j (Body body) (Some (reply_at replies (replies_given rows))) | false ↦ Says j (Body body) None ]) ≡ false) [ true ↦ refl | false ↦ refl ]
+  reply-admits k rows (Says j (Body body) reply) = elim (client_has_greeted (rows_of j rows) && body_asks body) as (λ b. admits_client k (elim b as (λ _. Item) [ true ↦ Says j (Body body) (Some (reply_at replies (replies_given rows))) | false ↦ Says j (Body body) None ]) ≡ false) [ true ↦ refl | false ↦ refl ]
   reply-admits k rows (Says j (Payload p) reply) = refl
   reply-admits k rows (Says j (BadFraming fault) reply) = refl
   reply-admits k rows item = refl
 
   pub reply-next : (rows : List Row) (item : Item) → makes_next rows item ≡ true → makes_next rows (with_reply lists rows item) ≡ true
-  reply-next rows (Says j (Body body) reply) may = elim (greeted (rows_of j rows) && body_asks body) as (λ b. makes_next rows (elim b as (λ _. Item) [ true ↦ Says j (Body body) (Some (reply_at replies (replies_given rows))) | false ↦ Says j (Body body) None ]) ≡ true) [ true ↦ may | false ↦ may ]
+  reply-next rows (Says j (Body body) reply) may = elim (client_has_greeted (rows_of j rows) && body_asks body) as (λ b. makes_next rows (elim b as (λ _. Item) [ true ↦ Says j (Body body) (Some (reply_at replies (replies_given rows))) | false ↦ Says j (Body body) None ]) ≡ true) [ true ↦ may | false ↦ may ]
   reply-next rows (Says j (Payload p) reply) may = may
   reply-next rows (Says j (BadFraming fault) reply) may = may
   reply-next rows item may = may
 
   pub reply-lawful : (rows : List Row) (before : List Item) (item : Item) → ((k : ℕ) → any_of (admits_client k) before ≡ false → any_of (λ row. admits_client k row.item) rows ≡ false) → LawfulIn before item → LawfulItem rows (with_reply lists rows item)
-  reply-lawful rows before (Says j (Body body) reply) none lawful = elim (greeted (rows_of j rows) && body_asks body) as (λ b. LawfulItem rows (elim b as (λ _. Item) [ true ↦ Says j (Body body) (Some (reply_at replies (replies_given rows))) | false ↦ Says j (Body body) None ])) [ true ↦ lawful | false ↦ lawful ]
+  reply-lawful rows before (Says j (Body body) reply) none lawful = elim (client_has_greeted (rows_of j rows) && body_asks body) as (λ b. LawfulItem rows (elim b as (λ _. Item) [ true ↦ Says j (Body body) (Some (reply_at replies (replies_given rows))) | false ↦ Says j (Body body) None ])) [ true ↦ lawful | false ↦ lawful ]
   reply-lawful rows before (Says j (Payload p) reply) none lawful = lawful
   reply-lawful rows before (Says j (BadFraming fault) reply) none lawful = lawful
   reply-lawful rows before (Admit k) none lawful = none k lawful

@@ -4,7 +4,7 @@ use Rattle.std.specs.Prelude.{◌==◌, ◌&&◌, filter}
 use Rattle.std.proofs.lemmas.List.Elements.{filter-append}
 use Rattle.std.proofs.lemmas.List.{append-nil}
 use Rattle.std.proofs.lemmas.Bool.Decides.{nat_tests}
-use Rattle.mux_history.specs.Channels.{Channel, after_farewell, after_item, begun_by, channels_of, received_by, is_channel_held, is_number, opened_down, opened_up, own_number_of, with_down, with_up, with_ups}
+use Rattle.mux_history.specs.Channels.{Channel, after_farewell, after_item, begun_by, channels_of, channel_after_item, is_channel_held, is_number, opened_down, opened_up, own_number_of, with_down, with_up, with_ups}
 use Rattle.mux_history.specs.Summary.{Confirmation, Confirms, Summary, Open, Within, read_summary, reading}
 use Rattle.mux_history.specs.Rows.{Heard, Item, Row, Says, rows_of}
 use Rattle.ssh_grammar.specs.Said.{Payload}
@@ -30,13 +30,13 @@ ups-client : (own : Option ℕ) (ps : List (List ℕ)) (x : Channel) → (with_u
 ups-client own [] x = refl
 ups-client own (p ∷ ps) x = ups-client own ps (reading p (λ m. with_up own m x) x) ∙ read-client p (λ m. with_up own m x) x (λ m. up-client own m x)
 
-heard-client : (item : Item) (x : Channel) → (received_by item x).client ≡ x.client
+heard-client : (item : Item) (x : Channel) → (channel_after_item item x).client ≡ x.client
 heard-client (Heard p) x = read-client p (λ m. with_down m x) x (λ m. down-client m x)
 heard-client item x = refl
 
 pub item-client : (row : Row) (x : Channel) → (after_item row x).client ≡ x.client
-item-client row x = elim (x.client == row.client) as (λ b. (elim b as (λ _. Channel) [ true ↦ with_ups (own_number_of row.item) row.up (received_by row.item x) | false ↦ x ]).client ≡ x.client)
-    [ true ↦ ups-client (own_number_of row.item) row.up (received_by row.item x) ∙ heard-client row.item x | false ↦ refl ]
+item-client row x = elim (x.client == row.client) as (λ b. (elim b as (λ _. Channel) [ true ↦ with_ups (own_number_of row.item) row.up (channel_after_item row.item x) | false ↦ x ]).client ≡ x.client)
+    [ true ↦ ups-client (own_number_of row.item) row.up (channel_after_item row.item x) ∙ heard-client row.item x | false ↦ refl ]
 
 pub farewell-client : (row : Row) (x : Channel) → (after_farewell row x).client ≡ x.client
 farewell-client row x = elim (x.client == row.client) as (λ b. (elim b as (λ _. Channel) [ true ↦ with_ups None row.farewell x | false ↦ x ]).client ≡ x.client)

@@ -5,7 +5,7 @@ use Rattle.std.proofs.lemmas.Bool.Decides.{nat_tests}
 use Rattle.std.proofs.lemmas.List.{append-nil}
 use Rattle.mux_history.specs.Farewell.{has_open_matters}
 use Rattle.mux_history.specs.Kept.{ForEach}
-use Rattle.mux_history.specs.Log.{admits, entered, matters_of, treat}
+use Rattle.mux_history.specs.Log.{admits, admitted_clients, matters_of, treat}
 use Rattle.mux_history.specs.Policy.{Policy}
 use Rattle.mux_history.specs.Rows.{Admit, Fate, Item, Refused, Row, any_of, is_admit, rows_of}
 use Rattle.mux_history.specs.Steps.{MattersStep, one_if}
@@ -94,12 +94,12 @@ count-append k (j ∷ js) i = ap (add_if (j == k)) (count-append k js i) ∙ swa
 differ : (a b : ℕ) → (a == b) ≡ false → (b == a) ≡ false
 differ a b e = grind (arith, nat_tests)
 
-pub entered-once : (policy : Policy) (pid : ℕ) (rows : List Row) → ForEach (RowKnown policy pid) rows → (k : ℕ) → count k (entered rows) ≡ one_if (any_of is_admit (rows_of k rows))
+pub entered-once : (policy : Policy) (pid : ℕ) (rows : List Row) → ForEach (RowKnown policy pid) rows → (k : ℕ) → count k (admitted_clients rows) ≡ one_if (any_of is_admit (rows_of k rows))
 entered-once policy pid [] each k = refl
 entered-once policy pid (row ∷ before) each k = by_case (entered-once policy pid before each.1 k) (is_admit row) refl (row.client == k) refl
   where
-    entered-is : (b : Bool) → is_admit row ≡ b → entered (row ∷ before) ≡ entered before ++ elim b as (λ _. List ℕ) [ true ↦ row.client ∷ [] | false ↦ [] ]
-    entered-is b e = ap (λ c. entered before ++ elim c as (λ _. List ℕ) [ true ↦ row.client ∷ [] | false ↦ [] ]) e
+    entered-is : (b : Bool) → is_admit row ≡ b → admitted_clients (row ∷ before) ≡ admitted_clients before ++ elim b as (λ _. List ℕ) [ true ↦ row.client ∷ [] | false ↦ [] ]
+    entered-is b e = ap (λ c. admitted_clients before ++ elim c as (λ _. List ℕ) [ true ↦ row.client ∷ [] | false ↦ [] ]) e
 
     mine : (row.client == k) ≡ true → any_of is_admit (rows_of k (row ∷ before)) ≡ (is_admit row || any_of is_admit (rows_of k before))
     mine e = ap (any_of is_admit) (filter-yes (λ (r : Row). r.client == k) row before e)
@@ -107,20 +107,20 @@ entered-once policy pid (row ∷ before) each k = by_case (entered-once policy p
     others : (row.client == k) ≡ false → any_of is_admit (rows_of k (row ∷ before)) ≡ any_of is_admit (rows_of k before)
     others e = ap (any_of is_admit) (filter-no (λ (r : Row). r.client == k) row before e)
 
-    by_case : count k (entered before) ≡ one_if (any_of is_admit (rows_of k before)) → (b : Bool) → is_admit row ≡ b → (t : Bool) → (row.client == k) ≡ t → count k (entered (row ∷ before)) ≡ one_if (any_of is_admit (rows_of k (row ∷ before)))
+    by_case : count k (admitted_clients before) ≡ one_if (any_of is_admit (rows_of k before)) → (b : Bool) → is_admit row ≡ b → (t : Bool) → (row.client == k) ≡ t → count k (admitted_clients (row ∷ before)) ≡ one_if (any_of is_admit (rows_of k (row ∷ before)))
     by_case ih false e true t =
-        ap (count k) (entered-is false e ∙ append-nil (entered before))
+        ap (count k) (entered-is false e ∙ append-nil (admitted_clients before))
         ∙ (ih ∙ sym (ap one_if (mine t ∙ ap (λ b. b || any_of is_admit (rows_of k before)) e)))
-    by_case ih false e false t = ap (count k) (entered-is false e ∙ append-nil (entered before)) ∙ (ih ∙ sym (ap one_if (others t)))
+    by_case ih false e false t = ap (count k) (entered-is false e ∙ append-nil (admitted_clients before)) ∙ (ih ∙ sym (ap one_if (others t)))
     by_case ih true e false t =
         ap (count k) (entered-is true e)
-        ∙ (count-append k (entered before) row.client
-        ∙ (ap (λ b. add_if b (count k (entered before))) t ∙ (ih ∙ sym (ap one_if (others t)))))
+        ∙ (count-append k (admitted_clients before) row.client
+        ∙ (ap (λ b. add_if b (count k (admitted_clients before))) t ∙ (ih ∙ sym (ap one_if (others t)))))
     by_case ih true e true t =
         let none : any_of is_admit (rows_of k before) ≡ false = ap (λ c. any_of is_admit (rows_of c before)) (sym (same-client row.client k t)) ∙ once-in policy pid before row each.0 each.1 e in
         ap (count k) (entered-is true e)
-        ∙ (count-append k (entered before) row.client
-        ∙ (ap (λ b. add_if b (count k (entered before))) t
+        ∙ (count-append k (admitted_clients before) row.client
+        ∙ (ap (λ b. add_if b (count k (admitted_clients before))) t
         ∙ (ap (λ n. n + 1) (ih ∙ ap one_if none)
         ∙ sym (ap one_if (mine t ∙ ap (λ b. b || any_of is_admit (rows_of k before)) e)))))
 
@@ -203,31 +203,31 @@ matters-step policy pid before row known each = by_case (is_admit row) refl
     let_in : Bool
     let_in = any_of is_admit (rows_of row.client before)
 
-    moved : matters_of (row ∷ before) (entered before) + part was (count row.client (entered before)) ≡ matters_of before (entered before) + part now (count row.client (entered before))
-    moved = shift row before was now refl refl (entered before)
+    moved : matters_of (row ∷ before) (admitted_clients before) + part was (count row.client (admitted_clients before)) ≡ matters_of before (admitted_clients before) + part now (count row.client (admitted_clients before))
+    moved = shift row before was now refl refl (admitted_clients before)
 
     after : any_of is_admit (rows_of row.client (row ∷ before)) ≡ (is_admit row || let_in)
     after = ap (any_of is_admit) (filter-yes (λ (r : Row). r.client == row.client) row before (self row.client))
 
-    entered-is : (b : Bool) → is_admit row ≡ b → entered (row ∷ before) ≡ entered before ++ elim b as (λ _. List ℕ) [ true ↦ row.client ∷ [] | false ↦ [] ]
-    entered-is b e = ap (λ c. entered before ++ elim c as (λ _. List ℕ) [ true ↦ row.client ∷ [] | false ↦ [] ]) e
+    entered-is : (b : Bool) → is_admit row ≡ b → admitted_clients (row ∷ before) ≡ admitted_clients before ++ elim b as (λ _. List ℕ) [ true ↦ row.client ∷ [] | false ↦ [] ]
+    entered-is b e = ap (λ c. admitted_clients before ++ elim c as (λ _. List ℕ) [ true ↦ row.client ∷ [] | false ↦ [] ]) e
 
-    by_case : (b : Bool) → is_admit row ≡ b → matters_of (row ∷ before) (entered (row ∷ before)) + one_if (let_in && was) ≡ matters_of before (entered before) + one_if (any_of is_admit (rows_of row.client (row ∷ before)) && now)
+    by_case : (b : Bool) → is_admit row ≡ b → matters_of (row ∷ before) (admitted_clients (row ∷ before)) + one_if (let_in && was) ≡ matters_of before (admitted_clients before) + one_if (any_of is_admit (rows_of row.client (row ∷ before)) && now)
     by_case false e =
-        let once : count row.client (entered before) ≡ one_if let_in = entered-once policy pid before each row.client in
-        let a : part was (count row.client (entered before)) ≡ one_if (let_in && was) = ap (part was) once ∙ part-and let_in was in
-        let c : part now (count row.client (entered before)) ≡ one_if (any_of is_admit (rows_of row.client (row ∷ before)) && now) = ap (part now) once ∙ (part-and let_in now ∙ ap (λ x. one_if (x && now)) (sym (after ∙ ap (λ x. x || let_in) e))) in
-        let m : matters_of (row ∷ before) (entered (row ∷ before)) ≡ matters_of (row ∷ before) (entered before) = ap (matters_of (row ∷ before)) (entered-is false e ∙ append-nil (entered before)) in
+        let once : count row.client (admitted_clients before) ≡ one_if let_in = entered-once policy pid before each row.client in
+        let a : part was (count row.client (admitted_clients before)) ≡ one_if (let_in && was) = ap (part was) once ∙ part-and let_in was in
+        let c : part now (count row.client (admitted_clients before)) ≡ one_if (any_of is_admit (rows_of row.client (row ∷ before)) && now) = ap (part now) once ∙ (part-and let_in now ∙ ap (λ x. one_if (x && now)) (sym (after ∙ ap (λ x. x || let_in) e))) in
+        let m : matters_of (row ∷ before) (admitted_clients (row ∷ before)) ≡ matters_of (row ∷ before) (admitted_clients before) = ap (matters_of (row ∷ before)) (entered-is false e ∙ append-nil (admitted_clients before)) in
         let s = moved in
         omega (arith, m, a, c, s)
     by_case true e =
         let none : let_in ≡ false = once-in policy pid before row known each e in
-        let once : count row.client (entered before) ≡ 0 = entered-once policy pid before each row.client ∙ ap one_if none in
-        let a : part was (count row.client (entered before)) ≡ 0 = ap (part was) once ∙ part-none was in
-        let c : part now (count row.client (entered before)) ≡ 0 = ap (part now) once ∙ part-none now in
+        let once : count row.client (admitted_clients before) ≡ 0 = entered-once policy pid before each row.client ∙ ap one_if none in
+        let a : part was (count row.client (admitted_clients before)) ≡ 0 = ap (part was) once ∙ part-none was in
+        let c : part now (count row.client (admitted_clients before)) ≡ 0 = ap (part now) once ∙ part-none now in
         let x : one_if (let_in && was) ≡ 0 = ap (λ y. one_if (y && was)) none in
         let y : one_if (any_of is_admit (rows_of row.client (row ∷ before)) && now) ≡ one_if now = ap (λ z. one_if (z && now)) (after ∙ ap (λ z. z || let_in) e) in
-        let m : matters_of (row ∷ before) (entered (row ∷ before)) ≡ matters_of (row ∷ before) (entered before) + one_if now = ap (matters_of (row ∷ before)) (entered-is true e) ∙ one-more (row ∷ before) (entered before) row.client in
+        let m : matters_of (row ∷ before) (admitted_clients (row ∷ before)) ≡ matters_of (row ∷ before) (admitted_clients before) + one_if now = ap (matters_of (row ∷ before)) (entered-is true e) ∙ one-more (row ∷ before) (admitted_clients before) row.client in
         let s = moved in
         omega (arith, m, a, c, x, y, s)
 

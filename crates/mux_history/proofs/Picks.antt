@@ -3,12 +3,12 @@ use Rattle.std.proofs.Common.{◌≡◌, ℕ, List, [], ◌∷◌, true, false, 
 use Rattle.std.specs.Prelude.{◌&&◌, Result, is_some}
 use Rattle.mux_history.specs.Channels.{own_number_of}
 use Rattle.mux_history.specs.Choices.{FromLists, pick_of, sent_number, takes_number, with_reply}
-use Rattle.mux_history.specs.Controls.{greeted, house_sends, sent_body}
+use Rattle.mux_history.specs.Controls.{client_has_greeted, house_sends, sent_body}
 use Rattle.mux_history.specs.Summary.{Summary, read_summary, summary_sender_of}
 use Rattle.mux_history.specs.Heard.{Breaks, Dest, Disconnects, ToClient, ToMaster, dest, received_for}
 use Rattle.mux_history.specs.Journal.{IsLawful, items}
 use Rattle.mux_history.specs.Kept.{ForEach}
-use Rattle.mux_history.specs.Log.{admits, bare, received_row, log_of, makes_next, more_of, row_of, treat}
+use Rattle.mux_history.specs.Log.{admits, bare_row, received_row, log_of, makes_next, more_of, row_of, treat}
 use Rattle.mux_history.specs.Policy.{Policy}
 use Rattle.mux_history.specs.Requests.{is_sent}
 use Rattle.mux_history.specs.Right.{IsRight, TakesPick, carried_number}
@@ -73,12 +73,12 @@ heard-taken pick before p (Breaks cause) = unowned-taken pick (received_row befo
 treat-taken : (policy : Policy) (pid pick : ℕ) (before : List Row) (item : Item) → LawfulItem before item → CarriesPick pick (treat policy pid pick before item)
 treat-taken policy pid pick before (Admit k) lawful = other-taken pick (Admit k) k (admits before) (rows_of k before) refl
 treat-taken policy pid pick before (Says k (Payload p) reply) lawful = payload-taken policy before k pick p reply lawful.1
-treat-taken policy pid pick before (Says k (Body body) reply) lawful = other-taken pick (Says k (Body body) reply) k (sent_body pid k reply (greeted (rows_of k before)) body) (rows_of k before) refl
+treat-taken policy pid pick before (Says k (Body body) reply) lawful = other-taken pick (Says k (Body body) reply) k (sent_body pid k reply (client_has_greeted (rows_of k before)) body) (rows_of k before) refl
 treat-taken policy pid pick before (Says k (BadFraming fault) reply) lawful = other-taken pick (Says k (BadFraming fault) reply) k (drops (why.BadFrame fault)) (rows_of k before) refl
 treat-taken policy pid pick before (HouseSays k id given) lawful = other-taken pick (HouseSays k id given) k (house_sends (rows_of k before) id given) (rows_of k before) refl
 treat-taken policy pid pick before (Gone k) lawful = other-taken pick (Gone k) k silent (rows_of k before) refl
 treat-taken policy pid pick before (Heard p) lawful = heard-taken pick before p (dest before p)
-treat-taken policy pid pick before (Took stream size) lawful = unowned-taken pick (bare (Took stream size) stream silent) refl
+treat-taken policy pid pick before (Took stream size) lawful = unowned-taken pick (bare_row (Took stream size) stream silent) refl
 treat-taken policy pid pick before (BadServer fault) lawful = unowned-taken pick (treat policy pid pick before (BadServer fault)) refl
 treat-taken policy pid pick before ServerEnd lawful = unowned-taken pick (treat policy pid pick before ServerEnd) refl
 treat-taken policy pid pick before (ServerCut left) lawful = unowned-taken pick (treat policy pid pick before (ServerCut left)) refl

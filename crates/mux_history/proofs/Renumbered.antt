@@ -3,9 +3,9 @@ use Rattle.std.proofs.Common.{◌≡◌, ℕ, ◌/◌, ◌%◌, ◌<◌, List, [
 use Rattle.ssh_fields.specs.Fields.{AreBytes, u32, str, of_four, is_true}
 use Rattle.ssh_grammar.specs.declared.fault.Bad.{Bad}
 use Rattle.ssh_grammar.specs.Messages as full
-use Rattle.ssh_grammar.specs.ReadMessage.{Reading, Form, OfPlain, OfChannel, OfNone, forms, read_as, with_reading, read_message}
+use Rattle.ssh_grammar.specs.ReadMessage.{MessageReading, Form, OfPlain, OfChannel, OfNone, message_forms, read_as, with_reading, read_message}
 use Rattle.ssh_grammar.specs.Tables.{by_number}
-use Rattle.ssh_grammar.specs.SpellMessage.{spell_with, wants, sender_at, recipient_place, sender_place, in_payload, payload_with_number, with_recipient, with_sender}
+use Rattle.ssh_grammar.specs.SpellMessage.{spell_with, wants_reply, sender_at, recipient_place, sender_place, in_payload, payload_with_number, with_recipient, with_sender}
 use Rattle.ssh_grammar.specs.IsMessage.{IsMessage, Spells}
 use Rattle.ssh_grammar.specs.Renumber.{to_recipient, to_sender}
 use Rattle.ssh_grammar.proofs.MessageReads.{reads_is_spelled}
@@ -81,7 +81,7 @@ u32-word n = four-again ((n / 16777216) % 256) ((n / 65536) % 256) ((n / 256) % 
 in-form : (n : ℕ) (form : Form) (rest : List ℕ) (r c : ℕ) (m : full.ChannelMessage) → read_as n form rest ≡ Ok (full.To r m) → read_as n form (u32 c ++ drop 4 rest) ≡ Ok (full.To (word c) m)
 in-form n (OfPlain read) rest r c m e = by_case (read rest) e
   where
-    by_case : (x : Reading full.PlainMessage) → with_reading x full.Plain ≡ Ok (full.To r m) → read_as n (OfPlain read) (u32 c ++ drop 4 rest) ≡ Ok (full.To (word c) m)
+    by_case : (x : MessageReading full.PlainMessage) → with_reading x full.Plain ≡ Ok (full.To r m) → read_as n (OfPlain read) (u32 c ++ drop 4 rest) ≡ Ok (full.To (word c) m)
     by_case (Ok x) e = cc
     by_case (Err x) e = cc
 in-form n (OfChannel read) [] r c m e = cc
@@ -90,7 +90,7 @@ in-form n (OfChannel read) (v ∷ w ∷ []) r c m e = cc
 in-form n (OfChannel read) (v ∷ w ∷ x ∷ []) r c m e = cc
 in-form n (OfChannel read) (v ∷ w ∷ x ∷ y ∷ tail) r c m e = by_case (read tail) e
   where
-    by_case : (z : Reading full.ChannelMessage) → with_reading z (full.To (of_four v w x y)) ≡ Ok (full.To r m) → with_reading z (full.To (word c)) ≡ Ok (full.To (word c) m)
+    by_case : (z : MessageReading full.ChannelMessage) → with_reading z (full.To (of_four v w x y)) ≡ Ok (full.To r m) → with_reading z (full.To (word c)) ≡ Ok (full.To (word c) m)
     by_case (Ok z) e = let same : z ≡ m = cc in ap (λ m. Ok (full.To (word c) m)) same
     by_case (Err z) e = cc
 in-form n OfNone rest r c m e = cc
@@ -103,7 +103,7 @@ message-renamed p (full.Plain m) c lt e = ap (λ at. read_message (payload_with_
 message-renamed [] (full.To r m) c lt e = cc
 message-renamed (n ∷ rest) (full.To r m) c lt e =
     ap (λ at. read_message (payload_with_number (n ∷ rest) at c)) (place-of recipient_place (n ∷ rest) (full.To r m) e)
-    ∙ (in-form n (by_number (forms n) n OfNone) rest r c m e ∙ ap (λ c. Ok (full.To c m)) (spelled c lt))
+    ∙ (in-form n (by_number (message_forms n) n OfNone) rest r c m e ∙ ap (λ c. Ok (full.To c m)) (spelled c lt))
 
 -- a payload to another recipient reads as the same summary with that recipient
 pub read-renamed : (p : List ℕ) (g : Summary) (c : ℕ) → c < 4294967296 → read_summary p ≡ Ok g → read_summary (with_recipient p c) ≡ Ok (readdressed c g)
@@ -138,8 +138,8 @@ pub record SenderIn (p : List ℕ) (m : Summary) : Type 0 where
   pub reads : (n : ℕ) → read_summary (front ++ (u32 n ++ tail)) ≡ Ok (resent (word n) m)
 
 -- what a message with a sender spells
-sender-spelled : (flag : ℕ) (m : full.Message) (front tail : List ℕ) (old : ℕ) → IsMessage m → is_true flag ≡ wants m → old < 4294967296 → summary_sender_of (summary m) ≡ Some old
-    → ((n : ℕ) → spell_with flag (to_sender n m) ≡ front ++ (u32 n ++ tail)) → ((n : ℕ) → n < 4294967296 → IsMessage (to_sender n m)) → ((n : ℕ) → is_true flag ≡ wants (to_sender n m)) → ((n : ℕ) → sender_place (to_sender n m) ≡ Some (length front)) → ((n : ℕ) → summary (to_sender n m) ≡ resent n (summary m))
+sender-spelled : (flag : ℕ) (m : full.Message) (front tail : List ℕ) (old : ℕ) → IsMessage m → is_true flag ≡ wants_reply m → old < 4294967296 → summary_sender_of (summary m) ≡ Some old
+    → ((n : ℕ) → spell_with flag (to_sender n m) ≡ front ++ (u32 n ++ tail)) → ((n : ℕ) → n < 4294967296 → IsMessage (to_sender n m)) → ((n : ℕ) → is_true flag ≡ wants_reply (to_sender n m)) → ((n : ℕ) → sender_place (to_sender n m) ≡ Some (length front)) → ((n : ℕ) → summary (to_sender n m) ≡ resent n (summary m))
     → (p : List ℕ) → p ≡ front ++ (u32 old ++ tail) → SenderIn p (summary m)
 sender-spelled flag m front tail old is same small said spells fits flags places summaries p whole = record {
   front = front;

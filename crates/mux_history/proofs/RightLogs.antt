@@ -5,11 +5,11 @@ use Rattle.mux_history.specs.Channels.{Channel, channels_of, is_channel_held, is
 use Rattle.mux_history.specs.Choices.{FromLists, pick_of, with_reply}
 use Rattle.mux_history.specs.Journal.{IsLawful, items}
 use Rattle.mux_history.specs.Kept.{AtEach, ForEach, NumbersApart}
-use Rattle.mux_history.specs.Log.{bare, log_of, makes_next, makes_row, more_of, treat}
+use Rattle.mux_history.specs.Log.{bare_row, log_of, makes_next, makes_row, more_of, treat}
 use Rattle.mux_history.specs.Policy.{Policy}
 use Rattle.mux_history.specs.Requests.{replies}
 use Rattle.mux_history.specs.Right.{AreFresh, IsRight}
-use Rattle.mux_history.specs.Rows.{Item, Row, Took, any_of, is_end, is_ended}
+use Rattle.mux_history.specs.Rows.{Item, Row, Took, any_of, is_end, is_run_over}
 use Rattle.mux_history.specs.Said.{silent}
 use Rattle.mux_history.specs.Settings.{by_lists}
 use Rattle.mux_outside.specs.declared.house.HouseReply.{HouseReply}
@@ -33,12 +33,12 @@ pub record RowKnown (policy : Policy) (pid : ℕ) (before : List Row) (row : Row
   pub lawful : LawfulItem before item
   pub may : makes_next before item ≡ true
   pub good : AreApart (channels_of before)
-  pub orderly : is_ended before ≡ false → Orderly before
+  pub orderly : is_run_over before ≡ false → Orderly before
 
 pub record LogKnown (policy : Policy) (pid : ℕ) (rows : List Row) : Type 0 where
   pub each : ForEach (RowKnown policy pid) rows
   pub good : AreApart (channels_of rows)
-  pub orderly : is_ended rows ≡ false → Orderly rows
+  pub orderly : is_run_over rows ≡ false → Orderly rows
 
 module _ (policy : Policy) (pid : ℕ) (picks : List ℕ) (replies : List HouseReply) where
   more-known : (rows : List Row) (before : List Item) (item : Item) → ((j : ℕ) → any_of (admits_client j) before ≡ false → any_of (λ row. admits_client j row.item) rows ≡ false) → LawfulIn before item → (AreFresh rows → LogKnown policy pid rows) → AreFresh (more_of (by_lists policy pid picks replies) rows item) → LogKnown policy pid (more_of (by_lists policy pid picks replies) rows item)
@@ -52,7 +52,7 @@ module _ (policy : Policy) (pid : ℕ) (picks : List ℕ) (replies : List HouseR
           record {
             each = (record { pick = pick_of (FromLists picks replies) rows item; item = with_reply (FromLists picks replies) rows item; is = refl; lawful = may; may = reply-next policy pid picks replies rows item e; good = known.good; orderly = known.orderly }, known.each);
             good = good-treat policy pid (pick_of (FromLists picks replies) rows item) rows (with_reply (FromLists picks replies) rows item) known.good may fresh.0;
-            orderly = λ on. orderly-treat policy pid (pick_of (FromLists picks replies) rows item) rows (with_reply (FromLists picks replies) rows item) (known.orderly (or-right (is_end (treat policy pid (pick_of (FromLists picks replies) rows item) rows (with_reply (FromLists picks replies) rows item)).fate) (is_ended rows) on)) (or-left (is_end (treat policy pid (pick_of (FromLists picks replies) rows item) rows (with_reply (FromLists picks replies) rows item)).fate) (is_ended rows) on);
+            orderly = λ on. orderly-treat policy pid (pick_of (FromLists picks replies) rows item) rows (with_reply (FromLists picks replies) rows item) (known.orderly (or-right (is_end (treat policy pid (pick_of (FromLists picks replies) rows item) rows (with_reply (FromLists picks replies) rows item)).fate) (is_run_over rows) on)) (or-left (is_end (treat policy pid (pick_of (FromLists picks replies) rows item) rows (with_reply (FromLists picks replies) rows item)).fate) (is_run_over rows) on);
           }
 
   log-known : (items : List Item) → LawfulItems items → AreFresh (log_of (by_lists policy pid picks replies) items) → LogKnown policy pid (log_of (by_lists policy pid picks replies) items)
@@ -64,7 +64,7 @@ right-known policy pid picks replies marks left rows lawful right = subst (LogKn
 
 -- a law of each row, by what its item does; what is accepted makes a row after the end of the run
 -- too
-pub by-treat : (P : List Row → Row → Type 0) (policy : Policy) (pid : ℕ) → ((pick : ℕ) (before : List Row) (item : Item) → AreApart (channels_of before) → Orderly before → LawfulItem before item → makes_row before item ≡ true → P before (treat policy pid pick before item)) → ((before : List Row) (stream size : ℕ) → P before (bare (Took stream size) stream silent)) → (rows : List Row) → ForEach (RowKnown policy pid) rows → ForEach P rows
+pub by-treat : (P : List Row → Row → Type 0) (policy : Policy) (pid : ℕ) → ((pick : ℕ) (before : List Row) (item : Item) → AreApart (channels_of before) → Orderly before → LawfulItem before item → makes_row before item ≡ true → P before (treat policy pid pick before item)) → ((before : List Row) (stream size : ℕ) → P before (bare_row (Took stream size) stream silent)) → (rows : List Row) → ForEach (RowKnown policy pid) rows → ForEach P rows
 by-treat P policy pid law taken [] each = tt
 by-treat P policy pid law taken (row ∷ before) each = (subst (P before) each.0.is (by-next before each.0.item each.0.may (λ going makes. law each.0.pick before each.0.item each.0.good (each.0.orderly going) each.0.lawful makes) (λ stream size e. subst (λ (i : Item). P before (treat policy pid each.0.pick before i)) (sym e) (taken before stream size))), by-treat P policy pid law taken before each.1)
 

@@ -7,9 +7,9 @@ use Rattle.mux_history.specs.Channels.{Channel, any_by, channels_of, holder, is_
 use Rattle.mux_history.specs.Summary.{Act, Answers, Asks, Carries, Closes, Confirmation, Confirms, Ends, Fails, Summary, Grants, Open, Refuses, Requests, Succeeds, Transport, Within, read_summary, reading}
 use Rattle.mux_history.specs.Kept.{Every}
 use Rattle.mux_history.specs.Laws.{IsAccounted, IsWithin, with_act}
-use Rattle.mux_history.specs.Ledger.{answered, asked, breach, carried, other_side, room, sum_of, unanswered}
+use Rattle.mux_history.specs.Ledger.{reply_count, request_count, breach, carried, other_side, room, sum_of, unanswered}
 use Rattle.mux_history.specs.Rows.{Row}
-use Rattle.mux_history.specs.Said.{Outcome, confirmed_at, is_failing, on_breach, on_confirmed, on_waiting, sent_within, sends, waiting_at}
+use Rattle.mux_history.specs.Said.{Outcome, confirmed_at, is_failing, on_breach, on_confirmed, on_waiting, sent_within, sends_payload, waiting_at}
 use Rattle.ssh_grammar.specs.declared.fault.Bad.{Bad}
 use Rattle.ssh_grammar.specs.declared.fault.Breach.{Breach}
 use Rattle.ssh_grammar.specs.declared.fault.Breach.TheVariants.{AfterClose, NotOpen, Unasked}
@@ -39,7 +39,7 @@ carries-may way Closes x may = omega arith
 carries-may way (Asks wants) x may = omega arith
 carries-may way Answers x may = omega arith
 
-answers-may : (way : Side) (act : Act) (x : Channel) → MayAct way act x → answered act ≤ unanswered (other_side way) x
+answers-may : (way : Side) (act : Act) (x : Channel) → MayAct way act x → reply_count act ≤ unanswered (other_side way) x
 answers-may way Answers x may = may
 answers-may way (Carries n) x may = omega arith
 answers-may way (Confirms w m) x may = omega arith
@@ -74,7 +74,7 @@ within-act Down Up act x may within = by_side x.by within
     by_side Up within = omega arith
     by_side Down within = omega arith
 
-answered-act : (way v : Side) (act : Act) (x : Channel) → answered act ≤ unanswered (other_side way) x → sum_of answered (other_side v) x.acts ≤ sum_of asked v x.acts → sum_of answered (other_side v) ((way, act) ∷ x.acts) ≤ sum_of asked v ((way, act) ∷ x.acts)
+answered-act : (way v : Side) (act : Act) (x : Channel) → reply_count act ≤ unanswered (other_side way) x → sum_of reply_count (other_side v) x.acts ≤ sum_of request_count v x.acts → sum_of reply_count (other_side v) ((way, act) ∷ x.acts) ≤ sum_of request_count v ((way, act) ∷ x.acts)
 answered-act Up Up act x may fewer = omega arith
 answered-act Up Down act x may fewer = omega arith
 answered-act Down Up act x may fewer = omega arith
@@ -201,7 +201,7 @@ UpLegal own s act = (is_failing act ≡ true) ⊎ ((y : Channel) × (confirmed_a
 pub within-up : (own : List Row) (p : List ℕ) (s : ℕ) (act : Act) → ((sent_within own p s act).sent ≡ []) ⊎ (((sent_within own p s act).sent ≡ p ∷ []) × UpLegal own s act)
 within-up own p s act = by_failing (is_failing act) refl
   where
-    by_waiting : is_failing act ≡ true → (o : Option Channel) → ((on_waiting s (sends p) o).sent ≡ []) ⊎ (((on_waiting s (sends p) o).sent ≡ p ∷ []) × UpLegal own s act)
+    by_waiting : is_failing act ≡ true → (o : Option Channel) → ((on_waiting s (sends_payload p) o).sent ≡ []) ⊎ (((on_waiting s (sends_payload p) o).sent ≡ p ∷ []) × UpLegal own s act)
     by_waiting e None = inl refl
     by_waiting e (Some x) = inr (refl, inl e)
 
@@ -213,6 +213,6 @@ within-up own p s act = by_failing (is_failing act) refl
     by_confirmed None at = inl refl
     by_confirmed (Some x) at = by_breach x at (breach Up act x) refl
 
-    by_failing : (b : Bool) → is_failing act ≡ b → ((elim b as (λ _. Outcome) [ true ↦ on_waiting s (sends p) (waiting_at own s) | false ↦ on_confirmed p s act (confirmed_at own s) ]).sent ≡ []) ⊎ (((elim b as (λ _. Outcome) [ true ↦ on_waiting s (sends p) (waiting_at own s) | false ↦ on_confirmed p s act (confirmed_at own s) ]).sent ≡ p ∷ []) × UpLegal own s act)
+    by_failing : (b : Bool) → is_failing act ≡ b → ((elim b as (λ _. Outcome) [ true ↦ on_waiting s (sends_payload p) (waiting_at own s) | false ↦ on_confirmed p s act (confirmed_at own s) ]).sent ≡ []) ⊎ (((elim b as (λ _. Outcome) [ true ↦ on_waiting s (sends_payload p) (waiting_at own s) | false ↦ on_confirmed p s act (confirmed_at own s) ]).sent ≡ p ∷ []) × UpLegal own s act)
     by_failing true e = by_waiting e (waiting_at own s)
     by_failing false e = by_confirmed (confirmed_at own s) refl

@@ -3,14 +3,14 @@ use Rattle.std.proofs.Common.{◌≡◌, ℕ, ◌≤◌, List, [], ◌∷◌, �
 use Rattle.std.specs.Prelude.{◌==◌, ◌&&◌, ◌⊎◌, Result}
 use Rattle.std.specs.List.{AllByRecursion}
 use Rattle.std.proofs.lemmas.Bool.Decides.{nat_tests}
-use Rattle.mux_history.specs.Channels.{Channel, after_farewell, after_item, begun_by, channels_of, received_by, is_confirmed, is_channel_held, is_number, opened_down, opened_up, own_number_of, with_down, with_up, with_ups}
-use Rattle.mux_history.specs.Controls.{greeted, house_sends, sent_body}
+use Rattle.mux_history.specs.Channels.{Channel, after_farewell, after_item, begun_by, channels_of, channel_after_item, is_confirmed, is_channel_held, is_number, opened_down, opened_up, own_number_of, with_down, with_up, with_ups}
+use Rattle.mux_history.specs.Controls.{client_has_greeted, house_sends, sent_body}
 use Rattle.mux_history.specs.Summary.{Act, Answers, Asks, Carries, Closes, Confirmation, Confirms, Ends, Fails, Summary, Grants, Open, Refuses, Requests, Succeeds, Transport, Within, read_summary, reading}
 use Rattle.mux_history.specs.Heard.{Breaks, Dest, Disconnects, ToClient, ToMaster, dest, dest_within, received_for, received_master}
 use Rattle.mux_history.specs.Kept.{AtEach, Every, ForEach}
-use Rattle.mux_history.specs.Laws.{IsWithin, RoomsHold, kept}
-use Rattle.mux_history.specs.Ledger.{answered, asked, breach, carried, sum_of}
-use Rattle.mux_history.specs.Log.{admits, all_recorded, bare, received_row, queued, row_of, treat}
+use Rattle.mux_history.specs.Laws.{IsWithin, RoomsHold, if_passes}
+use Rattle.mux_history.specs.Ledger.{reply_count, request_count, breach, carried, sum_of}
+use Rattle.mux_history.specs.Log.{admits, all_recorded, bare_row, received_row, queued, row_of, treat}
 use Rattle.mux_history.specs.Policy.{Policy}
 use Rattle.mux_history.specs.Rows.{Admit, BadServer, Fate, Gone, Heard, HouseSays, Item, Row, RunEnd, Says, ServerCut, ServerEnd, ServerFailed, Took, rows_of}
 use Rattle.mux_history.specs.Said.{Outcome, drops, is_failing, sent_summary, sent_payload, sent_within, silent}
@@ -57,15 +57,15 @@ accounted-new x none Up = record { within = by_side x.by; answered = ap_none }
     by_side : (side : Side) → IsWithin Up (record x { by = side })
     by_side side = let c = ap (sum_of carried Up) none in omega (arith, c)
 
-    ap_none : sum_of answered Down x.acts ≤ sum_of asked Up x.acts
-    ap_none = let c = ap (sum_of answered Down) none in omega (arith, c)
+    ap_none : sum_of reply_count Down x.acts ≤ sum_of request_count Up x.acts
+    ap_none = let c = ap (sum_of reply_count Down) none in omega (arith, c)
 accounted-new x none Down = record { within = by_side x.by; answered = ap_none }
   where
     by_side : (side : Side) → IsWithin Down (record x { by = side })
     by_side side = let c = ap (sum_of carried Down) none in omega (arith, c)
 
-    ap_none : sum_of answered Up x.acts ≤ sum_of asked Down x.acts
-    ap_none = let c = ap (sum_of answered Up) none in omega (arith, c)
+    ap_none : sum_of reply_count Up x.acts ≤ sum_of request_count Down x.acts
+    ap_none = let c = ap (sum_of reply_count Up) none in omega (arith, c)
 
 begun-reading : (p : List ℕ) (f : Summary → List Channel) → ((m : Summary) → Each Accounted (f m)) → Each Accounted (reading p f [])
 begun-reading p f each = elim (read_summary p) as (λ r. Each Accounted (elim r as (λ _. List Channel) [ Err e ↦ [] | Ok m ↦ f m ])) [ Err e ↦ tt | Ok m ↦ each m ]
@@ -94,8 +94,8 @@ by-items before row good harmless step known =
     (begun-accounted row.client row.up row.item))
 
 -- a row that sends nothing in a channel
-still-item : (before : List Row) (row : Row) → Every Harmless row.up → ((x : Channel) → received_by row.item x ≡ x) → (x : Channel) → KnownIn before x → Accounted (after_item row x)
-still-item before row harmless stays x known = elim (x.client == row.client) as (λ b. Accounted (elim b as (λ _. Channel) [ true ↦ with_ups (own_number_of row.item) row.up (received_by row.item x) | false ↦ x ])) [ true ↦ accounted-harmless (own_number_of row.item) row.up harmless (received_by row.item x) (subst Accounted (sym (stays x)) known.accounted) | false ↦ known.accounted ]
+still-item : (before : List Row) (row : Row) → Every Harmless row.up → ((x : Channel) → channel_after_item row.item x ≡ x) → (x : Channel) → KnownIn before x → Accounted (after_item row x)
+still-item before row harmless stays x known = elim (x.client == row.client) as (λ b. Accounted (elim b as (λ _. Channel) [ true ↦ with_ups (own_number_of row.item) row.up (channel_after_item row.item x) | false ↦ x ])) [ true ↦ accounted-harmless (own_number_of row.item) row.up harmless (channel_after_item row.item x) (subst Accounted (sym (stays x)) known.accounted) | false ↦ known.accounted ]
 
 -- ---- what a client sends
 
@@ -109,8 +109,8 @@ module _ (before : List Row) (good : AreApart (channels_of before)) (k : ℕ) wh
       by_act act e = cc
   meant-up x known mine s act (inr found) has held = by_passes ((x.client == k) && is_confirmed x) refl
     where
-      at : kept (λ y. (y.client == k) && is_confirmed y) (Some x) ≡ Some found.0
-      at = sym (ap (kept (λ y. (y.client == k) && is_confirmed y)) (known.live s held has)) ∙ (sym (looks-up before good k s).confirmed ∙ found.1)
+      at : if_passes (λ y. (y.client == k) && is_confirmed y) (Some x) ≡ Some found.0
+      at = sym (ap (if_passes (λ y. (y.client == k) && is_confirmed y)) (known.live s held has)) ∙ (sym (looks-up before good k s).confirmed ∙ found.1)
 
       by_passes : (b : Bool) → ((x.client == k) && is_confirmed x) ≡ b → MayAct Up act x
       by_passes true e = let same : x ≡ found.0 = some-same x found.0 (sym (ap (λ b. elim b as (λ _. Option Channel) [ true ↦ Some x | false ↦ None ]) e) ∙ at) in may-of Up act x (ap (breach Up act) same ∙ found.2)
@@ -193,7 +193,7 @@ master-item : (before : List Row) (row : Row) → AreApart (channels_of before) 
 master-item before row good none harmless = λ known. by-each (channels_of before) good.each known
   where
     stays : (x : Channel) → Sound x → after_item row x ≡ x
-    stays x sound = ap (λ b. elim b as (λ _. Channel) [ true ↦ with_ups (own_number_of row.item) row.up (received_by row.item x) | false ↦ x ]) (ap (λ c. x.client == c) none ∙ not_zero x.client sound.client)
+    stays x sound = ap (λ b. elim b as (λ _. Channel) [ true ↦ with_ups (own_number_of row.item) row.up (channel_after_item row.item x) | false ↦ x ]) (ap (λ c. x.client == c) none ∙ not_zero x.client sound.client)
       where
         not_zero : (c : ℕ) → (c ≡ 0 → ⊥) → (c == 0) ≡ false
         not_zero c real = by_test (c == 0) refl
@@ -218,16 +218,16 @@ master-item before row good none harmless = λ known. by-each (channels_of befor
 
 -- a row by its parts
 row-any : (P : Row → Type 0) (item : Item) (k : ℕ) (o : Outcome) (own : List Row) → ((fw : List (List ℕ)) → Every Harmless fw → (down : List (List ℕ)) (fate : Fate) → P (as_row item k o.sent fw down fate)) → P (row_of item k o own)
-row-any P item k o own each = row-split P item k o own (λ fw parting fate. each fw (harmless-each fw parting) (queued (all_recorded (bare item k o) own) (bare item k o) own).down fate)
+row-any P item k o own each = row-split P item k o own (λ fw parting fate. each fw (harmless-each fw parting) (queued (all_recorded (bare_row item k o) own) (bare_row item k o) own).down fate)
 
 none-harmless : (ups : List (List ℕ)) → ups ≡ [] → Every Harmless ups
 none-harmless ups none = subst (Every Harmless) (sym none) tt
 
-mute-row : (before : List Row) → AreApart (channels_of before) → (item : Item) (k : ℕ) (o : Outcome) → Every Harmless o.sent → ((x : Channel) → received_by item x ≡ x) → Accounts before (row_of item k o (rows_of k before))
+mute-row : (before : List Row) → AreApart (channels_of before) → (item : Item) (k : ℕ) (o : Outcome) → Every Harmless o.sent → ((x : Channel) → channel_after_item item x ≡ x) → Accounts before (row_of item k o (rows_of k before))
 mute-row before good item k o harmless stays = row-any (Accounts before) item k o (rows_of k before) (λ fw parting down fate. by-items before (as_row item k o.sent fw down fate) good parting (still-item before (as_row item k o.sent fw down fate) harmless stays))
 
 heard-accounts : (before : List Row) → AreApart (channels_of before) → (p : List ℕ) (d : Dest) → dest before p ≡ d → Accounts before (received_row before p d)
-heard-accounts before good p ToMaster e = master-item before (bare (Heard p) 0 (received_master p)) good refl tt
+heard-accounts before good p ToMaster e = master-item before (bare_row (Heard p) 0 (received_master p)) good refl tt
 heard-accounts before good p (ToClient k) e = row-any (Accounts before) (Heard p) k (received_for (rows_of k before) p) (rows_of k before) (λ fw parting down fate. by-items before (as_row (Heard p) k (received_for (rows_of k before) p).sent fw down fate) good parting (heard-item before good k p e (received_for (rows_of k before) p).sent fw down fate (harmless-heard (rows_of k before) p)))
 heard-accounts before good p Disconnects e = master-item before (received_row before p Disconnects) good refl tt
 heard-accounts before good p (Breaks cause) e = master-item before (received_row before p (Breaks cause)) good refl tt
@@ -235,12 +235,12 @@ heard-accounts before good p (Breaks cause) e = master-item before (received_row
 accounts-treat : (policy : Policy) (pid pick : ℕ) (before : List Row) (item : Item) → AreApart (channels_of before) → LawfulItem before item → Accounts before (treat policy pid pick before item)
 accounts-treat policy pid pick before (Admit k) good lawful = mute-row before good (Admit k) k (admits before) (none-harmless (admits before).sent (admits-sent before)) (λ x. refl)
 accounts-treat policy pid pick before (Says k (Payload p) reply) good lawful = row-any (Accounts before) (Says k (Payload p) reply) k (sent_payload policy k (rows_of k before) pick p) (rows_of k before) (λ fw parting down fate. by-items before (as_row (Says k (Payload p) reply) k (sent_payload policy k (rows_of k before) pick p).sent fw down fate) good parting (said-item before good k p reply (sent_payload policy k (rows_of k before) pick p).sent fw down fate (said-ups before good k policy pick p lawful.1)))
-accounts-treat policy pid pick before (Says k (Body body) reply) good lawful = mute-row before good (Says k (Body body) reply) k (sent_body pid k reply (greeted (rows_of k before)) body) (none-harmless _ (body-sent pid k reply (greeted (rows_of k before)) body)) (λ x. refl)
+accounts-treat policy pid pick before (Says k (Body body) reply) good lawful = mute-row before good (Says k (Body body) reply) k (sent_body pid k reply (client_has_greeted (rows_of k before)) body) (none-harmless _ (body-sent pid k reply (client_has_greeted (rows_of k before)) body)) (λ x. refl)
 accounts-treat policy pid pick before (Says k (BadFraming fault) reply) good lawful = mute-row before good (Says k (BadFraming fault) reply) k (drops (why.BadFrame fault)) tt (λ x. refl)
 accounts-treat policy pid pick before (HouseSays k id given) good lawful = mute-row before good (HouseSays k id given) k (house_sends (rows_of k before) id given) (none-harmless _ (house-sent (rows_of k before) id given)) (λ x. refl)
 accounts-treat policy pid pick before (Gone k) good lawful = mute-row before good (Gone k) k silent tt (λ x. refl)
 accounts-treat policy pid pick before (Heard p) good lawful = heard-accounts before good p (dest before p) refl
-accounts-treat policy pid pick before (Took stream size) good lawful = by-items before (bare (Took stream size) stream silent) good tt (still-item before (bare (Took stream size) stream silent) tt (λ x. refl))
+accounts-treat policy pid pick before (Took stream size) good lawful = by-items before (bare_row (Took stream size) stream silent) good tt (still-item before (bare_row (Took stream size) stream silent) tt (λ x. refl))
 accounts-treat policy pid pick before (BadServer fault) good lawful = master-item before (treat policy pid pick before (BadServer fault)) good refl tt
 accounts-treat policy pid pick before ServerEnd good lawful = master-item before (treat policy pid pick before ServerEnd) good refl tt
 accounts-treat policy pid pick before (ServerCut left) good lawful = master-item before (treat policy pid pick before (ServerCut left)) good refl tt

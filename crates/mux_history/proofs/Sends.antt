@@ -10,16 +10,16 @@ use Rattle.mux_history.specs.Heard.{received_for, received_master}
 use Rattle.mux_history.specs.Kept.{Every, IsMasters}
 use Rattle.mux_history.specs.Keys.{is_askable}
 use Rattle.mux_history.specs.Ledger.{breach}
-use Rattle.mux_history.specs.Log.{admits, all_recorded, bare, open_matters, queued, row_of}
+use Rattle.mux_history.specs.Log.{admits, all_recorded, bare_row, open_matters, queued, row_of}
 use Rattle.mux_history.specs.Policy.{Policy, may_open, permits}
 use Rattle.mux_history.specs.Rows.{Fate, Item, Refused, Row, any_of, loses}
-use Rattle.mux_history.specs.Said.{Outcome, confirmed_at, drops, fails_open, is_failing, is_full_of_asks, on_breach, on_confirmed, on_unused, on_waiting, reason_for, sent_summary, sent_open, sent_request, sends, sends_as, sends_if, sends_open, silent, records, text_for, waiting_at}
+use Rattle.mux_history.specs.Said.{Outcome, confirmed_at, drops, fails_open, is_failing, is_full_of_asks, on_breach, on_confirmed, on_unused, on_waiting, reason_for, sent_summary, open_outcome, sent_request, sends_payload, sends_as, sends_if, sends_open, silent, records, text_for, waiting_at}
 use Rattle.mux_outside.specs.declared.house.HouseReply.{HouseReply}
 use Rattle.ssh_grammar.specs.Control.{Answer, CloseForward, Control, Greets, Hello, OpenForward}
 use Rattle.ssh_grammar.specs.Frames.{frame_answer}
 use Rattle.ssh_grammar.specs.Messages.{Cancel, Forward, Global, KeepAlive, Opens, OtherName}
 use Rattle.ssh_grammar.specs.ReadControl.{read_control}
-use Rattle.ssh_grammar.specs.SpellMessage.{wants, with_sender}
+use Rattle.ssh_grammar.specs.SpellMessage.{wants_reply, with_sender}
 use Rattle.ssh_grammar.specs.declared.fault.Bad.{Bad}
 use Rattle.ssh_grammar.specs.declared.fault.BadControl.{BadControl}
 use Rattle.ssh_grammar.specs.declared.fault.Breach.{Breach}
@@ -61,19 +61,19 @@ pub sent-by : (policy : Policy) (k : ℕ) (own : List Row) (pick : ℕ) (p : Lis
 sent-by policy k own pick p (Transport number) = elim (number == 1) as (λ b. Sent own pick p (Transport number) (elim b as (λ _. Outcome) [ true ↦ drops why.Disconnected | false ↦ silent ]).sent) [ true ↦ inl refl | false ↦ inl refl ]
 sent-by policy k own pick p (Succeeds rest) = inl refl
 sent-by policy k own pick p Refuses = inl refl
-sent-by policy k own pick p (Requests what wants) = by_full (is_full_of_asks wants own)
+sent-by policy k own pick p (Requests what wants_reply) = by_full (is_full_of_asks wants_reply own)
   where
-    by_if : (b : Bool) → Sent own pick p (Requests what wants) (sends_if b p).sent
+    by_if : (b : Bool) → Sent own pick p (Requests what wants_reply) (sends_if b p).sent
     by_if true = inr (inl (record { up = refl; unowned = refl }))
     by_if false = inl refl
 
-    by_what : (g : Global) → Sent own pick p (Requests what wants) (sent_request policy k own p g wants).sent
-    by_what (Forward key) = by_if (wants && (is_askable key && (permits policy.listens key && nat_lt (length (current own)) 64)))
+    by_what : (g : Global) → Sent own pick p (Requests what wants_reply) (sent_request policy k own p g wants_reply).sent
+    by_what (Forward key) = by_if (wants_reply && (is_askable key && (permits policy.listens key && nat_lt (length (current own)) 64)))
     by_what (Cancel key) = by_if (any_of (is_forwarding_free_at k key) (current own))
     by_what KeepAlive = by_if true
     by_what OtherName = inl refl
 
-    by_full : (b : Bool) → Sent own pick p (Requests what wants) (elim b as (λ _. Outcome) [ true ↦ drops (why.TooManyAsks 1024) | false ↦ sent_request policy k own p what wants ]).sent
+    by_full : (b : Bool) → Sent own pick p (Requests what wants_reply) (elim b as (λ _. Outcome) [ true ↦ drops (why.TooManyAsks 1024) | false ↦ sent_request policy k own p what wants_reply ]).sent
     by_full true = inl refl
     by_full false = by_what what
 sent-by policy k own pick p (Open what c w max) = by_unused (with_own own c) refl
@@ -82,10 +82,10 @@ sent-by policy k own pick p (Open what c w max) = by_unused (with_own own c) ref
     by_room true unused = inr (inr (record { c = c; owned = refl; up = refl; unused = unused }))
     by_room false unused = inl refl
 
-    by_type : (t : Opens) → with_own own c ≡ None → Sent own pick p (Open what c w max) (sent_open policy own pick p c t).sent
+    by_type : (t : Opens) → with_own own c ≡ None → Sent own pick p (Open what c w max) (open_outcome policy own pick p c t).sent
     by_type t unused = elim (may_open policy t) as (λ b. Sent own pick p (Open what c w max) (elim b as (λ _. Outcome) [ true ↦ sends_open own pick p c | false ↦ fails_open c (reason_for t) (text_for t) ]).sent) [ true ↦ by_room (nat_lt (length (held_of own)) 256) unused | false ↦ inl refl ]
 
-    by_unused : (o : Option Channel) → with_own own c ≡ o → Sent own pick p (Open what c w max) (on_unused c (sent_open policy own pick p c what) o).sent
+    by_unused : (o : Option Channel) → with_own own c ≡ o → Sent own pick p (Open what c w max) (on_unused c (open_outcome policy own pick p c what) o).sent
     by_unused None unused = by_type what unused
     by_unused (Some x) used = inl refl
 sent-by policy k own pick p (Confirmation s c w max) = by_waiting (waiting_at own s)
@@ -107,11 +107,11 @@ sent-by policy k own pick p (Within s act) = by_failing (is_failing act)
     by_confirmed None = inl refl
     by_confirmed (Some x) = by_breach (breach Up act x)
 
-    by_waiting : (o : Option Channel) → Sent own pick p (Within s act) (on_waiting s (sends p) o).sent
+    by_waiting : (o : Option Channel) → Sent own pick p (Within s act) (on_waiting s (sends_payload p) o).sent
     by_waiting None = inl refl
     by_waiting (Some x) = inr (inl (record { up = refl; unowned = refl }))
 
-    by_failing : (b : Bool) → Sent own pick p (Within s act) (elim b as (λ _. Outcome) [ true ↦ on_waiting s (sends p) (waiting_at own s) | false ↦ on_confirmed p s act (confirmed_at own s) ]).sent
+    by_failing : (b : Bool) → Sent own pick p (Within s act) (elim b as (λ _. Outcome) [ true ↦ on_waiting s (sends_payload p) (waiting_at own s) | false ↦ on_confirmed p s act (confirmed_at own s) ]).sent
     by_failing true = by_waiting (waiting_at own s)
     by_failing false = by_confirmed (confirmed_at own s)
 
@@ -154,21 +154,21 @@ abbrev pub as_row : Item → ℕ → List (List ℕ) → List (List ℕ) → Lis
 as_row item k up fw down fate = record { item = item; client = k; up = up; farewell = fw; down = down; fate = fate }
 
 -- with all that the row gives
-pub row-split : (P : Row → Type 0) (item : Item) (k : ℕ) (o : Outcome) (own : List Row) → ((fw : List (List ℕ)) → Every IsMasters fw → (fate : Fate) → P (as_row item k o.sent fw (queued (all_recorded (bare item k o) own) (bare item k o) own).down fate)) → P (row_of item k o own)
-row-split P item k o own each = by_case (loses (queued (all_recorded (bare item k o) own) (bare item k o) own))
+pub row-split : (P : Row → Type 0) (item : Item) (k : ℕ) (o : Outcome) (own : List Row) → ((fw : List (List ℕ)) → Every IsMasters fw → (fate : Fate) → P (as_row item k o.sent fw (queued (all_recorded (bare_row item k o) own) (bare_row item k o) own).down fate)) → P (row_of item k o own)
+row-split P item k o own each = by_case (loses (queued (all_recorded (bare_row item k o) own) (bare_row item k o) own))
   where
-    by_case : (b : Bool) → P (elim b as (λ _. Row) [ true ↦ record (queued (all_recorded (bare item k o) own) (bare item k o) own) { farewell = farewell (queued (all_recorded (bare item k o) own) (bare item k o) own) own } | false ↦ queued (all_recorded (bare item k o) own) (bare item k o) own ])
-    by_case true = each (farewell (queued (all_recorded (bare item k o) own) (bare item k o) own) own) (masters-farewell (queued (all_recorded (bare item k o) own) (bare item k o) own) own) _
+    by_case : (b : Bool) → P (elim b as (λ _. Row) [ true ↦ record (queued (all_recorded (bare_row item k o) own) (bare_row item k o) own) { farewell = farewell (queued (all_recorded (bare_row item k o) own) (bare_row item k o) own) own } | false ↦ queued (all_recorded (bare_row item k o) own) (bare_row item k o) own ])
+    by_case true = each (farewell (queued (all_recorded (bare_row item k o) own) (bare_row item k o) own) own) (masters-farewell (queued (all_recorded (bare_row item k o) own) (bare_row item k o) own) own) _
     by_case false = each [] tt _
 
 pub row-parts : (P : Row → Type 0) (item : Item) (k : ℕ) (o : Outcome) (own : List Row) → ((fw : List (List ℕ)) → Every Quiet fw → (down : List (List ℕ)) (fate : Fate) → P (as_row item k o.sent fw down fate)) → P (row_of item k o own)
 row-parts P item k o own each = by_case (loses parted_row)
   where
     parted_row : Row
-    parted_row = queued (all_recorded (bare item k o) own) (bare item k o) own
+    parted_row = queued (all_recorded (bare_row item k o) own) (bare_row item k o) own
 
-    by_case : (b : Bool) → P (elim b as (λ _. Row) [ true ↦ record (queued (all_recorded (bare item k o) own) (bare item k o) own) { farewell = farewell (queued (all_recorded (bare item k o) own) (bare item k o) own) own } | false ↦ queued (all_recorded (bare item k o) own) (bare item k o) own ])
-    by_case true = each (farewell (queued (all_recorded (bare item k o) own) (bare item k o) own) own) (quiet-farewell (queued (all_recorded (bare item k o) own) (bare item k o) own) own) _ _
+    by_case : (b : Bool) → P (elim b as (λ _. Row) [ true ↦ record (queued (all_recorded (bare_row item k o) own) (bare_row item k o) own) { farewell = farewell (queued (all_recorded (bare_row item k o) own) (bare_row item k o) own) own } | false ↦ queued (all_recorded (bare_row item k o) own) (bare_row item k o) own ])
+    by_case true = each (farewell (queued (all_recorded (bare_row item k o) own) (bare_row item k o) own) own) (quiet-farewell (queued (all_recorded (bare_row item k o) own) (bare_row item k o) own) own) _ _
     by_case false = each [] tt _ _
 
 -- ---- moves of one channel

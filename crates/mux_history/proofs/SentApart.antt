@@ -3,7 +3,7 @@ use Rattle.std.proofs.Common.{◌≡◌, ℕ, ◌<◌, List, [], ◌∷◌, ◌+
 use Rattle.std.specs.Prelude.{◌==◌, filter, find, Result, MatchBool, is_some}
 use Rattle.std.proofs.lemmas.List.{append-nil}
 use Rattle.std.proofs.lemmas.Bool.Decides.{nat_tests}
-use Rattle.mux_history.specs.Channels.{Channel, after_farewell, after_item, begun_by, channels_of, received_by, holder, is_channel_held, is_number, opened_up, own_number_of, with_own, with_up, with_ups}
+use Rattle.mux_history.specs.Channels.{Channel, after_farewell, after_item, begun_by, channels_of, channel_after_item, holder, is_channel_held, is_number, opened_up, own_number_of, with_own, with_up, with_ups}
 use Rattle.mux_history.specs.Choices.{sent_number, takes_number}
 use Rattle.mux_history.specs.Summary.{Confirmation, Summary, Open, read_summary, reading, summary_sender_of}
 use Rattle.mux_history.specs.Kept.{Every}
@@ -71,8 +71,8 @@ good-still row cs parting ids begun good =
     good-parted row parting (map (after_item row) cs ++ begun_by row.client row.up row.item)
     (subst (λ (bs : List Channel). AreApart (map (after_item row) cs ++ bs)) (sym begun) (subst AreApart (sym (append-nil (map (after_item row) cs))) (good-ids (after_item row) ids cs good)))
 
-pub item-ids : (row : Row) (x : Channel) → Every Quiet row.up → Ids x (received_by row.item x) → Ids x (after_item row x)
-item-ids row x quiet heard = elim (x.client == row.client) as (λ b. Ids x (elim b as (λ _. Channel) [ true ↦ with_ups (own_number_of row.item) row.up (received_by row.item x) | false ↦ x ])) [ true ↦ ids-then x (received_by row.item x) (with_ups (own_number_of row.item) row.up (received_by row.item x)) heard (ups-ids (own_number_of row.item) row.up quiet (received_by row.item x)) | false ↦ ids-self x ]
+pub item-ids : (row : Row) (x : Channel) → Every Quiet row.up → Ids x (channel_after_item row.item x) → Ids x (after_item row x)
+item-ids row x quiet heard = elim (x.client == row.client) as (λ b. Ids x (elim b as (λ _. Channel) [ true ↦ with_ups (own_number_of row.item) row.up (channel_after_item row.item x) | false ↦ x ])) [ true ↦ ids-then x (channel_after_item row.item x) (with_ups (own_number_of row.item) row.up (channel_after_item row.item x)) heard (ups-ids (own_number_of row.item) row.up quiet (channel_after_item row.item x)) | false ↦ ids-self x ]
 
 unequal : (a b : ℕ) → (a == b) ≡ true → b ≡ 0 → (a ≡ 0 → ⊥) → ⊥
 unequal a b e z real = real (same a b e ∙ z)
@@ -84,7 +84,7 @@ unequal a b e z real = real (same a b e ∙ z)
 pub item-master : (row : Row) → row.client ≡ 0 → (x : Channel) → Sound x → Ids x (after_item row x)
 item-master row zero_client x sound = by_case (x.client == row.client) refl
   where
-    by_case : (b : Bool) → (x.client == row.client) ≡ b → Ids x (elim b as (λ _. Channel) [ true ↦ with_ups (own_number_of row.item) row.up (received_by row.item x) | false ↦ x ])
+    by_case : (b : Bool) → (x.client == row.client) ≡ b → Ids x (elim b as (λ _. Channel) [ true ↦ with_ups (own_number_of row.item) row.up (channel_after_item row.item x) | false ↦ x ])
     by_case true e = absurd (unequal x.client row.client e zero_client sound.client)
     by_case false e = ids-self x
 

@@ -2,7 +2,7 @@
 use Rattle.std.proofs.Common.{◌≡◌, ℕ, List, [], ◌∷◌, ◌++◌, true, false, Bool, refl, ◌∙◌, ap, map, sym, Option, None, Ok, Err}
 use Rattle.std.specs.Prelude.{◌==◌, ◌&&◌, filter}
 use Rattle.std.proofs.lemmas.List.Elements.{filter-append}
-use Rattle.mux_history.specs.Channels.{Channel, after_farewell, after_item, begun_by, channels_of, received_by, held_of, is_channel_held, is_number, own_number_of, with_down, with_up, with_ups}
+use Rattle.mux_history.specs.Channels.{Channel, after_farewell, after_item, begun_by, channels_of, channel_after_item, held_of, is_channel_held, is_number, own_number_of, with_down, with_up, with_ups}
 use Rattle.mux_history.specs.Summary.{Confirmation, Summary, Within, read_summary, reading}
 use Rattle.mux_history.specs.Rows.{Heard, Item, Row}
 use Rattle.mux_history.proofs.Finds.{filter-no, filter-yes}
@@ -32,12 +32,12 @@ ups-over : (own : Option ℕ) (ps : List (List ℕ)) → LeavesOver (with_ups ow
 ups-over own [] x over = refl
 ups-over own (p ∷ ps) x over = ap (with_ups own ps) (reading-over p (λ m. with_up own m x) x (λ m. up-over own m x over)) ∙ ups-over own ps x over
 
-heard-over : (item : Item) → LeavesOver (received_by item)
+heard-over : (item : Item) → LeavesOver (channel_after_item item)
 heard-over (Heard p) x over = reading-over p (λ m. with_down m x) x (λ m. down-over m x over)
 heard-over item x over = refl
 
 pub item-over : (row : Row) → LeavesOver (after_item row)
-item-over row x over = elim (x.client == row.client) as (λ b. (elim b as (λ _. Channel) [ true ↦ with_ups (own_number_of row.item) row.up (received_by row.item x) | false ↦ x ]) ≡ x)
+item-over row x over = elim (x.client == row.client) as (λ b. (elim b as (λ _. Channel) [ true ↦ with_ups (own_number_of row.item) row.up (channel_after_item row.item x) | false ↦ x ]) ≡ x)
     [ true ↦ ap (with_ups (own_number_of row.item) row.up) (heard-over row.item x over) ∙ ups-over (own_number_of row.item) row.up x over | false ↦ refl ]
 
 pub farewell-over : (row : Row) → LeavesOver (after_farewell row)

@@ -22,7 +22,7 @@ use Rattle.mux_outside.specs.declared.turn.Wrote.{Wrote}
 use Rattle.mux_outside.specs.declared.turn.Wrote.TheVariants as wrote
 use Rattle.ssh_fields.specs.Fields.{AreBytes}
 use Rattle.ssh_fields.proofs.Fields.{AreBytes-take}
-use Rattle.mux_history.specs.Journal.{LawfulHouse, connects, is_accepted, is_blocked, is_known, is_own_stream, lets_in}
+use Rattle.mux_history.specs.Journal.{LawfulHouse, orders_connect, is_accepted, is_blocked, is_known, is_own_stream, lets_in}
 use Rattle.mux_history.specs.Wires.{FollowsRead, OfWire, ReadsWhenAsked, WireKeeps, is_connect, reads}
 use Rattle.mux_history.proofs.Finds.{filter-no, filter-yes}
 use Rattle.mux_history.proofs.Bools.{or-yes}
@@ -131,7 +131,7 @@ held-more t s marks held = by_case (t == s)
     by_case false = held
 
 held-house : (s : ℕ) (m : HouseMark) (marks : List Mark) → is_blocked s marks ≡ true → is_blocked s (wire.House m ∷ marks) ≡ true
-held-house s m marks held = by_case (connects s m)
+held-house s m marks held = by_case (orders_connect s m)
   where
     by_case : (b : Bool) → (elim b as (λ _. Bool) [ true ↦ true | false ↦ is_blocked s marks ]) ≡ true
     by_case true = refl

@@ -5,10 +5,10 @@ use Rattle.std.proofs.lemmas.List.{append-nil}
 use Rattle.std.proofs.Math.Seq.{drop-append_seam}
 use Rattle.std.proofs.lemmas.Bool.Decides.{nat_tests}
 use Rattle.mux_history.specs.Choices.{Choices, FromLists, TheirOwn, pick_of, replies_given, reply_at, with_reply}
-use Rattle.mux_history.specs.Controls.{body_asks, greeted}
+use Rattle.mux_history.specs.Controls.{body_asks, client_has_greeted}
 use Rattle.mux_history.specs.Journal.{bytes_of, received_item, house_items, is_own_stream, unless_own, items, items_in, log_of_journal, new_received, new_sayings, sent_item, server_end, taken_by, bytes_taken_in}
 use Rattle.mux_history.specs.Laws.{AddsUp}
-use Rattle.mux_history.specs.Log.{Setting, bare, is_took, makes_next, more_all, more_of, next_row, treat}
+use Rattle.mux_history.specs.Log.{Setting, bare_row, is_took, makes_next, more_all, more_of, next_row, treat}
 use Rattle.mux_history.specs.Pending.{given_by, given_to, joined, pending, pending_down, pending_up, took_by, took_up}
 use Rattle.mux_history.specs.Promises.{IsFront, TakesFront, Throughout}
 use Rattle.mux_history.specs.Rows.{Gone, Item, Row, Says, ServerFailed, Took, rows_of, sent_by}
@@ -53,7 +53,7 @@ pending-still t row rows still = by_stream (t == 0)
 -- ---- what makes a row
 
 reply-took : (choices : Choices) (rows : List Row) (item : Item) → is_took (with_reply choices rows item) ≡ is_took item
-reply-took (FromLists picks given) rows (Says k (Body body) old) = elim (greeted (rows_of k rows) && body_asks body) as (λ b. is_took (elim b as (λ _. Item) [ true ↦ Says k (Body body) (Some (reply_at given (replies_given rows))) | false ↦ Says k (Body body) None ]) ≡ false) [ true ↦ refl | false ↦ refl ]
+reply-took (FromLists picks given) rows (Says k (Body body) old) = elim (client_has_greeted (rows_of k rows) && body_asks body) as (λ b. is_took (elim b as (λ _. Item) [ true ↦ Says k (Body body) (Some (reply_at given (replies_given rows))) | false ↦ Says k (Body body) None ]) ≡ false) [ true ↦ refl | false ↦ refl ]
 reply-took (FromLists picks given) rows (Says k (Payload p) old) = refl
 reply-took (FromLists picks given) rows (Says k (BadFraming fault) old) = refl
 reply-took (FromLists picks given) rows item = refl
@@ -91,16 +91,16 @@ holds-all setting t taken rows (item ∷ items) still h = holds-all setting t ta
 
 -- ---- what is accepted
 
-more-took : (setting : Setting) (rows : List Row) (t n : ℕ) → more_of setting rows (Took t n) ≡ bare (Took t n) t silent ∷ rows
+more-took : (setting : Setting) (rows : List Row) (t n : ℕ) → more_of setting rows (Took t n) ≡ bare_row (Took t n) t silent ∷ rows
 more-took setting rows t n =
     ap (λ b. elim b as (λ _. List Row) [ false ↦ rows | true ↦ next_row setting rows (Took t n) ∷ rows ]) (next-took rows t n)
     ∙ ap (λ row. row ∷ rows) (by_choices setting.choices)
   where
-    by_choices : (choices : Choices) → treat setting.policy setting.pid (pick_of choices rows (Took t n)) rows (with_reply choices rows (Took t n)) ≡ bare (Took t n) t silent
+    by_choices : (choices : Choices) → treat setting.policy setting.pid (pick_of choices rows (Took t n)) rows (with_reply choices rows (Took t n)) ≡ bare_row (Took t n) t silent
     by_choices (FromLists picks given) = refl
     by_choices TheirOwn = refl
 
-given-took : (t s n : ℕ) → given_by t (bare (Took s n) s silent) ≡ []
+given-took : (t s n : ℕ) → given_by t (bare_row (Took s n) s silent) ≡ []
 given-took t s n = by_stream (t == 0) (s == t)
   where
     by_stream : (a b : Bool) → (elim a as (λ _. List ℕ) [ true ↦ [] | false ↦ elim b as (λ _. List ℕ) [ true ↦ [] | false ↦ [] ] ]) ≡ []
@@ -109,41 +109,41 @@ given-took t s n = by_stream (t == 0) (s == t)
     by_stream false false = refl
 
 -- from the stream itself
-pending-took : (t n : ℕ) (rows : List Row) → pending t (bare (Took t n) t silent ∷ rows) ≡ drop n (pending t rows)
+pending-took : (t n : ℕ) (rows : List Row) → pending t (bare_row (Took t n) t silent ∷ rows) ≡ drop n (pending t rows)
 pending-took t n rows = by_stream (t == 0) refl
   where
     self : (t == t) ≡ true
     self = grind (arith, nat_tests)
 
-    by_stream : (b : Bool) → (t == 0) ≡ b → (elim b as (λ _. List ℕ) [ true ↦ pending_up (bare (Took t n) t silent ∷ rows) | false ↦ pending_down (rows_of t (bare (Took t n) t silent ∷ rows)) ]) ≡ drop n (elim b as (λ _. List ℕ) [ true ↦ pending_up rows | false ↦ pending_down (rows_of t rows) ])
+    by_stream : (b : Bool) → (t == 0) ≡ b → (elim b as (λ _. List ℕ) [ true ↦ pending_up (bare_row (Took t n) t silent ∷ rows) | false ↦ pending_down (rows_of t (bare_row (Took t n) t silent ∷ rows)) ]) ≡ drop n (elim b as (λ _. List ℕ) [ true ↦ pending_up rows | false ↦ pending_down (rows_of t rows) ])
     by_stream true e = ap (λ c. drop (elim c as (λ _. ℕ) [ true ↦ n | false ↦ 0 ]) (pending_up rows ++ [])) e ∙ ap (drop n) (append-nil (pending_up rows))
-    by_stream false e = ap pending_down (filter-yes (λ (r : Row). r.client == t) (bare (Took t n) t silent) rows self) ∙ ap (drop n) (append-nil (pending_down (rows_of t rows)))
+    by_stream false e = ap pending_down (filter-yes (λ (r : Row). r.client == t) (bare_row (Took t n) t silent) rows self) ∙ ap (drop n) (append-nil (pending_down (rows_of t rows)))
 
 -- from another
-pending-other : (t s n : ℕ) (rows : List Row) → (s == t) ≡ false → pending t (bare (Took s n) s silent ∷ rows) ≡ pending t rows
+pending-other : (t s n : ℕ) (rows : List Row) → (s == t) ≡ false → pending t (bare_row (Took s n) s silent ∷ rows) ≡ pending t rows
 pending-other t s n rows other = by_stream (t == 0) refl
   where
     not_zero : (t == 0) ≡ true → (s == 0) ≡ false
     not_zero e = grind (arith, nat_tests)
 
-    by_stream : (b : Bool) → (t == 0) ≡ b → (elim b as (λ _. List ℕ) [ true ↦ pending_up (bare (Took s n) s silent ∷ rows) | false ↦ pending_down (rows_of t (bare (Took s n) s silent ∷ rows)) ]) ≡ (elim b as (λ _. List ℕ) [ true ↦ pending_up rows | false ↦ pending_down (rows_of t rows) ])
+    by_stream : (b : Bool) → (t == 0) ≡ b → (elim b as (λ _. List ℕ) [ true ↦ pending_up (bare_row (Took s n) s silent ∷ rows) | false ↦ pending_down (rows_of t (bare_row (Took s n) s silent ∷ rows)) ]) ≡ (elim b as (λ _. List ℕ) [ true ↦ pending_up rows | false ↦ pending_down (rows_of t rows) ])
     by_stream true e = ap (λ c. drop (elim c as (λ _. ℕ) [ true ↦ n | false ↦ 0 ]) (pending_up rows ++ [])) (not_zero e) ∙ append-nil (pending_up rows)
-    by_stream false e = ap pending_down (filter-no (λ (r : Row). r.client == t) (bare (Took s n) s silent) rows other)
+    by_stream false e = ap pending_down (filter-no (λ (r : Row). r.client == t) (bare_row (Took s n) s silent) rows other)
 
-holds-took : (t s : ℕ) (taken bytes : List ℕ) (rows : List Row) → IsFront bytes (pending s rows) → Holds t taken rows → Holds t (taken ++ elim (s == t) as (λ _. List ℕ) [ true ↦ bytes | false ↦ [] ]) (bare (Took s (length bytes)) s silent ∷ rows)
+holds-took : (t s : ℕ) (taken bytes : List ℕ) (rows : List Row) → IsFront bytes (pending s rows) → Holds t taken rows → Holds t (taken ++ elim (s == t) as (λ _. List ℕ) [ true ↦ bytes | false ↦ [] ]) (bare_row (Took s (length bytes)) s silent ∷ rows)
 holds-took t s taken bytes rows front h = by_same (s == t) refl ∙ sym (ap (λ xs. given_to t rows ++ xs) (given-took t s (length bytes)) ∙ append-nil (given_to t rows))
   where
     same : (a b : ℕ) → (a == b) ≡ true → a ≡ b
     same a b e = grind (arith, nat_tests)
 
-    own : pending s rows ≡ bytes ++ front.0 → taken ++ pending s rows ≡ given_to s rows → (taken ++ bytes) ++ pending s (bare (Took s (length bytes)) s silent ∷ rows) ≡ given_to s rows
+    own : pending s rows ≡ bytes ++ front.0 → taken ++ pending s rows ≡ given_to s rows → (taken ++ bytes) ++ pending s (bare_row (Took s (length bytes)) s silent ∷ rows) ≡ given_to s rows
     own is h =
         ap (λ xs. (taken ++ bytes) ++ xs) (pending-took s (length bytes) rows ∙ (ap (drop (length bytes)) is ∙ drop-append_seam bytes front.0))
         ∙ (append_assoc taken bytes front.0 ∙ (ap (λ xs. taken ++ xs) (sym is) ∙ h))
 
-    by_same : (b : Bool) → (s == t) ≡ b → (taken ++ elim b as (λ _. List ℕ) [ true ↦ bytes | false ↦ [] ]) ++ pending t (bare (Took s (length bytes)) s silent ∷ rows) ≡ given_to t rows
-    by_same true e = subst (λ (j : ℕ). taken ++ pending j rows ≡ given_to j rows → (taken ++ bytes) ++ pending j (bare (Took s (length bytes)) s silent ∷ rows) ≡ given_to j rows) (same s t e) (own front.1) h
-    by_same false e = ap (λ xs. xs ++ pending t (bare (Took s (length bytes)) s silent ∷ rows)) (append-nil taken) ∙ (ap (λ xs. taken ++ xs) (pending-other t s (length bytes) rows e) ∙ h)
+    by_same : (b : Bool) → (s == t) ≡ b → (taken ++ elim b as (λ _. List ℕ) [ true ↦ bytes | false ↦ [] ]) ++ pending t (bare_row (Took s (length bytes)) s silent ∷ rows) ≡ given_to t rows
+    by_same true e = subst (λ (j : ℕ). taken ++ pending j rows ≡ given_to j rows → (taken ++ bytes) ++ pending j (bare_row (Took s (length bytes)) s silent ∷ rows) ≡ given_to j rows) (same s t e) (own front.1) h
+    by_same false e = ap (λ xs. xs ++ pending t (bare_row (Took s (length bytes)) s silent ∷ rows)) (append-nil taken) ∙ (ap (λ xs. taken ++ xs) (pending-other t s (length bytes) rows e) ∙ h)
 
 -- ---- the items of a mark
 
@@ -186,7 +186,7 @@ own-of s e = by_case (is_own s) e
     by_case false e = e
 
 -- what another accepts
-holds-other : (t s n : ℕ) (taken : List ℕ) (rows : List Row) → (s == t) ≡ false → Holds t taken rows → Holds t taken (bare (Took s n) s silent ∷ rows)
+holds-other : (t s n : ℕ) (taken : List ℕ) (rows : List Row) → (s == t) ≡ false → Holds t taken rows → Holds t taken (bare_row (Took s n) s silent ∷ rows)
 holds-other t s n taken rows other h = ap (λ xs. taken ++ xs) (pending-other t s n rows other) ∙ (h ∙ sym (ap (λ xs. given_to t rows ++ xs) (given-took t s n) ∙ append-nil (given_to t rows)))
 
 module _ (setting : Setting) (before : List Mark) (t : ℕ) (client : is_own t ≡ false) (known : Holds t (taken_by t before) (log_of_journal setting before)) where
@@ -219,7 +219,7 @@ module _ (setting : Setting) (before : List Mark) (t : ℕ) (client : is_own t �
       by_mark (HouseSaid bytes) = nothing (wire.House (HouseSaid bytes)) refl (said-still HOUSE _)
       by_mark (HouseTook n) =
           subst (λ (rows : List Row). (taken_by t before ++ []) ++ pending t rows ≡ given_to t rows) (sym (more-took setting log HOUSE n))
-          (ap (λ xs. xs ++ pending t (bare (Took HOUSE n) HOUSE silent ∷ log)) (append-nil (taken_by t before)) ∙ holds-other t HOUSE n (taken_by t before) log (other-own t HOUSE client refl) known)
+          (ap (λ xs. xs ++ pending t (bare_row (Took HOUSE n) HOUSE silent ∷ log)) (append-nil (taken_by t before)) ∙ holds-other t HOUSE n (taken_by t before) log (other-own t HOUSE client refl) known)
       by_mark (HouseAnswer k id given) = nothing (wire.House (HouseAnswer k id given)) refl (refl, tt)
       by_mark (HouseAsked k id opening ask given) = nothing (wire.House (HouseAsked k id opening ask given)) refl tt
       by_mark (HouseOrder order number) = nothing (wire.House (HouseOrder order number)) refl tt
@@ -231,7 +231,7 @@ module _ (setting : Setting) (before : List Mark) (t : ℕ) (client : is_own t �
       items_are : (b : Bool) → is_own_stream stream ≡ b → items_in before (wire.Takes stream bytes accepts) ≡ (elim b as (λ _. List Item) [ true ↦ [] | false ↦ Took stream (length bytes) ∷ [] ])
       items_are b e = ap (λ c. elim c as (λ _. List Item) [ true ↦ [] | false ↦ Took stream (length bytes) ∷ [] ]) e
 
-      rows_are : is_own_stream stream ≡ false → log_of_journal setting (wire.Takes stream bytes accepts ∷ before) ≡ bare (Took stream (length bytes)) stream silent ∷ log
+      rows_are : is_own_stream stream ≡ false → log_of_journal setting (wire.Takes stream bytes accepts ∷ before) ≡ bare_row (Took stream (length bytes)) stream silent ∷ log
       rows_are e = ap (more_all setting log) (items_are false e) ∙ more-took setting log stream (length bytes)
 
       by_own : (b : Bool) → is_own_stream stream ≡ b → MatchBool b (Unit {0}) (IsFront bytes (pending stream log)) → taken_by t (wire.Takes stream bytes accepts ∷ before) ++ pending t (log_of_journal setting (wire.Takes stream bytes accepts ∷ before)) ≡ given_to t (log_of_journal setting (wire.Takes stream bytes accepts ∷ before))

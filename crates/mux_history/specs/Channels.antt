@@ -120,14 +120,14 @@ own_number_of (Says k outgoing reply) = own_of_sending outgoing
 own_number_of _ = None
 
 -- what the server sends to a channel
-abbrev pub received_by : Item → Channel → Channel
-received_by (Heard p) x = reading p (λ m. with_down m x) x
-received_by _ x = x
+abbrev pub channel_after_item : Item → Channel → Channel
+channel_after_item (Heard p) x = reading p (λ m. with_down m x) x
+channel_after_item _ x = x
 
 -- a channel after what the item receives in it and the row sends up
 abbrev pub after_item : Row → Channel → Channel
 after_item row x = elim (x.client == row.client) [
-  | true ↦ with_ups (own_number_of row.item) row.up (received_by row.item x)
+  | true ↦ with_ups (own_number_of row.item) row.up (channel_after_item row.item x)
   | false ↦ x
 ]
 

@@ -7,7 +7,7 @@ use Rattle.ssh_grammar.specs.Said.{Body}
 use Rattle.mux_history.specs.Rows.{Row, rows_of, Item, Says}
 use Rattle.mux_history.specs.Channels.{own_number_of}
 use Rattle.mux_history.specs.Requests.{is_sent}
-use Rattle.mux_history.specs.Controls.{greeted, body_asks}
+use Rattle.mux_history.specs.Controls.{client_has_greeted, body_asks}
 
 -- in a run, two lists; for a client alone, the number that it sends itself and the reply that its
 -- item carries
@@ -58,7 +58,7 @@ reply_at replies n = unwrap_or (slice_get replies n) reply.Refused
 -- the hello
 abbrev pub with_reply : Choices → List Row → Item → Item
 with_reply (FromLists picks replies) rows (Says k (Body body) given) =
-    elim (greeted (rows_of k rows) && body_asks body) [
+    elim (client_has_greeted (rows_of k rows) && body_asks body) [
       | true ↦ Says k (Body body) (Some (reply_at replies (replies_given rows)))
       | false ↦ Says k (Body body) None
     ]

@@ -26,8 +26,8 @@ is_sends (Says k outgoing given) = true
 is_sends _ = false
 
 -- the client has greeted: another first message would have dropped it
-abbrev pub greeted : List Row → Bool
-greeted own = any_of (λ row. is_sends row.item) own
+abbrev pub client_has_greeted : List Row → Bool
+client_has_greeted own = any_of (λ row. is_sends row.item) own
 
 -- the type of a control message
 abbrev pub type_of : Control → ℕ
@@ -141,7 +141,7 @@ body_stops body = elim (read_control body) [ Err fault ↦ false | Ok c ↦ is_s
 
 -- ---- what the forwarder replies later
 
--- an item after which the client speaks to the server
+-- an item after which the client is in proxy mode
 abbrev pub proxies_by : Outgoing → Bool
 proxies_by (Body body) = body_proxies body
 proxies_by (Payload p) = true

@@ -7,7 +7,7 @@ use Rattle.ssh_grammar.specs.SpellMessage.{close, open_failure, cancel_forward, 
 use Rattle.mux_history.specs.Summary.{Summary, Succeeds, Refuses, Confirmation}
 use Rattle.mux_history.specs.Rows.{Row, any_of, is_lost, is_admit}
 use Rattle.mux_history.specs.Channels.{Channel, held_of, is_confirmed, is_up, any_by, is_closes, is_channel_held}
-use Rattle.mux_history.specs.Requests.{Ask, asks, replies, asker}
+use Rattle.mux_history.specs.Requests.{Ask, wanted_requests, replies, asker}
 use Rattle.mux_history.specs.Keys.{bound}
 use Rattle.mux_history.specs.Forwardings.{Forwarding, forwarded, forwardings_of}
 
@@ -78,4 +78,4 @@ late _ own = []
 abbrev pub has_open_matters : List Row → Bool
 has_open_matters own =
     (any_of is_admit own && not (is_lost own))
-    || (any_of is_channel_held (held_of own) || nat_lt (length (replies own)) (length (asks own)))
+    || (any_of is_channel_held (held_of own) || nat_lt (length (replies own)) (length (wanted_requests own)))

@@ -8,7 +8,7 @@ use Rattle.mux_history.specs.Summary.{Summary, Requests, Succeeds, Refuses, read
 use Rattle.mux_history.specs.Rows.{Row, rows_of, loses, Says, Heard}
 use Rattle.mux_history.specs.Channels.{is_number}
 use Rattle.mux_history.specs.Keys.{has_key, bound}
-use Rattle.mux_history.specs.Requests.{asks, replies, is_sent}
+use Rattle.mux_history.specs.Requests.{wanted_requests, replies, is_sent}
 
 -- a forwarding: its client, the key that was asked, the place of its request, its key once the
 -- server's success came, and the place of the unanswered cancel that means it
@@ -27,16 +27,16 @@ is_request f place = (f.request == place) && is_none f.live
 -- the reply to the request at a place: a success makes live what was asked there and ends what was
 -- to be cancelled there; a refusal ends what was asked there and leaves what was to be cancelled
 -- there
-abbrev pub replied : ℕ → Summary → Forwarding → Forwarding
-replied place (Succeeds rest) f = elim (is_request f place) [
+abbrev pub forwarding_after_reply : ℕ → Summary → Forwarding → Forwarding
+forwarding_after_reply place (Succeeds rest) f = elim (is_request f place) [
   | true ↦ record f { live = Some (bound f.key rest) }
   | false ↦ elim (is_number f.cancel place) [ true ↦ record f { over = true } | false ↦ f ]
 ]
-replied place Refuses f = elim (is_request f place) [
+forwarding_after_reply place Refuses f = elim (is_request f place) [
   | true ↦ record f { over = true }
   | false ↦ elim (is_number f.cancel place) [ true ↦ record f { cancel = None } | false ↦ f ]
 ]
-replied place _ f = f
+forwarding_after_reply place _ f = f
 
 -- live with this key, and no unanswered cancel means it
 abbrev pub is_forwarding_free_at : ℕ → Key → Forwarding → Bool
@@ -57,8 +57,8 @@ change_first test change (f ∷ fs) = elim (test f) [
 ]
 
 -- what a client's request that is sent makes of the forwardings
-abbrev pub requested : ℕ → ℕ → Summary → List Forwarding → List Forwarding
-requested k place (Requests (Forward key) wants) fs =
+abbrev pub forwardings_after_request : ℕ → ℕ → Summary → List Forwarding → List Forwarding
+forwardings_after_request k place (Requests (Forward key) wants) fs =
     fs ++ record {
       client = k;
       key = key;
@@ -68,9 +68,9 @@ requested k place (Requests (Forward key) wants) fs =
       over =
           false;
     } ∷ []
-requested k place (Requests (Cancel key) wants) fs =
+forwardings_after_request k place (Requests (Cancel key) wants) fs =
     change_first (is_forwarding_free_at k key) (stopped wants place) fs
-requested k place _ fs = fs
+forwardings_after_request k place _ fs = fs
 
 -- a change of one client's forwardings
 abbrev pub of_client : ℕ → (Forwarding → Forwarding) → Forwarding → Forwarding
@@ -81,12 +81,12 @@ abbrev pub forwarded : Row → List Row → List Forwarding → List Forwarding
 forwarded row own fs = elim row.item [
   | Says k outgoing reply ↦ elim outgoing [
     | Payload p ↦ elim (is_sent row) [
-      | true ↦ reading p (λ m. requested row.client (length (asks own)) m fs) fs
+      | true ↦ reading p (λ m. forwardings_after_request row.client (length (wanted_requests own)) m fs) fs
       | false ↦ fs
     ]
     | _ ↦ fs
   ]
-  | Heard p ↦ reading p (λ m. map (of_client row.client (replied (length (replies own)) m)) fs) fs
+  | Heard p ↦ reading p (λ m. map (of_client row.client (forwarding_after_reply (length (replies own)) m)) fs) fs
   | _ ↦ fs
 ]
 

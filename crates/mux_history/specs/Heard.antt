@@ -18,7 +18,7 @@ use Rattle.mux_history.specs.Requests.{Ask, asker}
 use Rattle.mux_history.specs.Keys.{learns_port}
 use Rattle.mux_history.specs.Forwardings.{live_at}
 use Rattle.mux_history.specs.Farewell.{late}
-use Rattle.mux_history.specs.Said.{Outcome, silent, sends, records}
+use Rattle.mux_history.specs.Said.{Outcome, silent, sends_payload, records}
 
 -- ---- where a payload goes: this alone looks at all rows
 
@@ -55,14 +55,14 @@ dest_open rows s _ = elim (live_in rows s) [
 ]
 
 -- a channel that a client opened and that has no answer
-abbrev pub is_pending : Channel → Bool
-is_pending x = is_up x.by && not (is_confirmed x)
+abbrev pub is_open_pending : Channel → Bool
+is_open_pending x = is_up x.by && not (is_confirmed x)
 
 -- the unanswered open that holds a number
 abbrev pub pending_open : List Row → ℕ → Option Channel
 pending_open rows n = elim (holder rows n) [
   | None ↦ None
-  | Some x ↦ elim (is_pending x) [ true ↦ Some x | false ↦ None ]
+  | Some x ↦ elim (is_open_pending x) [ true ↦ Some x | false ↦ None ]
 ]
 
 -- to the client that opened
@@ -109,9 +109,9 @@ dest rows p = elim (read_summary p) [ Err bad ↦ Breaks (broke.Message bad) | O
 
 -- what the master answers itself
 abbrev pub for_master : Summary → Outcome
-for_master (Requests what true) = sends request_failure
+for_master (Requests what true) = sends_payload request_failure
 for_master (Open what s window maximum) =
-    sends (open_failure s ADMINISTRATIVELY_PROHIBITED not_permitted)
+    sends_payload (open_failure s ADMINISTRATIVELY_PROHIBITED not_permitted)
 for_master _ = silent
 
 -- the client's own number of a channel
@@ -128,7 +128,7 @@ renamed own p (Some n) = with_recipient p (own_number (holder own n))
 abbrev pub for_client : List Row → List ℕ → Summary → Outcome
 for_client own p (Open what s window maximum) = elim (nat_lt (length (held_of own)) MAX_CHANNELS) [
   | true ↦ records (frame_payload p)
-  | false ↦ sends (open_failure s RESOURCE_SHORTAGE too_many_channels)
+  | false ↦ sends_payload (open_failure s RESOURCE_SHORTAGE too_many_channels)
 ]
 for_client own p (Confirmation n s w m) = records (frame_payload (renamed own p (Some n)))
 for_client own p (Within n act) = records (frame_payload (renamed own p (Some n)))
@@ -151,24 +151,24 @@ abbrev pub received_master : List ℕ → Outcome
 received_master p = elim (read_summary p) [ Err bad ↦ silent | Ok m ↦ for_master m ]
 
 -- nothing but the end
-abbrev pub finishes : Ended → Outcome
-finishes cause = record { sent = []; recorded = []; ends = End cause }
+abbrev pub outcome_of_end : Ended → Outcome
+outcome_of_end cause = record { sent = []; recorded = []; ends = End cause }
 
 -- ---- breaks
 
 -- a payload of the server
-abbrev pub is_received : Item → Bool
-is_received (Heard p) = true
-is_received _ = false
+abbrev pub is_server_payload : Item → Bool
+is_server_payload (Heard p) = true
+is_server_payload _ = false
 
 -- the place of the server's next frame, counted from 1
 abbrev pub next_index : List Row → ℕ
 next_index [] = 1
-next_index (row ∷ before) = elim (is_received row.item) [
+next_index (row ∷ before) = elim (is_server_payload row.item) [
   | true ↦ next_index before + 1
   | false ↦ next_index before
 ]
 
 -- the count stays at its type's end
 abbrev pub broken : List Row → Break → Outcome
-broken rows cause = finishes (ended.Broke (min (next_index rows) (2 ^ 64 - 1)) cause)
+broken rows cause = outcome_of_end (ended.Broke (min (next_index rows) (2 ^ 64 - 1)) cause)

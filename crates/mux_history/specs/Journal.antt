@@ -47,9 +47,9 @@ taken_by t [] = []
 taken_by t (mark ∷ before) = taken_by t before ++ bytes_taken_in t mark
 
 -- the forwarder ordered this stream, which is made and not connected yet
-abbrev pub connects : ℕ → HouseMark → Bool
-connects t (HouseOrder (Connect host port) (Some stream)) = stream == t
-connects t _ = false
+abbrev pub orders_connect : ℕ → HouseMark → Bool
+orders_connect t (HouseOrder (Connect host port) (Some stream)) = stream == t
+orders_connect t _ = false
 
 -- the stream accepts no bytes for now: it held back, or was made by an order to connect, and was
 -- not freed since
@@ -60,7 +60,7 @@ is_blocked t (Holds stream ∷ before) =
 is_blocked t (Frees stream ∷ before) =
     elim (stream == t) [ true ↦ false | false ↦ is_blocked t before ]
 is_blocked t (House mark ∷ before) =
-    elim (connects t mark) [ true ↦ true | false ↦ is_blocked t before ]
+    elim (orders_connect t mark) [ true ↦ true | false ↦ is_blocked t before ]
 is_blocked t (mark ∷ before) = is_blocked t before
 
 -- ---- items

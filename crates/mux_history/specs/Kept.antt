@@ -43,7 +43,7 @@ abbrev pub Every : (List ℕ → Type 0) → List (List ℕ) → Type 0
 Every P [] = Unit {0}
 Every P (p ∷ ps) = P p × Every P ps
 
--- a fact of what each payload says, where it reads
+-- a fact of what each payload is, where it reads
 abbrev pub EachSends : (Summary → Type 0) → List (List ℕ) → Type 0
 EachSends P payloads = Every (λ p. (m : Summary) → read_summary p ≡ Ok m → P m) payloads
 
@@ -239,7 +239,7 @@ MustGoUp policy k own ups p (Within s act) =
     (x : Channel) → confirmed_at own s ≡ Some x → breach Up act x ≡ None → ups ≡ p ∷ []
 MustGoUp policy k own ups p m = Unit {0}
 
--- of a row of what a client in proxy mode says, which is its own
+-- of a row of what a client in proxy mode sends, which is its own
 pub record Passes (policy : Policy) (before : List Row) (row : Row) : Type 0 where
   pub client : (k : ℕ) (p : List ℕ) (given : Option HouseReply)
       → row.item ≡ Says k (Payload p) given → row.client ≡ k

@@ -11,8 +11,8 @@ use Rattle.mux_history.specs.Rows.{Row, rows_of, Item, Says, HouseSays, Gone, He
 use Rattle.mux_history.specs.Heard.{ToClient, dest}
 use Rattle.mux_history.specs.Pending.{pending, given_to}
 use Rattle.mux_history.specs.Channels.{Channel, after_farewell, after_item, begun_by, channels_of, held_of, is_confirmed, is_channel_held, is_up, live_in}
-use Rattle.mux_history.specs.Ledger.{answered, asked, carried, granted, initial, other_side, room, sum_of}
-use Rattle.mux_history.specs.Requests.{asks, answers}
+use Rattle.mux_history.specs.Ledger.{reply_count, request_count, carried, granted_size, initial, other_side, room, sum_of}
+use Rattle.mux_history.specs.Requests.{wanted_requests, answers}
 use Rattle.mux_history.specs.Forwardings.{forwardings_of}
 use Rattle.mux_history.specs.Said.{confirmed_at, waiting_at}
 use Rattle.mux_history.specs.Log.{Setting, treat, received_row}
@@ -31,12 +31,12 @@ OthersStay =
     (k : ℕ) (row : Row) (before : List Row) → (row.client == k) ≡ false
     → rows_of k (row ∷ before) ≡ rows_of k before
 
--- a client's channels, forwardings and asks are those of all that are its own
+-- a client's channels, forwardings and requests are those of all that are its own
 pub record IsLocal (k : ℕ) (rows : List Row) : Type 0 where
   pub channels : channels_of (rows_of k rows) ≡ filter (λ x. x.client == k) (channels_of rows)
   pub forwardings : forwardings_of (rows_of k rows)
       ≡ filter (λ f. f.client == k) (forwardings_of rows)
-  pub asks : asks (rows_of k rows) ≡ filter (λ a. a.client == k) (asks rows)
+  pub asks : wanted_requests (rows_of k rows) ≡ filter (λ a. a.client == k) (wanted_requests rows)
 
 -- of every client and every log
 abbrev pub LookUpsAreLocal : Type 0
@@ -90,12 +90,12 @@ with_act way act x = record x { acts = (way, act) ∷ x.acts }
 
 -- no more was carried in a direction than was granted for it
 abbrev pub IsWithin : Side → Channel → Type 0
-IsWithin way x = sum_of carried way x.acts ≤ initial way x + sum_of granted (other_side way) x.acts
+IsWithin way x = sum_of carried way x.acts ≤ initial way x + sum_of granted_size (other_side way) x.acts
 
 -- and no more was answered than was asked
 pub record IsAccounted (way : Side) (x : Channel) : Type 0 where
   pub within : IsWithin way x
-  pub answered : sum_of answered (other_side way) x.acts ≤ sum_of asked way x.acts
+  pub answered : sum_of reply_count (other_side way) x.acts ≤ sum_of request_count way x.acts
 
 -- data takes its length from the room of its direction and leaves the other; an adjustment adds to
 -- the other
@@ -167,17 +167,17 @@ abbrev pub RoomsNeverFall : Type 0
 RoomsNeverFall = OverRight (λ setting rows. AtEach RoomsHold rows)
 
 -- what was found, where it passes
-abbrev pub kept : (Channel → Bool) → Option Channel → Option Channel
-kept test None = None
-kept test (Some x) = elim (test x) [ true ↦ Some x | false ↦ None ]
+abbrev pub if_passes : (Channel → Bool) → Option Channel → Option Channel
+if_passes test None = None
+if_passes test (Some x) = elim (test x) [ true ↦ Some x | false ↦ None ]
 
 -- a look-up by the server's number among a client's channels is the one among all, so that one
 -- index serves all
 pub record LooksUpAt (rows : List Row) (k s : ℕ) : Type 0 where
-  pub confirmed : confirmed_at (rows_of k rows) s ≡ kept (λ x. (x.client == k) && is_confirmed x)
+  pub confirmed : confirmed_at (rows_of k rows) s ≡ if_passes (λ x. (x.client == k) && is_confirmed x)
       (live_in rows s)
   pub waiting : waiting_at (rows_of k rows) s
-      ≡ kept (λ x. (x.client == k) && (not (is_up x.by) && not (is_confirmed x))) (live_in rows s)
+      ≡ if_passes (λ x. (x.client == k) && (not (is_up x.by) && not (is_confirmed x))) (live_in rows s)
 
 -- of every client and number
 abbrev pub LooksUp : List Row → Type 0

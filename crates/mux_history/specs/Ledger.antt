@@ -17,9 +17,9 @@ other_side Down = Up
 -- what one act counts
 
 -- what an adjustment grants
-abbrev pub granted : Act → ℕ
-granted (Grants n) = n
-granted _ = 0
+abbrev pub granted_size : Act → ℕ
+granted_size (Grants n) = n
+granted_size _ = 0
 
 -- the length of data
 abbrev pub carried : Act → ℕ
@@ -27,14 +27,14 @@ carried (Carries n) = n
 carried _ = 0
 
 -- one for a wanted request
-abbrev pub asked : Act → ℕ
-asked (Asks true) = 1
-asked _ = 0
+abbrev pub request_count : Act → ℕ
+request_count (Asks true) = 1
+request_count _ = 0
 
 -- one for a reply
-abbrev pub answered : Act → ℕ
-answered Answers = 1
-answered _ = 0
+abbrev pub reply_count : Act → ℕ
+reply_count Answers = 1
+reply_count _ = 0
 
 -- the window that a confirmation gives
 abbrev pub first_window : Act → ℕ
@@ -72,11 +72,11 @@ maximum_of way x = elim (same_side x.by way) [
 
 -- the room of a direction: that window, and all adjustments, without all data
 abbrev pub room : Side → Channel → ℕ
-room way x = initial way x + sum_of granted (other_side way) x.acts - sum_of carried way x.acts
+room way x = initial way x + sum_of granted_size (other_side way) x.acts - sum_of carried way x.acts
 
 -- the wanted channel requests of a direction that have no reply
 abbrev pub unanswered : Side → Channel → ℕ
-unanswered way x = sum_of asked way x.acts - sum_of answered (other_side way) x.acts
+unanswered way x = sum_of request_count way x.acts - sum_of reply_count (other_side way) x.acts
 
 -- ---- breaches, the first that fits
 

@@ -1,21 +1,21 @@
 -- The log: each row is what its item does after the rows before it.
 use Rattle.std.specs.Prelude.{ℕ, List, [], ◌∷◌, Bool, true, false, not}
-use Rattle.mux_history.specs.Rows.{Row, rows_of, is_out, is_ended, Item, Says, HouseSays, Gone, Took, RunEnd}
+use Rattle.mux_history.specs.Rows.{Row, rows_of, is_out, is_run_over, Item, Says, HouseSays, Gone, Took, RunEnd}
 use Rattle.mux_history.specs.Policy.{Policy}
 use Rattle.mux_history.specs.Choices.{Choices, pick_of, with_reply}
 pub use Rattle.mux_history.specs.Treat.{
-  bare,
+  bare_row,
   new_answers,
   goes,
   all_recorded,
-  fitting,
+  frames_that_fit,
   overflow,
   fate_with,
   queued,
   with_farewell,
   row_of,
   sent_by_client,
-  entered,
+  admitted_clients,
   matters_of,
   open_matters,
   served,
@@ -41,7 +41,7 @@ is_took _ = false
 
 -- after the end of the run only what is accepted makes rows
 abbrev pub makes_next : List Row → Item → Bool
-makes_next rows item = elim (is_ended rows) [ true ↦ is_took item | false ↦ makes_row rows item ]
+makes_next rows item = elim (is_run_over rows) [ true ↦ is_took item | false ↦ makes_row rows item ]
 
 -- ---- the log
 

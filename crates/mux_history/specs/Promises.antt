@@ -12,9 +12,9 @@ use Rattle.ssh_grammar.specs.Said.{Body}
 use Rattle.mux_history.specs.declared.limits.TheConstants.{HOUSE, READING_STOPS_AT}
 use Rattle.mux_history.specs.declared.ended.Ended.{Ended}
 use Rattle.mux_history.specs.declared.ended.Ended.TheVariants.{Spent, StartRefused}
-use Rattle.mux_history.specs.Rows.{Row, rows_of, is_ended, Says}
+use Rattle.mux_history.specs.Rows.{Row, rows_of, is_run_over, Says}
 use Rattle.mux_history.specs.Pending.{pending}
-use Rattle.mux_history.specs.Controls.{greeted, body_stops}
+use Rattle.mux_history.specs.Controls.{client_has_greeted, body_stops}
 use Rattle.mux_history.specs.Log.{Setting, goes, served, more_all}
 use Rattle.mux_history.specs.Solo.{run_end_of}
 use Rattle.mux_history.specs.Journal.{house_items, is_blocked, is_own_stream, items_in, log_of_journal}
@@ -95,7 +95,7 @@ MayWaitForOwn before t = IsTrue (is_own t) → has_failed t before ≡ false
 -- - The forwarder was handed all that it is sent as a client.
 pub record WaitsRight (setting : Setting) (before : List Mark) (waiting : List ℕ) (want : Want)
     (streams : List ℕ) : Type 0 where
-  pub goes_on : is_ended (log_of_journal setting before) ≡ false
+  pub goes_on : is_run_over (log_of_journal setting before) ≡ false
   pub waits_for : not_own waiting
       ≡ filter (has_output (log_of_journal setting before)) (not_own streams)
   pub own : All (MayWaitForOwn before) waiting
@@ -111,7 +111,7 @@ WaitsAt setting before (Waits waiting want streams shown) =
     WaitsRight setting before waiting want streams
 WaitsAt setting before _ = Unit {0}
 
--- the forwarder speaks only while fewer than 4,194,304 bytes wait for the server, and when it was
+-- the forwarder sends only while fewer than 4,194,304 bytes wait for the server, and when it was
 -- handed all that it is sent as a client
 pub record SpeaksRight (setting : Setting) (before : List Mark) : Type 0 where
   pub room : length (pending 0 (log_of_journal setting before)) < READING_STOPS_AT
@@ -135,26 +135,26 @@ Settled setting marks = (t : ℕ) → is_own t ≡ false → IsSettled setting m
 -- ---- Open: the streams that are open at a wait, and whether clients are accepted
 
 -- a row serves STOP_LISTENING: it is sent after the hello, and the row goes on
-abbrev pub stops : Row → List Row → Bool
-stops row own =
+abbrev pub serves_stop : Row → List Row → Bool
+serves_stop row own =
     goes row.fate && elim row.item [
       | Says k outgoing given ↦ elim outgoing [
-        | Body body ↦ greeted own && body_stops body
+        | Body body ↦ client_has_greeted own && body_stops body
         | _ ↦ false
       ]
       | _ ↦ false
     ]
 
 -- no row so far serves it
-abbrev pub listens : List Row → Bool
-listens [] = true
-listens (row ∷ before) = not (stops row (rows_of row.client before)) && listens before
+abbrev pub is_still_accepting : List Row → Bool
+is_still_accepting [] = true
+is_still_accepting (row ∷ before) = not (serves_stop row (rows_of row.client before)) && is_still_accepting before
 
 -- the server's stream, and those of the admitted clients that are not lost, in the order in which
 -- they came: of the streams that are open, all but the master's own; and the forwarder has none
 pub record OpenRight (rows : List Row) (streams : List ℕ) (accepts : Bool) : Type 0 where
   pub open_streams : not_own streams ≡ 0 ∷ not_own (served rows)
-  pub listening : accepts ≡ listens rows
+  pub listening : accepts ≡ is_still_accepting rows
 
 -- of a wait
 abbrev pub OpenAt : Setting → List Mark → Mark → Type 0
@@ -206,15 +206,16 @@ ConnectionEnds setting turns marks refused answer =
 -- ---- Out of memory
 
 -- a request of a client, which is known from what the client sent before
-abbrev pub is_asked : HouseMark → Bool
-is_asked (HouseAsked client id opening ask given) = true
-is_asked mark = false
+abbrev pub is_house_request : HouseMark → Bool
+is_house_request (HouseAsked client id opening ask given) = true
+is_house_request mark = false
 
--- the log without some of the newest items of the last mark, where asks count to the mark before
+-- the log without some of the newest items of the last mark, where requests count to the mark
+-- before
 abbrev pub IsCut : Setting → List Mark → List Row → Type 0
 IsCut setting [] rows = rows ≡ []
 IsCut setting (House mark ∷ before) rows = let earlier = IsCut setting before rows in
-    MatchBool (is_asked mark) earlier
+    MatchBool (is_house_request mark) earlier
     ((n : ℕ) × (rows ≡ more_all setting (log_of_journal setting before)
     (take n (house_items before mark))))
 IsCut setting (mark ∷ before) rows =

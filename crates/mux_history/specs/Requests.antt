@@ -33,9 +33,9 @@ asks_of k true (Some what) = record { client = k; what = what } ∷ []
 asks_of k _ _ = []
 
 -- the wanted requests that were sent, in order
-abbrev pub asks : List Row → List Ask
-asks [] = []
-asks (row ∷ before) = asks before ++ asks_of row.client (is_sent row) (wanted_by row)
+abbrev pub wanted_requests : List Row → List Ask
+wanted_requests [] = []
+wanted_requests (row ∷ before) = wanted_requests before ++ asks_of row.client (is_sent row) (wanted_by row)
 
 -- whether a wanted request was sent
 abbrev pub sent_flags : Bool → Option Global → List Bool
@@ -65,7 +65,7 @@ replies (row ∷ before) = replies before ++ reply_in row.item
 
 -- the request that the server's next reply answers: replies come in the order of the requests
 abbrev pub asker : List Row → Option Ask
-asker rows = slice_get (asks rows) (length (replies rows))
+asker rows = slice_get (wanted_requests rows) (length (replies rows))
 
 -- ---- for one client, over its own rows
 

@@ -89,8 +89,8 @@ is_end (End cause) = true
 is_end _ = false
 
 -- the run is over
-abbrev pub is_ended : List Row → Bool
-is_ended rows = any_of (λ row. is_end row.fate) rows
+abbrev pub is_run_over : List Row → Bool
+is_run_over rows = any_of (λ row. is_end row.fate) rows
 
 -- the loss of one row
 abbrev pub loss_by : Row → List (ℕ × Option Why)

@@ -31,8 +31,8 @@ abbrev pub silent : Outcome
 silent = record { sent = []; recorded = []; ends = Goes }
 
 -- one payload up
-abbrev pub sends : List ℕ → Outcome
-sends p = record { sent = p ∷ []; recorded = []; ends = Goes }
+abbrev pub sends_payload : List ℕ → Outcome
+sends_payload p = record { sent = p ∷ []; recorded = []; ends = Goes }
 
 -- one frame down
 abbrev pub records : List ℕ → Outcome
@@ -59,7 +59,7 @@ fails_open sender reason text = records (frame_payload (open_failure sender reas
 
 -- sent with a fresh number at the sender's place
 abbrev pub sends_as : ℕ → List ℕ → Outcome
-sends_as pick p = sends (with_sender p pick)
+sends_as pick p = sends_payload (with_sender p pick)
 
 -- a client has at most 256 channels
 abbrev pub sends_open : List Row → ℕ → List ℕ → ℕ → Outcome
@@ -81,8 +81,8 @@ text_for (Direct key) = not_permitted
 text_for _ = unknown_type
 
 -- permitted sessions and direct channels alone
-abbrev pub sent_open : Policy → List Row → ℕ → List ℕ → ℕ → Opens → Outcome
-sent_open policy own pick p sender what = elim (may_open policy what) [
+abbrev pub open_outcome : Policy → List Row → ℕ → List ℕ → ℕ → Opens → Outcome
+open_outcome policy own pick p sender what = elim (may_open policy what) [
   | true ↦ sends_open own pick p sender
   | false ↦ fails_open sender (reason_for what) (text_for what)
 ]
@@ -94,7 +94,7 @@ on_waiting s o (Some x) = o
 
 -- a breach drops the client
 abbrev pub on_breach : List ℕ → ℕ → Option Breach → Outcome
-on_breach p s None = sends p
+on_breach p s None = sends_payload p
 on_breach p s (Some b) = drops (why.Channel s b)
 
 -- a confirmed channel must have this number
@@ -110,7 +110,7 @@ is_failing _ = false
 -- a failed open answers one that waits; all else is sent in a confirmed channel
 abbrev pub sent_within : List Row → List ℕ → ℕ → Act → Outcome
 sent_within own p s act = elim (is_failing act) [
-  | true ↦ on_waiting s (sends p) (waiting_at own s)
+  | true ↦ on_waiting s (sends_payload p) (waiting_at own s)
   | false ↦ on_confirmed p s act (confirmed_at own s)
 ]
 
@@ -123,12 +123,12 @@ on_unused c o (Some x) = drops (why.OwnInUse c)
 
 -- what isn't sent is refused, as the row's answers say
 abbrev pub sends_if : Bool → List ℕ → Outcome
-sends_if true p = sends p
+sends_if true p = sends_payload p
 sends_if false p = silent
 
 -- a global request, by its name
 abbrev pub sent_request : Policy → ℕ → List Row → List ℕ → Global → Bool → Outcome
-sent_request policy k own p KeepAlive wants = sends p
+sent_request policy k own p KeepAlive wants = sends_payload p
 sent_request policy k own p OtherName wants = silent
 sent_request policy k own p (Forward key) wants =
     sends_if (wants && (is_askable key
@@ -155,7 +155,7 @@ sent_summary policy k own pick p (Requests what wants) = elim (is_full_of_asks w
 sent_summary policy k own pick p (Succeeds rest) = drops (why.Unasked REQUEST_SUCCESS)
 sent_summary policy k own pick p Refuses = drops (why.Unasked REQUEST_FAILURE)
 sent_summary policy k own pick p (Open what sender window maximum) =
-    on_unused sender (sent_open policy own pick p sender what) (with_own own sender)
+    on_unused sender (open_outcome policy own pick p sender what) (with_own own sender)
 sent_summary policy k own pick p (Confirmation s sender window maximum) =
     on_waiting s (on_unused sender (sends_as pick p) (with_own own sender)) (waiting_at own s)
 sent_summary policy k own pick p (Within s act) = sent_within own p s act

@@ -44,7 +44,7 @@ solo setting k rows = log_of (alone_setting setting) (items_concerning k rows)
 -- ---- agreement up to channel numbers
 
 -- what a row gives, seen by its client
-pub record Seen : Type 0 where
+pub record SeenRow : Type 0 where
   pub sent : List (List ℕ)
   pub recorded : List (List ℕ)
   pub ends : Fate
@@ -55,8 +55,8 @@ own_ups None ups = ups
 own_ups (Some c) ups = map (λ p. with_sender p c) ups
 
 -- among others, under its own numbers
-abbrev pub seen : Row → Seen
-seen row =
+abbrev pub seen_row : Row → SeenRow
+seen_row row =
     record {
       sent = own_ups (own_number_of row.item) row.up ++ row.farewell;
       recorded = row.down;
@@ -64,12 +64,12 @@ seen row =
     }
 
 -- alone
-abbrev pub seen_alone : Row → Seen
+abbrev pub seen_alone : Row → SeenRow
 seen_alone row = record { sent = row.up ++ row.farewell; recorded = row.down; ends = row.fate }
 
 -- the client's rows and those of the unshared connection agree one by one
 abbrev pub IsUnshared : Setting → ℕ → List Row → Type 0
-IsUnshared setting k rows = map seen (rows_of k rows) ≡ map seen_alone (solo setting k rows)
+IsUnshared setting k rows = map seen_row (rows_of k rows) ≡ map seen_alone (solo setting k rows)
 
 -- the same as a test of what is sent and recorded
 
@@ -85,7 +85,7 @@ abbrev pub agree : List Row → List Row → Bool
 agree [] [] = true
 agree [] (s ∷ ss) = false
 agree (r ∷ rs) [] = false
-agree (r ∷ rs) (s ∷ ss) = elim (all_same (seen r).sent (seen_alone s).sent) [
+agree (r ∷ rs) (s ∷ ss) = elim (all_same (seen_row r).sent (seen_alone s).sent) [
   | false ↦ false
   | true ↦ elim (all_same r.down s.down) [ true ↦ agree rs ss | false ↦ false ]
 ]

@@ -1,13 +1,13 @@
 -- Laws of one more row: what is looked up after a row is known from what was looked up before it.
 use Rattle.std.specs.Prelude.{ℕ, ◌≡◌, ◌≤◌, ◌+◌, ◌==◌, ◌&&◌, not, Bool, List, ◌∷◌, ◌++◌, true, false, filter, length, drop, slice_get}
 use Rattle.mux_outside.specs.Whose.{is_server}
-use Rattle.mux_history.specs.Rows.{Row, rows_of, any_of, is_admit, is_ended, Took}
-use Rattle.mux_history.specs.Requests.{Ask, asks, asks_of, asker, is_sent, replies, reply_in, wanted_by}
+use Rattle.mux_history.specs.Rows.{Row, rows_of, any_of, is_admit, is_run_over, Took}
+use Rattle.mux_history.specs.Requests.{Ask, wanted_requests, asks_of, asker, is_sent, replies, reply_in, wanted_by}
 use Rattle.mux_history.specs.Forwardings.{Forwarding, current, dropped, forwarded}
 use Rattle.mux_history.specs.Farewell.{has_open_matters}
 use Rattle.mux_history.specs.Pending.{given_by, pending, took_by, took_up}
 use Rattle.mux_history.specs.Said.{silent}
-use Rattle.mux_history.specs.Log.{bare, open_matters}
+use Rattle.mux_history.specs.Log.{bare_row, open_matters}
 use Rattle.mux_history.specs.Kept.{AtEach, ForEach}
 use Rattle.mux_history.specs.Laws.{OverRight}
 
@@ -19,7 +19,7 @@ next_current row own before = filter (λ f. not f.over) (dropped row (forwarded 
 
 -- the next request has the same place in both, and so has the next reply
 pub record SamePlaces (own others : List Row) : Type 0 where
-  pub request : length (asks own) ≡ length (asks others)
+  pub request : length (wanted_requests own) ≡ length (wanted_requests others)
   pub reply : length (replies own) ≡ length (replies others)
 
 -- nothing else is looked at, and of the client's rows nothing but these places
@@ -37,8 +37,8 @@ CurrentGoesOn = (row : Row) (before : List Row) → CurrentStep row before
 -- ---- open matters
 
 -- a client counts where it was admitted and its matters are open
-abbrev pub counts : List Row → Bool
-counts own = any_of is_admit own && has_open_matters own
+abbrev pub is_counted_client : List Row → Bool
+is_counted_client own = any_of is_admit own && has_open_matters own
 
 -- one where it does
 abbrev pub one_if : Bool → ℕ
@@ -48,8 +48,8 @@ one_if false = 0
 -- one more where the matters of the row's client open, one less where they close, else as it was
 abbrev pub MattersStep : List Row → Row → Type 0
 MattersStep before row =
-    open_matters (row ∷ before) + one_if (counts (rows_of row.client before))
-    ≡ open_matters before + one_if (counts (rows_of row.client (row ∷ before)))
+    open_matters (row ∷ before) + one_if (is_counted_client (rows_of row.client before))
+    ≡ open_matters before + one_if (is_counted_client (rows_of row.client (row ∷ before)))
 
 -- at every row of every right log
 abbrev pub MattersGoOn : Type 0
@@ -59,9 +59,9 @@ MattersGoOn = OverRight (λ setting rows. ForEach MattersStep rows)
 
 -- the requests that were sent and have no reply, in order
 abbrev pub unreplied : List Row → List Ask
-unreplied rows = drop (length (replies rows)) (asks rows)
+unreplied rows = drop (length (replies rows)) (wanted_requests rows)
 
--- after a row: a request that is sent joins at the end, a reply takes the first
+-- after a row: a request that is sent comes last, a reply takes the first
 abbrev pub next_unreplied : Row → List Ask → List Ask
 next_unreplied row before =
     drop (length (reply_in row.item)) (before ++ asks_of row.client (is_sent row) (wanted_by row))
@@ -79,7 +79,7 @@ AskersGoOn = OverRight (λ setting rows. ForEach AskersStep rows)
 -- while the run goes on, a client's are those of all that are its own
 abbrev pub UnrepliedOfEach : List Row → Type 0
 UnrepliedOfEach rows =
-    is_ended rows ≡ false → (k : ℕ)
+    is_run_over rows ≡ false → (k : ℕ)
     → unreplied (rows_of k rows) ≡ filter (λ a. a.client == k) (unreplied rows)
 
 -- at every row of every right log
@@ -107,7 +107,7 @@ PendingGoesOn =
 
 -- the row of a take
 abbrev pub take_row : ℕ → ℕ → Row
-take_row stream size = bare (Took stream size) stream silent
+take_row stream size = bare_row (Took stream size) stream silent
 
 -- it leaves its stream what waits after those bytes, which is the rest if so much waits, and the
 -- others as they were

@@ -16,15 +16,15 @@ use Rattle.mux_history.specs.Requests.{answers}
 use Rattle.mux_history.specs.Policy.{Policy}
 use Rattle.mux_history.specs.Farewell.{farewell, has_open_matters}
 use Rattle.mux_history.specs.Said.{Outcome, silent, records, drops, sent_payload}
-use Rattle.mux_history.specs.Controls.{greeted, house_sends, sent_body}
-use Rattle.mux_history.specs.Heard.{Dest, ToMaster, ToClient, Disconnects, Breaks, dest, received_for, received_master, finishes, broken}
+use Rattle.mux_history.specs.Controls.{client_has_greeted, house_sends, sent_body}
+use Rattle.mux_history.specs.Heard.{Dest, ToMaster, ToClient, Disconnects, Breaks, dest, received_for, received_master, outcome_of_end, broken}
 
 -- ---- a client's row: the answers that its requests and replies complete, the queue's bound, the
 -- farewell
 
 -- a row of what an item does, and nothing else
-abbrev pub bare : Item → ℕ → Outcome → Row
-bare item k o = record {
+abbrev pub bare_row : Item → ℕ → Outcome → Row
+bare_row item k o = record {
   item = item;
   client = k;
   up = o.sent;
@@ -51,10 +51,10 @@ all_recorded row own = elim (goes row.fate && not (is_lost own)) [
 
 -- the frames that fit into a queue in which so many bytes wait: the first that does not is left out
 -- with all after it
-abbrev pub fitting : ℕ → List (List ℕ) → List (List ℕ)
-fitting have [] = []
-fitting have (f ∷ fs) = elim (nat_le (have + length f) MAX_QUEUE) [
-  | true ↦ f ∷ fitting (have + length f) fs
+abbrev pub frames_that_fit : ℕ → List (List ℕ) → List (List ℕ)
+frames_that_fit have [] = []
+frames_that_fit have (f ∷ fs) = elim (nat_le (have + length f) MAX_QUEUE) [
+  | true ↦ f ∷ frames_that_fit (have + length f) fs
   | false ↦ []
 ]
 
@@ -77,7 +77,7 @@ fate_with ends (Some cause) = Drop cause
 abbrev pub queued : List (List ℕ) → Row → List Row → Row
 queued frames row own =
     record row {
-      down = fitting (waiting_down own) frames;
+      down = frames_that_fit (waiting_down own) frames;
       fate =
           fate_with row.fate (overflow (waiting_down own) frames);
     }
@@ -89,22 +89,22 @@ with_farewell row own =
 
 -- the row of a client, from its rows so far and what its item does
 abbrev pub row_of : Item → ℕ → Outcome → List Row → Row
-row_of item k o own = let row = bare item k o in
+row_of item k o own = let row = bare_row item k o in
     with_farewell (queued (all_recorded row own) row own) own
 
 -- ---- what each item does
 
 -- what a client sends
 abbrev pub sent_by_client : Policy → ℕ → ℕ → List Row → ℕ → Outgoing → Option HouseReply → Outcome
-sent_by_client policy pid k own pick (Body body) given = sent_body pid k given (greeted own) body
+sent_by_client policy pid k own pick (Body body) given = sent_body pid k given (client_has_greeted own) body
 sent_by_client policy pid k own pick (Payload p) given = sent_payload policy k own pick p
 sent_by_client policy pid k own pick (BadFraming fault) given = drops (why.BadFrame fault)
 
 -- the clients that were admitted, in order
-abbrev pub entered : List Row → List ℕ
-entered [] = []
-entered (row ∷ before) =
-    entered before ++ elim (is_admit row) [ true ↦ row.client ∷ [] | false ↦ [] ]
+abbrev pub admitted_clients : List Row → List ℕ
+admitted_clients [] = []
+admitted_clients (row ∷ before) =
+    admitted_clients before ++ elim (is_admit row) [ true ↦ row.client ∷ [] | false ↦ [] ]
 
 -- how many of these clients have open matters
 abbrev pub matters_of : List Row → List ℕ → ℕ
@@ -116,11 +116,11 @@ matters_of rows (k ∷ ks) = elim (has_open_matters (rows_of k rows)) [
 
 -- how many clients have open matters
 abbrev pub open_matters : List Row → ℕ
-open_matters rows = matters_of rows (entered rows)
+open_matters rows = matters_of rows (admitted_clients rows)
 
 -- those of them that are not lost
 abbrev pub served : List Row → List ℕ
-served rows = filter (λ k. not (is_out (rows_of k rows))) (entered rows)
+served rows = filter (λ k. not (is_out (rows_of k rows))) (admitted_clients rows)
 
 -- the hello, where fewer than 64 clients have open matters
 abbrev pub admits : List Row → Outcome
@@ -131,10 +131,10 @@ admits rows = elim (nat_lt (open_matters rows) MAX_CLIENTS) [
 
 -- the row of a payload of the server
 abbrev pub received_row : List Row → List ℕ → Dest → Row
-received_row rows p ToMaster = bare (Heard p) 0 (received_master p)
+received_row rows p ToMaster = bare_row (Heard p) 0 (received_master p)
 received_row rows p (ToClient k) = row_of (Heard p) k (received_for (rows_of k rows) p) (rows_of k rows)
-received_row rows p Disconnects = bare (Heard p) 0 (finishes ended.Disconnected)
-received_row rows p (Breaks cause) = bare (Heard p) 0 (broken rows cause)
+received_row rows p Disconnects = bare_row (Heard p) 0 (outcome_of_end ended.Disconnected)
+received_row rows p (Breaks cause) = bare_row (Heard p) 0 (broken rows cause)
 
 -- the row of an item after these rows, where `pick` is the next fresh number
 abbrev pub treat : Policy → ℕ → ℕ → List Row → Item → Row
@@ -147,9 +147,9 @@ treat policy pid pick rows (HouseSays k id given) =
 treat policy pid pick rows (Gone k) = row_of (Gone k) k silent (rows_of k rows)
 treat policy pid pick rows (Heard p) = received_row rows p (dest rows p)
 treat policy pid pick rows (BadServer fault) =
-    bare (BadServer fault) 0 (broken rows (broke.Frame fault))
-treat policy pid pick rows ServerEnd = bare ServerEnd 0 (finishes ended.ServerEnd)
-treat policy pid pick rows (ServerCut left) = bare (ServerCut left) 0 (broken rows (broke.Cut left))
-treat policy pid pick rows ServerFailed = bare ServerFailed 0 (finishes ended.ServerFailed)
-treat policy pid pick rows (Took stream size) = bare (Took stream size) stream silent
-treat policy pid pick rows (RunEnd cause) = bare (RunEnd cause) 0 silent
+    bare_row (BadServer fault) 0 (broken rows (broke.Frame fault))
+treat policy pid pick rows ServerEnd = bare_row ServerEnd 0 (outcome_of_end ended.ServerEnd)
+treat policy pid pick rows (ServerCut left) = bare_row (ServerCut left) 0 (broken rows (broke.Cut left))
+treat policy pid pick rows ServerFailed = bare_row ServerFailed 0 (outcome_of_end ended.ServerFailed)
+treat policy pid pick rows (Took stream size) = bare_row (Took stream size) stream silent
+treat policy pid pick rows (RunEnd cause) = bare_row (RunEnd cause) 0 silent

@@ -13,8 +13,8 @@ use Rattle.mux_history.specs.Journal.{log_of_journal}
 -- ---- bytes
 
 -- a hexadecimal digit
-abbrev pub digit : ℕ → ℕ
-digit c = elim (nat_lt c 58) [ true ↦ c - 48 | false ↦ c - 87 ]
+abbrev pub hex_digit_value : ℕ → ℕ
+hex_digit_value c = elim (nat_lt c 58) [ true ↦ c - 48 | false ↦ c - 87 ]
 
 -- the bytes of hexadecimal digits, with spaces between them
 abbrev pub hex : List ℕ → List ℕ
@@ -22,7 +22,7 @@ hex [] = []
 hex (c ∷ []) = []
 hex (c ∷ d ∷ text) = elim (c == 32) [
   | true ↦ hex (d ∷ text)
-  | false ↦ (digit c * 16 + digit d) ∷ hex text
+  | false ↦ (hex_digit_value c * 16 + hex_digit_value d) ∷ hex text
 ]
 
 -- ---- runs
@@ -46,12 +46,12 @@ run marks = run_of open_setting marks
 
 -- all that the server and a client are given; and what a client is given after its hello and the
 -- answer to PROXY
-abbrev pub sent : List Row → List ℕ
-sent rows = given_to 0 rows
+abbrev pub sent_to_server : List Row → List ℕ
+sent_to_server rows = given_to 0 rows
 
 -- what a client is given
-abbrev pub recorded : ℕ → List Row → List ℕ
-recorded k rows = given_to k rows
+abbrev pub sent_to_client : ℕ → List Row → List ℕ
+sent_to_client k rows = given_to k rows
 
 -- the same after the hello and the answer to PROXY
 abbrev pub recorded_in_proxy : ℕ → List Row → List ℕ
@@ -86,7 +86,7 @@ alive_check = hello ++ hex (codes "00000008 10000004 00000007")
 abbrev pub two_alive_checks : List Mark
 two_alive_checks = Accepts 1 ∷ Accepts 2 ∷ bytewise 1 2 alive_check ++ Ends 0 ∷ []
 
--- one client speaks version 3
+-- one client sends version 3
 abbrev pub another_version : List Mark
 another_version =
     Accepts 1 ∷ Accepts 2 ∷ Gets 1 (hex (codes "00000008 00000001 00000003"))

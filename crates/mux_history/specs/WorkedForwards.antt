@@ -13,8 +13,8 @@ asks_port port =
     ++ (codes "tcpip-forward" ++ (hex (codes "01 00000000") ++ u32 port))
 
 -- the server's success with a port, and without data; and its failure
-abbrev pub bound_to : ℕ → List ℕ
-bound_to port = hex (codes "00000006 00 51") ++ u32 port
+abbrev pub success_with_port : ℕ → List ℕ
+success_with_port port = hex (codes "00000006 00 51") ++ u32 port
 
 -- a success without data
 abbrev pub success : List ℕ
@@ -25,8 +25,8 @@ abbrev pub failure : List ℕ
 failure = hex (codes "00000002 00 52")
 
 -- a cancel that wants a reply, and one that does not
-abbrev pub cancels : ℕ → List ℕ
-cancels port =
+abbrev pub cancel_requests : ℕ → List ℕ
+cancel_requests port =
     hex (codes "00000023 00 50 00000014")
     ++ (codes "cancel-tcpip-forward" ++ (hex (codes "01 00000000") ++ u32 port))
 
@@ -37,8 +37,8 @@ cancels_at_once port =
     ++ (codes "cancel-tcpip-forward" ++ (hex (codes "00 00000000") ++ u32 port))
 
 -- the server opens a channel for a connection to a port
-abbrev pub connects_to : ℕ → ℕ → List ℕ
-connects_to port sender =
+abbrev pub open_for_port : ℕ → ℕ → List ℕ
+open_for_port port sender =
     hex (codes "00000031 00 5a 0000000f")
     ++ (codes "forwarded-tcpip"
     ++ (u32 sender ++ (hex (codes "00200000 00008000 00000000")
@@ -47,18 +47,18 @@ connects_to port sender =
 -- two clients ask for a port, and are given theirs in the order in which they asked
 abbrev pub two_ports : List Mark
 two_ports =
-    enters 1 ++ (enters 2 ++ (Gets 1 (asks_port 0) ∷ Gets 2 (asks_port 0) ∷ Gets 0 (bound_to 40001)
-    ∷ Gets 0 (bound_to 40002) ∷ []))
+    enters 1 ++ (enters 2 ++ (Gets 1 (asks_port 0) ∷ Gets 2 (asks_port 0) ∷ Gets 0 (success_with_port 40001)
+    ∷ Gets 0 (success_with_port 40002) ∷ []))
 
 -- a connection arrives for the second, and its client accepts it
-abbrev pub connected : List Mark
-connected =
-    two_ports ++ (Gets 0 (connects_to 40002 9)
+abbrev pub second_connected : List Mark
+second_connected =
+    two_ports ++ (Gets 0 (open_for_port 40002 9)
     ∷ Gets 2 (hex (codes "00000012 00 5b 00000009 00000003 00200000 00008000")) ∷ [])
 
 -- the server uses its number twice
 abbrev pub connected_twice : List Mark
-connected_twice = connected ++ Gets 0 (connects_to 40002 9) ∷ []
+connected_twice = second_connected ++ Gets 0 (open_for_port 40002 9) ∷ []
 
 -- one port may be listened on
 abbrev pub port_8080_only : Policy
@@ -68,7 +68,7 @@ port_8080_only =
 -- two ports are asked for
 abbrev pub one_of_two_ports : List Mark
 one_of_two_ports = enters 1
-    ++ (Gets 1 (asks_port 8080) ∷ Gets 1 (asks_port 9090) ∷ Gets 0 (bound_to 0) ∷ [])
+    ++ (Gets 1 (asks_port 8080) ∷ Gets 1 (asks_port 9090) ∷ Gets 0 (success_with_port 0) ∷ [])
 
 -- a request that is refused
 abbrev pub no_more_sessions : List Mark
@@ -80,20 +80,20 @@ no_more_sessions =
 -- port
 abbrev pub cancelled_twice : List Mark
 cancelled_twice =
-    two_ports ++ (Gets 1 (cancels 40001) ∷ Gets 1 (cancels 40001) ∷ Gets 0 success
-    ∷ Gets 0 (connects_to 40001 12) ∷ [])
+    two_ports ++ (Gets 1 (cancel_requests 40001) ∷ Gets 1 (cancel_requests 40001) ∷ Gets 0 success
+    ∷ Gets 0 (open_for_port 40001 12) ∷ [])
 
 -- the client ends while its cancel is unanswered, and the server refuses the cancel
 abbrev pub cancel_refused_late : List Mark
 cancel_refused_late =
-    enters 1 ++ (Gets 1 (asks_port 8080) ∷ Gets 0 success ∷ Gets 1 (cancels 8080) ∷ Ends 1
+    enters 1 ++ (Gets 1 (asks_port 8080) ∷ Gets 0 success ∷ Gets 1 (cancel_requests 8080) ∷ Ends 1
     ∷ Gets 0 failure ∷ [])
 
 -- the first client fails while it is given its port
 abbrev pub recorded_too_late : List Mark
 recorded_too_late =
-    enters 1 ++ (enters 2 ++ (Gets 1 (asks_port 0) ∷ Gets 2 (asks_port 0) ∷ Gets 0 (bound_to 40001)
-    ∷ WriteFails 1 ∷ Gets 0 (bound_to 40002) ∷ []))
+    enters 1 ++ (enters 2 ++ (Gets 1 (asks_port 0) ∷ Gets 2 (asks_port 0) ∷ Gets 0 (success_with_port 40001)
+    ∷ WriteFails 1 ∷ Gets 0 (success_with_port 40002) ∷ []))
 
 -- a reply where nothing was asked
 abbrev pub replies_to_nothing : List Mark

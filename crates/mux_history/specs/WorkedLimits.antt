@@ -7,7 +7,7 @@ use Rattle.mux_history.specs.Rows.{Row}
 use Rattle.mux_history.specs.Channels.{held_of, with_own}
 use Rattle.mux_history.specs.Requests.{unanswered_asks}
 use Rattle.mux_history.specs.Policy.{Policy}
-use Rattle.mux_history.specs.Said.{records, sends, drops, sent_payload}
+use Rattle.mux_history.specs.Said.{records, sends_payload, drops, sent_payload}
 use Rattle.mux_history.specs.Worked.{hex}
 use Rattle.mux_history.specs.WorkedProxy.{session}
 
@@ -32,7 +32,7 @@ keepalive = hex (codes "50 00000015") ++ (codes "keepalive@openssh.com" ++ hex (
 abbrev pub OneMoreAsk : Type 0
 OneMoreAsk =
     (policy : Policy) (k pick : ℕ) (own : List Row) → unanswered_asks own ≡ 1023
-    → sent_payload policy k own pick keepalive ≡ sends keepalive
+    → sent_payload policy k own pick keepalive ≡ sends_payload keepalive
 
 -- the 1,025th
 abbrev pub OneAskTooMany : Type 0

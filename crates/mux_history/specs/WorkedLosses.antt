@@ -4,7 +4,7 @@ use Rattle.mux_outside.specs.declared.mark.Mark.{Mark}
 use Rattle.mux_outside.specs.declared.mark.Mark.TheVariants.{Accepts, Gets, Ends, Holds, Frees, Takes}
 use Rattle.mux_history.specs.Worked.{hex, enters, hello}
 use Rattle.mux_history.specs.WorkedProxy.{session}
-use Rattle.mux_history.specs.WorkedForwards.{asks_port, bound_to, success, connects_to}
+use Rattle.mux_history.specs.WorkedForwards.{asks_port, success_with_port, success, open_for_port}
 
 -- a client with a confirmed channel, an open without an answer and a forwarding without an answer
 -- ends
@@ -20,21 +20,21 @@ late_confirmation = leaves
     ++ Gets 0 (hex (codes "00000012 00 5b 00000001 00000008 00000064 00000064")) ∷ []
 
 -- its forwarding succeeds afterwards
-abbrev pub late_success : List Mark
-late_success = late_confirmation ++ Gets 0 (bound_to 40001) ∷ []
+abbrev pub forwarding_late : List Mark
+forwarding_late = late_confirmation ++ Gets 0 (success_with_port 40001) ∷ []
 
 -- the server closes both channels
 abbrev pub all_closed : List Mark
 all_closed =
-    late_success ++ (Gets 0 (hex (codes "00000006 00 61 00000000"))
+    forwarding_late ++ (Gets 0 (hex (codes "00000006 00 61 00000000"))
     ∷ Gets 0 (hex (codes "00000006 00 61 00000001")) ∷ [])
 
 -- a client that ends with an open of the server that it has not answered, and one that it has
 abbrev pub leaves_opens : List Mark
 leaves_opens =
-    enters 1 ++ (Gets 1 (asks_port 8080) ∷ Gets 0 success ∷ Gets 0 (connects_to 8080 3)
+    enters 1 ++ (Gets 1 (asks_port 8080) ∷ Gets 0 success ∷ Gets 0 (open_for_port 8080 3)
     ∷ Gets 1 (hex (codes "00000012 00 5b 00000003 00000006 0000000a 0000000a"))
-    ∷ Gets 0 (connects_to 8080 4) ∷ Ends 1 ∷ [])
+    ∷ Gets 0 (open_for_port 8080 4) ∷ Ends 1 ∷ [])
 
 -- so many clients come
 abbrev pub come : ℕ → ℕ → List Mark

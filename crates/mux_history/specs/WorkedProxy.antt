@@ -7,7 +7,7 @@ use Rattle.mux_history.specs.Rows.{Row}
 use Rattle.mux_history.specs.Policy.{Policy, Anything, Ports, Entries, any_policy}
 use Rattle.mux_history.specs.Choices.{FromLists}
 use Rattle.mux_history.specs.Log.{Setting}
-use Rattle.mux_history.specs.Worked.{hex, sent, enters}
+use Rattle.mux_history.specs.Worked.{hex, sent_to_server, enters}
 
 -- an open of a session under the client's number, with a window of 2,097,152 and a maximum of
 -- 32,768
@@ -22,35 +22,35 @@ two_sessions = enters 1 ++ (enters 2 ++ (Gets 1 (session 0) ∷ Gets 2 (session 
 
 -- what went up after the two opens
 abbrev pub sent_after_two : List Row → List ℕ
-sent_after_two rows = drop 58 (sent rows)
+sent_after_two rows = drop 58 (sent_to_server rows)
 
 -- the server confirms the second, as its own 5 with a window of 5
-abbrev pub confirmed : List Mark
-confirmed = two_sessions
+abbrev pub second_confirmed : List Mark
+second_confirmed = two_sessions
     ++ Gets 0 (hex (codes "00000012 00 5b 00000001 00000005 00000005 00008000")) ∷ []
 
 -- the window is filled, and then one byte more
 abbrev pub past_window : List Mark
 past_window =
-    confirmed ++ (Gets 2 (hex (codes "0000000f 00 5e 00000005 00000005") ++ codes "hello")
+    second_confirmed ++ (Gets 2 (hex (codes "0000000f 00 5e 00000005 00000005") ++ codes "hello")
     ∷ Gets 2 (hex (codes "0000000b 00 5e 00000005 00000001") ++ codes "x") ∷ [])
 
 -- the client grants as much as fits, and then one more
 abbrev pub overgrown_down : List Mark
 overgrown_down =
-    confirmed ++ (Gets 2 (hex (codes "0000000a 00 5d 00000005 ffdfffff"))
+    second_confirmed ++ (Gets 2 (hex (codes "0000000a 00 5d 00000005 ffdfffff"))
     ∷ Gets 2 (hex (codes "0000000a 00 5d 00000005 00000001")) ∷ [])
 
 -- the server does
 abbrev pub overgrown_up : List Mark
 overgrown_up =
-    confirmed ++ (Gets 0 (hex (codes "0000000a 00 5d 00000001 fffffffa"))
+    second_confirmed ++ (Gets 0 (hex (codes "0000000a 00 5d 00000001 fffffffa"))
     ∷ Gets 0 (hex (codes "0000000a 00 5d 00000001 00000001")) ∷ [])
 
 -- the channel is closed both ways
 abbrev pub closed : List Mark
 closed =
-    confirmed ++ (Gets 2 (hex (codes "00000006 00 61 00000005"))
+    second_confirmed ++ (Gets 2 (hex (codes "00000006 00 61 00000005"))
     ∷ Gets 0 (hex (codes "00000006 00 61 00000001")) ∷ [])
 
 -- the server writes to number 1
@@ -71,7 +71,7 @@ again_setting = record { policy = any_policy; pid = 42; choices = FromLists (0 �
 
 -- a client writes to another's channel
 abbrev pub foreign_data : List Mark
-foreign_data = confirmed
+foreign_data = second_confirmed
     ++ Gets 1 (hex (codes "0000000b 00 5e 00000005 00000001") ++ codes "x") ∷ []
 
 -- ---- what opens are refused

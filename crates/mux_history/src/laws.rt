@@ -11,7 +11,7 @@ pub fn others_stay()
     ensures { OthersStay }
 {}
 
-/// A client's channels, forwardings and asks are those among all that are its own.
+/// A client's channels, forwardings and requests are those among all that are its own.
 pub fn look_ups_are_local()
     ensures { LookUpsAreLocal }
 {}

@@ -16,7 +16,7 @@ pub enum Why {
     /// It greeted again.
     #[error("a second hello")]
     SecondHello,
-    /// It speaks another version.
+    /// It sent another version.
     #[error("version {have} is not spoken")]
     Version { have: u32 },
     /// A payload doesn't read.

@@ -10,12 +10,12 @@ use Rattle.mux_history.specs.Keys.{is_askable}
 use Rattle.mux_history.specs.Ledger.{breach}
 use Rattle.mux_history.specs.Pending.{waiting_down}
 use Rattle.mux_history.specs.Policy.{Policy, permits, may_open}
-use Rattle.mux_history.specs.Requests.{answers_to, asks, replies, unanswered_asks, wanted}
+use Rattle.mux_history.specs.Requests.{answers_to, wanted_requests, replies, unanswered_asks, wanted}
 use Rattle.mux_history.specs.Rows.{Row, any_of}
-use Rattle.mux_history.specs.Said.{Outcome, confirmed_at, drops, fails_open, is_failing, on_breach, on_confirmed, on_unused, on_waiting, sent_summary, sent_open, sent_request, sent_within, sends, sends_as, sends_if, sends_open, waiting_at, reason_for, text_for}
+use Rattle.mux_history.specs.Said.{Outcome, confirmed_at, drops, fails_open, is_failing, on_breach, on_confirmed, on_unused, on_waiting, sent_summary, open_outcome, sent_request, sent_within, sends_payload, sends_as, sends_if, sends_open, waiting_at, reason_for, text_for}
 use Rattle.mux_history.specs.Solo.{own_ups}
 use Rattle.ssh_grammar.specs.Messages.{Cancel, Forward, Global, KeepAlive, Opens, OtherName}
-use Rattle.ssh_grammar.specs.SpellMessage.{wants, with_sender}
+use Rattle.ssh_grammar.specs.SpellMessage.{wants_reply, with_sender}
 use Rattle.ssh_grammar.specs.declared.side.Side.{Side}
 use Rattle.ssh_grammar.specs.declared.side.Side.TheVariants.{Up}
 use Rattle.mux_history.specs.declared.why.Why.TheVariants as why
@@ -28,7 +28,7 @@ pub record Alike (own own' : List Row) : Type 0 where
   pub forwardings : forwardings_of own' ≡ forwardings_of own
   pub wanted : wanted own' ≡ wanted own
   pub replies : replies own' ≡ replies own
-  pub asks : asks own' ≡ asks own
+  pub asks : wanted_requests own' ≡ wanted_requests own
   pub waiting : waiting_down own' ≡ waiting_down own
 
 -- the outcome under the client's own number
@@ -86,8 +86,8 @@ module _ (own own' : List Row) (alike : Alike own own') where
   within-said : (p : List ℕ) (s : ℕ) (act : Act) → sent_within own' p s act ≡ sent_within own p s act
   within-said p s act = by_case (is_failing act)
     where
-      by_case : (b : Bool) → (elim b as (λ _. Outcome) [ true ↦ on_waiting s (sends p) (waiting_at own' s) | false ↦ on_confirmed p s act (confirmed_at own' s) ]) ≡ (elim b as (λ _. Outcome) [ true ↦ on_waiting s (sends p) (waiting_at own s) | false ↦ on_confirmed p s act (confirmed_at own s) ])
-      by_case true = by-found (on_waiting s (sends p)) (waiting-blind s (sends p)) (λ x. is_number x.remote s && (not (is_up x.by) && not (is_confirmed x))) (λ x. refl)
+      by_case : (b : Bool) → (elim b as (λ _. Outcome) [ true ↦ on_waiting s (sends_payload p) (waiting_at own' s) | false ↦ on_confirmed p s act (confirmed_at own' s) ]) ≡ (elim b as (λ _. Outcome) [ true ↦ on_waiting s (sends_payload p) (waiting_at own s) | false ↦ on_confirmed p s act (confirmed_at own s) ])
+      by_case true = by-found (on_waiting s (sends_payload p)) (waiting-blind s (sends_payload p)) (λ x. is_number x.remote s && (not (is_up x.by) && not (is_confirmed x))) (λ x. refl)
       by_case false = by-found (on_confirmed p s act) (confirmed-blind p s act) (λ x. is_number x.remote s && is_confirmed x) (λ x. refl)
 
   pub count-alike : length (held_of own') ≡ length (held_of own)
@@ -103,14 +103,14 @@ module _ (own own' : List Row) (alike : Alike own own') where
   unanswered-alike : unanswered_asks own' ≡ unanswered_asks own
   unanswered-alike = ap (λ w. length w - length (answers_to w (replies own'))) alike.wanted ∙ ap (λ r. length (wanted own) - length (answers_to (wanted own) r)) alike.replies
 
-  requests-said : (policy : Policy) (k : ℕ) (p : List ℕ) (what : Global) (wants : Bool) → sent_request policy k own' p what wants ≡ sent_request policy k own p what wants
-  requests-said policy k p KeepAlive wants = refl
-  requests-said policy k p OtherName wants = refl
-  requests-said policy k p (Forward key) wants = ap (λ fs. sends_if (wants && (is_askable key && (permits policy.listens key && nat_lt (length fs) 64))) p) current-alike
-  requests-said policy k p (Cancel key) wants = ap (λ fs. sends_if (any_of (is_forwarding_free_at k key) fs) p) current-alike
+  requests-said : (policy : Policy) (k : ℕ) (p : List ℕ) (what : Global) (wants_reply : Bool) → sent_request policy k own' p what wants_reply ≡ sent_request policy k own p what wants_reply
+  requests-said policy k p KeepAlive wants_reply = refl
+  requests-said policy k p OtherName wants_reply = refl
+  requests-said policy k p (Forward key) wants_reply = ap (λ fs. sends_if (wants_reply && (is_askable key && (permits policy.listens key && nat_lt (length fs) 64))) p) current-alike
+  requests-said policy k p (Cancel key) wants_reply = ap (λ fs. sends_if (any_of (is_forwarding_free_at k key) fs) p) current-alike
 
   sends-said : (pick c : ℕ) (p : List ℕ) → Resent pick c p → sends_as c p ≡ numbered (Some c) (sends_as pick p)
-  sends-said pick c p again = ap sends (sym again)
+  sends-said pick c p again = ap sends_payload (sym again)
 
   sends_open-said : (pick c : ℕ) (p : List ℕ) → Resent pick c p → sends_open own' c p c ≡ numbered (Some c) (sends_open own pick p c)
   sends_open-said pick c p again = ap (λ n. elim (nat_lt n 256) as (λ _. Outcome) [ true ↦ sends_as c p | false ↦ fails_open c 4 (codes "too many channels") ]) count-alike ∙ by_case (nat_lt (length (held_of own)) 256)
@@ -119,7 +119,7 @@ module _ (own own' : List Row) (alike : Alike own own') where
       by_case true = sends-said pick c p again
       by_case false = refl
 
-  open-said : (policy : Policy) (pick c : ℕ) (p : List ℕ) (what : Opens) → Resent pick c p → sent_open policy own' c p c what ≡ numbered (Some c) (sent_open policy own pick p c what)
+  open-said : (policy : Policy) (pick c : ℕ) (p : List ℕ) (what : Opens) → Resent pick c p → open_outcome policy own' c p c what ≡ numbered (Some c) (open_outcome policy own pick p c what)
   open-said policy pick c p what again = by_case (may_open policy what)
     where
       by_case : (b : Bool) → (elim b as (λ _. Outcome) [ true ↦ sends_open own' c p c | false ↦ fails_open c (reason_for what) (text_for what) ]) ≡ numbered (Some c) (elim b as (λ _. Outcome) [ true ↦ sends_open own pick p c | false ↦ fails_open c (reason_for what) (text_for what) ])
@@ -137,12 +137,12 @@ module _ (own own' : List Row) (alike : Alike own own') where
   -- what a client sends has the same effect alone, with its own number as the pick
   pub message-said : (policy : Policy) (k pick : ℕ) (p : List ℕ) (m : Summary) → ((c : ℕ) → summary_sender_of m ≡ Some c → Resent pick c p) → sent_summary policy k own' (sent_number (summary_sender_of m)) p m ≡ numbered (summary_sender_of m) (sent_summary policy k own pick p m)
   message-said policy k pick p (Transport number) again = refl
-  message-said policy k pick p (Requests what wants) again = ap (λ n. elim (wants && nat_le 1024 n) as (λ _. Outcome) [ true ↦ drops (why.TooManyAsks 1024) | false ↦ sent_request policy k own' p what wants ]) unanswered-alike ∙ ap (λ o. elim (wants && nat_le 1024 (unanswered_asks own)) as (λ _. Outcome) [ true ↦ drops (why.TooManyAsks 1024) | false ↦ o ]) (requests-said policy k p what wants)
+  message-said policy k pick p (Requests what wants_reply) again = ap (λ n. elim (wants_reply && nat_le 1024 n) as (λ _. Outcome) [ true ↦ drops (why.TooManyAsks 1024) | false ↦ sent_request policy k own' p what wants_reply ]) unanswered-alike ∙ ap (λ o. elim (wants_reply && nat_le 1024 (unanswered_asks own)) as (λ _. Outcome) [ true ↦ drops (why.TooManyAsks 1024) | false ↦ o ]) (requests-said policy k p what wants_reply)
   message-said policy k pick p (Succeeds rest) again = refl
   message-said policy k pick p Refuses again = refl
   message-said policy k pick p (Open what c w max) again =
-      unused-said c (sent_open policy own' c p c what) (sent_open policy own' c p c what)
-      ∙ unused-numbered c (sent_open policy own pick p c what) (sent_open policy own' c p c what) (with_own own c) (open-said policy pick c p what (again c refl))
+      unused-said c (open_outcome policy own' c p c what) (open_outcome policy own' c p c what)
+      ∙ unused-numbered c (open_outcome policy own pick p c what) (open_outcome policy own' c p c what) (with_own own c) (open-said policy pick c p what (again c refl))
   message-said policy k pick p (Confirmation s c w max) again =
       by-found (on_waiting s (on_unused c (sends_as c p) (with_own own' c))) (waiting-blind s (on_unused c (sends_as c p) (with_own own' c))) (λ x. is_number x.remote s && (not (is_up x.by) && not (is_confirmed x))) (λ x. refl)
       ∙ waiting-numbered s c (on_unused c (sends_as pick p) (with_own own c)) (on_unused c (sends_as c p) (with_own own' c)) (waiting_at own s)

@@ -3,7 +3,7 @@ use Rattle.std.proofs.Common.{◌≡◌, ℕ, List, [], ◌∷◌, ◌++◌, dro
 use Rattle.std.specs.Prelude.{◌||◌}
 use Rattle.mux_history.specs.Channels.{own_number_of}
 use Rattle.mux_history.specs.Pending.{joined, pending_down, took_by, waiting_down}
-use Rattle.mux_history.specs.Requests.{asks, is_sent, wanted, wanted_by}
+use Rattle.mux_history.specs.Requests.{wanted_requests, is_sent, wanted, wanted_by}
 use Rattle.mux_history.specs.Rows.{Fate, Heard, Item, Row, is_lost, loses}
 use Rattle.mux_history.specs.Solo.{item_for, own_ups}
 use Rattle.mux_isolation.proofs.Solos.{alone, alone_row}
@@ -44,6 +44,6 @@ pub wanted-alone : (own : List Row) → wanted (alone own) ≡ wanted own
 wanted-alone [] = refl
 wanted-alone (row ∷ own) = rw (wanted-alone own, wanted-item own row.item row, sent-ups (own_number_of row.item) row.up row) refl
 
-pub asks-alone : (own : List Row) → asks (alone own) ≡ asks own
+pub asks-alone : (own : List Row) → wanted_requests (alone own) ≡ wanted_requests own
 asks-alone [] = refl
 asks-alone (row ∷ own) = rw (asks-alone own, wanted-item own row.item row, sent-ups (own_number_of row.item) row.up row) refl

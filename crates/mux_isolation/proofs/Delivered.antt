@@ -9,12 +9,12 @@ use Rattle.mux_history.specs.Summary.{Act, Confirmation, Fails, Summary, Open, W
 use Rattle.mux_history.specs.Heard.{Breaks, Dest, Disconnects, ToClient, ToMaster, dest, dest_confirmation, dest_summary, dest_open, dest_within, for_client, for_lost, received_for, received_summary, pending_open, renamed}
 use Rattle.mux_history.specs.Kept.{Delivers, FailsOpen, ForEach, LeavesLate, Reaches, ReachesChannel, ReachesForwarding}
 use Rattle.mux_history.specs.Ledger.{breach}
-use Rattle.mux_history.specs.Log.{all_recorded, bare, fate_with, fitting, goes, received_row, new_answers, overflow, row_of, treat}
+use Rattle.mux_history.specs.Log.{all_recorded, bare_row, fate_with, frames_that_fit, goes, received_row, new_answers, overflow, row_of, treat}
 use Rattle.mux_history.specs.Pending.{waiting_down}
 use Rattle.mux_history.specs.Policy.{Policy}
 use Rattle.mux_history.specs.Requests.{answers, answers_to, is_reply, replies, reply_in, wanted}
 use Rattle.mux_history.specs.Rows.{Goes, Heard, Item, Row, is_end, is_lost, rows_of}
-use Rattle.mux_history.specs.Said.{Outcome, sends, silent, records}
+use Rattle.mux_history.specs.Said.{Outcome, sends_payload, silent, records}
 use Rattle.ssh_grammar.specs.Frames.{frame_payload}
 use Rattle.ssh_grammar.specs.Messages.{Forwarded, Key}
 use Rattle.ssh_grammar.specs.SpellMessage.{open_failure, with_recipient}
@@ -32,7 +32,7 @@ use Rattle.mux_isolation.proofs.Named.{Met, holder-local, met, number-met}
 -- ---- what a row of the server's payload records
 
 -- no answer comes with it, unless it is a reply
-none-new : (k : ℕ) (p : List ℕ) (o : Outcome) (own : List Row) → reading p is_reply false ≡ false → new_answers (bare (Heard p) k o) own ≡ []
+none-new : (k : ℕ) (p : List ℕ) (o : Outcome) (own : List Row) → reading p is_reply false ≡ false → new_answers (bare_row (Heard p) k o) own ≡ []
 none-new k p o own other =
     ap (λ a. map frame_payload (drop (length (answers own)) a)) (same ∙ sym (append-nil (answers own)))
     ∙ ap (map frame_payload) (drop-append_seam (answers own) [])
@@ -40,7 +40,7 @@ none-new k p o own other =
     none_in : reply_in (Heard p) ≡ []
     none_in = ap (λ b. elim b as (λ _. List (List ℕ)) [ true ↦ p ∷ [] | false ↦ [] ]) other
 
-    same : answers (bare (Heard p) k o ∷ own) ≡ answers own
+    same : answers (bare_row (Heard p) k o ∷ own) ≡ answers own
     same =
         ap (λ w. answers_to w (replies own ++ reply_in (Heard p))) (append-nil (wanted own))
         ∙ (ap (λ r. answers_to (wanted own) (replies own ++ r)) none_in
@@ -50,13 +50,13 @@ none-new k p o own other =
 heard-recorded : (k : ℕ) (p : List ℕ) (own : List Row) → reading p is_reply false ≡ false → (row_of (Heard p) k (received_for own p) own).fate ≡ Goes → (row_of (Heard p) k (received_for own p) own).down ≡ (received_for own p).recorded
 heard-recorded k p own other = row-whole (λ row. row.fate ≡ Goes → row.down ≡ (received_for own p).recorded) (Heard p) k (received_for own p) own fits
   where
-    no_more : (b : Bool) → (elim b as (λ _. List (List ℕ)) [ true ↦ (received_for own p).recorded ++ new_answers (bare (Heard p) k (received_for own p)) own | false ↦ (received_for own p).recorded ]) ≡ (received_for own p).recorded
+    no_more : (b : Bool) → (elim b as (λ _. List (List ℕ)) [ true ↦ (received_for own p).recorded ++ new_answers (bare_row (Heard p) k (received_for own p)) own | false ↦ (received_for own p).recorded ]) ≡ (received_for own p).recorded
     no_more true = ap (λ fs. (received_for own p).recorded ++ fs) (none-new k p (received_for own p) own other) ∙ append-nil (received_for own p).recorded
     no_more false = refl
 
-    fits : (fw : List (List ℕ)) → fate_with (received_for own p).ends (overflow (waiting_down own) (all_recorded (bare (Heard p) k (received_for own p)) own)) ≡ Goes → fitting (waiting_down own) (all_recorded (bare (Heard p) k (received_for own p)) own) ≡ (received_for own p).recorded
+    fits : (fw : List (List ℕ)) → fate_with (received_for own p).ends (overflow (waiting_down own) (all_recorded (bare_row (Heard p) k (received_for own p)) own)) ≡ Goes → frames_that_fit (waiting_down own) (all_recorded (bare_row (Heard p) k (received_for own p)) own) ≡ (received_for own p).recorded
     fits fw going =
-        all-fit (waiting_down own) (all_recorded (bare (Heard p) k (received_for own p)) own) (no-overflow (overflow (waiting_down own) (all_recorded (bare (Heard p) k (received_for own p)) own)) (sym (ap (λ fate. fate_with fate (overflow (waiting_down own) (all_recorded (bare (Heard p) k (received_for own p)) own))) (heard-goes own p)) ∙ going))
+        all-fit (waiting_down own) (all_recorded (bare_row (Heard p) k (received_for own p)) own) (no-overflow (overflow (waiting_down own) (all_recorded (bare_row (Heard p) k (received_for own p)) own)) (sym (ap (λ fate. fate_with fate (overflow (waiting_down own) (all_recorded (bare_row (Heard p) k (received_for own p)) own))) (heard-goes own p)) ∙ going))
         ∙ no_more (goes (received_for own p).ends && not (is_lost own))
 
 -- of a client that is not lost
@@ -122,15 +122,15 @@ module _ (before : List Row) (good : AreApart (channels_of before)) (p : List �
           records_it : (received_row before p (ToClient k)).down ≡ (received_for (rows_of k before) p).recorded
           records_it = heard-recorded k p (rows_of k before) (other-reads (Open (Forwarded key) s w max) reads refl) going
 
-          does : (b : Bool) → nat_lt (length (held_of (rows_of k before))) 256 ≡ b → received_for (rows_of k before) p ≡ (elim b as (λ _. Outcome) [ true ↦ records (frame_payload p) | false ↦ sends (open_failure s 4 (codes "too many channels")) ])
-          does b e = alive-does (rows_of k before) p (Open (Forwarded key) s w max) reads alive ∙ ap (λ b. elim b as (λ _. Outcome) [ true ↦ records (frame_payload p) | false ↦ sends (open_failure s 4 (codes "too many channels")) ]) e
+          does : (b : Bool) → nat_lt (length (held_of (rows_of k before))) 256 ≡ b → received_for (rows_of k before) p ≡ (elim b as (λ _. Outcome) [ true ↦ records (frame_payload p) | false ↦ sends_payload (open_failure s 4 (codes "too many channels")) ])
+          does b e = alive-does (rows_of k before) p (Open (Forwarded key) s w max) reads alive ∙ ap (λ b. elim b as (λ _. Outcome) [ true ↦ records (frame_payload p) | false ↦ sends_payload (open_failure s 4 (codes "too many channels")) ]) e
       by_room alive going false e = record { recorded = records_it ∙ ap (λ (o : Outcome). o.recorded) does; sent = sent-up k p (rows_of k before) ∙ ap (λ (o : Outcome). o.sent) does }
         where
           records_it : (received_row before p (ToClient k)).down ≡ (received_for (rows_of k before) p).recorded
           records_it = heard-recorded k p (rows_of k before) (other-reads (Open (Forwarded key) s w max) reads refl) going
 
-          does : received_for (rows_of k before) p ≡ sends (open_failure s 4 (codes "too many channels"))
-          does = alive-does (rows_of k before) p (Open (Forwarded key) s w max) reads alive ∙ ap (λ b. elim b as (λ _. Outcome) [ true ↦ records (frame_payload p) | false ↦ sends (open_failure s 4 (codes "too many channels")) ]) e
+          does : received_for (rows_of k before) p ≡ sends_payload (open_failure s 4 (codes "too many channels"))
+          does = alive-does (rows_of k before) p (Open (Forwarded key) s w max) reads alive ∙ ap (λ b. elim b as (λ _. Outcome) [ true ↦ records (frame_payload p) | false ↦ sends_payload (open_failure s 4 (codes "too many channels")) ]) e
 
   client-reached : (m : Summary) → read_summary p ≡ Ok m → dest before p ≡ ToClient k → Reaches before (received_row before p (ToClient k)) p m
   client-reached (Open (Forwarded key) s w max) reads to = λ f live. open-reached key s w max f reads to live
@@ -207,10 +207,10 @@ lost-does own p m reads lost =
     ∙ ap (λ b. elim b as (λ _. Outcome) [ true ↦ for_lost own m | false ↦ for_client own p m ]) lost
 
 late-row : (k : ℕ) (p : List ℕ) (m : Summary) (own : List Row) → read_summary p ≡ Ok m → is_lost own ≡ true → LeavesLate own (row_of (Heard p) k (received_for own p) own) m
-late-row k p m own reads lost = subst (λ (o : Outcome). LeavesLate own (row_of (Heard p) k o own) m) (sym (lost-does own p m reads lost)) (row-whole (λ row. LeavesLate own row m) (Heard p) k (for_lost own m) own (λ fw. record { recorded = ap (fitting (waiting_down own)) nothing; sent = refl }))
+late-row k p m own reads lost = subst (λ (o : Outcome). LeavesLate own (row_of (Heard p) k o own) m) (sym (lost-does own p m reads lost)) (row-whole (λ row. LeavesLate own row m) (Heard p) k (for_lost own m) own (λ fw. record { recorded = ap (frames_that_fit (waiting_down own)) nothing; sent = refl }))
   where
-    nothing : all_recorded (bare (Heard p) k (for_lost own m)) own ≡ []
-    nothing = ap (λ b. elim (true && not b) as (λ _. List (List ℕ)) [ true ↦ [] ++ new_answers (bare (Heard p) k (for_lost own m)) own | false ↦ [] ]) lost
+    nothing : all_recorded (bare_row (Heard p) k (for_lost own m)) own ≡ []
+    nothing = ap (λ b. elim (true && not b) as (λ _. List (List ℕ)) [ true ↦ [] ++ new_answers (bare_row (Heard p) k (for_lost own m)) own | false ↦ [] ]) lost
 
 late-heard : (before : List Row) (p : List ℕ) (m : Summary) → read_summary p ≡ Ok m → (d : Dest) → ((received_row before p d).client ≡ 0 → ⊥) → is_lost (rows_of (received_row before p d).client before) ≡ true → LeavesLate (rows_of (received_row before p d).client before) (received_row before p d) m
 late-heard before p m reads ToMaster real lost = absurd (real refl)

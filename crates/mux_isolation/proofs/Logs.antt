@@ -4,11 +4,11 @@ use Rattle.std.specs.Prelude.{◌==◌, ◌||◌}
 use Rattle.mux_history.specs.Channels.{channels_of, own_number_of}
 use Rattle.mux_history.specs.Choices.{Choices, FromLists, pick_of, sent_number, with_reply}
 use Rattle.mux_history.specs.Journal.{items}
-use Rattle.mux_history.specs.Log.{Setting, admits, bare, log_of, makes_next, more_of, next_row, treat}
+use Rattle.mux_history.specs.Log.{Setting, admits, bare_row, log_of, makes_next, more_of, next_row, treat}
 use Rattle.mux_history.specs.Policy.{Policy}
 use Rattle.mux_history.specs.Requests.{replies}
 use Rattle.mux_history.specs.Right.{AreFresh}
-use Rattle.mux_history.specs.Rows.{Admit, BadServer, Gone, Heard, HouseSays, Item, Row, RunEnd, Says, ServerCut, ServerEnd, ServerFailed, Took, any_of, is_admit, is_end, is_ended, rows_of}
+use Rattle.mux_history.specs.Rows.{Admit, BadServer, Gone, Heard, HouseSays, Item, Row, RunEnd, Says, ServerCut, ServerEnd, ServerFailed, Took, any_of, is_admit, is_end, is_run_over, rows_of}
 use Rattle.mux_history.specs.Said.{silent}
 use Rattle.mux_history.specs.Settings.{by_lists, by_own}
 use Rattle.mux_history.specs.Solo.{IsUnshared, run_end_of, item_for, items_for, run_end, seen_alone}
@@ -36,7 +36,7 @@ AllUnrefused (row ∷ before) = Unrefused row.item (is_admit row) × AllUnrefuse
 
 pub record LogFacts (policy : Policy) (pid k : ℕ) (rows : List Row) : Type 0 where
   pub good : AreApart (channels_of rows)
-  pub orderly : is_ended rows ≡ false → Orderly rows
+  pub orderly : is_run_over rows ≡ false → Orderly rows
   pub named : AllNamed (rows_of k rows)
   pub small : AllSmall (rows_of k rows)
   pub once : AdmitOnce k (rows_of k rows)
@@ -71,11 +71,11 @@ module _ (policy : Policy) (pid pick k : ℕ) (real : k ≡ 0 → ⊥) (before :
   next-good : AreApart (channels_of (treat policy pid pick before item ∷ before))
   next-good = good-treat policy pid pick before item facts.good lawful fresh
 
-  next-orderly : is_ended (treat policy pid pick before item ∷ before) ≡ false → Orderly (treat policy pid pick before item ∷ before)
-  next-orderly on = orderly-treat policy pid pick before item (facts.orderly (or-right (is_end (treat policy pid pick before item).fate) (is_ended before) on)) (or-left (is_end (treat policy pid pick before item).fate) (is_ended before) on)
+  next-orderly : is_run_over (treat policy pid pick before item ∷ before) ≡ false → Orderly (treat policy pid pick before item ∷ before)
+  next-orderly on = orderly-treat policy pid pick before item (facts.orderly (or-right (is_end (treat policy pid pick before item).fate) (is_run_over before) on)) (or-left (is_end (treat policy pid pick before item).fate) (is_run_over before) on)
 
-  took-facts : (j size : ℕ) → j ≡ k → OwnFacts policy pid k (rows_of k before) (Took j size) (bare (Took j size) j silent)
-  took-facts j size same = subst (λ (i : ℕ). OwnFacts policy pid k (rows_of k before) (Took i size) (bare (Took i size) i silent)) (sym same) (own-took policy pid before facts.good k size facts.named)
+  took-facts : (j size : ℕ) → j ≡ k → OwnFacts policy pid k (rows_of k before) (Took j size) (bare_row (Took j size) j silent)
+  took-facts j size same = subst (λ (i : ℕ). OwnFacts policy pid k (rows_of k before) (Took i size) (bare_row (Took i size) i silent)) (sym same) (own-took policy pid before facts.good k size facts.named)
 
   own-facts : (treat policy pid pick before item).client ≡ k → OwnFacts policy pid k (rows_of k before) item (treat policy pid pick before item)
   own-facts mine =
@@ -185,7 +185,7 @@ run-end-same setting rows items = by_end (run_end_of rows)
 
     by_end : (o : Option Ended) → log_of setting (elim o as (λ _. List Item) [ None ↦ [] | Some cause ↦ RunEnd cause ∷ [] ] ++ items) ≡ log_of setting items
     by_end None = refl
-    by_end (Some cause) = by_ended cause (is_ended (log_of setting items))
+    by_end (Some cause) = by_ended cause (is_run_over (log_of setting items))
 
 pub isolated : (policy : Policy) (pid k : ℕ) (picks : List ℕ) (replies : List HouseReply) (rows : List Row) → LogFacts policy pid k rows → any_of is_admit (rows_of k rows) ≡ true → IsUnshared (by_lists policy pid picks replies) k rows
 isolated policy pid k picks replies rows facts admitted =

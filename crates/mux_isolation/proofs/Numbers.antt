@@ -2,7 +2,7 @@
 use Rattle.std.proofs.Common.{◌≡◌, ℕ, List, [], ◌∷◌, ◌++◌, true, false, Bool, refl, ◌∙◌, ap, map, sym, Option, Some, None, Ok, Err}
 use Rattle.std.specs.Prelude.{◌==◌, ◌&&◌, Result}
 use Rattle.std.proofs.lemmas.List.{map-append}
-use Rattle.mux_history.specs.Channels.{Channel, after_farewell, after_item, begun_by, channels_of, received_by, is_channel_held, is_number, own_number_of, with_up, with_ups}
+use Rattle.mux_history.specs.Channels.{Channel, after_farewell, after_item, begun_by, channels_of, channel_after_item, is_channel_held, is_number, own_number_of, with_up, with_ups}
 use Rattle.mux_history.specs.Summary.{Act, Confirmation, Confirms, Summary, Within, read_summary, reading}
 use Rattle.mux_history.specs.Kept.{Every}
 use Rattle.mux_history.specs.Rows.{Heard, Item, Row}
@@ -94,18 +94,18 @@ own_number_of-item : (before : List Row) (item : Item) → own_number_of (item_f
 own_number_of-item before (Heard p) = refl
 own_number_of-item before item = refl
 
-heard-one : (before : List Row) (item : Item) (x : Channel) → ReceivedOne before item x → received_by (item_for before item) (own_numbered x) ≡ own_numbered (received_by item x)
+heard-one : (before : List Row) (item : Item) (x : Channel) → ReceivedOne before item x → channel_after_item (item_for before item) (own_numbered x) ≡ own_numbered (channel_after_item item x)
 heard-one before (Heard p) x named = heard-alone before p x named
 heard-one before item x named = refl
 
 item-alone : (before : List Row) (row : Row) (x : Channel) → ReceivedOne before row.item x → UpsNamed (own_number_of row.item) row.up → after_item (alone_row before row) (own_numbered x) ≡ own_numbered (after_item row x)
 item-alone before row x heard ups = by_case (x.client == row.client)
   where
-    by_case : (b : Bool) → (elim b as (λ _. Channel) [ true ↦ with_ups (own_number_of (item_for before row.item)) (own_ups (own_number_of row.item) row.up) (received_by (item_for before row.item) (own_numbered x)) | false ↦ own_numbered x ]) ≡ own_numbered (elim b as (λ _. Channel) [ true ↦ with_ups (own_number_of row.item) row.up (received_by row.item x) | false ↦ x ])
+    by_case : (b : Bool) → (elim b as (λ _. Channel) [ true ↦ with_ups (own_number_of (item_for before row.item)) (own_ups (own_number_of row.item) row.up) (channel_after_item (item_for before row.item) (own_numbered x)) | false ↦ own_numbered x ]) ≡ own_numbered (elim b as (λ _. Channel) [ true ↦ with_ups (own_number_of row.item) row.up (channel_after_item row.item x) | false ↦ x ])
     by_case true =
         ap (with_ups (own_number_of (item_for before row.item)) (own_ups (own_number_of row.item) row.up)) (heard-one before row.item x heard)
-        ∙ (ap (λ o. with_ups o (own_ups (own_number_of row.item) row.up) (own_numbered (received_by row.item x))) (own_number_of-item before row.item)
-        ∙ ups-alone (own_number_of row.item) row.up ups (received_by row.item x))
+        ∙ (ap (λ o. with_ups o (own_ups (own_number_of row.item) row.up) (own_numbered (channel_after_item row.item x))) (own_number_of-item before row.item)
+        ∙ ups-alone (own_number_of row.item) row.up ups (channel_after_item row.item x))
     by_case false = refl
 
 leave-alone : (before : List Row) (row : Row) (x : Channel) → Every Quiet row.farewell → after_farewell (alone_row before row) (own_numbered x) ≡ own_numbered (after_farewell row x)

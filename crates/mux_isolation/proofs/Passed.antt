@@ -9,7 +9,7 @@ use Rattle.mux_history.specs.Keys.{is_askable}
 use Rattle.mux_history.specs.Log.{treat}
 use Rattle.mux_history.specs.Policy.{Policy, permits}
 use Rattle.mux_history.specs.Rows.{Item, Row, Says, rows_of}
-use Rattle.mux_history.specs.Said.{Outcome, drops, fails_open, is_full_of_asks, on_breach, on_confirmed, on_unused, on_waiting, reason_for, sent_summary, sent_open, sent_payload, sent_request, sends, sends_as, sends_if, sends_open, text_for}
+use Rattle.mux_history.specs.Said.{Outcome, drops, fails_open, is_full_of_asks, on_breach, on_confirmed, on_unused, on_waiting, reason_for, sent_summary, open_outcome, sent_payload, sent_request, sends_payload, sends_as, sends_if, sends_open, text_for}
 use Rattle.mux_outside.specs.declared.house.HouseReply.{HouseReply}
 use Rattle.ssh_grammar.specs.Messages.{Cancel, Forward, Global, KeepAlive}
 use Rattle.ssh_grammar.specs.Said.{Payload}
@@ -52,12 +52,12 @@ all-three true false c e f g = cc
 all-three true true false e f g = cc
 
 must-go : (policy : Policy) (k : ℕ) (own : List Row) (pick : ℕ) (p : List ℕ) (m : Summary) → MustGoUp policy k own (sent_summary policy k own pick p m).sent p m
-must-go policy k own pick p (Open what c w max) = λ permitted. must-open own pick p c (sent_open policy own pick p c what) (λ few. ap (λ b. (elim b as (λ _. Outcome) [ true ↦ sends_open own pick p c | false ↦ fails_open c (reason_for what) (text_for what) ]).sent) permitted ∙ room-left own pick p c few)
+must-go policy k own pick p (Open what c w max) = λ permitted. must-open own pick p c (open_outcome policy own pick p c what) (λ few. ap (λ b. (elim b as (λ _. Outcome) [ true ↦ sends_open own pick p c | false ↦ fails_open c (reason_for what) (text_for what) ]).sent) permitted ∙ room-left own pick p c few)
 must-go policy k own pick p (Requests (Forward key) true) = λ askable permitted few. must-ask policy k own p (Forward key) true (ap (λ b. (sends_if b p).sent) (all-three (is_askable key) (permits policy.listens key) (nat_lt (length (current own)) 64) askable permitted few))
 must-go policy k own pick p (Requests (Cancel key) wants) = λ free. must-ask policy k own p (Cancel key) wants (ap (λ b. (sends_if b p).sent) free)
 must-go policy k own pick p (Requests KeepAlive wants) = must-ask policy k own p KeepAlive wants refl
 must-go policy k own pick p (Confirmation s c w max) = λ x waits unused. (pick, ap (λ o. (on_waiting s (on_unused c (sends_as pick p) (with_own own c)) o).sent) waits ∙ ap (λ o. (on_unused c (sends_as pick p) o).sent) unused)
-must-go policy k own pick p (Within s Fails) = λ x waits. ap (λ o. (on_waiting s (sends p) o).sent) waits
+must-go policy k own pick p (Within s Fails) = λ x waits. ap (λ o. (on_waiting s (sends_payload p) o).sent) waits
 must-go policy k own pick p (Within s act) = λ x confirmed fine. ap (λ o. (on_confirmed p s act o).sent) confirmed ∙ ap (λ o. (on_breach p s o).sent) fine
 must-go policy k own pick p m = tt
 

@@ -5,18 +5,18 @@ use Rattle.mux_history.specs.Channels.{Channel, channels_of, holder, is_channel_
 use Rattle.mux_history.specs.Farewell.{late, late_refusal, late_success, with_ask}
 use Rattle.mux_history.specs.Forwardings.{Forwarding, live_at}
 use Rattle.mux_history.specs.Summary.{Act, Confirmation, Fails, Summary, Open, Refuses, Requests, Succeeds, Transport, Within, read_summary, summary_recipient_of}
-use Rattle.mux_history.specs.Heard.{Breaks, Dest, Disconnects, ToClient, ToMaster, dest, dest_asker, dest_confirmation, dest_summary, dest_open, dest_success, dest_within, for_client, for_lost, received_for, received_summary, is_pending, own_number, renamed}
+use Rattle.mux_history.specs.Heard.{Breaks, Dest, Disconnects, ToClient, ToMaster, dest, dest_asker, dest_confirmation, dest_summary, dest_open, dest_success, dest_within, for_client, for_lost, received_for, received_summary, is_open_pending, own_number, renamed}
 use Rattle.mux_history.specs.Keys.{has_key}
 use Rattle.mux_history.specs.Ledger.{breach}
 use Rattle.mux_history.specs.Log.{received_row, row_of, treat}
 use Rattle.mux_history.specs.Policy.{Policy}
-use Rattle.mux_history.specs.Requests.{asker, asks, replies}
+use Rattle.mux_history.specs.Requests.{asker, wanted_requests, replies}
 use Rattle.mux_history.specs.Rows.{Goes, Heard, Row, is_lost, rows_of}
-use Rattle.mux_history.specs.Said.{Outcome, sends, silent, records}
+use Rattle.mux_history.specs.Said.{Outcome, sends_payload, silent, records}
 use Rattle.mux_history.specs.Solo.{item_for}
 use Rattle.ssh_grammar.specs.Frames.{frame_payload}
 use Rattle.ssh_grammar.specs.Messages.{Key}
-use Rattle.ssh_grammar.specs.SpellMessage.{open_failure, wants, with_recipient}
+use Rattle.ssh_grammar.specs.SpellMessage.{open_failure, wants_reply, with_recipient}
 use Rattle.ssh_grammar.specs.declared.fault.Bad.{Bad}
 use Rattle.ssh_grammar.specs.declared.side.Side.TheVariants.{Down}
 use Rattle.mux_history.specs.declared.broke.Break.TheVariants as broke
@@ -90,7 +90,7 @@ module _ (before : List Row) (good : AreApart (channels_of before)) (orderly : O
       ∙ (find-met n r.c (channels_of (rows_of k before)) r.meets ∙ ap (option_map own_numbered) r.is)
 
   asker-alone : asker (alone (rows_of k before)) ≡ asker (rows_of k before)
-  asker-alone = ap (λ xs. slice_get xs (length (replies (alone (rows_of k before))))) (asks-alone (rows_of k before)) ∙ ap (λ rs. slice_get (asks (rows_of k before)) (length rs)) (replies-alone (rows_of k before) small)
+  asker-alone = ap (λ xs. slice_get xs (length (replies (alone (rows_of k before))))) (asks-alone (rows_of k before)) ∙ ap (λ rs. slice_get (wanted_requests (rows_of k before)) (length rs)) (replies-alone (rows_of k before) small)
 
   live-at-alone : (key : Key) → live_at (alone (rows_of k before)) key ≡ live_at (rows_of k before) key
   live-at-alone key = ap (λ fs. find (λ (f : Forwarding). has_key f.live key) (filter (λ (f : Forwarding). not f.over) fs)) (forwardings-alone k (rows_of k before) (all-of k before) small)
@@ -102,16 +102,16 @@ module _ (before : List Row) (good : AreApart (channels_of before)) (orderly : O
 
   -- ---- it goes to the client alone too
 
-  confirmation-to : (n s : ℕ) (r : Met (rows_of k before) n) → is_pending r.channel ≡ true → r.channel.client ≡ k → live_in before s ≡ None → dest_confirmation (alone (rows_of k before)) r.c s ≡ ToClient k
+  confirmation-to : (n s : ℕ) (r : Met (rows_of k before) n) → is_open_pending r.channel ≡ true → r.channel.client ≡ k → live_in before s ≡ None → dest_confirmation (alone (rows_of k before)) r.c s ≡ ToClient k
   confirmation-to n s r waits mine unused =
-      ap (λ o. elim (elim o as (λ _. Option Channel) [ None ↦ None | Some x ↦ elim (is_pending x) as (λ _. Option Channel) [ true ↦ Some x | false ↦ None ] ]) as (λ _. Dest) [ None ↦ Breaks (broke.NotPending r.c) | Some x ↦ elim (live_in (alone (rows_of k before)) s) as (λ _. Dest) [ Some y ↦ Breaks (broke.NumberInUse s) | None ↦ ToClient x.client ] ]) (holder-alone n r)
+      ap (λ o. elim (elim o as (λ _. Option Channel) [ None ↦ None | Some x ↦ elim (is_open_pending x) as (λ _. Option Channel) [ true ↦ Some x | false ↦ None ] ]) as (λ _. Dest) [ None ↦ Breaks (broke.NotPending r.c) | Some x ↦ elim (live_in (alone (rows_of k before)) s) as (λ _. Dest) [ Some y ↦ Breaks (broke.NumberInUse s) | None ↦ ToClient x.client ] ]) (holder-alone n r)
       ∙ (ap (λ b. elim (elim b as (λ _. Option Channel) [ true ↦ Some (own_numbered r.channel) | false ↦ None ]) as (λ _. Dest) [ None ↦ Breaks (broke.NotPending r.c) | Some x ↦ elim (live_in (alone (rows_of k before)) s) as (λ _. Dest) [ Some y ↦ Breaks (broke.NumberInUse s) | None ↦ ToClient x.client ] ]) waits
       ∙ (ap (λ o. elim o as (λ _. Dest) [ Some y ↦ Breaks (broke.NumberInUse s) | None ↦ ToClient r.channel.client ]) (live-alone s unused)
       ∙ ap ToClient mine))
 
-  fails-to : (n : ℕ) (r : Met (rows_of k before) n) → is_pending r.channel ≡ true → r.channel.client ≡ k → dest_within (alone (rows_of k before)) r.c Fails ≡ ToClient k
+  fails-to : (n : ℕ) (r : Met (rows_of k before) n) → is_open_pending r.channel ≡ true → r.channel.client ≡ k → dest_within (alone (rows_of k before)) r.c Fails ≡ ToClient k
   fails-to n r waits mine =
-      ap (λ o. elim (elim o as (λ _. Option Channel) [ None ↦ None | Some x ↦ elim (is_pending x) as (λ _. Option Channel) [ true ↦ Some x | false ↦ None ] ]) as (λ _. Dest) [ None ↦ Breaks (broke.NotPending r.c) | Some x ↦ ToClient x.client ]) (holder-alone n r)
+      ap (λ o. elim (elim o as (λ _. Option Channel) [ None ↦ None | Some x ↦ elim (is_open_pending x) as (λ _. Option Channel) [ true ↦ Some x | false ↦ None ] ]) as (λ _. Dest) [ None ↦ Breaks (broke.NotPending r.c) | Some x ↦ ToClient x.client ]) (holder-alone n r)
       ∙ (ap (λ b. elim (elim b as (λ _. Option Channel) [ true ↦ Some (own_numbered r.channel) | false ↦ None ]) as (λ _. Dest) [ None ↦ Breaks (broke.NotPending r.c) | Some x ↦ ToClient x.client ]) waits
       ∙ ap ToClient mine)
 
@@ -133,19 +133,19 @@ module _ (before : List Row) (good : AreApart (channels_of before)) (orderly : O
       let same : n' ≡ n = cc in
       let f : Confirmed before n' s k = confirmed before n' s k to in
       let eq : f.awaited.channel ≡ r.channel = same-channel n f.awaited.channel (sym (ap (holder before) same) ∙ f.awaited.is) f.awaited.client r in
-      confirmation-to n s r (sym (ap is_pending eq) ∙ f.awaited.waits) (sym (ap (λ (x : Channel). x.client) eq) ∙ f.awaited.client) f.unused
+      confirmation-to n s r (sym (ap is_open_pending eq) ∙ f.awaited.waits) (sym (ap (λ (x : Channel). x.client) eq) ∙ f.awaited.client) f.unused
   message-to (Within n' Fails) n some to r =
       let same : n' ≡ n = cc in
       let f : Awaited before n' k = fails-awaited before n' k to in
       let eq : f.channel ≡ r.channel = same-channel n f.channel (sym (ap (holder before) same) ∙ f.is) f.client r in
-      fails-to n r (sym (ap is_pending eq) ∙ f.waits) (sym (ap (λ (x : Channel). x.client) eq) ∙ f.client)
+      fails-to n r (sym (ap is_open_pending eq) ∙ f.waits) (sym (ap (λ (x : Channel). x.client) eq) ∙ f.client)
   message-to (Within n' act) n some to r =
       let same : n' ≡ n = cc in
       let f : Legal before n' act k = within-legal before n' act k refl to in
       let eq : f.channel ≡ r.channel = same-channel n f.channel (sym (ap (holder before) same) ∙ f.is) f.client r in
       legal-to n act r (sym (ap (breach Down act) eq) ∙ f.fine) (sym (ap (λ (x : Channel). x.client) eq) ∙ f.client)
   message-to (Transport number) n some to r = cc
-  message-to (Requests what wants) n some to r = cc
+  message-to (Requests what wants_reply) n some to r = cc
   message-to (Succeeds rest) n some to r = cc
   message-to Refuses n some to r = cc
   message-to (Open what s w max) n some to r = cc
@@ -158,7 +158,7 @@ module _ (before : List Row) (good : AreApart (channels_of before)) (orderly : O
   late-alone (Succeeds rest) c = ap (λ o. with_ask o (late_success rest)) asker-alone
   late-alone Refuses c = ap (λ o. with_ask o late_refusal) asker-alone
   late-alone (Transport number) c = refl
-  late-alone (Requests what wants) c = refl
+  late-alone (Requests what wants_reply) c = refl
   late-alone (Open what s w max) c = refl
 
   recorded-number : (p : List ℕ) (m : Summary) (n : ℕ) → read_summary p ≡ Ok m → summary_recipient_of m ≡ Some n → (r : Met (rows_of k before) n) → renamed (alone (rows_of k before)) (with_recipient p r.c) (Some r.c) ≡ renamed (rows_of k before) p (Some n)
@@ -171,13 +171,13 @@ module _ (before : List Row) (good : AreApart (channels_of before)) (orderly : O
   client-alone p (Confirmation n' s w max) n reads some r = let same : n ≡ n' = cc in ap (λ q. records (frame_payload q)) (recorded-number p (Confirmation n' s w max) n reads some r) ∙ ap (λ i. records (frame_payload (renamed (rows_of k before) p (Some i)))) same
   client-alone p (Within n' act) n reads some r = let same : n ≡ n' = cc in ap (λ q. records (frame_payload q)) (recorded-number p (Within n' act) n reads some r) ∙ ap (λ i. records (frame_payload (renamed (rows_of k before) p (Some i)))) same
   client-alone p (Transport number) n reads some r = cc
-  client-alone p (Requests what wants) n reads some r = cc
+  client-alone p (Requests what wants_reply) n reads some r = cc
   client-alone p (Succeeds rest) n reads some r = cc
   client-alone p Refuses n reads some r = cc
   client-alone p (Open what s w max) n reads some r = cc
 
   other-alone : (p : List ℕ) (m : Summary) → summary_recipient_of m ≡ None → for_client (alone (rows_of k before)) p m ≡ for_client (rows_of k before) p m
-  other-alone p (Open what s w max) none = ap (λ n. elim (nat_lt n 256) as (λ _. Outcome) [ true ↦ records (frame_payload p) | false ↦ sends (open_failure s 4 (codes "too many channels")) ]) (count-alike (rows_of k before) (alone (rows_of k before)) alike)
+  other-alone p (Open what s w max) none = ap (λ n. elim (nat_lt n 256) as (λ _. Outcome) [ true ↦ records (frame_payload p) | false ↦ sends_payload (open_failure s 4 (codes "too many channels")) ]) (count-alike (rows_of k before) (alone (rows_of k before)) alike)
   other-alone p (Confirmation n s w max) none = cc
   other-alone p (Within n act) none = cc
   other-alone p m none = refl
@@ -214,7 +214,7 @@ module _ (before : List Row) (good : AreApart (channels_of before)) (orderly : O
   late-same (Succeeds rest) none = ap (λ o. with_ask o (late_success rest)) asker-alone
   late-same Refuses none = ap (λ o. with_ask o late_refusal) asker-alone
   late-same (Transport number) none = refl
-  late-same (Requests what wants) none = refl
+  late-same (Requests what wants_reply) none = refl
   late-same (Open what s w max) none = refl
 
   none-to : (m : Summary) → summary_recipient_of m ≡ None → dest_summary before m ≡ ToClient k → dest_summary (alone (rows_of k before)) m ≡ ToClient k
@@ -235,7 +235,7 @@ module _ (before : List Row) (good : AreApart (channels_of before)) (orderly : O
       by_case : (b : Bool) → (elim b as (λ _. Dest) [ true ↦ Disconnects | false ↦ ToMaster ]) ≡ ToClient k → ⊥
       by_case true e = cc
       by_case false e = cc
-  none-to (Requests what wants) none to = cc
+  none-to (Requests what wants_reply) none to = cc
   none-to (Confirmation n s w max) none to = cc
   none-to (Within n act) none to = cc
 

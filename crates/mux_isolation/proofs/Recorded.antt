@@ -2,17 +2,17 @@
 use Rattle.std.proofs.Common.{◌≡◌, ℕ, List, [], ◌∷◌, length, true, false, Bool, refl, ◌∙◌, ap, sym, Some, subst, Ok, Err}
 use Rattle.std.specs.Prelude.{◌&&◌, filter, find, Result, nat_lt, codes, option_map}
 use Rattle.mux_history.specs.Channels.{Channel, channels_of, held_of, is_channel_held, is_number, with_own}
-use Rattle.mux_history.specs.Controls.{greeted, house_sends, sent_body}
+use Rattle.mux_history.specs.Controls.{client_has_greeted, house_sends, sent_body}
 use Rattle.mux_history.specs.Forwardings.{Forwarding}
 use Rattle.mux_history.specs.Summary.{Act, Carries, Confirmation, Summary, Open, Refuses, Requests, Succeeds, Transport, Within, read_summary, summary_recipient_of}
 use Rattle.mux_history.specs.Heard.{Breaks, Dest, Disconnects, ToClient, ToMaster, dest, dest_summary, for_client, for_lost, for_master, received_for, received_summary, received_master, renamed}
 use Rattle.mux_history.specs.Kept.{Every, Fits, ForEach}
 use Rattle.mux_history.specs.Ledger.{breach}
-use Rattle.mux_history.specs.Log.{admits, all_recorded, bare, received_row, row_of, treat}
+use Rattle.mux_history.specs.Log.{admits, all_recorded, bare_row, received_row, row_of, treat}
 use Rattle.mux_history.specs.Pending.{waiting_down}
 use Rattle.mux_history.specs.Policy.{Policy}
 use Rattle.mux_history.specs.Rows.{Admit, Gone, Heard, HouseSays, Item, Row, Says, is_lost, rows_of}
-use Rattle.mux_history.specs.Said.{Outcome, drops, sent_payload, sends, silent, records}
+use Rattle.mux_history.specs.Said.{Outcome, drops, sent_payload, sends_payload, silent, records}
 use Rattle.ssh_grammar.specs.Frames.{frame_payload}
 use Rattle.ssh_grammar.specs.Messages.{Opens}
 use Rattle.ssh_grammar.specs.Said.{BadFraming, Body, Payload}
@@ -78,7 +78,7 @@ module _ (before : List Row) (good : AreApart (channels_of before)) (k : ℕ) (p
   act-may n act to r = tt
 
   client-report : (m : Summary) → read_summary p ≡ Ok m → dest_summary before m ≡ ToClient k → Every (RecordOk before k) (for_client (rows_of k before) p m).recorded
-  client-report (Open what s w max) reads to = elim (nat_lt (length (held_of (rows_of k before))) 256) as (λ b. Every (RecordOk before k) (elim b as (λ _. Outcome) [ true ↦ records (frame_payload p) | false ↦ sends (open_failure s 4 (codes "too many channels")) ]).recorded) [ true ↦ (open_record, tt) | false ↦ tt ]
+  client-report (Open what s w max) reads to = elim (nat_lt (length (held_of (rows_of k before))) 256) as (λ b. Every (RecordOk before k) (elim b as (λ _. Outcome) [ true ↦ records (frame_payload p) | false ↦ sends_payload (open_failure s 4 (codes "too many channels")) ]).recorded) [ true ↦ (open_record, tt) | false ↦ tt ]
     where
       offer : Offered before s what k
       offer = offered before s what k to
@@ -109,7 +109,7 @@ module _ (before : List Row) (good : AreApart (channels_of before)) (k : ℕ) (p
 -- ---- any row
 
 pub down-row : (before : List Row) (item : Item) (k : ℕ) (o : Outcome) → Every (RecordOk before k) o.recorded → RecordsAllowed before (row_of item k o (rows_of k before))
-down-row before item k o recorded = row-split (RecordsAllowed before) item k o (rows_of k before) (λ fw parting fate. fitting-report before k (waiting_down (rows_of k before)) (all_recorded (bare item k o) (rows_of k before)) (all-report before k (bare item k o) (rows_of k before) recorded))
+down-row before item k o recorded = row-split (RecordsAllowed before) item k o (rows_of k before) (λ fw parting fate. fitting-report before k (waiting_down (rows_of k before)) (all_recorded (bare_row item k o) (rows_of k before)) (all-report before k (bare_row item k o) (rows_of k before) recorded))
 
 pub master-recorded : (p : List ℕ) → (received_master p).recorded ≡ []
 master-recorded p = by_case (read_summary p)
@@ -132,7 +132,7 @@ down-heard before good p (Breaks why) e = tt
 pub down-treat : (policy : Policy) (pid pick : ℕ) (before : List Row) (item : Item) → AreApart (channels_of before) → RecordsAllowed before (treat policy pid pick before item)
 down-treat policy pid pick before (Admit k) good = down-row before (Admit k) k (admits before) (admits-report before k)
 down-treat policy pid pick before (Says k (Payload p) reply) good = down-row before (Says k (Payload p) reply) k (sent_payload policy k (rows_of k before) pick p) (payload-report before k policy (rows_of k before) pick p)
-down-treat policy pid pick before (Says k (Body body) reply) good = down-row before (Says k (Body body) reply) k (sent_body pid k reply (greeted (rows_of k before)) body) (body-report before k pid reply (greeted (rows_of k before)) body)
+down-treat policy pid pick before (Says k (Body body) reply) good = down-row before (Says k (Body body) reply) k (sent_body pid k reply (client_has_greeted (rows_of k before)) body) (body-report before k pid reply (client_has_greeted (rows_of k before)) body)
 down-treat policy pid pick before (Says k (BadFraming fault) reply) good = down-row before (Says k (BadFraming fault) reply) k (drops (why.BadFrame fault)) tt
 down-treat policy pid pick before (HouseSays k id given) good = down-row before (HouseSays k id given) k (house_sends (rows_of k before) id given) (house-report before k (rows_of k before) id given)
 down-treat policy pid pick before (Gone k) good = down-row before (Gone k) k silent tt

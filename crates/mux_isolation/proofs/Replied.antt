@@ -8,10 +8,10 @@ use Rattle.mux_history.specs.Farewell.{farewell}
 use Rattle.mux_history.specs.Summary.{Summary, Refuses, Succeeds, read_summary, reading}
 use Rattle.mux_history.specs.Heard.{Breaks, Dest, Disconnects, ToClient, ToMaster, dest, dest_summary, dest_success, for_client, for_lost, received_for, received_summary}
 use Rattle.mux_history.specs.Kept.{Asker, ForEach, ReachesAsker, RecordsNext, RecordsReply}
-use Rattle.mux_history.specs.Log.{all_recorded, bare, fate_with, fitting, received_row, new_answers, overflow, queued, row_of, treat}
+use Rattle.mux_history.specs.Log.{all_recorded, bare_row, fate_with, frames_that_fit, received_row, new_answers, overflow, queued, row_of, treat}
 use Rattle.mux_history.specs.Pending.{waiting_down}
 use Rattle.mux_history.specs.Policy.{Policy}
-use Rattle.mux_history.specs.Requests.{Ask, answers, answers_to, asker, asks, asks_of, is_reply, is_sent, replies, reply_in, sent_flags, wanted, wanted_by}
+use Rattle.mux_history.specs.Requests.{Ask, answers, answers_to, asker, wanted_requests, asks_of, is_reply, is_sent, replies, reply_in, sent_flags, wanted, wanted_by}
 use Rattle.mux_history.specs.Rows.{Goes, Heard, Item, Row, is_end, is_lost, loses, rows_of}
 use Rattle.mux_history.specs.Said.{Outcome, silent}
 use Rattle.ssh_grammar.specs.Frames.{frame_payload}
@@ -100,14 +100,14 @@ count-flags k false None = refl
 count-flags k true (Some what) = refl
 count-flags k false (Some what) = refl
 
-count-asks : (rows : List Row) → count_sent (wanted rows) ≡ length (asks rows)
+count-asks : (rows : List Row) → count_sent (wanted rows) ≡ length (wanted_requests rows)
 unfolding count_sent
 count-asks [] = refl
 count-asks (row ∷ rows) =
     let a = count-append (wanted rows) (sent_flags (is_sent row) (wanted_by row)) in
     let b = count-flags row.client (is_sent row) (wanted_by row) in
     let c = count-asks rows in
-    let d = length-append (asks rows) (asks_of row.client (is_sent row) (wanted_by row)) in
+    let d = length-append (wanted_requests rows) (asks_of row.client (is_sent row) (wanted_by row)) in
     omega arith
 
 framed-all : (n : ℕ) (p : List ℕ) → map frame_payload (replicate n p) ≡ replicate n (frame_payload p)
@@ -118,13 +118,13 @@ framed-all (suc n) p = ap (λ xs. frame_payload p ∷ xs) (framed-all n p)
 
 module _ (before : List Row) (orderly : Orderly before) (k : ℕ) (p : List ℕ) (reply : reading p is_reply false ≡ true) (asked : Asked before k) (alive : is_lost (rows_of k before) ≡ false) where
   abbrev mute_row : Row
-  mute_row = bare (Heard p) k silent
+  mute_row = bare_row (Heard p) k silent
 
   reply-is : reply_in (Heard p) ≡ p ∷ []
   reply-is = ap (λ b. elim b as (λ _. List (List ℕ)) [ true ↦ p ∷ [] | false ↦ [] ]) reply
 
   fewer : length (replies (rows_of k before)) < count_sent (wanted (rows_of k before))
-  fewer = let a = slice_get_within (asks (rows_of k before)) (length (replies (rows_of k before))) asked.ask (asker-local before k orderly asked) in let b = count-asks (rows_of k before) in omega arith
+  fewer = let a = slice_get_within (wanted_requests (rows_of k before)) (length (replies (rows_of k before))) asked.ask (asker-local before k orderly asked) in let b = count-asks (rows_of k before) in omega arith
 
   answers-row : answers (mute_row ∷ rows_of k before) ≡ answers_to (wanted (rows_of k before)) (replies (rows_of k before) ++ p ∷ [])
   answers-row = ap (λ w. answers_to w (replies (rows_of k before) ++ reply_in (Heard p))) (append-nil (wanted (rows_of k before))) ∙ ap (λ r. answers_to (wanted (rows_of k before)) (replies (rows_of k before) ++ r)) reply-is
@@ -163,23 +163,23 @@ module _ (before : List Row) (orderly : Orderly before) (k : ℕ) (p : List ℕ)
   }
     where
       answers-are : answers (row_of (Heard p) k silent (rows_of k before) ∷ rows_of k before) ≡ answers (mute_row ∷ rows_of k before)
-      answers-are = by_case (loses (queued (all_recorded (bare (Heard p) k silent) (rows_of k before)) (bare (Heard p) k silent) (rows_of k before)))
+      answers-are = by_case (loses (queued (all_recorded (bare_row (Heard p) k silent) (rows_of k before)) (bare_row (Heard p) k silent) (rows_of k before)))
         where
-          by_case : (b : Bool) → answers ((elim b as (λ _. Row) [ true ↦ record (queued (all_recorded (bare (Heard p) k silent) (rows_of k before)) (bare (Heard p) k silent) (rows_of k before)) { farewell = farewell (queued (all_recorded (bare (Heard p) k silent) (rows_of k before)) (bare (Heard p) k silent) (rows_of k before)) (rows_of k before) } | false ↦ queued (all_recorded (bare (Heard p) k silent) (rows_of k before)) (bare (Heard p) k silent) (rows_of k before) ]) ∷ rows_of k before) ≡ answers (mute_row ∷ rows_of k before)
+          by_case : (b : Bool) → answers ((elim b as (λ _. Row) [ true ↦ record (queued (all_recorded (bare_row (Heard p) k silent) (rows_of k before)) (bare_row (Heard p) k silent) (rows_of k before)) { farewell = farewell (queued (all_recorded (bare_row (Heard p) k silent) (rows_of k before)) (bare_row (Heard p) k silent) (rows_of k before)) (rows_of k before) } | false ↦ queued (all_recorded (bare_row (Heard p) k silent) (rows_of k before)) (bare_row (Heard p) k silent) (rows_of k before) ]) ∷ rows_of k before) ≡ answers (mute_row ∷ rows_of k before)
           by_case true = refl
           by_case false = refl
 
-      down-is : (row_of (Heard p) k silent (rows_of k before)).down ≡ fitting (waiting_down (rows_of k before)) (all_recorded mute_row (rows_of k before))
-      down-is = by_case (loses (queued (all_recorded (bare (Heard p) k silent) (rows_of k before)) (bare (Heard p) k silent) (rows_of k before)))
+      down-is : (row_of (Heard p) k silent (rows_of k before)).down ≡ frames_that_fit (waiting_down (rows_of k before)) (all_recorded mute_row (rows_of k before))
+      down-is = by_case (loses (queued (all_recorded (bare_row (Heard p) k silent) (rows_of k before)) (bare_row (Heard p) k silent) (rows_of k before)))
         where
-          by_case : (b : Bool) → (elim b as (λ _. Row) [ true ↦ record (queued (all_recorded (bare (Heard p) k silent) (rows_of k before)) (bare (Heard p) k silent) (rows_of k before)) { farewell = farewell (queued (all_recorded (bare (Heard p) k silent) (rows_of k before)) (bare (Heard p) k silent) (rows_of k before)) (rows_of k before) } | false ↦ queued (all_recorded (bare (Heard p) k silent) (rows_of k before)) (bare (Heard p) k silent) (rows_of k before) ]).down ≡ fitting (waiting_down (rows_of k before)) (all_recorded mute_row (rows_of k before))
+          by_case : (b : Bool) → (elim b as (λ _. Row) [ true ↦ record (queued (all_recorded (bare_row (Heard p) k silent) (rows_of k before)) (bare_row (Heard p) k silent) (rows_of k before)) { farewell = farewell (queued (all_recorded (bare_row (Heard p) k silent) (rows_of k before)) (bare_row (Heard p) k silent) (rows_of k before)) (rows_of k before) } | false ↦ queued (all_recorded (bare_row (Heard p) k silent) (rows_of k before)) (bare_row (Heard p) k silent) (rows_of k before) ]).down ≡ frames_that_fit (waiting_down (rows_of k before)) (all_recorded mute_row (rows_of k before))
           by_case true = refl
           by_case false = refl
 
       fate-is : (row_of (Heard p) k silent (rows_of k before)).fate ≡ fate_with Goes (overflow (waiting_down (rows_of k before)) (all_recorded mute_row (rows_of k before)))
-      fate-is = by_case (loses (queued (all_recorded (bare (Heard p) k silent) (rows_of k before)) (bare (Heard p) k silent) (rows_of k before)))
+      fate-is = by_case (loses (queued (all_recorded (bare_row (Heard p) k silent) (rows_of k before)) (bare_row (Heard p) k silent) (rows_of k before)))
         where
-          by_case : (b : Bool) → (elim b as (λ _. Row) [ true ↦ record (queued (all_recorded (bare (Heard p) k silent) (rows_of k before)) (bare (Heard p) k silent) (rows_of k before)) { farewell = farewell (queued (all_recorded (bare (Heard p) k silent) (rows_of k before)) (bare (Heard p) k silent) (rows_of k before)) (rows_of k before) } | false ↦ queued (all_recorded (bare (Heard p) k silent) (rows_of k before)) (bare (Heard p) k silent) (rows_of k before) ]).fate ≡ fate_with Goes (overflow (waiting_down (rows_of k before)) (all_recorded mute_row (rows_of k before)))
+          by_case : (b : Bool) → (elim b as (λ _. Row) [ true ↦ record (queued (all_recorded (bare_row (Heard p) k silent) (rows_of k before)) (bare_row (Heard p) k silent) (rows_of k before)) { farewell = farewell (queued (all_recorded (bare_row (Heard p) k silent) (rows_of k before)) (bare_row (Heard p) k silent) (rows_of k before)) (rows_of k before) } | false ↦ queued (all_recorded (bare_row (Heard p) k silent) (rows_of k before)) (bare_row (Heard p) k silent) (rows_of k before) ]).fate ≡ fate_with Goes (overflow (waiting_down (rows_of k before)) (all_recorded mute_row (rows_of k before)))
           by_case true = refl
           by_case false = refl
 

@@ -4,11 +4,11 @@ use Rattle.std.specs.Prelude.{◌==◌, ◌&&◌, not, filter, Result, flat_map}
 use Rattle.std.proofs.lemmas.Bool.Decides.{nat_tests}
 use Rattle.mux_history.specs.Channels.{Channel, channels_of, held_of, holder, is_channel_held, own_number_of}
 use Rattle.mux_history.specs.Farewell.{farewell, leave_channel, leave_forwarding}
-use Rattle.mux_history.specs.Forwardings.{Forwarding, dropped, forwarded, forwardings_of, of_client, replied, requested}
+use Rattle.mux_history.specs.Forwardings.{Forwarding, dropped, forwarded, forwardings_of, of_client, forwarding_after_reply, forwardings_after_request}
 use Rattle.mux_history.specs.Summary.{Confirmation, Summary, Within, read_summary, reading, summary_recipient_of}
 use Rattle.mux_history.specs.Heard.{own_number, renamed}
-use Rattle.mux_history.specs.Log.{all_recorded, bare, fate_with, fitting, goes, new_answers, overflow, queued, row_of, with_farewell}
-use Rattle.mux_history.specs.Requests.{answers, answers_to, asks, is_reply, is_sent, replies, reply_in, wanted}
+use Rattle.mux_history.specs.Log.{all_recorded, bare_row, fate_with, frames_that_fit, goes, new_answers, overflow, queued, row_of, with_farewell}
+use Rattle.mux_history.specs.Requests.{answers, answers_to, wanted_requests, is_reply, is_sent, replies, reply_in, wanted}
 use Rattle.mux_history.specs.Rows.{Heard, Item, Row, Says, is_lost, loses, rows_of}
 use Rattle.mux_history.specs.Said.{Outcome}
 use Rattle.mux_history.specs.Solo.{item_for, own_ups}
@@ -49,7 +49,7 @@ same-use {A} before p f other small blind = by_case (read_summary p) refl
 pub same-payload : (before : List Row) (p : List ℕ) (m : Summary) → read_summary p ≡ Ok m → summary_recipient_of m ≡ None → seen_payload before p ≡ p
 same-payload before p m reads none = reading-ok p m (λ m. renamed before p (summary_recipient_of m)) p reads ∙ ap (renamed before p) none
 
-replied-all : (place : ℕ) (m : Summary) (c : ℕ) → replied place (readdressed c m) ≡ replied place m
+replied-all : (place : ℕ) (m : Summary) (c : ℕ) → forwarding_after_reply place (readdressed c m) ≡ forwarding_after_reply place m
 replied-all place (Confirmation n s w max) c = refl
 replied-all place (Within n act) c = refl
 replied-all place m c = refl
@@ -100,11 +100,11 @@ forwarded-alone own row fs small all = by_item row.item small
 
     by_item : (item : Item) → SmallItem own item → forwarded (record row { item = item_for own item; up = own_ups (own_number_of row.item) row.up }) (alone own) fs ≡ forwarded (record row { item = item }) own fs
     by_item (Heard p) small =
-        ap (λ n. reading (seen_payload own p) (λ m. map (of_client row.client (replied n m)) fs) fs) (ap length (replies-alone own all))
-        ∙ same-use own p (λ m. map (of_client row.client (replied (length (replies own)) m)) fs) fs small (λ m c. ap (λ g. map (of_client row.client g) fs) (replied-all (length (replies own)) m c))
+        ap (λ n. reading (seen_payload own p) (λ m. map (of_client row.client (forwarding_after_reply n m)) fs) fs) (ap length (replies-alone own all))
+        ∙ same-use own p (λ m. map (of_client row.client (forwarding_after_reply (length (replies own)) m)) fs) fs small (λ m c. ap (λ g. map (of_client row.client g) fs) (replied-all (length (replies own)) m c))
     by_item (Says k (Payload p) reply) small =
-        ap (λ b. elim b as (λ _. List Forwarding) [ true ↦ reading p (λ m. requested row.client (length (asks (alone own))) m fs) fs | false ↦ fs ]) (by_ups (own_number_of row.item) row.up row.item k row)
-        ∙ ap (λ n. elim (is_sent row) as (λ _. List Forwarding) [ true ↦ reading p (λ m. requested row.client n m fs) fs | false ↦ fs ]) (ap length (asks-alone own))
+        ap (λ b. elim b as (λ _. List Forwarding) [ true ↦ reading p (λ m. forwardings_after_request row.client (length (wanted_requests (alone own))) m fs) fs | false ↦ fs ]) (by_ups (own_number_of row.item) row.up row.item k row)
+        ∙ ap (λ n. elim (is_sent row) as (λ _. List Forwarding) [ true ↦ reading p (λ m. forwardings_after_request row.client n m fs) fs | false ↦ fs ]) (ap length (asks-alone own))
     by_item item small = refl
 
 dropped-alone : (own : List Row) (row : Row) (fs : List Forwarding) → dropped (alone_row own row) fs ≡ dropped row fs
@@ -156,7 +156,7 @@ recorded-alone own row small =
     ∙ ap (λ a. map frame_payload (drop (length (answers own)) a)) (answers-alone (row ∷ own) small))
 
 queued-alone : (own : List Row) (row : Row) (frames : List (List ℕ)) → queued frames (alone_row own row) (alone own) ≡ alone_row own (queued frames row own)
-queued-alone own row frames = ap (λ n. record (alone_row own row) { down = fitting n frames; fate = fate_with row.fate (overflow n frames) }) (waiting-alone own)
+queued-alone own row frames = ap (λ n. record (alone_row own row) { down = frames_that_fit n frames; fate = fate_with row.fate (overflow n frames) }) (waiting-alone own)
 
 parting-alone : (k : ℕ) (own : List Row) (row : Row) → AllOf k own → AllSmall (row ∷ own) → AllNamed (row ∷ own) → with_farewell (alone_row own row) (alone own) ≡ alone_row own (with_farewell row own)
 parting-alone k own row all small named =
@@ -169,8 +169,8 @@ parting-alone k own row all small named =
     by_case false = refl
 
 -- the row of an outcome, and alone the row of the same outcome under the client's own number
-pub row-alone : (k : ℕ) (own : List Row) (item : Item) (o : Outcome) → AllOf k own → AllSmall own → SmallItem own item → AllNamed own → RowNamed own (queued (all_recorded (bare item k o) own) (bare item k o) own) → row_of (item_for own item) k (numbered (own_number_of item) o) (alone own) ≡ alone_row own (row_of item k o own)
+pub row-alone : (k : ℕ) (own : List Row) (item : Item) (o : Outcome) → AllOf k own → AllSmall own → SmallItem own item → AllNamed own → RowNamed own (queued (all_recorded (bare_row item k o) own) (bare_row item k o) own) → row_of (item_for own item) k (numbered (own_number_of item) o) (alone own) ≡ alone_row own (row_of item k o own)
 row-alone k own item o all small small_item named row_named =
-    ap (λ frames. with_farewell (queued frames (alone_row own (bare item k o)) (alone own)) (alone own)) (recorded-alone own (bare item k o) (small_item, small))
-    ∙ (ap (λ r. with_farewell r (alone own)) (queued-alone own (bare item k o) (all_recorded (bare item k o) own))
-    ∙ parting-alone k own (queued (all_recorded (bare item k o) own) (bare item k o) own) all (small_item, small) (row_named, named))
+    ap (λ frames. with_farewell (queued frames (alone_row own (bare_row item k o)) (alone own)) (alone own)) (recorded-alone own (bare_row item k o) (small_item, small))
+    ∙ (ap (λ r. with_farewell r (alone own)) (queued-alone own (bare_row item k o) (all_recorded (bare_row item k o) own))
+    ∙ parting-alone k own (queued (all_recorded (bare_row item k o) own) (bare_row item k o) own) all (small_item, small) (row_named, named))

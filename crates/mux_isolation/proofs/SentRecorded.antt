@@ -9,11 +9,11 @@ use Rattle.mux_history.specs.Summary.{Closes, Confirmation, Fails, Summary, Open
 use Rattle.mux_history.specs.Kept.{Every}
 use Rattle.mux_history.specs.Keys.{is_askable}
 use Rattle.mux_history.specs.Ledger.{breach}
-use Rattle.mux_history.specs.Log.{admits, all_recorded, fitting, goes, new_answers, open_matters}
+use Rattle.mux_history.specs.Log.{admits, all_recorded, frames_that_fit, goes, new_answers, open_matters}
 use Rattle.mux_history.specs.Policy.{Policy, permits, may_open}
 use Rattle.mux_history.specs.Requests.{answers, answers_to, is_reply, replies, reply_in, wanted}
 use Rattle.mux_history.specs.Rows.{Heard, Item, Refused, Row, any_of, is_lost}
-use Rattle.mux_history.specs.Said.{Outcome, confirmed_at, drops, fails_open, is_failing, is_full_of_asks, on_breach, on_confirmed, on_unused, on_waiting, sent_summary, sent_open, sent_payload, sent_request, sends, sends_as, sends_if, sends_open, silent, records, waiting_at, reason_for, text_for}
+use Rattle.mux_history.specs.Said.{Outcome, confirmed_at, drops, fails_open, is_failing, is_full_of_asks, on_breach, on_confirmed, on_unused, on_waiting, sent_summary, open_outcome, sent_payload, sent_request, sends_payload, sends_as, sends_if, sends_open, silent, records, waiting_at, reason_for, text_for}
 use Rattle.mux_outside.specs.declared.house.HouseReply.{HouseReply}
 use Rattle.ssh_grammar.specs.Control.{Alive, AliveCheck, Answer, CloseForward, Control, Failed, Greets, Hello, NewSession, Okay, OpenForward, PermissionDenied, Proxies, Proxy, RemotePort, StdioForward, StopListening, Terminate, no_descriptors, unsupported}
 use Rattle.ssh_grammar.specs.Frames.{frame_answer, frame_payload}
@@ -125,7 +125,7 @@ module _ (before : List Row) (k : ℕ) where
       by_permit true = by_room (nat_lt (length (held_of own)) 256)
       by_permit false = (fails-report c (reason_for what) (text_for what), tt)
 
-      by_unused : (o : Option Channel) → Every (RecordOk before k) (on_unused c (sent_open policy own pick p c what) o).recorded
+      by_unused : (o : Option Channel) → Every (RecordOk before k) (on_unused c (open_outcome policy own pick p c what) o).recorded
       by_unused None = by_permit (may_open policy what)
       by_unused (Some x) = tt
   said-report policy own pick p (Confirmation s c w max) = by_waiting (waiting_at own s)
@@ -147,11 +147,11 @@ module _ (before : List Row) (k : ℕ) where
       by_confirmed None = tt
       by_confirmed (Some x) = by_breach (breach Up act x)
 
-      by_waiting : (o : Option Channel) → Every (RecordOk before k) (on_waiting s (sends p) o).recorded
+      by_waiting : (o : Option Channel) → Every (RecordOk before k) (on_waiting s (sends_payload p) o).recorded
       by_waiting None = tt
       by_waiting (Some x) = tt
 
-      by_failing : (b : Bool) → Every (RecordOk before k) (elim b as (λ _. Outcome) [ true ↦ on_waiting s (sends p) (waiting_at own s) | false ↦ on_confirmed p s act (confirmed_at own s) ]).recorded
+      by_failing : (b : Bool) → Every (RecordOk before k) (elim b as (λ _. Outcome) [ true ↦ on_waiting s (sends_payload p) (waiting_at own s) | false ↦ on_confirmed p s act (confirmed_at own s) ]).recorded
       by_failing true = by_waiting (waiting_at own s)
       by_failing false = by_confirmed (confirmed_at own s)
 
@@ -211,10 +211,10 @@ module _ (before : List Row) (k : ℕ) where
   pub all-report : (row : Row) (own : List Row) → Every (RecordOk before k) row.down → Every (RecordOk before k) (all_recorded row own)
   all-report row own a = elim (goes row.fate && not (is_lost own)) as (λ b. Every (RecordOk before k) (elim b as (λ _. List (List ℕ)) [ true ↦ row.down ++ new_answers row own | false ↦ row.down ])) [ true ↦ every-append (RecordOk before k) row.down (new_answers row own) a (new-report row own) | false ↦ a ]
 
-  pub fitting-report : (n : ℕ) (fs : List (List ℕ)) → Every (RecordOk before k) fs → Every (RecordOk before k) (fitting n fs)
+  pub fitting-report : (n : ℕ) (fs : List (List ℕ)) → Every (RecordOk before k) fs → Every (RecordOk before k) (frames_that_fit n fs)
   fitting-report n [] a = tt
   fitting-report n (f ∷ fs) a = by_case (nat_le (n + length f) 33554432) (fitting-report (n + length f) fs a.1)
     where
-      by_case : (b : Bool) → Every (RecordOk before k) (fitting (n + length f) fs) → Every (RecordOk before k) (elim b as (λ _. List (List ℕ)) [ true ↦ f ∷ fitting (n + length f) fs | false ↦ [] ])
+      by_case : (b : Bool) → Every (RecordOk before k) (frames_that_fit (n + length f) fs) → Every (RecordOk before k) (elim b as (λ _. List (List ℕ)) [ true ↦ f ∷ frames_that_fit (n + length f) fs | false ↦ [] ])
       by_case true ih = (a.0, ih)
       by_case false ih = tt

@@ -3,13 +3,13 @@ use Rattle.std.proofs.Common.{◌≡◌, ℕ, List, [], ◌∷◌, ◌++◌, tru
 use Rattle.std.specs.Prelude.{◌==◌, ◌||◌, not, Result, nat_lt}
 use Rattle.mux_history.specs.Channels.{channels_of, own_number_of}
 use Rattle.mux_history.specs.Choices.{sent_number}
-use Rattle.mux_history.specs.Controls.{answers_ask, greeted, house_sends, in_proxy, is_sends, sent_body, proxies_by}
+use Rattle.mux_history.specs.Controls.{answers_ask, client_has_greeted, house_sends, in_proxy, is_sends, sent_body, proxies_by}
 use Rattle.mux_history.specs.Summary.{Summary, read_summary, summary_sender_of}
 use Rattle.mux_history.specs.Heard.{Breaks, Dest, Disconnects, ToClient, ToMaster, dest, received_for}
 use Rattle.mux_history.specs.Kept.{Every}
-use Rattle.mux_history.specs.Log.{admits, all_recorded, bare, entered, received_row, makes_row, matters_of, open_matters, queued, row_of, treat}
+use Rattle.mux_history.specs.Log.{admits, all_recorded, bare_row, admitted_clients, received_row, makes_row, matters_of, open_matters, queued, row_of, treat}
 use Rattle.mux_history.specs.Policy.{Policy}
-use Rattle.mux_history.specs.Rows.{Admit, BadServer, Fate, Gone, Heard, HouseSays, Item, Refused, Row, RunEnd, Says, ServerCut, ServerEnd, ServerFailed, Took, any_of, is_admit, is_end, is_ended, is_out, is_refusal, loses, rows_of}
+use Rattle.mux_history.specs.Rows.{Admit, BadServer, Fate, Gone, Heard, HouseSays, Item, Refused, Row, RunEnd, Says, ServerCut, ServerEnd, ServerFailed, Took, any_of, is_admit, is_end, is_run_over, is_out, is_refusal, loses, rows_of}
 use Rattle.mux_history.specs.Said.{Outcome, drops, sent_summary, sent_payload, silent, records}
 use Rattle.mux_history.specs.Solo.{item_for, own_ups}
 use Rattle.mux_outside.specs.declared.house.HouseReply.{HouseReply}
@@ -76,7 +76,7 @@ pub alone-admits : (own : List Row) → any_of is_admit (alone own) ≡ any_of i
 alone-admits [] = refl
 alone-admits (row ∷ own) = ap (λ b. b || any_of is_admit (alone own)) (admit-alone own row) ∙ ap (λ b. is_admit row || b) (alone-admits own)
 
-entered-none : (rows : List Row) → any_of is_admit rows ≡ false → entered rows ≡ []
+entered-none : (rows : List Row) → any_of is_admit rows ≡ false → admitted_clients rows ≡ []
 entered-none [] none = refl
 entered-none (row ∷ rows) none =
     ap (λ xs. xs ++ elim (is_admit row) as (λ _. List ℕ) [ true ↦ row.client ∷ [] | false ↦ [] ]) (entered-none rows (or-right (is_admit row) (any_of is_admit rows) none))
@@ -93,14 +93,14 @@ any-part test k (row ∷ rows) none = by_case (any-part test k rows (or-right (t
     by_case ih true e = ap (any_of test) (filter-yes (λ (r : Row). r.client == k) row rows e) ∙ (ap (λ b. b || any_of test (rows_of k rows)) (or-left (test row) (any_of test rows) none) ∙ ih)
     by_case ih false e = ap (any_of test) (filter-no (λ (r : Row). r.client == k) row rows e) ∙ ih
 
-pub ended-part : (k : ℕ) (rows : List Row) → is_ended rows ≡ false → is_ended (rows_of k rows) ≡ false
+pub ended-part : (k : ℕ) (rows : List Row) → is_run_over rows ≡ false → is_run_over (rows_of k rows) ≡ false
 ended-part k rows none = any-part (λ row. is_end row.fate) k rows none
 
 -- ---- look-ups alone
 
-pub greeted-alone : (own : List Row) → greeted (alone own) ≡ greeted own
+pub greeted-alone : (own : List Row) → client_has_greeted (alone own) ≡ client_has_greeted own
 greeted-alone [] = refl
-greeted-alone (row ∷ own) = ap (λ b. b || greeted (alone own)) (by_item row.item) ∙ ap (λ b. is_sends row.item || b) (greeted-alone own)
+greeted-alone (row ∷ own) = ap (λ b. b || client_has_greeted (alone own)) (by_item row.item) ∙ ap (λ b. is_sends row.item || b) (greeted-alone own)
   where
     by_item : (item : Item) → is_sends (item_for own item) ≡ is_sends item
     by_item (Heard p) = refl
@@ -134,7 +134,7 @@ pub record OwnFacts (policy : Policy) (pid k : ℕ) (own : List Row) (item : Ite
   pub treats : Unrefused item (is_admit row) → treat policy pid (sent_number (own_number_of (item_for own item))) (alone own) (item_for own item) ≡ alone_row own row
 
 -- what is accepted, after the end of the run too
-pub own-took : (policy : Policy) (pid : ℕ) (before : List Row) → AreApart (channels_of before) → (k size : ℕ) → AllNamed (rows_of k before) → OwnFacts policy pid k (rows_of k before) (Took k size) (bare (Took k size) k silent)
+pub own-took : (policy : Policy) (pid : ℕ) (before : List Row) → AreApart (channels_of before) → (k size : ℕ) → AllNamed (rows_of k before) → OwnFacts policy pid k (rows_of k before) (Took k size) (bare_row (Took k size) k silent)
 own-took policy pid before good k size named = record {
   client = refl;
   is = refl;
@@ -149,7 +149,7 @@ module _ (policy : Policy) (pid pick : ℕ) (before : List Row) (good : AreApart
   makes-same k item is yes_it = is ∙ (ap (λ rows. not (is_out rows)) (rows-all k (alone (rows_of k before)) (alone-all k (rows_of k before) (all-of k before))) ∙ (ap not (out-alone (rows_of k before)) ∙ yes_it))
 
   -- an outcome that is the same alone
-  outcome-treats : (k : ℕ) (named : AllNamed (rows_of k before)) (small : AllSmall (rows_of k before)) (item : Item) (f : List Row → Outcome) (o : Outcome) → RowNamed (rows_of k before) (queued (all_recorded (bare item k o) (rows_of k before)) (bare item k o) (rows_of k before)) → f (alone (rows_of k before)) ≡ numbered (own_number_of item) o
+  outcome-treats : (k : ℕ) (named : AllNamed (rows_of k before)) (small : AllSmall (rows_of k before)) (item : Item) (f : List Row → Outcome) (o : Outcome) → RowNamed (rows_of k before) (queued (all_recorded (bare_row item k o) (rows_of k before)) (bare_row item k o) (rows_of k before)) → f (alone (rows_of k before)) ≡ numbered (own_number_of item) o
       → row_of (item_for (rows_of k before) item) k (f (rows_of k (alone (rows_of k before)))) (rows_of k (alone (rows_of k before))) ≡ alone_row (rows_of k before) (row_of item k o (rows_of k before))
   outcome-treats k named small item f o row_named same =
       ap (λ rows. row_of (item_for (rows_of k before) item) k (f rows) rows) (rows-all k (alone (rows_of k before)) (alone-all k (rows_of k before) (all-of k before)))
@@ -201,18 +201,18 @@ module _ (policy : Policy) (pid pick : ℕ) (before : List Row) (good : AreApart
       row_named : (fw : List (List ℕ)) → Every Quiet fw → (down : List (List ℕ)) (fate : Fate) → RowNamed (rows_of k before) (as_row (HouseSays k id given) k (house_sends (rows_of k before) id given).sent fw down fate)
       row_named fw parting down fate = named-mute before good k (HouseSays k id given) (house_sends (rows_of k before) id given).sent (house-sent (rows_of k before) id given) (λ x. tt) refl refl refl fw parting down fate
 
-  own-control : (k : ℕ) (body : List ℕ) (reply : Option HouseReply) → AllNamed (rows_of k before) → AllSmall (rows_of k before) → not (is_out (rows_of k before)) ≡ true → OwnFacts policy pid k (rows_of k before) (Says k (Body body) reply) (row_of (Says k (Body body) reply) k (sent_body pid k reply (greeted (rows_of k before)) body) (rows_of k before))
+  own-control : (k : ℕ) (body : List ℕ) (reply : Option HouseReply) → AllNamed (rows_of k before) → AllSmall (rows_of k before) → not (is_out (rows_of k before)) ≡ true → OwnFacts policy pid k (rows_of k before) (Says k (Body body) reply) (row_of (Says k (Body body) reply) k (sent_body pid k reply (client_has_greeted (rows_of k before)) body) (rows_of k before))
   own-control k body reply named small makes = record {
-    client = client-of (Says k (Body body) reply) k (sent_body pid k reply (greeted (rows_of k before)) body) (rows_of k before);
-    is = item-of (Says k (Body body) reply) k (sent_body pid k reply (greeted (rows_of k before)) body) (rows_of k before);
-    named = row-parts (RowNamed (rows_of k before)) (Says k (Body body) reply) k (sent_body pid k reply (greeted (rows_of k before)) body) (rows_of k before) row_named;
+    client = client-of (Says k (Body body) reply) k (sent_body pid k reply (client_has_greeted (rows_of k before)) body) (rows_of k before);
+    is = item-of (Says k (Body body) reply) k (sent_body pid k reply (client_has_greeted (rows_of k before)) body) (rows_of k before);
+    named = row-parts (RowNamed (rows_of k before)) (Says k (Body body) reply) k (sent_body pid k reply (client_has_greeted (rows_of k before)) body) (rows_of k before) row_named;
     small = tt;
     makes = makes-same k (Says k (Body body) reply) refl makes;
-    treats = λ admitted. outcome-treats k named small (Says k (Body body) reply) (λ rows. sent_body pid k reply (greeted rows) body) (sent_body pid k reply (greeted (rows_of k before)) body) (row_named [] tt _ _) (ap (λ g. sent_body pid k reply g body) (greeted-alone (rows_of k before)));
+    treats = λ admitted. outcome-treats k named small (Says k (Body body) reply) (λ rows. sent_body pid k reply (client_has_greeted rows) body) (sent_body pid k reply (client_has_greeted (rows_of k before)) body) (row_named [] tt _ _) (ap (λ g. sent_body pid k reply g body) (greeted-alone (rows_of k before)));
   }
     where
-      row_named : (fw : List (List ℕ)) → Every Quiet fw → (down : List (List ℕ)) (fate : Fate) → RowNamed (rows_of k before) (as_row (Says k (Body body) reply) k (sent_body pid k reply (greeted (rows_of k before)) body).sent fw down fate)
-      row_named fw parting down fate = named-mute before good k (Says k (Body body) reply) (sent_body pid k reply (greeted (rows_of k before)) body).sent (body-sent pid k reply (greeted (rows_of k before)) body) (λ x. tt) refl refl refl fw parting down fate
+      row_named : (fw : List (List ℕ)) → Every Quiet fw → (down : List (List ℕ)) (fate : Fate) → RowNamed (rows_of k before) (as_row (Says k (Body body) reply) k (sent_body pid k reply (client_has_greeted (rows_of k before)) body).sent fw down fate)
+      row_named fw parting down fate = named-mute before good k (Says k (Body body) reply) (sent_body pid k reply (client_has_greeted (rows_of k before)) body).sent (body-sent pid k reply (client_has_greeted (rows_of k before)) body) (λ x. tt) refl refl refl fw parting down fate
 
   own-bad : (k : ℕ) (fault : BadFrame) (reply : Option HouseReply) → AllNamed (rows_of k before) → AllSmall (rows_of k before) → not (is_out (rows_of k before)) ≡ true → OwnFacts policy pid k (rows_of k before) (Says k (BadFraming fault) reply) (row_of (Says k (BadFraming fault) reply) k (drops (why.BadFrame fault)) (rows_of k before))
   own-bad k fault reply named small makes = record {
@@ -271,12 +271,12 @@ module _ (policy : Policy) (pid pick : ℕ) (before : List Row) (good : AreApart
     pub own-treat : (item : Item) → LawfulItem before item → makes_row before item ≡ true → (treat policy pid pick before item).client ≡ k → OwnFacts policy pid k (rows_of k before) item (treat policy pid pick before item)
     own-treat (Admit j) lawful makes mine = at-client (Admit j) _ j (client-of (Admit j) j (admits before) (rows_of j before)) mine (λ named small once. own-admit j named small once lawful)
     own-treat (Says j (Payload p) reply) lawful makes mine = at-client (Says j (Payload p) reply) _ j (client-of (Says j (Payload p) reply) j (sent_payload policy j (rows_of j before) pick p) (rows_of j before)) mine (λ named small once. own-proxy j p reply lawful.1 named small makes)
-    own-treat (Says j (Body body) reply) lawful makes mine = at-client (Says j (Body body) reply) _ j (client-of (Says j (Body body) reply) j (sent_body pid j reply (greeted (rows_of j before)) body) (rows_of j before)) mine (λ named small once. own-control j body reply named small makes)
+    own-treat (Says j (Body body) reply) lawful makes mine = at-client (Says j (Body body) reply) _ j (client-of (Says j (Body body) reply) j (sent_body pid j reply (client_has_greeted (rows_of j before)) body) (rows_of j before)) mine (λ named small once. own-control j body reply named small makes)
     own-treat (Says j (BadFraming fault) reply) lawful makes mine = at-client (Says j (BadFraming fault) reply) _ j (client-of (Says j (BadFraming fault) reply) j (drops (why.BadFrame fault)) (rows_of j before)) mine (λ named small once. own-bad j fault reply named small makes)
     own-treat (HouseSays j id given) lawful makes mine = at-client (HouseSays j id given) _ j (client-of (HouseSays j id given) j (house_sends (rows_of j before) id given) (rows_of j before)) mine (λ named small once. own-house j id given named small makes)
     own-treat (Gone j) lawful makes mine = at-client (Gone j) _ j (client-of (Gone j) j silent (rows_of j before)) mine (λ named small once. own-gone j named small makes)
     own-treat (Heard p) lawful makes mine = by-dest p (dest before p) refl mine
-    own-treat (Took j size) lawful makes mine = at-client (Took j size) (bare (Took j size) j silent) j refl mine (λ named small once. own-took policy pid before good j size named)
+    own-treat (Took j size) lawful makes mine = at-client (Took j size) (bare_row (Took j size) j silent) j refl mine (λ named small once. own-took policy pid before good j size named)
     own-treat (BadServer fault) lawful makes mine = not-zero mine
     own-treat ServerEnd lawful makes mine = not-zero mine
     own-treat (ServerCut left) lawful makes mine = not-zero mine

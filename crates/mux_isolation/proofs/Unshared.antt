@@ -5,9 +5,9 @@ use Rattle.mux_history.specs.Channels.{own_number_of}
 use Rattle.mux_history.specs.Choices.{sent_number}
 use Rattle.mux_history.specs.Log.{log_of, makes_next, more_of, treat}
 use Rattle.mux_history.specs.Policy.{Policy}
-use Rattle.mux_history.specs.Rows.{Item, Row, is_end, is_ended}
+use Rattle.mux_history.specs.Rows.{Item, Row, is_end, is_run_over}
 use Rattle.mux_history.specs.Settings.{by_own}
-use Rattle.mux_history.specs.Solo.{item_for, items_for, seen, seen_alone}
+use Rattle.mux_history.specs.Solo.{item_for, items_for, seen_row, seen_alone}
 use Rattle.mux_isolation.proofs.Solos.{alone, alone_row, seen-alone}
 
 -- what is known of each row of a client
@@ -19,7 +19,7 @@ abbrev pub AllOwn : Policy → ℕ → List Row → Type 0
 AllOwn policy pid [] = Unit {0}
 AllOwn policy pid (row ∷ before) = RowOwn policy pid before row × AllOwn policy pid before
 
-pub ended-alone : (own : List Row) → is_ended (alone own) ≡ is_ended own
+pub ended-alone : (own : List Row) → is_run_over (alone own) ≡ is_run_over own
 ended-alone [] = refl
 ended-alone (row ∷ own) = ap (λ b. is_end row.fate || b) (ended-alone own)
 
@@ -34,5 +34,5 @@ solo-alone policy pid (row ∷ own) known =
     ∙ ap (λ r. r ∷ alone own) known.0.treats)
 
 -- so the rows agree one by one
-pub unshared : (policy : Policy) (pid : ℕ) (own : List Row) → AllOwn policy pid own → map seen own ≡ map seen_alone (log_of (by_own policy pid) (items_for own))
+pub unshared : (policy : Policy) (pid : ℕ) (own : List Row) → AllOwn policy pid own → map seen_row own ≡ map seen_alone (log_of (by_own policy pid) (items_for own))
 unshared policy pid own known = seen-alone own ∙ sym (ap (map seen_alone) (solo-alone policy pid own known))

@@ -7,10 +7,10 @@ use Rattle.ssh_grammar.specs.declared.fault.Bad.{Bad}
 use Rattle.ssh_grammar.specs.declared.numbers.TheConstants.{CONNECT_FAILED}
 use Rattle.ssh_grammar.specs.declared.side.Side.{Side}
 use Rattle.ssh_grammar.specs.declared.side.Side.TheVariants.{Down, Up}
-use Rattle.mux_history.specs.Channels.{Channel, after_farewell, after_item, begun_by, received_by, held_of, is_closes, is_confirms, is_ends, is_fails, is_channel_held, is_number, is_up, own_number_of, same_side, with_down, with_up, with_ups}
+use Rattle.mux_history.specs.Channels.{Channel, after_farewell, after_item, begun_by, channel_after_item, held_of, is_closes, is_confirms, is_ends, is_fails, is_channel_held, is_number, is_up, own_number_of, same_side, with_down, with_up, with_ups}
 use Rattle.mux_history.specs.Farewell.{leave_channel, to_number}
 use Rattle.mux_history.specs.Summary.{Act, Confirmation, Confirms, Summary, Within, read_summary, reading}
-use Rattle.mux_history.specs.Ledger.{answered, asked, carried, first_window, granted, other_side, packet}
+use Rattle.mux_history.specs.Ledger.{reply_count, request_count, carried, first_window, granted_size, other_side, packet}
 use Rattle.mux_history.specs.Rows.{Heard, Item, Row, any_of}
 use Rattle.mux_isolation.specs.LogView.{ChannelView, Way, channel_view}
 use Rattle.mux_history.proofs.Finds.{filter-no, filter-yes, find-no, find-yes}
@@ -25,11 +25,11 @@ held_seen v = not (v.failed || (v.up.closed && v.down.closed))
 abbrev act_way : Side → Side → Side → Act → Way → Way
 act_way by side way act w = record {
   window = elim (same_side by way) [ true ↦ elim (same_side side (other_side way)) [ true ↦ first_window act + w.window | false ↦ w.window ] | false ↦ w.window ];
-  adjustments = elim (same_side side (other_side way)) [ true ↦ granted act + w.adjustments | false ↦ w.adjustments ];
+  adjustments = elim (same_side side (other_side way)) [ true ↦ granted_size act + w.adjustments | false ↦ w.adjustments ];
   sizes = elim (same_side side way) [ true ↦ carried act + w.sizes | false ↦ w.sizes ];
   maximum = elim (same_side by way) [ true ↦ elim (same_side side (other_side way)) [ true ↦ packet act + w.maximum | false ↦ w.maximum ] | false ↦ w.maximum ];
-  requests = elim (same_side side way) [ true ↦ asked act + w.requests | false ↦ w.requests ];
-  replies = elim (same_side side (other_side way)) [ true ↦ answered act + w.replies | false ↦ w.replies ];
+  requests = elim (same_side side way) [ true ↦ request_count act + w.requests | false ↦ w.requests ];
+  replies = elim (same_side side (other_side way)) [ true ↦ reply_count act + w.replies | false ↦ w.replies ];
   eof = (same_side side way && is_ends act) || w.eof;
   closed = (same_side side way && is_closes act) || w.closed;
 }
@@ -106,7 +106,7 @@ abbrev received_seen : Item → ChannelView → ChannelView
 received_seen (Heard p) v = reading p (λ m. down_seen m v) v
 received_seen _ v = v
 
-heard-seen : (item : Item) (x : Channel) → channel_view (received_by item x) ≡ received_seen item (channel_view x)
+heard-seen : (item : Item) (x : Channel) → channel_view (channel_after_item item x) ≡ received_seen item (channel_view x)
 heard-seen (Heard p) x = reading-seen p (λ m. with_down m x) (λ m. down_seen m (channel_view x)) x (λ m. down-seen m x)
 heard-seen item x = refl
 
@@ -118,8 +118,8 @@ item_seen row v = elim (v.client == row.client) [ true ↦ ups_seen (own_number_
 item-seen : (row : Row) (x : Channel) → channel_view (after_item row x) ≡ item_seen row (channel_view x)
 item-seen row x = by_case (x.client == row.client)
   where
-    by_case : (b : Bool) → channel_view (elim b as (λ _. Channel) [ true ↦ with_ups (own_number_of row.item) row.up (received_by row.item x) | false ↦ x ]) ≡ (elim b as (λ _. ChannelView) [ true ↦ ups_seen (own_number_of row.item) row.up (received_seen row.item (channel_view x)) | false ↦ channel_view x ])
-    by_case true = ups-seen (own_number_of row.item) row.up (received_by row.item x) ∙ ap (ups_seen (own_number_of row.item) row.up) (heard-seen row.item x)
+    by_case : (b : Bool) → channel_view (elim b as (λ _. Channel) [ true ↦ with_ups (own_number_of row.item) row.up (channel_after_item row.item x) | false ↦ x ]) ≡ (elim b as (λ _. ChannelView) [ true ↦ ups_seen (own_number_of row.item) row.up (received_seen row.item (channel_view x)) | false ↦ channel_view x ])
+    by_case true = ups-seen (own_number_of row.item) row.up (channel_after_item row.item x) ∙ ap (ups_seen (own_number_of row.item) row.up) (heard-seen row.item x)
     by_case false = refl
 
 abbrev farewell_seen : Row → ChannelView → ChannelView

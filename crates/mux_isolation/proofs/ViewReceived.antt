@@ -10,9 +10,9 @@ use Rattle.mux_history.specs.Channels.{Channel, holder, is_number}
 use Rattle.mux_history.specs.Farewell.{late, late_refusal, late_success, with_ask}
 use Rattle.mux_history.specs.Summary.{Confirmation, Summary, Open, Refuses, Succeeds, Within, read_summary}
 use Rattle.mux_history.specs.Heard.{for_client, for_lost, received_for, received_summary, own_number}
-use Rattle.mux_history.specs.Requests.{asker, asks, replies}
+use Rattle.mux_history.specs.Requests.{asker, wanted_requests, replies}
 use Rattle.mux_history.specs.Rows.{Row, is_lost}
-use Rattle.mux_history.specs.Said.{Outcome, sends, silent, records}
+use Rattle.mux_history.specs.Said.{Outcome, sends_payload, silent, records}
 use Rattle.mux_history.proofs.AskersSteps.{first-of}
 use Rattle.mux_isolation.specs.LogView.{ChannelView, LogView, channel_view}
 use Rattle.mux_isolation.proofs.ViewSent.{SeenSame, count, found, own_view}
@@ -28,7 +28,7 @@ own-number (Some x) None same = cc
 
 module _ (own others : List Row) (same : own_view own ≡ own_view others) where
   asker-same : asker own ≡ asker others
-  asker-same = first-of (asks own) (length (replies own)) ∙ (ap (λ (v : LogView). slice_get v.unreplied 0) same ∙ sym (first-of (asks others) (length (replies others))))
+  asker-same = first-of (wanted_requests own) (length (replies own)) ∙ (ap (λ (v : LogView). slice_get v.unreplied 0) same ∙ sym (first-of (wanted_requests others) (length (replies others))))
 
   late-same : (m : Summary) → late m own ≡ late m others
   late-same (Succeeds rest) = ap (λ o. with_ask o (late_success rest)) asker-same
@@ -39,7 +39,7 @@ module _ (own others : List Row) (same : own_view own ≡ own_view others) where
   renamed-same p n = ap (λ c. records (frame_payload (with_recipient p c))) (own-number (holder own n) (holder others n) (found own others same (λ v. is_number v.number n)))
 
   client-same : (p : List ℕ) (m : Summary) → for_client own p m ≡ for_client others p m
-  client-same p (Open what s window maximum) = ap (λ n. elim (nat_lt n MAX_CHANNELS) as (λ _. Outcome) [ true ↦ records (frame_payload p) | false ↦ sends (open_failure s RESOURCE_SHORTAGE too_many_channels) ]) (count own others same)
+  client-same p (Open what s window maximum) = ap (λ n. elim (nat_lt n MAX_CHANNELS) as (λ _. Outcome) [ true ↦ records (frame_payload p) | false ↦ sends_payload (open_failure s RESOURCE_SHORTAGE too_many_channels) ]) (count own others same)
   client-same p (Confirmation n s w m) = renamed-same p n
   client-same p (Within n act) = renamed-same p n
   client-same p m = refl

@@ -9,9 +9,9 @@ use Rattle.mux_history.specs.Channels.{held_of}
 use Rattle.mux_history.specs.Controls.{is_sends, proxies_by}
 use Rattle.mux_history.specs.Farewell.{farewell, leave_channel, leave_forwarding}
 use Rattle.mux_history.specs.Forwardings.{Forwarding, current, dropped, forwarded, forwardings_of}
-use Rattle.mux_history.specs.Log.{all_recorded, bare, fate_with, fitting, goes, new_answers, overflow, queued, row_of, with_farewell}
+use Rattle.mux_history.specs.Log.{all_recorded, bare_row, fate_with, frames_that_fit, goes, new_answers, overflow, queued, row_of, with_farewell}
 use Rattle.mux_history.specs.Pending.{joined, took_by}
-use Rattle.mux_history.specs.Requests.{Ask, answers, answers_to, asks, asks_of, is_sent, replies, reply_in, sent_flags, wanted, wanted_by}
+use Rattle.mux_history.specs.Requests.{Ask, answers, answers_to, wanted_requests, asks_of, is_sent, replies, reply_in, sent_flags, wanted, wanted_by}
 use Rattle.mux_history.specs.Rows.{Item, Row, Says, is_admit, is_lost, is_refusal, loses, rows_of}
 use Rattle.mux_history.specs.Said.{Outcome}
 use Rattle.mux_isolation.specs.LogView.{ChannelView, LogView, Waiting, waiting_left_of}
@@ -52,13 +52,13 @@ module _ (own others : List Row) (same : own_view own ≡ own_view others) where
       (new-answers row own ∙ (ap (answers_after row) (waiting own others same) ∙ sym (new-answers row others)))
 
   queued-same : (frames : List (List ℕ)) (row : Row) → queued frames row own ≡ queued frames row others
-  queued-same frames row = ap (λ n. record row { down = fitting n frames; fate = fate_with row.fate (overflow n frames) }) (ap (λ (v : LogView). length v.pending) same)
+  queued-same frames row = ap (λ n. record row { down = frames_that_fit n frames; fate = fate_with row.fate (overflow n frames) }) (ap (λ (v : LogView). length v.pending) same)
 
   cancels-same : (row : Row) → filter is_on (forwarded row own (forwardings_of own)) ≡ filter is_on (forwarded row others (forwardings_of others))
   cancels-same row =
-      on-forwarded row (length (asks own)) (length (replies own)) (forwardings_of own)
+      on-forwarded row (length (wanted_requests own)) (length (replies own)) (forwardings_of own)
       ∙ (ap (λ (v : LogView). filter is_on (forwarded_at row v.requests v.replied v.forwardings)) same
-      ∙ sym (on-forwarded row (length (asks others)) (length (replies others)) (forwardings_of others)))
+      ∙ sym (on-forwarded row (length (wanted_requests others)) (length (replies others)) (forwardings_of others)))
 
   farewell-same : (row : Row) → farewell row own ≡ farewell row others
   farewell-same row =
@@ -70,9 +70,9 @@ module _ (own others : List Row) (same : own_view own ≡ own_view others) where
 
   pub row-alike : (item : Item) (k : ℕ) (o : Outcome) → row_of item k o own ≡ row_of item k o others
   row-alike item k o =
-      ap (λ frames. with_farewell (queued frames (bare item k o) own) own) (recorded-same (bare item k o))
-      ∙ (ap (λ row. with_farewell row own) (queued-same (all_recorded (bare item k o) others) (bare item k o))
-      ∙ leaving-same (queued (all_recorded (bare item k o) others) (bare item k o) others))
+      ap (λ frames. with_farewell (queued frames (bare_row item k o) own) own) (recorded-same (bare_row item k o))
+      ∙ (ap (λ row. with_farewell row own) (queued-same (all_recorded (bare_row item k o) others) (bare_row item k o))
+      ∙ leaving-same (queued (all_recorded (bare_row item k o) others) (bare_row item k o) others))
 
 -- ---- the view after it
 
@@ -101,9 +101,9 @@ next_view row v = record {
 
 pub view-step : (row : Row) (own : List Row) → rows_of row.client own ≡ own → own_view (row ∷ own) ≡ next_view row (own_view own)
 view-step row own all =
-    ap (λ x. with_parts x (length (asks (row ∷ own))) (length (replies (row ∷ own))) (drop (length (replies (row ∷ own))) (asks (row ∷ own))) (waiting_left_of (wanted (row ∷ own)) (replies (row ∷ own))) (current (row ∷ own))) (channels-step row own)
-    ∙ (ap (λ x. with_parts (next_channels row v.channels) x (length (replies (row ∷ own))) (drop (length (replies (row ∷ own))) (asks (row ∷ own))) (waiting_left_of (wanted (row ∷ own)) (replies (row ∷ own))) (current (row ∷ own))) (length-append (asks own) new)
-    ∙ (ap (λ x. with_parts (next_channels row v.channels) (v.requests + length new) x (drop (length (replies (row ∷ own))) (asks (row ∷ own))) (waiting_left_of (wanted (row ∷ own)) (replies (row ∷ own))) (current (row ∷ own))) (length-append (replies own) (reply_in row.item))
+    ap (λ x. with_parts x (length (wanted_requests (row ∷ own))) (length (replies (row ∷ own))) (drop (length (replies (row ∷ own))) (wanted_requests (row ∷ own))) (waiting_left_of (wanted (row ∷ own)) (replies (row ∷ own))) (current (row ∷ own))) (channels-step row own)
+    ∙ (ap (λ x. with_parts (next_channels row v.channels) x (length (replies (row ∷ own))) (drop (length (replies (row ∷ own))) (wanted_requests (row ∷ own))) (waiting_left_of (wanted (row ∷ own)) (replies (row ∷ own))) (current (row ∷ own))) (length-append (wanted_requests own) new)
+    ∙ (ap (λ x. with_parts (next_channels row v.channels) (v.requests + length new) x (drop (length (replies (row ∷ own))) (wanted_requests (row ∷ own))) (waiting_left_of (wanted (row ∷ own)) (replies (row ∷ own))) (current (row ∷ own))) (length-append (replies own) (reply_in row.item))
     ∙ (ap (λ x. with_parts (next_channels row v.channels) (v.requests + length new) (v.replied + length (reply_in row.item)) x (waiting_left_of (wanted (row ∷ own)) (replies (row ∷ own))) (current (row ∷ own))) unreplied-next
     ∙ (ap (λ x. with_parts (next_channels row v.channels) (v.requests + length new) (v.replied + length (reply_in row.item)) (drop (length (reply_in row.item)) (v.unreplied ++ drop (v.replied - v.requests) new)) x (current (row ∷ own))) (left-more (wanted own) (sent_flags (is_sent row) (wanted_by row)) (replies own) (reply_in row.item))
     ∙ ap (λ x. with_parts (next_channels row v.channels) (v.requests + length new) (v.replied + length (reply_in row.item)) (drop (length (reply_in row.item)) (v.unreplied ++ drop (v.replied - v.requests) new)) (waiting_left_of (v.waiting.requests ++ sent_flags (is_sent row) (wanted_by row)) (v.waiting.early ++ reply_in row.item)) x) current-next))))
@@ -117,11 +117,11 @@ view-step row own all =
     with_parts : List ChannelView → ℕ → ℕ → List Ask → Waiting → List Forwarding → LogView
     with_parts vs a r us w fs = record (own_view (row ∷ own)) { channels = vs; requests = a; replied = r; unreplied = us; waiting = w; forwardings = fs }
 
-    unreplied-next : drop (length (replies (row ∷ own))) (asks (row ∷ own)) ≡ drop (length (reply_in row.item)) (drop (length (replies own)) (asks own) ++ drop (length (replies own) - length (asks own)) new)
+    unreplied-next : drop (length (replies (row ∷ own))) (wanted_requests (row ∷ own)) ≡ drop (length (reply_in row.item)) (drop (length (replies own)) (wanted_requests own) ++ drop (length (replies own) - length (wanted_requests own)) new)
     unreplied-next =
-        ap (λ n. drop n (asks own ++ new)) (length-append (replies own) (reply_in row.item))
-        ∙ (sym (drop-drop (length (reply_in row.item)) (length (replies own)) (asks own ++ new))
-        ∙ ap (drop (length (reply_in row.item))) (drop-append (asks own) new (length (replies own))))
+        ap (λ n. drop n (wanted_requests own ++ new)) (length-append (replies own) (reply_in row.item))
+        ∙ (sym (drop-drop (length (reply_in row.item)) (length (replies own)) (wanted_requests own ++ new))
+        ∙ ap (drop (length (reply_in row.item))) (drop-append (wanted_requests own) new (length (replies own))))
 
-    current-next : current (row ∷ own) ≡ filter is_on (dropped row (forwarded_at row (length (asks own)) (length (replies own)) (current own)))
+    current-next : current (row ∷ own) ≡ filter is_on (dropped row (forwarded_at row (length (wanted_requests own)) (length (replies own)) (current own)))
     current-next = (current-step row own).goes_on ∙ ap (λ rs. filter is_on (dropped row (forwarded row rs (current own)))) all

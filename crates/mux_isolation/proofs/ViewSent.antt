@@ -14,7 +14,7 @@ use Rattle.ssh_grammar.specs.declared.side.Side.TheVariants.{Up}
 use Rattle.mux_history.specs.declared.limits.TheConstants.{MAX_CHANNELS, MAX_CHANNEL_REQUESTS, MAX_FORWARDINGS, MAX_GLOBAL_REQUESTS, MAX_WINDOW}
 use Rattle.mux_history.specs.declared.why.Why.TheVariants as why
 use Rattle.mux_history.specs.Channels.{Channel, held_of, is_number, is_up, with_own}
-use Rattle.mux_history.specs.Controls.{greeted, in_proxy, sent_body}
+use Rattle.mux_history.specs.Controls.{client_has_greeted, in_proxy, sent_body}
 use Rattle.mux_history.specs.Forwardings.{Forwarding, current, is_forwarding_free_at}
 use Rattle.mux_history.specs.Summary.{Act, Answers, Asks, Carries, Confirmation, Ends, Summary, Grants, Open, Refuses, Requests, Succeeds, Transport, Within, read_summary}
 use Rattle.mux_history.specs.Keys.{is_askable}
@@ -22,9 +22,9 @@ use Rattle.mux_history.specs.Ledger.{breach, packet_breach}
 use Rattle.mux_history.specs.Log.{sent_by_client}
 use Rattle.mux_history.specs.Pending.{pending_down}
 use Rattle.mux_history.specs.Policy.{Policy, permits, may_open}
-use Rattle.mux_history.specs.Requests.{answers_to, asks, replies, unanswered_asks, wanted}
+use Rattle.mux_history.specs.Requests.{answers_to, wanted_requests, replies, unanswered_asks, wanted}
 use Rattle.mux_history.specs.Rows.{Row, any_of, is_admit, is_lost, is_out}
-use Rattle.mux_history.specs.Said.{Outcome, confirmed_at, drops, fails_open, is_failing, is_full_of_asks, on_breach, on_confirmed, on_unused, on_waiting, sent_summary, sent_open, sent_payload, sent_request, sends, sends_as, sends_if, sends_open, waiting_at, reason_for, text_for}
+use Rattle.mux_history.specs.Said.{Outcome, confirmed_at, drops, fails_open, is_failing, is_full_of_asks, on_breach, on_confirmed, on_unused, on_waiting, sent_summary, open_outcome, sent_payload, sent_request, sends_payload, sends_as, sends_if, sends_open, waiting_at, reason_for, text_for}
 use Rattle.mux_isolation.specs.LogView.{ChannelView, LogView, Waiting, channel_view, waiting_left_of, room_in, unanswered_in}
 use Rattle.mux_isolation.proofs.ViewChannels.{find-view}
 
@@ -33,14 +33,14 @@ use Rattle.mux_isolation.proofs.ViewChannels.{find-view}
 abbrev pub own_view : List Row → LogView
 own_view own = record {
   admitted = any_of is_admit own;
-  has_greeted = greeted own;
+  has_greeted = client_has_greeted own;
   proxied = in_proxy own;
   lost = is_lost own;
   out = is_out own;
   channels = map channel_view (held_of own);
-  requests = length (asks own);
+  requests = length (wanted_requests own);
   replied = length (replies own);
-  unreplied = drop (length (replies own)) (asks own);
+  unreplied = drop (length (replies own)) (wanted_requests own);
   waiting = waiting_left_of (wanted own) (replies own);
   forwardings = current own;
   pending = pending_down own;
@@ -141,7 +141,7 @@ module _ (own others : List Row) (same : own_view own ≡ own_view others) where
   sends-open : (pick : ℕ) (p : List ℕ) (sender : ℕ) → sends_open own pick p sender ≡ sends_open others pick p sender
   sends-open pick p sender = ap (λ n. elim (nat_lt n MAX_CHANNELS) as (λ _. Outcome) [ true ↦ sends_as pick p | false ↦ fails_open sender RESOURCE_SHORTAGE too_many_channels ]) count
 
-  said-open : (policy : Policy) (pick : ℕ) (p : List ℕ) (sender : ℕ) (what : Opens) → sent_open policy own pick p sender what ≡ sent_open policy others pick p sender what
+  said-open : (policy : Policy) (pick : ℕ) (p : List ℕ) (sender : ℕ) (what : Opens) → open_outcome policy own pick p sender what ≡ open_outcome policy others pick p sender what
   said-open policy pick p sender what = by_case (may_open policy what)
     where
       by_case : (b : Bool) → (elim b as (λ _. Outcome) [ true ↦ sends_open own pick p sender | false ↦ fails_open sender (reason_for what) (text_for what) ]) ≡ (elim b as (λ _. Outcome) [ true ↦ sends_open others pick p sender | false ↦ fails_open sender (reason_for what) (text_for what) ])
@@ -162,15 +162,15 @@ module _ (own others : List Row) (same : own_view own ≡ own_view others) where
   said-summary policy k pick p (Succeeds rest) = refl
   said-summary policy k pick p Refuses = refl
   said-summary policy k pick p (Open what sender window maximum) =
-      on-unused sender (sent_open policy own pick p sender what) (with_own own sender) (with_own others sender) (owned sender)
+      on-unused sender (open_outcome policy own pick p sender what) (with_own own sender) (with_own others sender) (owned sender)
       ∙ ap (λ o. on_unused sender o (with_own others sender)) (said-open policy pick p sender what)
   said-summary policy k pick p (Confirmation s sender window maximum) =
       on-waiting s (on_unused sender (sends_as pick p) (with_own own sender)) (waiting_at own s) (waiting_at others s) (waits s)
       ∙ ap (λ o. on_waiting s o (waiting_at others s)) (on-unused sender (sends_as pick p) (with_own own sender) (with_own others sender) (owned sender))
   said-summary policy k pick p (Within s act) = by_case (is_failing act)
     where
-      by_case : (b : Bool) → (elim b as (λ _. Outcome) [ true ↦ on_waiting s (sends p) (waiting_at own s) | false ↦ on_confirmed p s act (confirmed_at own s) ]) ≡ (elim b as (λ _. Outcome) [ true ↦ on_waiting s (sends p) (waiting_at others s) | false ↦ on_confirmed p s act (confirmed_at others s) ])
-      by_case true = on-waiting s (sends p) (waiting_at own s) (waiting_at others s) (waits s)
+      by_case : (b : Bool) → (elim b as (λ _. Outcome) [ true ↦ on_waiting s (sends_payload p) (waiting_at own s) | false ↦ on_confirmed p s act (confirmed_at own s) ]) ≡ (elim b as (λ _. Outcome) [ true ↦ on_waiting s (sends_payload p) (waiting_at others s) | false ↦ on_confirmed p s act (confirmed_at others s) ])
+      by_case true = on-waiting s (sends_payload p) (waiting_at own s) (waiting_at others s) (waits s)
       by_case false = on-confirmed p s act (confirmed_at own s) (confirmed_at others s) (confirms s)
 
   said-payload : (policy : Policy) (k pick : ℕ) (p : List ℕ) → sent_payload policy k own pick p ≡ sent_payload policy k others pick p

@@ -3,15 +3,15 @@ use Rattle.std.proofs.Common.{◌≡◌, ℕ, List, [], ◌∷◌, map, length, 
 use Rattle.std.specs.Prelude.{◌==◌, ◌||◌, ◌&&◌, not, filter, nat_lt}
 use Rattle.std.proofs.lemmas.Bool.Decides.{nat_tests}
 use Rattle.mux_history.specs.Channels.{Channel, channels_of, held_of, is_channel_held}
-use Rattle.mux_history.specs.Controls.{answers_ask, greeted, house_sends, in_proxy}
+use Rattle.mux_history.specs.Controls.{answers_ask, client_has_greeted, house_sends, in_proxy}
 use Rattle.mux_history.specs.Farewell.{has_open_matters}
 use Rattle.mux_history.specs.Forwardings.{Forwarding, current, forwardings_of}
 use Rattle.mux_history.specs.Heard.{ToClient, dest, received_for}
 use Rattle.mux_history.specs.Laws.{IsOf}
-use Rattle.mux_history.specs.Log.{admits, bare, received_row, makes_row, row_of, sent_by_client, treat}
+use Rattle.mux_history.specs.Log.{admits, bare_row, received_row, makes_row, row_of, sent_by_client, treat}
 use Rattle.mux_history.specs.Pending.{pending_down}
 use Rattle.mux_history.specs.Policy.{Policy}
-use Rattle.mux_history.specs.Requests.{Ask, asks, replies, wanted}
+use Rattle.mux_history.specs.Requests.{Ask, wanted_requests, replies, wanted}
 use Rattle.mux_history.specs.Rows.{Admit, Gone, Heard, HouseSays, Item, Row, Says, Took, any_of, is_admit, is_lost, is_out, rows_of}
 use Rattle.mux_history.specs.Said.{Outcome, silent}
 use Rattle.mux_isolation.specs.Laws.{SameStep, StepsAlike}
@@ -48,14 +48,14 @@ current-local k rows = filters-turn (for_of k) is_on (forwardings_of rows) ∙ a
 
 pub view-own : (k : ℕ) (rows : List Row) → view_of k rows ≡ own_view (rows_of k rows)
 view-own k rows =
-    ap (λ xs. with_parts xs (filter (asks_for k) (asks rows)) (filter (for_of k) (current rows))) (held-local k rows)
+    ap (λ xs. with_parts xs (filter (asks_for k) (wanted_requests rows)) (filter (for_of k) (current rows))) (held-local k rows)
     ∙ (ap (λ xs. with_parts (held_of (rows_of k rows)) xs (filter (for_of k) (current rows))) (asks-local k rows)
-    ∙ ap (λ xs. with_parts (held_of (rows_of k rows)) (asks (rows_of k rows)) xs) (current-local k rows))
+    ∙ ap (λ xs. with_parts (held_of (rows_of k rows)) (wanted_requests (rows_of k rows)) xs) (current-local k rows))
   where
     with_parts : List Channel → List Ask → List Forwarding → LogView
     with_parts xs us fs = record {
       admitted = any_of is_admit (rows_of k rows);
-      has_greeted = greeted (rows_of k rows);
+      has_greeted = client_has_greeted (rows_of k rows);
       proxied = in_proxy (rows_of k rows);
       lost = is_lost (rows_of k rows);
       out = is_out (rows_of k rows);
@@ -113,7 +113,7 @@ module _ (policy : Policy) (pid pick k : ℕ) (rows others : List Row) (same : v
       (of-row (HouseSays k id given) (house_sends (rows_of k rows) id given) (house_sends (rows_of k others) id given)
       (ap (λ (v : LogView). elim v.proxied as (λ _. Outcome) [ true ↦ silent | false ↦ answers_ask true id (Some given) ]) same-own))
   own-step (Gone j) is = subst (λ (i : ℕ). SameStep k rows others (treat policy pid pick rows (Gone i)) (treat policy pid pick others (Gone i))) (sym is) (of-row (Gone k) silent silent refl)
-  own-step (Took j size) is = step (bare (Took j size) j silent) (bare (Took j size) j silent) refl is
+  own-step (Took j size) is = step (bare_row (Took j size) j silent) (bare_row (Took j size) j silent) refl is
   own-step item is = absurd is
 
   heard-step : (p : List ℕ) → dest rows p ≡ ToClient k → dest others p ≡ ToClient k → SameStep k rows others (treat policy pid pick rows (Heard p)) (treat policy pid pick others (Heard p))
@@ -133,7 +133,7 @@ module _ (policy : Policy) (pid pick k : ℕ) (rows others : List Row) (same : v
   matters_seen v = (v.admitted && not v.lost) || (any_of held_seen v.channels || nat_lt v.replied v.requests)
 
   matters-view : (own : List Row) → has_open_matters own ≡ matters_seen (own_view own)
-  matters-view own = ap (λ b. (any_of is_admit own && not (is_lost own)) || (b || nat_lt (length (replies own)) (length (asks own)))) (any-view (held_of own))
+  matters-view own = ap (λ b. (any_of is_admit own && not (is_lost own)) || (b || nat_lt (length (replies own)) (length (wanted_requests own)))) (any-view (held_of own))
 
   pub steps-alike : StepsAlike policy pid pick k rows others
   steps-alike = record {

@@ -12,7 +12,7 @@ use Rattle.mux_history.specs.Journal.{IsLawful, log_of_journal, taken_by}
 use Rattle.mux_history.specs.Promises.{IsFront, TakesFront, Throughout}
 use Rattle.mux_history.specs.Right.{AreFresh, IsAdmitted}
 use Rattle.mux_history.specs.Settings.{by_lists}
-use Rattle.mux_history.specs.Solo.{seen, solo}
+use Rattle.mux_history.specs.Solo.{seen_row, solo}
 use Rattle.mux_history.specs.Kept.{sent_for}
 use Rattle.mux_history.specs.Laws.{OverRight}
 
@@ -45,7 +45,7 @@ TakesAreUnshared =
 -- under its own numbers: each number that the client's OPEN or CONFIRMATION carried up replaced by
 -- its own
 abbrev pub sent_as_own : ℕ → List Row → List (List ℕ)
-sent_as_own k rows = flat_map (λ row. (seen row).sent) (reverse (rows_of k rows))
+sent_as_own k rows = flat_map (λ row. (seen_row row).sent) (reverse (rows_of k rows))
 
 -- for each admitted client it is, payload by payload, what its unshared connection sends
 abbrev pub SendsAlike : Setting → List Row → Type 0

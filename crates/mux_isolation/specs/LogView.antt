@@ -5,11 +5,11 @@ use Rattle.ssh_grammar.specs.declared.side.Side.{Side}
 use Rattle.ssh_grammar.specs.declared.side.Side.TheVariants.{Up, Down}
 use Rattle.mux_history.specs.Rows.{Row, rows_of, any_of, is_admit, is_lost, is_out}
 use Rattle.mux_history.specs.Channels.{Channel, any_act, any_by, held_of, is_closes, is_confirmed, is_ends, is_fails}
-use Rattle.mux_history.specs.Ledger.{answered, asked, carried, granted, initial, maximum_of, other_side, sum_of}
-use Rattle.mux_history.specs.Requests.{Ask, asks, replies, wanted}
+use Rattle.mux_history.specs.Ledger.{reply_count, request_count, carried, granted_size, initial, maximum_of, other_side, sum_of}
+use Rattle.mux_history.specs.Requests.{Ask, wanted_requests, replies, wanted}
 use Rattle.mux_history.specs.Forwardings.{Forwarding, current}
 use Rattle.mux_history.specs.Pending.{pending_down}
-use Rattle.mux_history.specs.Controls.{greeted, in_proxy}
+use Rattle.mux_history.specs.Controls.{client_has_greeted, in_proxy}
 
 -- ---- a channel
 
@@ -30,11 +30,11 @@ pub record Way : Type 0 where
 abbrev pub way_of : Side → Channel → Way
 way_of way x = record {
   window = initial way x;
-  adjustments = sum_of granted (other_side way) x.acts;
+  adjustments = sum_of granted_size (other_side way) x.acts;
   sizes = sum_of carried way x.acts;
   maximum = maximum_of way x;
-  requests = sum_of asked way x.acts;
-  replies = sum_of answered (other_side way) x.acts;
+  requests = sum_of request_count way x.acts;
+  replies = sum_of reply_count (other_side way) x.acts;
   eof = any_by way is_ends x.acts;
   closed = any_by way is_closes x.acts;
 }
@@ -116,14 +116,14 @@ pub record LogView : Type 0 where
 abbrev pub view_of : ℕ → List Row → LogView
 view_of k rows = record {
   admitted = any_of is_admit (rows_of k rows);
-  has_greeted = greeted (rows_of k rows);
+  has_greeted = client_has_greeted (rows_of k rows);
   proxied = in_proxy (rows_of k rows);
   lost = is_lost (rows_of k rows);
   out = is_out (rows_of k rows);
   channels = map channel_view (filter (λ x. x.client == k) (held_of rows));
-  requests = length (filter (λ a. a.client == k) (asks rows));
+  requests = length (filter (λ a. a.client == k) (wanted_requests rows));
   replied = length (replies (rows_of k rows));
-  unreplied = drop (length (replies (rows_of k rows))) (filter (λ a. a.client == k) (asks rows));
+  unreplied = drop (length (replies (rows_of k rows))) (filter (λ a. a.client == k) (wanted_requests rows));
   waiting = waiting_left_of (wanted (rows_of k rows)) (replies (rows_of k rows));
   forwardings = filter (λ f. f.client == k) (current rows);
   pending = pending_down (rows_of k rows);

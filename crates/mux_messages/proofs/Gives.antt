@@ -3,7 +3,7 @@ use Rattle.std.proofs.Common.{◌≡◌, ℕ, List, [], Result, Ok, Err, IfOk, s
 use Rattle.ssh_fields.specs.Fields.{AreBytes}
 use Rattle.ssh_grammar.specs.declared.fault.BadControl.{BadControl}
 use Rattle.ssh_grammar.specs.Control as grammar
-use Rattle.ssh_grammar.specs.ReadControl.{read_unknown, forms, read_control}
+use Rattle.ssh_grammar.specs.ReadControl.{read_unknown, control_forms, read_control}
 use Rattle.ssh_grammar.specs.Tables.{by_number}
 use Rattle.ssh_grammar.specs.IsControl.{SpellsControl}
 use Rattle.ssh_grammar.proofs.ControlReads.{reads_is_spelled}
@@ -19,8 +19,8 @@ pub is_read : (body : List ℕ) (r : Result Control BadControl) → GivesControl
 is_read body r gives c is = subst (GivesControl r) (spelled_reads c body is) gives
 
 -- a message is read as its type says
-pub of_type : (kind k : ℕ) (rest : List ℕ) (r : Result grammar.Control BadControl) → kind ≡ k → by_number forms k (read_unknown k) rest ≡ r → by_number forms kind (read_unknown kind) rest ≡ r
-of_type kind k rest r same reads = subst (λ k. by_number forms k (read_unknown k) rest ≡ r) (sym same) reads
+pub of_type : (kind k : ℕ) (rest : List ℕ) (r : Result grammar.Control BadControl) → kind ≡ k → by_number control_forms k (read_unknown k) rest ≡ r → by_number control_forms kind (read_unknown kind) rest ≡ r
+of_type kind k rest r same reads = subst (λ k. by_number control_forms k (read_unknown k) rest ≡ r) (sym same) reads
 
 -- these bytes are skipped
 abbrev pub skips : List ℕ → Skipped

@@ -1,6 +1,6 @@
 ghost use Rattle.std.specs.Prelude.{◌≡◌, ◌<◌, ◌^◌, ℕ, List, length, IfOk, IfErr, OnOk, Ok, Err};
 ghost use Rattle.ssh_grammar.specs.Gives.{Gives};
-ghost use Rattle.ssh_grammar.specs.ReadControl.{on_pairs, read_id, read_unread, read_hello, read_forward, read_unknown, forms, read_control as reading};
+ghost use Rattle.ssh_grammar.specs.ReadControl.{on_pairs, read_id, read_unread, read_hello, read_forward, read_unknown, control_forms, read_control as reading};
 ghost use Rattle.ssh_grammar.specs.Tables.{by_number};
 ghost use Rattle.ssh_grammar.specs.IsControl.{SpellsControl};
 ghost use Rattle.ssh_grammar.specs.Control as grammar;
@@ -90,7 +90,7 @@ fn unknown(kind: u32, fields: &mut FieldReader<'_>) -> BadControl
 // A control message, by its type.
 fn by_type<'a>(kind: u32, fields: &mut FieldReader<'a>) -> Result<Control<'a>, BadControl>
     requires { fields.old.at ≡ 4 }
-    ensures { GivesControl result (by_number forms kind (read_unknown kind) fields.old.cursor) }
+    ensures { GivesControl result (by_number control_forms kind (read_unknown kind) fields.old.cursor) }
 {
     match kind {
         HELLO => hello(fields),

@@ -5,7 +5,7 @@ use Rattle.std.proofs.lemmas.Grind.{common_steps}
 use Rattle.std.proofs.lemmas.List.{drop_more, drop_min, drop-drop, take_rest}
 use Rattle.mux_outside.specs.OwnStreams.{is_own, is_silent}
 use Rattle.mux_outside.specs.Script.{is_given, cut_step, cut_first, from_first, FirstGives, turn_of, piece_of}
-use Rattle.mux_outside.specs.Seen.{Seen, untold}
+use Rattle.mux_outside.specs.Seen.{Seen, without_record}
 use Rattle.mux_outside.specs.Streams.{among}
 use Rattle.mux_outside.specs.Wire.{TurnFits, OwnFits, IsNewOwn}
 use Rattle.mux_outside.specs.declared.own_streams.OwnStream.{OwnStream}
@@ -173,7 +173,7 @@ own_above last n new =
     grind (arith, common_steps)
 
 -- whether a step is skipped doesn't hang on what is recorded
-pub given_untold : (seen : Seen) (step : Step) → is_given (untold seen) step ≡ is_given seen step
+pub given_untold : (seen : Seen) (step : Step) → is_given (without_record seen) step ≡ is_given seen step
 given_untold seen Accept = refl
 given_untold seen (Bytes t text) = refl
 given_untold seen (End t) = refl
@@ -182,7 +182,7 @@ given_untold seen (Writable t) = refl
 given_untold seen (Join l t) = refl
 
 -- nor do the steps from the first one that isn't skipped
-pub same_steps : (a b : Seen) → untold a ≡ untold b → (steps : List Step)
+pub same_steps : (a b : Seen) → without_record a ≡ without_record b → (steps : List Step)
     → from_first (is_given a) steps ≡ from_first (is_given b) steps
 same_steps a b e [] = refl
 same_steps a b e (step ∷ steps) =

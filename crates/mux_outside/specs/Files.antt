@@ -20,22 +20,22 @@ abbrev pub slash : List ℕ
 slash = 47 ∷ []
 
 -- what stands after a prefix
-abbrev pub behind : List ℕ → List ℕ → Option (List ℕ)
-behind prefix path =
+abbrev pub path_after_prefix : List ℕ → List ℕ → Option (List ℕ)
+path_after_prefix prefix path =
     if bytes_eq (take (length prefix) path) prefix then Some (drop (length prefix) path) else None
 
 -- what of a path stands after a directory and its slash
-abbrev pub inside : List ℕ → List ℕ → Option (List ℕ)
-inside dir path =
-    if bytes_eq dir slash then behind slash path
-    else option_and_then (behind slash) (behind dir path)
+abbrev pub path_inside : List ℕ → List ℕ → Option (List ℕ)
+path_inside dir path =
+    if bytes_eq dir slash then path_after_prefix slash path
+    else option_and_then (path_after_prefix slash) (path_after_prefix dir path)
 
 -- whether a path names a directory: the root, or a prefix of a path that isn't empty and that a
 -- slash follows
 abbrev pub is_folder_at : List Pair → List ℕ → Bool
 is_folder_at files dir =
     bytes_eq dir slash
-    || (not (bytes_eq dir []) && list_any (λ p. is_some (inside dir p.name)) files)
+    || (not (bytes_eq dir []) && list_any (λ p. is_some (path_inside dir p.name)) files)
 
 -- what a path holds, where it names a file and no directory
 abbrev pub file_content_at : List Pair → List ℕ → Option (List ℕ)
@@ -49,7 +49,7 @@ as_name (b ∷ bs) = Some (b ∷ bs)
 -- the name in a directory by which a path goes on
 abbrev pub folder_name_in : List ℕ → Pair → Option (List ℕ)
 folder_name_in dir p =
-    option_and_then as_name (option_map (before_first (λ b. b == 47)) (inside dir p.name))
+    option_and_then as_name (option_map (before_first (λ b. b == 47)) (path_inside dir p.name))
 
 -- the names with one more, unless it is among them
 abbrev pub with_name : List (List ℕ) → List ℕ → List (List ℕ)

@@ -36,7 +36,7 @@ pub record Known : Type 0 where
   pub asks : List OpenAsk
   pub ordering : Option Order
 
--- whether it has nothing to say, nothing to order and nothing to answer
+-- whether it has nothing to send, nothing to order and nothing to answer
 pub record Quiet : Type 0 where
   pub says : Bool
   pub orders : Bool
@@ -150,12 +150,12 @@ known_after_ask reply client id opening known =
 abbrev pub is_ask : ℕ → ℕ → OpenAsk → Bool
 is_ask client id ask = (ask.client == client) && (ask.id == id)
 
--- whether one of the open asks is an opening one or a closing one with this client and id
+-- whether one of the open requests is an opening one or a closing one with this client and id
 abbrev pub has_ask : ℕ → ℕ → Bool → List OpenAsk → Bool
 has_ask client id true asks = list_any (λ a. is_ask client id a && a.opening) asks
 has_ask client id false asks = list_any (λ a. is_ask client id a && not a.opening) asks
 
--- the open asks without the first that has this client and id
+-- the open requests without the first that has this client and id
 abbrev pub without_ask : ℕ → ℕ → List OpenAsk → List OpenAsk
 without_ask client id [] = []
 without_ask client id (ask ∷ asks) =
@@ -259,9 +259,9 @@ pub record IsNewTo (known : Known) (number : ℕ) : Type 0 where
   pub no_stream : is_one number known.streams ≡ false
 
 -- which number may be reported
-abbrev pub NumberFits : Option ℕ → Known → Type 0
-NumberFits None known = Unit {0}
-NumberFits (Some number) known = IsNewTo known number
+abbrev pub HouseNumberFits : Option ℕ → Known → Type 0
+HouseNumberFits None known = Unit {0}
+HouseNumberFits (Some number) known = IsNewTo known number
 
 -- what was ordered has this number from now on
 abbrev pub with_number : Option Order → Option ℕ → Known → Known

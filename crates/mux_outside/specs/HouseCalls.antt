@@ -32,7 +32,7 @@ happening_of (own.End t) = End t
 happening_of (own.Writable t) = Writable t
 happening_of (own.Failed t) = Failed t
 
--- the call that a mark records: none where the forwarder is let in, and what it received is
+-- the call that a mark records: none where the forwarder is admitted, and what it received is
 -- recorded by its bytes
 abbrev pub call_of : HouseMark → List HouseCall
 call_of HouseIn = []

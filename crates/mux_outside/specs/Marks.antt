@@ -4,19 +4,19 @@ use Rattle.mux_outside.specs.declared.mark.Mark.{Mark}
 use Rattle.mux_outside.specs.declared.mark.Mark.TheVariants.{Waits, Accepts, Gets, Ends, Frees, Fails, Takes, Holds, WriteFails, Joins, House}
 
 -- the bytes that a stream accepted at one mark
-abbrev pub taken_at : ℕ → Mark → List ℕ
-taken_at stream (Takes t bytes listens) = if t == stream then bytes else []
-taken_at stream (Waits waiting want streams shown) = []
-taken_at stream (Accepts k) = []
-taken_at stream (Gets t bytes) = []
-taken_at stream (Ends t) = []
-taken_at stream (Frees t) = []
-taken_at stream (Fails t) = []
-taken_at stream (Holds t) = []
-taken_at stream (WriteFails t) = []
-taken_at stream (Joins l t) = []
-taken_at stream (House mark) = []
+abbrev pub accepted_at_mark : ℕ → Mark → List ℕ
+accepted_at_mark stream (Takes t bytes listens) = if t == stream then bytes else []
+accepted_at_mark stream (Waits waiting want streams shown) = []
+accepted_at_mark stream (Accepts k) = []
+accepted_at_mark stream (Gets t bytes) = []
+accepted_at_mark stream (Ends t) = []
+accepted_at_mark stream (Frees t) = []
+accepted_at_mark stream (Fails t) = []
+accepted_at_mark stream (Holds t) = []
+accepted_at_mark stream (WriteFails t) = []
+accepted_at_mark stream (Joins l t) = []
+accepted_at_mark stream (House mark) = []
 
 -- all bytes that a stream accepted
 abbrev pub bytes_taken : ℕ → List Mark → List ℕ
-bytes_taken stream marks = flat_map (taken_at stream) marks
+bytes_taken stream marks = flat_map (accepted_at_mark stream) marks

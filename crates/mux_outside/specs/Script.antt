@@ -110,8 +110,8 @@ abbrev pub write_entry_at : List WriteEntry → ℕ → WriteEntry
 write_entry_at entries i = unwrap_or (slice_get entries i) All
 
 -- the answer to a write of so many bytes: one at least is accepted
-abbrev pub answer_of : WriteEntry → ℕ → Wrote
-answer_of All len = Took len
-answer_of (SomeBytes n) len = Took (min (max n 1) len)
-answer_of Later len = IsLater
-answer_of FailWrite len = FailedWrite
+abbrev pub write_answer : WriteEntry → ℕ → Wrote
+write_answer All len = Took len
+write_answer (SomeBytes n) len = Took (min (max n 1) len)
+write_answer Later len = IsLater
+write_answer FailWrite len = FailedWrite

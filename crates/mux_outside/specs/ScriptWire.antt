@@ -6,7 +6,7 @@ use Rattle.mux_outside.specs.declared.file_error.FileError.TheVariants.{Failed, 
 use Rattle.mux_outside.specs.Counts.{counted}
 use Rattle.mux_outside.specs.Seen.{Seen}
 use Rattle.mux_outside.specs.WireLog.{nothing_logged}
-use Rattle.mux_outside.specs.Script.{is_given, from_first, turn_of, piece_of, steps_after, steps_from, write_entry_at, answer_of}
+use Rattle.mux_outside.specs.Script.{is_given, from_first, turn_of, piece_of, steps_after, steps_from, write_entry_at, write_answer}
 use Rattle.mux_outside.specs.declared.script.Step.{Step}
 use Rattle.mux_outside.specs.declared.script.WriteEntry.{WriteEntry}
 use Rattle.mux_outside.specs.declared.turn.Want.{Want}
@@ -74,7 +74,7 @@ pub record GivesNext (want : Want) (waiting : List ℕ) (old new : ScriptWire) (
 
 -- a write followed its entry
 pub record FollowsEntry (len : ℕ) (old new : ScriptWire) (wrote : Wrote) : Type 0 where
-  pub wrote_is : wrote ≡ answer_of (write_entry_at old.writes old.written) len
+  pub wrote_is : wrote ≡ write_answer (write_entry_at old.writes old.written) len
   pub writes_kept : new.writes ≡ old.writes
   pub written_is : new.written ≡ counted old.written
 

@@ -21,7 +21,7 @@ use Rattle.mux_outside.specs.declared.turn.Wrote.{Wrote}
 use Rattle.mux_outside.specs.declared.turn.Wrote.TheVariants.{Took, Later, Failed as FailedWrite, NoMemory as NoMemoryToWrite}
 
 -- what is seen of a wire: its marks so far, where they are recorded; the open streams, in the order
--- in which they were opened; those that take no bytes for now; whether clients are accepted; the
+-- in which they were opened; those that accept no bytes for now; whether clients are accepted; the
 -- last client accepted, 0 before the first; the master's own listeners that are open; its own
 -- streams that are open, which stand among the open streams too; and the last number of either, the
 -- last one of a client before the first
@@ -49,8 +49,8 @@ nothing_seen = record {
 }
 
 -- the same but for what is recorded
-abbrev pub untold : Seen → Seen
-untold seen = record seen { recorded = None }
+abbrev pub without_record : Seen → Seen
+without_record seen = record seen { recorded = None }
 
 -- what it shows of itself at a wait, beside the open streams
 abbrev pub shown_of : Seen → Shown

@@ -1,4 +1,4 @@
--- What a sink has taken of the bytes that it was given.
+-- What a sink has accepted of the bytes that it was given.
 use Rattle.std.specs.Prelude.{◌≡◌, ℕ, List, ◌++◌, Result, Ok, Err, Option, Some, None}
 use Rattle.mux_outside.specs.declared.file_error.FileError.{FileError}
 use Rattle.mux_outside.specs.declared.file_error.FileError.TheVariants.{Failed, OutOfMemory}
@@ -11,10 +11,10 @@ pub record TookPrefix (before now bytes : List ℕ) : Type 0 where
   pub taken : now ≡ before ++ prefix
 
 -- what was accepted after a call: all bytes, if it failed a prefix, and nothing if memory ran out
-abbrev pub Takes : Result (Unit {0}) FileError → List ℕ → List ℕ → List ℕ → Type 0
-Takes (Ok x) before now bytes = now ≡ before ++ bytes
-Takes (Err Failed) before now bytes = TookPrefix before now bytes
-Takes (Err OutOfMemory) before now bytes = now ≡ before
+abbrev pub SinkTakes : Result (Unit {0}) FileError → List ℕ → List ℕ → List ℕ → Type 0
+SinkTakes (Ok x) before now bytes = now ≡ before ++ bytes
+SinkTakes (Err Failed) before now bytes = TookPrefix before now bytes
+SinkTakes (Err OutOfMemory) before now bytes = now ≡ before
 
 -- the same, if it is recorded
 abbrev pub TakesRecorded : Result (Unit {0}) FileError → Option (List ℕ) → Option (List ℕ)
@@ -22,9 +22,9 @@ abbrev pub TakesRecorded : Result (Unit {0}) FileError → Option (List ℕ) →
 TakesRecorded answer None None bytes = Unit {0}
 TakesRecorded answer None (Some now) bytes = ⊥
 TakesRecorded answer (Some before) None bytes = ⊥
-TakesRecorded answer (Some before) (Some now) bytes = Takes answer before now bytes
+TakesRecorded answer (Some before) (Some now) bytes = SinkTakes answer before now bytes
 
--- a sink in memory takes all bytes or none
+-- a sink in memory accepts all bytes or none
 abbrev pub TakesOrNothing : Result (Unit {0}) FileError → List ℕ → List ℕ → List ℕ → Type 0
 TakesOrNothing (Ok x) before now bytes = now ≡ before ++ bytes
 TakesOrNothing (Err e) before now bytes = now ≡ before

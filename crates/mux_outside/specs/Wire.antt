@@ -110,7 +110,7 @@ pub record MayWrite (stream : ℕ) (bytes : List ℕ) (seen : Seen) : Type 0 whe
   pub unfinished : is_finished stream seen.own ≡ false
   pub some : 0 < length bytes
 
--- how many bytes may be taken
+-- how many bytes may be accepted
 abbrev pub WroteFits : Wrote → ℕ → Type 0
 WroteFits (Took n) len = (1 ≤ n) × (n ≤ len)
 WroteFits Later len = Unit {0}

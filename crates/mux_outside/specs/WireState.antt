@@ -2,7 +2,7 @@
 use Rattle.std.specs.Prelude.{ℕ, Bool, true, false, List, [], ◌∷◌, ◌++◌, Result, Ok, Err, Option, Some, None}
 use Rattle.std.specs.Option.{option_map}
 use Rattle.mux_outside.specs.CallCounts.{CallCounts, no_calls, calls_after_open, calls_after_wait, calls_after_write}
-use Rattle.mux_outside.specs.Seen.{Seen, nothing_seen, seen_after_open, seen_after_join, seen_after_turn, seen_after_write, moved_by_turn, moved_by_write, untold}
+use Rattle.mux_outside.specs.Seen.{Seen, nothing_seen, seen_after_open, seen_after_join, seen_after_turn, seen_after_write, moved_by_turn, moved_by_write, without_record}
 use Rattle.mux_outside.specs.Tally.{no_tally}
 use Rattle.mux_outside.specs.Wire.{openings_of, joinings_of}
 use Rattle.mux_outside.specs.declared.file_error.FileError.{FileError}
@@ -46,7 +46,7 @@ recording openings joinings marks state = record state {
 -- the same of a wire that records nothing, and counts nothing of a drill
 abbrev pub untelling : WireState → WireState
 untelling state = record state {
-  seen = untold state.seen;
+  seen = without_record state.seen;
   openings = None;
   joinings = None;
   tally = no_tally;

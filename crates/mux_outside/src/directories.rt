@@ -27,7 +27,7 @@ pub fn pair_value_at<'a>(pairs: &'a [Pair], name: &[u8]) -> Option<&'a [u8]>
 
 // What of a path stands after a directory and its slash.
 fn inside<'a>(dir: &[u8], path: &'a [u8]) -> Option<&'a [u8]>
-    ensures { option_map (λ v. v.now) result ≡ files_are.inside dir.now path.now }
+    ensures { option_map (λ v. v.now) result ≡ files_are.path_inside dir.now path.now }
 {
     if dir == SLASH {
         return path.strip_prefix(SLASH);
@@ -44,7 +44,7 @@ pub fn is_folder_at(files: &[Pair], dir: &[u8]) -> bool
 
 // Whether a path lies inside a directory.
 fn has_paths_inside(files: &[Pair], dir: &[u8]) -> bool
-    ensures { result ≡ list_any (λ p. is_some (files_are.inside dir.now p.name)) files.now }
+    ensures { result ≡ list_any (λ p. is_some (files_are.path_inside dir.now p.name)) files.now }
 {
     for pair in files {
         if inside(dir, pair.name.as_bytes()).is_some() {

@@ -4,7 +4,7 @@ ghost use Rattle.mux_outside.specs.declared.house.HouseReply.{HouseReply as TheR
 ghost use Rattle.mux_outside.specs.House.{HouseState as TheState, Gave, GaveOr, IsBlank, IsFresh, OffersSame, recorded_more};
 ghost use Rattle.mux_outside.specs.House.{ask_marks, known_after_ask, AnswerFits, answer_marks, known_after_answer, gives_none};
 ghost use Rattle.mux_outside.specs.House.{SendsFits, sends_marks, sends_nothing, takes_marks};
-ghost use Rattle.mux_outside.specs.House.{OrderFits, order_marks, known_after_order, NumberFits, ordered_marks, known_after_ordered};
+ghost use Rattle.mux_outside.specs.House.{OrderFits, order_marks, known_after_order, HouseNumberFits, ordered_marks, known_after_ordered};
 ghost use Rattle.mux_outside.specs.House.{OwnTurnFits, known_after_own_turn, has_waiting, queue_after_took};
 ghost use Rattle.mux_outside.specs.HouseCalls.{HouseCall as TheCall, Begins, Receives, HandsOn, Takes, Turns, happening_of};
 ghost use Rattle.mux_outside.specs.Greeting.{GreetsFirst};
@@ -16,7 +16,7 @@ use crate::starts::Starts;
 use crate::streams::Streams;
 use ssh_fields::OutOfMemory;
 
-/// What a client asks of the master's own forwardings (PROTOCOL.mux, MUX_C_OPEN_FWD and
+/// What a client requests of the master's own forwardings (PROTOCOL.mux, MUX_C_OPEN_FWD and
 /// MUX_C_CLOSE_FWD).
 #[derive(Clone, Copy)]
 pub struct FwdAsk<'a> {
@@ -76,7 +76,7 @@ pub trait House: Asks {
     ghost begun: { Self → Type 0 };
 
     /// Whether there is a forwarder at all. Where there is none, it is only asked. The first piece
-    /// that one says is the greeting.
+    /// that one sends is the greeting.
     fn present(&self) -> bool
         ensures present { result ≡ (Self.state self.now).known.present }
         ensures fresh { fresh self.now → IsFresh (Self.state self.now) }
@@ -140,7 +140,7 @@ pub trait House: Asks {
     /// The number of what was ordered, and none where that failed.
     fn ordered(&mut self, number: Option<u64>)
         requires ordering { IsSome (Self.state self.old).known.ordering }
-        requires fits { NumberFits number (Self.state self.old).known }
+        requires fits { HouseNumberFits number (Self.state self.old).known }
         ensures gave { Gave (ordered_marks (Self.state self.old).known.ordering number)
             (known_after_ordered number) (Self.state self.old) (Self.state self.new) };
 

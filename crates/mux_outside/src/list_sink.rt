@@ -21,7 +21,7 @@ pub struct ListSink {
 }
 
 impl ListSink {
-    /// A sink that has taken nothing, and takes nothing at the calls that fail.
+    /// A sink that has accepted nothing, and accepts nothing at the calls that fail.
     pub fn new(alloc: Global, fails: Calls) -> ListSink
         ensures taken { result.taken ≡ [] }
         ensures fails { result.fails ≡ fails }
@@ -38,7 +38,7 @@ impl ListSink {
         }
     }
 
-    /// The bytes taken so far.
+    /// The bytes accepted so far.
     pub fn taken(&self) -> &[u8]
         ensures { result.now ≡ self.now.taken }
     {

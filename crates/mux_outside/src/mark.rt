@@ -1,5 +1,5 @@
 ghost use Rattle.std.specs.Prelude.{◌≡◌, ◌++◌, IfOk};
-ghost use Rattle.mux_outside.specs.Marks.{bytes_taken as all_taken, taken_at as all_taken_at};
+ghost use Rattle.mux_outside.specs.Marks.{bytes_taken as all_taken, accepted_at_mark as all_taken_at};
 
 use crate::kept_mark::KeptMark;
 use crate::kept_shown::KeptShown;

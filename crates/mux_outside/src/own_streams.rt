@@ -145,7 +145,7 @@ impl OwnStreams {
             .any(|s| s.number == number && (s.paused || s.ended))
     }
 
-    /// Whether the stream is one of them and takes no more bytes.
+    /// Whether the stream is one of them and accepts no more bytes.
     pub fn is_finished(&self, number: u64) -> bool
         ensures { result ≡ is_finished number self.now }
     {

@@ -7,7 +7,7 @@ pub enum OwnTurn<'a> {
     Got(u64, &'a [u8]),
     /// A stream gives no more bytes.
     End(u64),
-    /// A stream that was blocked takes bytes again, or is connected.
+    /// A stream that was blocked accepts bytes again, or is connected.
     Writable(u64),
     /// A stream failed.
     Failed(u64),

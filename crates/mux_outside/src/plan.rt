@@ -2,7 +2,7 @@
 ghost use Rattle.std.specs.Prelude.{◌≡◌, ◌≤◌, drop, take, length, IfSome};
 ghost use Rattle.mux_outside.specs.declared.turn.Want.TheVariants.{Read};
 ghost use Rattle.mux_outside.specs.Streams.{among};
-ghost use Rattle.mux_outside.specs.Script.{is_given, cut_step, steps_from, from_first, FirstGives, turn_of, step_bytes_of, given_bytes_in, steps_after, write_entry_at, answer_of};
+ghost use Rattle.mux_outside.specs.Script.{is_given, cut_step, steps_from, from_first, FirstGives, turn_of, step_bytes_of, given_bytes_in, steps_after, write_entry_at, write_answer};
 ghost use Rattle.mux_outside.specs.Wire.{TurnFits};
 
 use crate::own_streams::{LAST_CLIENT, LAST_OWN};
@@ -143,7 +143,7 @@ fn next_piece(text: &[u8], offset: usize) -> (&[u8], usize)
 
 /// The answer to a write of so many bytes after so many others.
 pub fn answer_at(entries: &[WriteEntry], written: usize, len: usize) -> Wrote
-    ensures { result ≡ answer_of (write_entry_at entries.now written) len }
+    ensures { result ≡ write_answer (write_entry_at entries.now written) len }
 {
     match entries.get(written) {
         None => Wrote::Took(len),

@@ -4,7 +4,7 @@ ghost use Rattle.mux_outside.specs.Sink.{TakesRecorded};
 
 use crate::file_error::FileError;
 
-/// What takes the bytes that are written.
+/// What accepts the bytes that are written.
 pub trait Sink {
     /// The bytes accepted, in order, if they are recorded.
     ghost recorded: { Self → Option (List ℕ) };

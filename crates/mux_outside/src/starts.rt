@@ -4,7 +4,7 @@ use crate::start_ask::StartAsks;
 use ssh_fields::{ListOf, OutOfMemory, Text};
 use std::alloc::Global;
 
-/// A listening end that is permitted; None stands for each host, or each port.
+/// A listening end that is permitted; None means each host, or each port.
 #[derive(Drop)]
 pub struct ListenEntry {
     pub host: Option<Text>,
@@ -67,7 +67,7 @@ fn copied(alloc: Global, entries: &ListenEntries) -> Result<ListenEntries, OutOf
 #[derive(Drop)]
 pub struct Starts {
     pub asks: StartAsks,
-    /// Whether a listener without a host takes connections from other machines.
+    /// Whether a listener without a host accepts connections from other machines.
     pub gateway: bool,
     /// Whether the run ends where one of them is refused.
     pub must: bool,

@@ -2,7 +2,7 @@
 ghost use Rattle.std.specs.Prelude.{◌≡◌, ◌≢◌, ◌≤◌, Some, IfOk, OnOk, length};
 ghost use Rattle.std.specs.Option.{option_map};
 ghost use Rattle.mux_outside.specs.Marks.{bytes_taken as all_taken};
-ghost use Rattle.mux_outside.specs.Seen.{seen_after_close, seen_after_connect, seen_after_finish, seen_after_listen, seen_after_note, seen_after_pause, seen_after_silence, seen_after_unlisten, untold};
+ghost use Rattle.mux_outside.specs.Seen.{seen_after_close, seen_after_connect, seen_after_finish, seen_after_listen, seen_after_note, seen_after_pause, seen_after_silence, seen_after_unlisten, without_record};
 ghost use Rattle.mux_outside.specs.Wire.{JoinFaults, MakeFaults, NumberFits, OpenFaults, OwnFits, TurnFaults, WroteFaults, WroteFits};
 ghost use Rattle.mux_outside.specs.WireLog.{MakesAs, NextOwn, OpensAs, nothing_logged};
 ghost use Rattle.mux_outside.specs.WireState.{answer_kept, seeing, state_after_join, state_after_open, state_after_wait, state_after_write, turn_kept};
@@ -66,7 +66,7 @@ impl WireLog {
 
     /// What is always known of the wire.
     pub fn state(&self) -> &WireState
-        ensures { untold result.now.seen ≡ untold self.now.state.seen }
+        ensures { without_record result.now.seen ≡ without_record self.now.state.seen }
     {
         &self.state
     }

@@ -87,7 +87,7 @@ impl WireState {
         self.streams.streams()
     }
 
-    /// The streams that take no bytes for now.
+    /// The streams that accept no bytes for now.
     pub fn blocked(&self) -> &Streams
         ensures { result.now ≡ self.now.seen.blocked }
     {
@@ -385,7 +385,7 @@ impl WireState {
         self.own.set_paused(stream, paused);
     }
 
-    /// A stream of the master's own takes no more bytes.
+    /// A stream of the master's own accepts no more bytes.
     pub fn finish(&mut self, stream: u64)
         ensures { self.new ≡ seeing (seen_after_finish stream) self.old }
     {

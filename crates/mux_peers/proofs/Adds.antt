@@ -12,7 +12,7 @@ use Rattle.mux_history.specs.declared.why.Why.TheVariants as why
 use Rattle.mux_history.specs.Policy.{Policy}
 use Rattle.mux_history.specs.Rows.{Row, rows_of, any_of, is_admit, is_lost, is_refusal, loses, Item, Admit, Says, HouseSays, Gone, Fate, Refused}
 use Rattle.mux_history.specs.Choices.{FromLists, pick_of, replies_given, reply_at}
-use Rattle.mux_history.specs.Controls.{answers_maybe, body_asks, greeted, house_answer, later_control, later_unread, sent_body, sent_first, sent_later}
+use Rattle.mux_history.specs.Controls.{answers_maybe, body_asks, client_has_greeted, house_answer, later_control, later_unread, sent_body, sent_first, sent_later}
 use Rattle.mux_history.specs.Said.{Outcome, drops, silent, sent_payload}
 use Rattle.mux_history.specs.Settings.{by_lists}
 use Rattle.mux_history.specs.Treat.{row_of, treat}
@@ -94,7 +94,7 @@ said-own policy pid picks given k (Payload p) rows =
     own-row-of (Says k (Payload p) None) k (sent_payload policy k (rows_of k rows) (pick_of (FromLists picks given) rows (Says k (Payload p) None)) p) (rows_of k rows) refl
     (said-unrefused policy k (rows_of k rows) (pick_of (FromLists picks given) rows (Says k (Payload p) None)) p)
 said-own policy pid picks given k (BadFraming fault) rows = own-row-of (Says k (BadFraming fault) None) k (drops (why.BadFrame fault)) (rows_of k rows) refl refl
-said-own policy pid picks given k (Body body) rows = by_ask (greeted (rows_of k rows) && body_asks body)
+said-own policy pid picks given k (Body body) rows = by_ask (client_has_greeted (rows_of k rows) && body_asks body)
   where
     own : List Row
     own = rows_of k rows
@@ -103,9 +103,9 @@ said-own policy pid picks given k (Body body) rows = by_ask (greeted (rows_of k 
     pick = pick_of (FromLists picks given) rows (Says k (Body body) None)
 
     by_ask : (b : Bool) → IsOwn k (treat policy pid pick rows (elim b as (λ _. Item) [ true ↦ Says k (Body body) (Some (reply_at given (replies_given rows))) | false ↦ Says k (Body body) None ]))
-    by_ask true = own-row-of (Says k (Body body) (Some (reply_at given (replies_given rows)))) k (sent_body pid k (Some (reply_at given (replies_given rows))) (greeted own) body) own refl
-        (body-fine pid k (Some (reply_at given (replies_given rows))) (greeted own) (read_control body))
-    by_ask false = own-row-of (Says k (Body body) None) k (sent_body pid k None (greeted own) body) own refl (body-fine pid k None (greeted own) (read_control body))
+    by_ask true = own-row-of (Says k (Body body) (Some (reply_at given (replies_given rows)))) k (sent_body pid k (Some (reply_at given (replies_given rows))) (client_has_greeted own) body) own refl
+        (body-fine pid k (Some (reply_at given (replies_given rows))) (client_has_greeted own) (read_control body))
+    by_ask false = own-row-of (Says k (Body body) None) k (sent_body pid k None (client_has_greeted own) body) own refl (body-fine pid k None (client_has_greeted own) (read_control body))
 
 pub gone-own : (policy : Policy) (pid : ℕ) (picks : List ℕ) (given : List HouseReply) (k : ℕ) (rows : List Row) → IsOwn k (next_row (by_lists policy pid picks given) rows (Gone k))
 gone-own policy pid picks given k rows = own-row-of (Gone k) k silent (rows_of k rows) refl refl

@@ -5,13 +5,13 @@ use Rattle.mux_outside.specs.declared.house.HouseReply.{HouseReply}
 use Rattle.proxy_frames.specs.State.{QueueState}
 use Rattle.mux_history.specs.declared.ended.Ended.{Ended}
 use Rattle.mux_history.specs.declared.why.Why.{Why}
-use Rattle.mux_history.specs.Rows.{Row, rows_of, any_of, is_ended, is_lost, is_out, is_refusal, loses, loss_by, losses, Item, Fate, Goes, End, Heard}
+use Rattle.mux_history.specs.Rows.{Row, rows_of, any_of, is_run_over, is_lost, is_out, is_refusal, loses, loss_by, losses, Item, Fate, Goes, End, Heard}
 use Rattle.mux_history.specs.Pending.{waiting_down}
 use Rattle.mux_history.specs.Farewell.{farewell}
 use Rattle.mux_history.specs.Said.{Outcome}
 use Rattle.mux_history.specs.Heard.{ToClient, dest, received_for}
 use Rattle.mux_history.specs.Settings.{by_lists}
-use Rattle.mux_history.specs.Treat.{all_recorded, bare, fate_with, overflow, queued, row_of}
+use Rattle.mux_history.specs.Treat.{all_recorded, bare_row, fate_with, overflow, queued, row_of}
 use Rattle.mux_history.specs.Log.{next_row}
 use Rattle.mux_history.proofs.Bools.{same-number}
 use Rattle.mux_history.proofs.OwnRows.{idle_row}
@@ -59,18 +59,18 @@ not-out (row ∷ own) l r =
 -- ---- the arrow: the server's payload goes to a client that is here
 
 record ReceivedOne (p : List ℕ) (core2 : CoreState) (up2 : QueueState) (rows : List Row) (row : Row) (x y : ClientState) : Type 0 where
-  here : stands.is_lost x.peer.standing ≡ false
+  here : stands.is_standing_lost x.peer.standing ≡ false
   in_rows : ReceivedRow p (part core2 y.peer up2) rows row
 
 -- one of them that goes on so
 heard-one : (pid : ℕ) (picks : List ℕ) (given : List HouseReply) (p p' : List ℕ) (k n : ℕ) (core0 core1 core2 : CoreState) (cs : List ClientState) (up up1 up2 : QueueState) (rows : List Row) (x y : ClientState)
-    → AllFit rows core0 cs up → is_ended rows ≡ false → CoreReceivesOn core0 core1 p p' up up1 (heard.Client k n) → x.peer.number ≡ k → InFits rows x → ReceivesRecorded (recorded_by (heard.Client k n) p') (part core1 x.peer up1) (part core2 y.peer up2)
+    → AllFit rows core0 cs up → is_run_over rows ≡ false → CoreReceivesOn core0 core1 p p' up up1 (heard.Client k n) → x.peer.number ≡ k → InFits rows x → ReceivesRecorded (recorded_by (heard.Client k n) p') (part core1 x.peer up1) (part core2 y.peer up2)
     → ReceivedOne p core2 up2 rows (next_row (by_lists core0.policy pid picks given) rows (Heard p)) x y
 heard-one pid picks given p p' k n core0 core1 core2 cs up up1 up2 rows x y fit live receives num f r =
     let t : IsTo core1 k n p p' up up1 rows = is-to core1 k n p p' up up1 rows (dest rows p) refl (receives rows (fit.core live)).row in
     let j : ℕ = x.peer.number in
     let lost : is_lost (rows_of j rows) ≡ false = subst (λ i. is_lost (rows_of i rows) ≡ false) (sym num) t.here in
-    let in-it : stands.is_lost x.peer.standing ≡ false = ap stands.is_lost f.peer.standing_is ∙ (sym (out_is (rows_of j rows)) ∙ not-out (rows_of j rows) lost f.unrefused) in
+    let in-it : stands.is_standing_lost x.peer.standing ≡ false = ap stands.is_standing_lost f.peer.standing_is ∙ (sym (out_is (rows_of j rows)) ∙ not-out (rows_of j rows) lost f.unrefused) in
     record {
       here = in-it;
       in_rows = heard-client pid picks given p p' core0 core1 x.peer (part core2 y.peer up2) up up1 n rows (record { core = fit.core; peer = f.peer; up = fit.up }) live in-it
@@ -79,7 +79,7 @@ heard-one pid picks given p p' k n core0 core1 core2 cs up up1 up2 rows x y fit 
 
 -- and is lost by it as it is noted
 heard-loss : (pid : ℕ) (picks : List ℕ) (given : List HouseReply) (p p' : List ℕ) (k n : ℕ) (noted : List (ℕ × Option Why)) (core0 core1 core2 : CoreState) (cs cs' : List ClientState) (up up1 up2 : QueueState) (rows : List Row)
-    → AllFit rows core0 cs up → is_ended rows ≡ false → is_present cs k ≡ true → CoreReceivesOn core0 core1 p p' up up1 (heard.Client k n)
+    → AllFit rows core0 cs up → is_run_over rows ≡ false → is_present cs k ≡ true → CoreReceivesOn core0 core1 p p' up up1 (heard.Client k n)
     → ChangesOne k (ReceivesNoting k (recorded_by (heard.Client k n) p') noted core1 core2 up1 up2) cs cs' → loss_by (next_row (by_lists core0.policy pid picks given) rows (Heard p)) ≡ noted
 heard-loss pid picks given p p' k n noted core0 core1 core2 cs cs' up up1 up2 rows fit live here receives change =
     one-gives k rows (ReceivesNoting k (recorded_by (heard.Client k n) p') noted core1 core2 up1 up2) (loss_by row ≡ noted) cs cs' fit.each here
@@ -96,7 +96,7 @@ heard-loss pid picks given p p' k n noted core0 core1 core2 cs cs' up up1 up2 ro
     row = next_row (by_lists core0.policy pid picks given) rows (Heard p)
 
 pub heard-among : (pid : ℕ) (picks : List ℕ) (given : List HouseReply) (p p' : List ℕ) (k n : ℕ) (core0 core1 core2 : CoreState) (cs cs' : List ClientState) (up up1 up2 : QueueState) (rows : List Row)
-    → AllFit rows core0 cs up → is_ended rows ≡ false → is_present cs k ≡ true → ArePeersApart cs' → CoreReceivesOn core0 core1 p p' up up1 (heard.Client k n)
+    → AllFit rows core0 cs up → is_run_over rows ≡ false → is_present cs k ≡ true → ArePeersApart cs' → CoreReceivesOn core0 core1 p p' up up1 (heard.Client k n)
     → ChangesOne k (λ x y. ReceivesRecorded (recorded_by (heard.Client k n) p') (part core1 x.peer up1) (part core2 y.peer up2)) cs cs'
     → AllFit (next_row (by_lists core0.policy pid picks given) rows (Heard p) ∷ rows) core2 cs' up2
 heard-among pid picks given p p' k n core0 core1 core2 cs cs' up up1 up2 rows fit live here apart' receives change =
@@ -159,14 +159,14 @@ quiet-all p core0 core1 cs up up1 rows row fit q = record {
 
 pub end-all : (p : List ℕ) (cause : Ended) (core0 core1 : CoreState) (cs : List ClientState) (up up1 : QueueState) (rows : List Row) (row : Row) → AllFit rows core0 cs up → EndRow p up1 cause rows row → AllFit (row ∷ rows) core1 cs up1
 end-all p cause core0 core1 cs up up1 rows row fit q = record {
-  core = λ live. absurd (let d : true ≡ false = sym (ap (λ (r : Row). is_ended (r ∷ rows)) q.is) ∙ live in cc);
+  core = λ live. absurd (let d : true ≡ false = sym (ap (λ (r : Row). is_run_over (r ∷ rows)) q.is) ∙ live in cc);
   each = subst (λ (r : Row). EachFits (r ∷ rows) cs) (sym q.is) (end-each p cause rows cs fit.each);
   apart = fit.apart;
   up = q.up;
 }
 
 pub client-all : (pid : ℕ) (picks : List ℕ) (given : List HouseReply) (p p' : List ℕ) (k n : ℕ) (core0 core1 core2 : CoreState) (cs cs' : List ClientState) (up up1 up2 : QueueState) (rows : List Row)
-    → AllFit rows core0 cs up → is_ended rows ≡ false → is_present cs k ≡ true → CoreReceivesOn core0 core1 p p' up up1 (heard.Client k n)
+    → AllFit rows core0 cs up → is_run_over rows ≡ false → is_present cs k ≡ true → CoreReceivesOn core0 core1 p p' up up1 (heard.Client k n)
     → ChangesOne k (λ x y. ReceivesRecorded (recorded_by (heard.Client k n) p') (part core1 x.peer up1) (part core2 y.peer up2)) cs cs'
     → AllFit (next_row (by_lists core0.policy pid picks given) rows (Heard p) ∷ rows) core2 cs' up2
 client-all pid picks given p p' k n core0 core1 core2 cs cs' up up1 up2 rows fit live here receives change =
@@ -183,13 +183,13 @@ unended-with f w e = ap (λ (g : Fate). end_by (fate_with g w)) e ∙ by_full w
     by_full (Some cause) = refl
 
 unended-row : (item : Item) (k : ℕ) (o : Outcome) (own : List Row) → o.ends ≡ Goes → end_by (row_of item k o own).fate ≡ None
-unended-row item k o own e = by_loss (loses (queued (all_recorded (bare item k o) own) (bare item k o) own))
+unended-row item k o own e = by_loss (loses (queued (all_recorded (bare_row item k o) own) (bare_row item k o) own))
   where
     q : Row
-    q = queued (all_recorded (bare item k o) own) (bare item k o) own
+    q = queued (all_recorded (bare_row item k o) own) (bare_row item k o) own
 
     fine : end_by q.fate ≡ None
-    fine = unended-with o.ends (overflow (waiting_down own) (all_recorded (bare item k o) own)) e
+    fine = unended-with o.ends (overflow (waiting_down own) (all_recorded (bare_row item k o) own)) e
 
     by_loss : (b : Bool) → (let row : Row = elim b as (λ _. Row) [ true ↦ record q { farewell = farewell q own } | false ↦ q ] in end_by row.fate ≡ None)
     by_loss true = fine

@@ -16,10 +16,10 @@ use Rattle.mux_history.specs.Rows.{Row, rows_of, is_lost, Says, Fate, Goes, Drop
 use Rattle.mux_history.specs.Pending.{joined, waiting_down}
 use Rattle.mux_history.specs.Farewell.{farewell}
 use Rattle.mux_history.specs.Said.{Outcome, silent, drops}
-use Rattle.mux_history.specs.Controls.{answers_ask, answers_maybe, greeted, house_answer, sent_body}
-use Rattle.mux_history.specs.Treat.{all_recorded, bare, fitting, overflow, row_of}
+use Rattle.mux_history.specs.Controls.{answers_ask, answers_maybe, client_has_greeted, house_answer, sent_body}
+use Rattle.mux_history.specs.Treat.{all_recorded, bare_row, frames_that_fit, overflow, row_of}
 use Rattle.mux_core.specs.State.{CoreState}
-use Rattle.mux_core.specs.Stands.{Stands}
+use Rattle.mux_core.specs.Stands.{CoreRepresents}
 use Rattle.mux_core.specs.Calls.{Leaves, LeavesRecorded, LeavesUnsent}
 use Rattle.mux_core.proofs.Says.{records-own}
 use Rattle.mux_peers.specs.declared.standing.Standing.{Standing}
@@ -76,11 +76,11 @@ by-drop o cause e q = subst (λ (f : Fate). elim f as (λ _. Type 0) [ Drop caus
 
 -- ---- before the row
 
-unlost : (peer : PeerState) (c : CoreState) (up : QueueState) (rows : List Row) → PartFits rows (part c peer up) → stands.is_lost peer.standing ≡ false → is_lost (rows_of peer.number rows) ≡ false
-unlost peer c up rows fits here = not_lost (rows_of peer.number rows) (out_is (rows_of peer.number rows) ∙ (ap stands.is_lost (sym fits.peer.standing_is) ∙ here))
+unlost : (peer : PeerState) (c : CoreState) (up : QueueState) (rows : List Row) → PartFits rows (part c peer up) → stands.is_standing_lost peer.standing ≡ false → is_lost (rows_of peer.number rows) ≡ false
+unlost peer c up rows fits here = not_lost (rows_of peer.number rows) (out_is (rows_of peer.number rows) ∙ (ap stands.is_standing_lost (sym fits.peer.standing_is) ∙ here))
 
 said-row : (pid : ℕ) (given : Option HouseReply) (body : List ℕ) (rows : List Row) (old : Part) (d : Decision) → IsDecided pid given body rows old d
-    → row_of (Says old.peer.number (Body body) given) old.peer.number (sent_body pid old.peer.number given (greeted (rows_of old.peer.number rows)) body) (rows_of old.peer.number rows) ≡ row_of (Says old.peer.number (Body body) given) old.peer.number (outcome_of d) (rows_of old.peer.number rows)
+    → row_of (Says old.peer.number (Body body) given) old.peer.number (sent_body pid old.peer.number given (client_has_greeted (rows_of old.peer.number rows)) body) (rows_of old.peer.number rows) ≡ row_of (Says old.peer.number (Body body) given) old.peer.number (outcome_of d) (rows_of old.peer.number rows)
 said-row pid given body rows old d h = ap (λ (o : Outcome). row_of (Says old.peer.number (Body body) given) old.peer.number o (rows_of old.peer.number rows)) h.answers
 
 or-false : (b : Bool) → b ≡ (b || false)
@@ -104,10 +104,10 @@ follows-on d c peer mid peer' up heard heard' goes recorded fit num standing que
     let fs : List (List ℕ) = frames d.recorded in
     let wait : waiting_down own ≡ length peer.queue = ap length (sym h.fits.peer.queue_is) in
     let row : Row = body_row k body given fs in
-    let recorded' : all_recorded (bare (Says k (Body body) given) k (outcome_of d)) own ≡ fs =
+    let recorded' : all_recorded (bare_row (Says k (Body body) given) k (outcome_of d)) own ≡ fs =
     ap (λ (f : Fate). all_recorded (made (Says k (Body body) given) k [] [] fs f) own) goes ∙ records-own row (body-quiet k body given fs) own in
     let is = said-row pid given body rows (part c peer up) d h ∙ row-on (Says k (Body body) given) k (outcome_of d) own fs refl goes recorded' (ap (λ n. overflow n fs) wait ∙ fit) in
-    let st : Stands c (row ∷ rows) = body-stands c k body given fs rows (h.fits.core h.live) h.fits.peer.admitted (unlost peer c up rows h.fits h.here) in
+    let st : CoreRepresents c (row ∷ rows) = body-stands c k body given fs rows (h.fits.core h.live) h.fits.peer.admitted (unlost peer c up rows h.fits h.here) in
     let num' : peer'.number ≡ k = num ∙ ap (λ (t : PeerState). t.number) recorded in
     subst (DoesBody (part c peer' up) heard heard' rows) (sym is) (record {
       client_is = sym num';
@@ -128,12 +128,12 @@ follows-full d cause c c2 peer mid peer' up up2 heard goes recorded full left le
     let fs : List (List ℕ) = frames d.recorded in
     let wait : waiting_down own ≡ length peer.queue = ap length (sym h.fits.peer.queue_is) in
     let b : Row = body_row k body given fs in
-    let recorded' : all_recorded (bare (Says k (Body body) given) k (outcome_of d)) own ≡ fs =
+    let recorded' : all_recorded (bare_row (Says k (Body body) given) k (outcome_of d)) own ≡ fs =
     ap (λ (f : Fate). all_recorded (made (Says k (Body body) given) k [] [] fs f) own) goes ∙ records-own b (body-quiet k body given fs) own in
-    let down : List (List ℕ) = fitting (waiting_down own) fs in
+    let down : List (List ℕ) = frames_that_fit (waiting_down own) fs in
     let q : Row = made (Says k (Body body) given) k [] [] down (Drop cause) in
     let here = unlost peer c up rows h.fits h.here in
-    let st : Stands c (b ∷ rows) = body-stands c k body given fs rows (h.fits.core h.live) h.fits.peer.admitted here in
+    let st : CoreRepresents c (b ∷ rows) = body-stands c k body given fs rows (h.fits.core h.live) h.fits.peer.admitted here in
     let served = after-served c k b rows st refl refl h.fits.peer.admitted here in
     let gone : Leaves c2 q up up2 rows = (subst (λ j. LeavesRecorded c c2 j up up2) (ap (λ (t : PeerState). t.number) recorded) leaves) rows b down cause st served refl refl refl refl in
     let fw : List (List ℕ) = farewell q own in
@@ -142,7 +142,7 @@ follows-full d cause c c2 peer mid peer' up up2 heard goes recorded full left le
     subst (DoesBody (part c2 peer' up2) heard heard rows) (sym is) (record {
       client_is = sym num';
       fits = row-fits k (Body body) given [] fw down (Drop cause) rows peer peer' c2 up up2 tt num' h.here h.fits.peer h.fits.up (ap (λ (t : PeerState). t.standing) left)
-          (ap (λ (t : PeerState). t.queue) left ∙ (ap (λ (t : PeerState). t.queue) recorded ∙ ap (λ n. peer.queue ++ joined (fitting n fs)) (sym wait))) gone.sent gone.stands;
+          (ap (λ (t : PeerState). t.queue) left ∙ (ap (λ (t : PeerState). t.queue) recorded ∙ ap (λ n. peer.queue ++ joined (frames_that_fit n fs)) (sym wait))) gone.sent gone.stands;
       stops_is = or-false heard.stops;
       ended_is = refl;
     })
@@ -162,7 +162,7 @@ follows-drop d cause c c2 peer peer' up up2 heard is-drop left leaves pid given 
     let gone : Leaves c2 q up up2 rows = leaves rows q (h.fits.core h.live) served refl refl refl refl refl in
     let fw : List (List ℕ) = farewell q own in
     let untold : frames d.recorded ≡ [] =
-    sym (ap (λ (o : Outcome). o.recorded) h.answers) ∙ by-drop (reading_answer pid k given (greeted own) (read_control body)) cause (ap (λ (o : Outcome). o.ends) h.answers ∙ ends) (quiet-reading pid k given (greeted own) (read_control body)) in
+    sym (ap (λ (o : Outcome). o.recorded) h.answers) ∙ by-drop (reading_answer pid k given (client_has_greeted own) (read_control body)) cause (ap (λ (o : Outcome). o.ends) h.answers ∙ ends) (quiet-reading pid k given (client_has_greeted own) (read_control body)) in
     let is = said-row pid given body rows (part c peer up) d h ∙ row-drops (Says k (Body body) given) k (outcome_of d) own cause ends untold in
     let num' : peer'.number ≡ k = ap (λ (t : PeerState). t.number) left in
     subst (DoesBody (part c2 peer' up2) heard heard rows) (sym is) (record {

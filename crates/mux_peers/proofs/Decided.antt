@@ -4,7 +4,7 @@ use Rattle.std.specs.Option.{option_map}
 use Rattle.mux_outside.specs.declared.house_mark.HouseMark.{HouseMark as Asked}
 use Rattle.mux_outside.specs.declared.house.HouseReply.{HouseReply}
 use Rattle.ssh_grammar.specs.Control.{Answer, Control, ForwardAsk, OpenForward, CloseForward}
-use Rattle.ssh_grammar.specs.ReadControl.{Reading, read_control}
+use Rattle.ssh_grammar.specs.ReadControl.{ControlReading, read_control}
 use Rattle.ssh_grammar.specs.Frames.{frame_answer}
 use Rattle.ssh_grammar.specs.Said.{after_control, Body, InControl}
 use Rattle.mux_history.specs.Controls.{answers_maybe, house_answer, asks_house, is_stop}
@@ -18,7 +18,7 @@ use Rattle.mux_peers.specs.Decisions.{reading_answer}
 use Rattle.mux_peers.specs.Decisions.{outcome_of, Decides, DecidesBy}
 use Rattle.mux_peers.proofs.Heeding.{records_none}
 
-abbrev read_as : Skipped → Message → Reading
+abbrev read_as : Skipped → Message → ControlReading
 read_as skipped message = Ok (control_of skipped message)
 
 -- a body reads as the message that was read
@@ -37,10 +37,10 @@ asks_by : (pid k : ℕ) (body : List ℕ) (r : Control) (given : HouseReply) (an
     → reading_answer pid k (Some given) true (Ok r) ≡ outcome_of (record { recorded = answer; effect = Goes })
     → Decides pid k true body (Some given) (record { recorded = answer; effect = Goes })
 asks_by pid k body r given answer e asks stops mode answers = record {
-  asked = sym asks ∙ sym (ap (λ (x : Reading). elim x as (λ _. Bool) [ Err fault ↦ false | Ok c ↦ asks_house c ]) e);
+  asked = sym asks ∙ sym (ap (λ (x : ControlReading). elim x as (λ _. Bool) [ Err fault ↦ false | Ok c ↦ asks_house c ]) e);
   answers = ap (reading_answer pid k (Some given) true) e ∙ answers;
-  stops = ap (λ (x : Reading). elim x as (λ _. Bool) [ Err fault ↦ false | Ok c ↦ is_stop c ]) e ∙ stops;
-  stands = ap (λ (x : Reading). standing_in (elim x [ Err fault ↦ InControl | Ok c ↦ after_control c ])) e ∙ ap standing_in mode;
+  stops = ap (λ (x : ControlReading). elim x as (λ _. Bool) [ Err fault ↦ false | Ok c ↦ is_stop c ]) e ∙ stops;
+  stands = ap (λ (x : ControlReading). standing_in (elim x [ Err fault ↦ InControl | Ok c ↦ after_control c ])) e ∙ ap standing_in mode;
 }
 
 -- the same of a decision with the frame of the reply, where that request was reported to the
@@ -58,7 +58,7 @@ decided_by May before now pid k id opening body given answer d may f e recorded 
 
 -- what a body that reads so requests
 recorded_as : (before now : Option (List Asked)) (k : ℕ) (body : List ℕ) (r : Control) (given : HouseReply) → read_control body ≡ Ok r → RecordsAsks before now (reading_asks k given (Ok r)) → RecordsAsks before now (sending_asks k (Body body) (Some given))
-recorded_as before now k body r given e recorded = subst (λ (x : Reading). RecordsAsks before now (reading_asks k given x)) (sym e) recorded
+recorded_as before now k body r given e recorded = subst (λ (x : ControlReading). RecordsAsks before now (reading_asks k given x)) (sym e) recorded
 
 pub decides_open : (May : HouseReply → Type 0) (before now : Option (List Asked)) (pid k id : ℕ) (body : List ℕ) (what : ForwardAsk) (given : HouseReply) (answer : Option (List ℕ)) (d : Decision) → May given
     → read_control body ≡ Ok (OpenForward id what) → answer ≡ option_map frame_answer (house_answer true id given) → RecordsAsks before now (ask_of k id true what given ∷ []) → d ≡ record { recorded = answer; effect = Goes } → DecidesBy May before now pid k true body d

@@ -46,14 +46,14 @@ found-keeps k i x y cs up up' f same room =
     }
 
 pub found-reading : (k i : ℕ) (x y : ClientState) (cs : List ClientState) → Found k i x cs → y.peer.number ≡ x.peer.number
-    → (stands.is_lost y.peer.standing ≡ false → (y.peer.standing ≡ x.peer.standing) × (y.rest ≡ x.rest)) → KeepReading cs (set cs i y)
+    → (stands.is_standing_lost y.peer.standing ≡ false → (y.peer.standing ≡ x.peer.standing) × (y.rest ≡ x.rest)) → KeepReading cs (set cs i y)
 found-reading k i x y cs f same reads =
     keep-set i x y cs f.within (same ∙ ap (λ (z : ClientState). z.peer.number) f.is)
     (λ l. let r = reads l in (r.0 ∙ ap (λ (z : ClientState). z.peer.standing) f.is, r.1 ∙ ap (λ (z : ClientState). z.rest) f.is))
 
 -- there is room for its farewell where it isn't lost
-pub found-room : (k i : ℕ) (x : ClientState) (cs : List ClientState) (up : QueueState) → Found k i x cs → HasRoom cs up → stands.is_lost x.peer.standing ≡ false → FAREWELL_ROOM ≤ up.spare
-found-room k i x cs up f room here = room-at i x cs up f.within (ap (λ (z : ClientState). stands.is_lost z.peer.standing) (sym f.is) ∙ here) room
+pub found-room : (k i : ℕ) (x : ClientState) (cs : List ClientState) (up : QueueState) → Found k i x cs → HasRoom cs up → stands.is_standing_lost x.peer.standing ≡ false → FAREWELL_ROOM ≤ up.spare
+found-room k i x cs up f room here = room-at i x cs up f.within (ap (λ (z : ClientState). stands.is_standing_lost z.peer.standing) (sym f.is) ∙ here) room
 
 pub found-here : {A : Type 0} (k i : ℕ) (x : ClientState) (cs : List ClientState) → Found k i x cs → is_present cs k ≡ false → A
 found-here k i x cs f gone = placed-here k i cs f.place f.within gone
@@ -69,7 +69,7 @@ found-at k i f x y cs fd e = at_client_set k i f x y cs fd.place (e ∙ ap f fd.
 
 -- it goes on so, and its loss is noted
 pub found-goes : (k i : ℕ) (R : List (ℕ × Option Why) → ClientState → ClientState → Type 0) (before now : Standing) (x y : ClientState) (cs : List ClientState) (leaving leaving' : List (ℕ × Option Why)) (core core' : CoreState) (up up' : QueueState)
-    → Found k i x cs → leaving' ≡ leaving ++ loss_between before now k → R (loss_between before now k) x y → y.peer.number ≡ x.peer.number → (stands.is_lost y.peer.standing ≡ false → (y.peer.standing ≡ x.peer.standing) × (y.rest ≡ x.rest))
+    → Found k i x cs → leaving' ≡ leaving ++ loss_between before now k → R (loss_between before now k) x y → y.peer.number ≡ x.peer.number → (stands.is_standing_lost y.peer.standing ≡ false → (y.peer.standing ≡ x.peer.standing) × (y.rest ≡ x.rest))
     → PeerGoesAt k R (clients_and_queue (clients_of cs leaving) core up) (clients_and_queue (clients_of (set cs i y) leaving') core' up')
 found-goes k i R before now x y cs leaving leaving' core core' up up' f leaves goes same reads = record {
   noted = loss_between before now k;
@@ -118,7 +118,7 @@ none-rest a k s core up = record { absent = λ gone. refl; more = none-noted s.l
 
 -- one that is lost by its stream
 pub loss-lost : (k : ℕ) (old new : CoreState) (up up' : QueueState) (x y : ClientState) → LosesIn old new up up' x y → loss_between x.peer.standing y.peer.standing k ≡ cond (stands.not_lost x.peer.standing) ((k, None) ∷ []) []
-loss-lost k old new up up' x y h = by_lost (stands.is_lost x.peer.standing) h
+loss-lost k old new up up' x y h = by_lost (stands.is_standing_lost x.peer.standing) h
   where
     by_lost : (b : Bool) → MatchBool b (LosesNothing old new up up' x y) (Loses (part old x.peer up) (part new y.peer up')) → cond b [] (loss_in y.peer.standing k) ≡ cond (not b) ((k, None) ∷ []) []
     by_lost true h = refl
@@ -135,7 +135,7 @@ receives-of May before recorded pid bytes core core' up up' heard x y e h = by_r
 
 -- the client was lost by its piece, and there was no memory to note that
 pub cut-noted : {A E : Type 0} {a : A} (May : HouseReply → Type 0) {asks asks' : List Asked} {old new : HouseState} (pid : ℕ) (bytes : List ℕ) (core core' : CoreState) (up up' : QueueState) (heard : RunChange) (k i : ℕ) (x y : ClientState) (cs : List ClientState)
-    → Found k i x cs → (stands.is_lost x.peer.standing ≡ false) × (stands.is_lost y.peer.standing ≡ true) → ReceivesIn May (Some asks) (Some asks') pid bytes core core' up up' heard x y → Applies {A = A} {E = E} (Ok a) asks asks' old new
+    → Found k i x cs → (stands.is_standing_lost x.peer.standing ≡ false) × (stands.is_standing_lost y.peer.standing ≡ true) → ReceivesIn May (Some asks) (Some asks') pid bytes core core' up up' heard x y → Applies {A = A} {E = E} (Ok a) asks asks' old new
     → OneIs k (ReceivesSome May old.recorded new.recorded pid bytes core up) cs
 cut-noted May {asks} {asks'} {old} {new} pid bytes core core' up up' heard k i x y cs f lost h a =
     one-is k i P x cs f.place f.within (subst P f.is (by_read (stands.is_read x.peer.standing) refl h))
@@ -145,4 +145,4 @@ cut-noted May {asks} {asks'} {old} {new} pid bytes core core' up up' heard k i x
 
     by_read : (b : Bool) → stands.is_read x.peer.standing ≡ b → MatchBool b (ReceivesPiece May (Some asks) (Some asks') pid bytes core up x core' up' y heard) (ReceivesNothing (Some asks) (Some asks') core up x core' up' y heard) → P x
     by_read true e h = receives-all May pid bytes core core' up up' x y heard e h a
-    by_read false e h = absurd (let d : true ≡ false = sym lost.1 ∙ (ap (λ (z : ClientState). stands.is_lost z.peer.standing) h.same ∙ lost.0) in cc)
+    by_read false e h = absurd (let d : true ≡ false = sym lost.1 ∙ (ap (λ (z : ClientState). stands.is_standing_lost z.peer.standing) h.same ∙ lost.0) in cc)

@@ -65,7 +65,7 @@ frame_kept s s' f f' read cuts e after same =
     let k = framed (front_of f) f f' e after in
     (k.0 ∙ ((cuts read).0 ∙ sym same), k.1 ∙ (cuts read).1)
 
--- one that doesn't speak to the server is cut in control frames
+-- one that isn't in proxy mode is cut in control frames
 pub control_of : (s : Standing) → is_proxied s ≡ false → framing_of s ≡ framing.Control
 control_of Awaited e = refl
 control_of Greeted e = refl

@@ -6,7 +6,7 @@ use Rattle.ssh_grammar.specs.Said.{Body}
 use Rattle.mux_history.specs.Rows.{Row, rows_of, any_of, is_admit, is_lost, Says, Goes}
 use Rattle.mux_history.specs.Channels.{Channel, after_item, held_of, is_channel_held}
 use Rattle.mux_core.specs.State.{CoreState}
-use Rattle.mux_core.specs.Stands.{Stands, TableFits, look}
+use Rattle.mux_core.specs.Stands.{CoreRepresents, TableFits, look}
 use Rattle.mux_core.proofs.Bare.{held-bare}
 use Rattle.mux_core.proofs.Quiet.{IsQuiet}
 use Rattle.mux_core.proofs.Says.{map-same, held-held}
@@ -30,7 +30,7 @@ held-body k body given recorded rows =
     ∙ (ap (filter is_channel_held) (append-nil (map (after_item (body_row k body given recorded)) (held_of rows)) ∙ map-same (after_item (body_row k body given recorded)) (after-body k body given recorded) (held_of rows))
     ∙ held-held rows)
 
-pub body-stands : (s : CoreState) (k : ℕ) (body : List ℕ) (given : Option HouseReply) (recorded : List (List ℕ)) (rows : List Row) → Stands s rows → any_of is_admit (rows_of k rows) ≡ true → is_lost (rows_of k rows) ≡ false → Stands s (body_row k body given recorded ∷ rows)
+pub body-stands : (s : CoreState) (k : ℕ) (body : List ℕ) (given : Option HouseReply) (recorded : List (List ℕ)) (rows : List Row) → CoreRepresents s rows → any_of is_admit (rows_of k rows) ≡ true → is_lost (rows_of k rows) ≡ false → CoreRepresents s (body_row k body given recorded ∷ rows)
 body-stands s k body given recorded rows st admitted here =
     quiet-stands s s.channels (body_row k body given recorded) rows st (body-quiet k body given recorded) (served (look rows) k s.clients st.clients.each (served-of s rows k st admitted here))
     (subst (TableFits s.channels) (sym (held-body k body given recorded rows)) st.channels) st.known.channels

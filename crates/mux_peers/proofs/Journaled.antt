@@ -9,7 +9,7 @@ use Rattle.ssh_grammar.specs.Said.{InControl, Mode, Parsed, Outgoing, first_in, 
 use Rattle.ssh_grammar.proofs.Parses.{parse-append, parse-at}
 use Rattle.proxy_frames.specs.State.{QueueState}
 use Rattle.mux_history.specs.Policy.{Policy}
-use Rattle.mux_history.specs.Rows.{Row, Item, rows_of, is_ended, is_out}
+use Rattle.mux_history.specs.Rows.{Row, Item, rows_of, is_run_over, is_out}
 use Rattle.mux_history.specs.Settings.{by_lists}
 use Rattle.mux_history.specs.Journal.{new_sayings, sent_item}
 use Rattle.mux_history.specs.Log.{Setting, makes_next, more_all, more_of, next_row}
@@ -17,7 +17,7 @@ use Rattle.mux_core.specs.State.{CoreState}
 use Rattle.mux_peers.specs.declared.run_change.RunChange.{RunChange}
 use Rattle.mux_peers.specs.State.{ClientState}
 use Rattle.mux_peers.specs.Stands.{is_read, parse_mode_of}
-use Rattle.mux_peers.specs.Pieces.{AreOfBytes, ReadsNoMore, ReadsOn, RunsTo, behind, rows_sent}
+use Rattle.mux_peers.specs.Pieces.{AreOfBytes, ReadsNoMore, ReadsOn, RunsTo, with_sent_before, rows_sent}
 use Rattle.mux_peers.specs.Laws.{IsReadTo, PiecesOfAClient, ReadsClientAs, rows_given}
 use Rattle.mux_peers.proofs.Adds.{said-adds}
 use Rattle.mux_peers.proofs.OfBytes.{front-of-bytes, parse-bytes}
@@ -31,18 +31,18 @@ map-append f [] ys = refl
 map-append f (x ∷ xs) ys = ap (λ l. f x ∷ l) (map-append f xs ys)
 
 -- where the run is over, or the client is out, what it sends makes no row
-no-row : (s : Setting) (k : ℕ) (x : Outgoing) (rows : List Row) → (is_ended rows ≡ true) ⊎ (is_out (rows_of k rows) ≡ true) → more_of s rows (sent_item k x) ≡ rows
+no-row : (s : Setting) (k : ℕ) (x : Outgoing) (rows : List Row) → (is_run_over rows ≡ true) ⊎ (is_out (rows_of k rows) ≡ true) → more_of s rows (sent_item k x) ≡ rows
 no-row s k x rows h = ap (λ b. elim b as (λ _. List Row) [ false ↦ rows | true ↦ next_row s rows (sent_item k x) ∷ rows ]) (none h)
   where
-    by_end : (b : Bool) → is_ended rows ≡ b → is_out (rows_of k rows) ≡ true → makes_next rows (sent_item k x) ≡ false
+    by_end : (b : Bool) → is_run_over rows ≡ b → is_out (rows_of k rows) ≡ true → makes_next rows (sent_item k x) ≡ false
     by_end true e o = ap (λ b. elim b as (λ _. Bool) [ true ↦ false | false ↦ not (is_out (rows_of k rows)) ]) e
     by_end false e o = ap (λ b. elim b as (λ _. Bool) [ true ↦ false | false ↦ not (is_out (rows_of k rows)) ]) e ∙ ap not o
 
-    none : (is_ended rows ≡ true) ⊎ (is_out (rows_of k rows) ≡ true) → makes_next rows (sent_item k x) ≡ false
+    none : (is_run_over rows ≡ true) ⊎ (is_out (rows_of k rows) ≡ true) → makes_next rows (sent_item k x) ≡ false
     none (inl e) = ap (λ b. elim b as (λ _. Bool) [ true ↦ false | false ↦ not (is_out (rows_of k rows)) ]) e
-    none (inr o) = by_end (is_ended rows) refl o
+    none (inr o) = by_end (is_run_over rows) refl o
 
-no-rows : (s : Setting) (k : ℕ) (xs : List Outgoing) (rows : List Row) → (is_ended rows ≡ true) ⊎ (is_out (rows_of k rows) ≡ true) → more_all s rows (map (sent_item k) xs) ≡ rows
+no-rows : (s : Setting) (k : ℕ) (xs : List Outgoing) (rows : List Row) → (is_run_over rows ≡ true) ⊎ (is_out (rows_of k rows) ≡ true) → more_all s rows (map (sent_item k) xs) ≡ rows
 no-rows s k [] rows h = refl
 no-rows s k (x ∷ xs) rows h = ap (λ l. more_all s l (map (sent_item k) xs)) (no-row s k x rows h) ∙ no-rows s k xs rows h
 
@@ -75,7 +75,7 @@ piece-rows policy pid picks given k a bytes first now picked used asks rows core
     by_read : (b : Bool) → is_read now.peer.standing ≡ b → more_all s rows (map (sent_item k) all.says) ≡ rows_sent policy pid picks given k rows r.says
     by_read true e =
         let on : ReadsOn (first.rest ++ bytes) (parse_mode_of first.peer.standing) now (rows_sent policy pid picks given k rows r.says) r.says = r.reads e in
-        let says : all.says ≡ r.says = ap (λ (p : Parsed). p.says) (on.rest ∙ ap (behind r.says) (parse-at (parse_mode_of now.peer.standing) now.rest More (whole e))) ∙ append-nil r.says in
+        let says : all.says ≡ r.says = ap (λ (p : Parsed). p.says) (on.rest ∙ ap (with_sent_before r.says) (parse-at (parse_mode_of now.peer.standing) now.rest More (whole e))) ∙ append-nil r.says in
         ap (λ xs. more_all s rows (map (sent_item k) xs)) says
     by_read false e =
         let o : ReadsNoMore (first.rest ++ bytes) (parse_mode_of first.peer.standing) now (rows_sent policy pid picks given k rows r.says) r.says = r.over e in
@@ -93,10 +93,10 @@ piece-reads : (policy : Policy) (pid : ℕ) (picks : List ℕ) (given : List Hou
     → RunsTo policy pid picks given k (parse_mode_of first.peer.standing) (first.rest ++ bytes) picked used asks rows core up now heard → ReadsClientAs (a ++ bytes) now
 piece-reads policy pid picks given k a bytes first now picked used asks rows core up heard reads e whole r =
     let on = r.reads e in
-    let more : parse (parse InControl a).mode ((parse InControl a).rest ++ bytes) ≡ behind r.says (record { says = []; mode = parse_mode_of now.peer.standing; rest = now.rest }) =
+    let more : parse (parse InControl a).mode ((parse InControl a).rest ++ bytes) ≡ with_sent_before r.says (record { says = []; mode = parse_mode_of now.peer.standing; rest = now.rest }) =
     ap (λ (i : Mode). parse i ((parse InControl a).rest ++ bytes)) reads.mode
     ∙ (ap (λ (l : List ℕ). parse (parse_mode_of first.peer.standing) (l ++ bytes)) reads.rest
-    ∙ (on.rest ∙ ap (behind r.says) (parse-at (parse_mode_of now.peer.standing) now.rest More whole))) in
+    ∙ (on.rest ∙ ap (with_sent_before r.says) (parse-at (parse_mode_of now.peer.standing) now.rest More whole))) in
     record {
       mode = ap (λ (p : Parsed). p.mode) (parse-append InControl a bytes) ∙ ap (λ (p : Parsed). p.mode) more;
       rest = ap (λ (p : Parsed). p.rest) (parse-append InControl a bytes) ∙ ap (λ (p : Parsed). p.rest) more;

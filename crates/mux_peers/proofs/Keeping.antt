@@ -21,17 +21,17 @@ keep-then [] ds es h g = none ds es h g
 keep-then (c ∷ cs) [] es h g = absurd h
 keep-then (c ∷ cs) (d ∷ ds) [] h g = absurd g
 keep-then (c ∷ cs) (d ∷ ds) (e ∷ es) h g =
-    ((g.0.0 ∙ h.0.0, λ l. let v = g.0.1 l in let w = h.0.1 (ap stands.is_lost (sym v.0) ∙ l) in (v.0 ∙ w.0, v.1 ∙ w.1)), keep-then cs ds es h.1 g.1)
+    ((g.0.0 ∙ h.0.0, λ l. let v = g.0.1 l in let w = h.0.1 (ap stands.is_standing_lost (sym v.0) ∙ l) in (v.0 ∙ w.0, v.1 ∙ w.1)), keep-then cs ds es h.1 g.1)
 
 -- one of them, at its place
 pub keep-set : (i : ℕ) (x y : ClientState) (cs : List ClientState) → i < length cs → y.peer.number ≡ (get_or cs i x).peer.number
-    → (stands.is_lost y.peer.standing ≡ false → (y.peer.standing ≡ (get_or cs i x).peer.standing) × (y.rest ≡ (get_or cs i x).rest)) → KeepReading cs (set cs i y)
+    → (stands.is_standing_lost y.peer.standing ≡ false → (y.peer.standing ≡ (get_or cs i x).peer.standing) × (y.rest ≡ (get_or cs i x).rest)) → KeepReading cs (set cs i y)
 keep-set i x y [] lt n r = absurd (omega arith)
 keep-set zero x y (c ∷ cs) lt n r = ((n, r), keep-same cs)
 keep-set (suc i) x y (c ∷ cs) lt n r = ((refl, λ l. (refl, refl)), keep-set i x y cs (omega arith) n r)
 
 pub among-loss : (cs : List ClientState) (before now : Standing) (k : ℕ) → is_present cs k ≡ true → AreAmong cs (loss_between before now k)
-among-loss cs before now k here = by_before (stands.is_lost before) now
+among-loss cs before now k here = by_before (stands.is_standing_lost before) now
   where
     by_before : (b : Bool) (now : Standing) → AreAmong cs (cond b [] (loss_in now k))
     by_before true now = tt

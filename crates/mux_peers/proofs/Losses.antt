@@ -13,7 +13,7 @@ use Rattle.mux_history.specs.Settings.{by_lists}
 use Rattle.mux_history.specs.Treat.{all_recorded, new_answers, queued, with_farewell}
 use Rattle.mux_history.specs.Log.{next_row}
 use Rattle.mux_core.specs.State.{CoreState}
-use Rattle.mux_core.specs.Stands.{Stands}
+use Rattle.mux_core.specs.Stands.{CoreRepresents}
 use Rattle.mux_core.specs.Calls.{Leaves, LeavesUnsent}
 use Rattle.mux_peers.specs.declared.standing.Standing.TheVariants.{Lost}
 use Rattle.mux_peers.specs.State.{PeerState, part}
@@ -69,8 +69,8 @@ gone-loses c c' peer peer' up up' num standing queue leaves = record {
       let own : List Row = rows_of k rows in
       let fw : List (List ℕ) = farewell (gone k) own in
       let row : Row = made (Gone k) k [] fw [] Goes in
-      let st : Stands c rows = fits.core live in
-      let unlost : is_lost own ≡ false = not_lost own (out_is own ∙ (ap stands.is_lost (sym fits.peer.standing_is) ∙ here)) in
+      let st : CoreRepresents c rows = fits.core live in
+      let unlost : is_lost own ≡ false = not_lost own (out_is own ∙ (ap stands.is_standing_lost (sym fits.peer.standing_is) ∙ here)) in
       let left : Leaves c' (gone k) up up' rows = leaves rows (gone k) st (served-of c rows k st fits.peer.admitted unlost) refl refl refl refl refl in
       let mine : rows_of peer'.number (row ∷ rows) ≡ row ∷ own = ap (λ j. rows_of j (row ∷ rows)) num ∙ own_row k row rows refl in
       subst (λ (r : Row). PartFits (r ∷ rows) (part c' peer' up')) (sym (gone-row policy pid picks given k rows)) (record {

@@ -13,18 +13,18 @@ use Rattle.mux_history.specs.declared.why.Why.TheVariants as why
 use Rattle.mux_history.specs.Rows.{Row, rows_of, is_end, is_out, loses, Item, Says, Fate, Goes, Refused, Drop, End}
 use Rattle.mux_history.specs.Channels.{holder, own_number_of}
 use Rattle.mux_history.specs.Choices.{FromLists, has_reply, numbers_taken, pick_of, replies_given, reply_at, takes_number}
-use Rattle.mux_history.specs.Controls.{body_asks, body_stops, greeted, sent_body}
+use Rattle.mux_history.specs.Controls.{body_asks, body_stops, client_has_greeted, sent_body}
 use Rattle.mux_history.specs.Farewell.{farewell}
 use Rattle.mux_history.specs.Requests.{is_sent}
 use Rattle.mux_history.specs.Said.{Outcome, drops}
 use Rattle.mux_history.specs.declared.limits.TheConstants.{NUMBERS_END}
 use Rattle.mux_history.specs.Right.{AreFresh, carried_number}
 use Rattle.mux_history.specs.Settings.{by_lists}
-use Rattle.mux_history.specs.Promises.{listens, stops}
+use Rattle.mux_history.specs.Promises.{is_still_accepting, serves_stop}
 use Rattle.mux_history.specs.Solo.{run_end_of}
 use Rattle.mux_history.specs.declared.ended.Ended.{Ended}
 use Rattle.mux_history.specs.Journal.{sent_item}
-use Rattle.mux_history.specs.Treat.{goes, all_recorded, bare, queued, row_of, treat}
+use Rattle.mux_history.specs.Treat.{goes, all_recorded, bare_row, queued, row_of, treat}
 use Rattle.mux_history.specs.Log.{next_row}
 use Rattle.mux_core.specs.State.{CoreState}
 use Rattle.mux_peers.specs.declared.standing.Standing.{Standing}
@@ -39,7 +39,7 @@ use Rattle.mux_peers.specs.Decisions.{Decides, DecidesBy, reply_list}
 use Rattle.mux_peers.specs.Bodies.{DoesBody, FollowsBy, end_in}
 use Rattle.mux_peers.specs.Says.{ComeNext, Makes, SendsPayload}
 use Rattle.mux_peers.specs.Nexts.{FaultBy}
-use Rattle.mux_peers.specs.Pieces.{ReadsOn, ReplyNext, RunsTo, behind, rows_sent}
+use Rattle.mux_peers.specs.Pieces.{ReadsOn, ReplyNext, RunsTo, with_sent_before, rows_sent}
 use Rattle.mux_peers.proofs.Runs.{OneMore, bytes-last, ended-more, rows-last, read-here, stops-more}
 use Rattle.mux_peers.proofs.Stood.{out_is}
 
@@ -94,10 +94,10 @@ fresh-none : (row : Row) (rows : List Row) → takes_number row ≡ false → Ar
 fresh-none row rows e f = (subst (λ b. MatchBool b ((carried_number row.up < NUMBERS_END) × (holder rows (carried_number row.up) ≡ None)) (Unit {0})) (sym e) tt, f)
 
 pub parts-of : (item : Item) (k : ℕ) (o : Outcome) (own : List Row) → ((row_of item k o own).item ≡ item) × ((row_of item k o own).client ≡ k)
-parts-of item k o own = by_loss (loses (queued (all_recorded (bare item k o) own) (bare item k o) own))
+parts-of item k o own = by_loss (loses (queued (all_recorded (bare_row item k o) own) (bare_row item k o) own))
   where
     q : Row
-    q = queued (all_recorded (bare item k o) own) (bare item k o) own
+    q = queued (all_recorded (bare_row item k o) own) (bare_row item k o) own
 
     by_loss : (b : Bool) → (let row : Row = elim b as (λ _. Row) [ true ↦ record q { farewell = farewell q own } | false ↦ q ] in (row.item ≡ item) × (row.client ≡ k))
     by_loss true = (refl, refl)
@@ -109,8 +109,8 @@ or-false : (b : Bool) → b ≡ (b || false)
 or-false true = refl
 or-false false = refl
 
-no-stops : (row : Row) (own : List Row) (k : ℕ) (p : List ℕ) → row.item ≡ Says k (Payload p) None → stops row own ≡ false
-no-stops row own k p e = ap (λ (x : Item). goes row.fate && elim x as (λ _. Bool) [ Says j outgoing given ↦ elim outgoing as (λ _. Bool) [ Body b ↦ greeted own && body_stops b | Payload p ↦ false | BadFraming f ↦ false ] | _ ↦ false ]) e ∙ and-no (goes row.fate)
+no-stops : (row : Row) (own : List Row) (k : ℕ) (p : List ℕ) → row.item ≡ Says k (Payload p) None → serves_stop row own ≡ false
+no-stops row own k p e = ap (λ (x : Item). goes row.fate && elim x as (λ _. Bool) [ Says j outgoing given ↦ elim outgoing as (λ _. Bool) [ Body b ↦ client_has_greeted own && body_stops b | Payload p ↦ false | BadFraming f ↦ false ] | _ ↦ false ]) e ∙ and-no (goes row.fate)
 
 no-end : (f : Fate) (before : Option Ended) → is_end f ≡ false → end_in f before ≡ before
 no-end Goes before e = refl
@@ -160,13 +160,13 @@ get-front (y ∷ xs) zero x ys e = cc
 get-front (y ∷ xs) (suc n) x ys e = get-front xs n x ys e
 
 -- the log's row of a body, with the reply that the forwarder gave
-pub body-row : (policy : Policy) (pid : ℕ) (picks : List ℕ) (given : List HouseReply) (k : ℕ) (rows : List Row) (body : List ℕ) (reply : Option HouseReply) → is_some reply ≡ (greeted (rows_of k rows) && body_asks body) → ReplyNext (reply_list reply) rows given
-    → next_row (by_lists policy pid picks given) rows (sent_item k (Body body)) ≡ row_of (Says k (Body body) reply) k (sent_body pid k reply (greeted (rows_of k rows)) body) (rows_of k rows)
+pub body-row : (policy : Policy) (pid : ℕ) (picks : List ℕ) (given : List HouseReply) (k : ℕ) (rows : List Row) (body : List ℕ) (reply : Option HouseReply) → is_some reply ≡ (client_has_greeted (rows_of k rows) && body_asks body) → ReplyNext (reply_list reply) rows given
+    → next_row (by_lists policy pid picks given) rows (sent_item k (Body body)) ≡ row_of (Says k (Body body) reply) k (sent_body pid k reply (client_has_greeted (rows_of k rows)) body) (rows_of k rows)
 body-row policy pid picks given k rows body None asked next =
     ap (λ b. let item : Item = elim b as (λ _. Item) [ true ↦ Says k (Body body) (Some (reply_at given (replies_given rows))) | false ↦ Says k (Body body) None ] in treat policy pid (pick_of (FromLists picks given) rows (Says k (Body body) None)) rows item) (sym asked)
 body-row policy pid picks given k rows body (Some r) asked next =
     ap (λ b. let item : Item = elim b as (λ _. Item) [ true ↦ Says k (Body body) (Some (reply_at given (replies_given rows))) | false ↦ Says k (Body body) None ] in treat policy pid (pick_of (FromLists picks given) rows (Says k (Body body) None)) rows item) (sym asked)
-    ∙ ap (λ (g : HouseReply). row_of (Says k (Body body) (Some g)) k (sent_body pid k (Some g) (greeted (rows_of k rows)) body) (rows_of k rows)) (get-front given (replies_given rows) r next.0 next.1)
+    ∙ ap (λ (g : HouseReply). row_of (Says k (Body body) (Some g)) k (sent_body pid k (Some g) (client_has_greeted (rows_of k rows)) body) (rows_of k rows)) (get-front given (replies_given rows) r next.0 next.1)
 
 counts-reply : (row : Row) (rows : List Row) (k : ℕ) (body : List ℕ) (reply : Option HouseReply) → row.item ≡ Says k (Body body) reply → replies_given (row ∷ rows) ≡ replies_given rows + length (reply_list reply)
 counts-reply row rows k body None e = count-reply row rows false (ap has_reply e) ∙ omega arith
@@ -180,17 +180,17 @@ body-more May before recorded policy pid picks given k mode all picked used asks
     let rows' : List Row = rows_sent policy pid picks given k rows r.says in
     let own : List Row = rows_of k rows' in
     let on : ReadsOn all mode now rows' r.says = r.reads read in
-    let here : stands.is_lost now.peer.standing ≡ false = read-here now.peer.standing read in
+    let here : stands.is_standing_lost now.peer.standing ≡ false = read-here now.peer.standing read in
     let mine : rows_of now.peer.number rows' ≡ own = ap (λ j. rows_of j rows') r.number in
-    let greets : greeted (rows_of now.peer.number rows') ≡ is_greeted now.peer.standing = r.fits.peer.greeted_is here in
-    let dec : Decides pid now.peer.number (greeted (rows_of now.peer.number rows')) body by.given d = subst (λ b. Decides pid now.peer.number b body by.given d) (sym greets) by.decides in
+    let greets : client_has_greeted (rows_of now.peer.number rows') ≡ is_greeted now.peer.standing = r.fits.peer.greeted_is here in
+    let dec : Decides pid now.peer.number (client_has_greeted (rows_of now.peer.number rows')) body by.given d = subst (λ b. Decides pid now.peer.number b body by.given d) (sym greets) by.decides in
     let done0 = follows pid by.given body rows' (record { fits = r.fits; live = on.live; here = here; answers = dec.answers; stops = dec.stops; stands = dec.stands }) in
-    let done : DoesBody (part core' new.peer up') heard heard' rows' (row_of (Says k (Body body) by.given) k (sent_body pid k by.given (greeted own) body) own) =
-    subst (λ j. DoesBody (part core' new.peer up') heard heard' rows' (row_of (Says j (Body body) by.given) j (sent_body pid j by.given (greeted (rows_of j rows')) body) (rows_of j rows'))) r.number done0 in
-    let asked : is_some by.given ≡ (greeted own && body_asks body) = dec.asked ∙ ap (λ (l : List Row). greeted l && body_asks body) mine in
+    let done : DoesBody (part core' new.peer up') heard heard' rows' (row_of (Says k (Body body) by.given) k (sent_body pid k by.given (client_has_greeted own) body) own) =
+    subst (λ j. DoesBody (part core' new.peer up') heard heard' rows' (row_of (Says j (Body body) by.given) j (sent_body pid j by.given (client_has_greeted (rows_of j rows')) body) (rows_of j rows'))) r.number done0 in
+    let asked : is_some by.given ≡ (client_has_greeted own && body_asks body) = dec.asked ∙ ap (λ (l : List Row). client_has_greeted l && body_asks body) mine in
     let is = body-row policy pid picks given k rows' body by.given asked (reply-after used (reply_list by.given) rows rows' given r.given_is next) in
-    let row : Row = row_of (Says k (Body body) by.given) k (sent_body pid k by.given (greeted own) body) own in
-    let parts = parts-of (Says k (Body body) by.given) k (sent_body pid k by.given (greeted own) body) own in
+    let row : Row = row_of (Says k (Body body) by.given) k (sent_body pid k by.given (client_has_greeted own) body) own in
+    let parts = parts-of (Says k (Body body) by.given) k (sent_body pid k by.given (client_has_greeted own) body) own in
     record {
       reply = by.given;
       asks_is = ap (λ j. sending_asks j (Body body) by.given) (sym r.number);
@@ -201,7 +201,7 @@ body-more May before recorded policy pid picks given k mode all picked used asks
       taken = ap (λ (w : Row). numbers_taken (w ∷ rows')) is ∙ count-none row rows' (no-number row (Says k (Body body) by.given) parts.0 refl);
       given_is = ap (λ (w : Row). replies_given (w ∷ rows')) is ∙ counts-reply row rows' k body by.given parts.0;
       fresh = λ bytes f. subst (λ (w : Row). AreFresh (w ∷ rows')) (sym is) (fresh-none row rows' (no-number row (Says k (Body body) by.given) parts.0 refl) f);
-      stops_is = done.stops_is ∙ ap (λ (w : Row). heard.stops || stops w (rows_of w.client rows')) (sym is);
+      stops_is = done.stops_is ∙ ap (λ (w : Row). heard.stops || serves_stop w (rows_of w.client rows')) (sym is);
       ended_is = done.ended_is ∙ ap (λ (w : Row). end_in w.fate heard.ended) (sym is);
     }
 
@@ -215,8 +215,8 @@ fault-runs policy pid picks given k mode all picked used asks rows core core' up
     let rows' : List Row = rows_sent policy pid picks given k rows r.says in
     let own : List Row = rows_of k rows' in
     let on : ReadsOn all mode now rows' r.says = r.reads read in
-    let here : stands.is_lost now.peer.standing ≡ false = read-here now.peer.standing read in
-    let out : is_out own ≡ false = out_is own ∙ (ap stands.is_lost (sym (r.fits.peer.standing_is ∙ ap (λ j. standing_of (rows_of j rows')) r.number)) ∙ here) in
+    let here : stands.is_standing_lost now.peer.standing ≡ false = read-here now.peer.standing read in
+    let out : is_out own ≡ false = out_is own ∙ (ap stands.is_standing_lost (sym (r.fits.peer.standing_is ∙ ap (λ j. standing_of (rows_of j rows')) r.number)) ∙ here) in
     let last = rows-last policy pid picks given k rows r.says x on.live out in
     let row : Row = row_of (Says k x None) k (drops (why.BadFrame fault)) own in
     let done0 = faults rows' r.fits on.live here in
@@ -230,14 +230,14 @@ fault-runs policy pid picks given k mode all picked used asks rows core core' up
       given_is = ap replies_given last ∙ (count-reply row rows' false (ap has_reply parts.0) ∙ (let t : replies_given rows' ≡ replies_given rows + length used = r.given_is in omega (arith, length-append used [])));
       asked = ap asks_of_rows last ∙ (ap (λ (l : List Asked). asks_of_rows rows' ++ l) (ap item_asks parts.0) ∙ (ap (λ (l : List Asked). l ++ []) r.asked ∙ append_assoc (asks_of_rows rows) asks []));
       fresh = λ bytes f. let q = bytes-last k r.says x bytes in subst AreFresh (sym last) (fresh-none row rows' (no-number row (Says k x None) parts.0 refl) (r.fresh q.0 f));
-      stops_is = ap listens last ∙ stops-more heard.stops (stops row (rows_of row.client rows')) heard'.stops (listens rows') (listens rows) done.stops_is r.stops_is;
+      stops_is = ap is_still_accepting last ∙ stops-more heard.stops (serves_stop row (rows_of row.client rows')) heard'.stops (is_still_accepting rows') (is_still_accepting rows) done.stops_is r.stops_is;
       ended_is = ap run_end_of last ∙ ended-more row.fate row rows' heard.ended heard'.ended (run_end_of rows) refl done.ended_is r.ended_is;
       reads = λ e. absurd (let d = sym unread ∙ e in cc);
       over = λ e. record {
         more = [];
-        sends_all = ap (λ (p : Parsed). p.says) (on.rest ∙ ap (behind r.says) (parse-at (parse_mode_of now.peer.standing) now.rest (Faulty fault) front)) ∙ sym (append-nil (r.says ++ x ∷ []));
+        sends_all = ap (λ (p : Parsed). p.says) (on.rest ∙ ap (with_sent_before r.says) (parse-at (parse_mode_of now.peer.standing) now.rest (Faulty fault) front)) ∙ sym (append-nil (r.says ++ x ∷ []));
         none = inr refl;
-        stopped = λ h l. ap (λ (p : Parsed). p.mode) (on.rest ∙ ap (behind r.says) (parse-at (parse_mode_of now.peer.standing) now.rest (Faulty fault) front));
+        stopped = λ h l. ap (λ (p : Parsed). p.mode) (on.rest ∙ ap (with_sent_before r.says) (parse-at (parse_mode_of now.peer.standing) now.rest (Faulty fault) front));
         empty = left;
       };
     }

@@ -27,21 +27,21 @@ loss-row Refused p row e i = rw e refl
 loss-row (End cause) p row e i = rw e refl
 loss-row Goes p row e i = rw (e, i) refl
 
-none-lost : (s : Standing) (k : ℕ) → stands.is_lost s ≡ false → loss_in s k ≡ []
+none-lost : (s : Standing) (k : ℕ) → stands.is_standing_lost s ≡ false → loss_in s k ≡ []
 none-lost Awaited k e = refl
 none-lost Greeted k e = refl
 none-lost Proxied k e = refl
 none-lost Unread k e = refl
 none-lost (Lost why) k e = absurd (cc)
 
-loss-stands : (f : Fate) (p : List ℕ) (s : Standing) (k : ℕ) → stands.is_lost s ≡ false → loss_received f k ≡ loss_in (standing_step f (Heard p) s) k
+loss-stands : (f : Fate) (p : List ℕ) (s : Standing) (k : ℕ) → stands.is_standing_lost s ≡ false → loss_received f k ≡ loss_in (standing_step f (Heard p) s) k
 loss-stands (Drop cause) p s k e = refl
 loss-stands Refused p s k e = refl
 loss-stands Goes p s k e = sym (none-lost s k e)
 loss-stands (End cause) p s k e = sym (ap (λ (t : Standing). loss_in t k) (kept_here s Unread e))
 
 -- of a client that stood before and after it
-pub loss-shown : (p : List ℕ) (row : Row) (own : List Row) (s s' : Standing) → row.item ≡ Heard p → stands.is_lost s ≡ false → s ≡ standing_of own → s' ≡ standing_of (row ∷ own) → loss_by row ≡ loss_between s s' row.client
+pub loss-shown : (p : List ℕ) (row : Row) (own : List Row) (s s' : Standing) → row.item ≡ Heard p → stands.is_standing_lost s ≡ false → s ≡ standing_of own → s' ≡ standing_of (row ∷ own) → loss_by row ≡ loss_between s s' row.client
 loss-shown p row own s s' item here before after =
     let then : s' ≡ standing_step row.fate (Heard p) s = after ∙ (standing_row (Heard p) row.fate row own item refl ∙ ap (standing_step row.fate (Heard p)) (sym before)) in
     loss-row row.fate p row refl item

@@ -3,15 +3,15 @@ use Rattle.std.proofs.Common.{◌≡◌, ℕ, Bool, true, false, List, [], ◌�
 use Rattle.std.specs.Prelude.{◌==◌, MatchBool}
 use Rattle.proxy_frames.specs.State.{QueueState}
 use Rattle.mux_history.specs.declared.why.Why.{Why}
-use Rattle.mux_history.specs.Rows.{Row, rows_of, any_of, is_admit, is_ended, is_lost, is_refusal, loses, Item, Fate, Goes, Refused, Drop, End}
+use Rattle.mux_history.specs.Rows.{Row, rows_of, any_of, is_admit, is_run_over, is_lost, is_refusal, loses, Item, Fate, Goes, Refused, Drop, End}
 use Rattle.mux_history.specs.Pending.{pending_up, waiting_down}
 use Rattle.mux_history.specs.Farewell.{farewell}
 use Rattle.mux_history.specs.Said.{Outcome}
-use Rattle.mux_history.specs.Treat.{all_recorded, bare, fate_with, overflow, queued, row_of}
+use Rattle.mux_history.specs.Treat.{all_recorded, bare_row, fate_with, overflow, queued, row_of}
 use Rattle.mux_history.proofs.Bools.{same-number}
 use Rattle.mux_history.proofs.OwnRows.{idle_row}
 use Rattle.mux_core.specs.State.{CoreState}
-use Rattle.mux_core.specs.Stands.{Stands}
+use Rattle.mux_core.specs.Stands.{CoreRepresents}
 use Rattle.mux_peers.specs.State.{ClientState, part}
 use Rattle.mux_peers.specs.Stands.{PartFits, PeerFits}
 use Rattle.mux_peers.specs.Receivings.{AreHere}
@@ -27,13 +27,13 @@ unrefused-with (End cause) w e = refl
 unrefused-with Refused w e = absurd (cc)
 
 pub unrefused-row : (item : Item) (k : ℕ) (o : Outcome) (own : List Row) → is_refusal o.ends ≡ false → is_refusal (row_of item k o own).fate ≡ false
-unrefused-row item k o own e = by_loss (loses (queued (all_recorded (bare item k o) own) (bare item k o) own))
+unrefused-row item k o own e = by_loss (loses (queued (all_recorded (bare_row item k o) own) (bare_row item k o) own))
   where
     q : Row
-    q = queued (all_recorded (bare item k o) own) (bare item k o) own
+    q = queued (all_recorded (bare_row item k o) own) (bare_row item k o) own
 
     fine : is_refusal q.fate ≡ false
-    fine = unrefused-with o.ends (overflow (waiting_down own) (all_recorded (bare item k o) own)) e
+    fine = unrefused-with o.ends (overflow (waiting_down own) (all_recorded (bare_row item k o) own)) e
 
     by_loss : (b : Bool) → (let row : Row = elim b as (λ _. Row) [ true ↦ record q { farewell = farewell q own } | false ↦ q ] in is_refusal row.fate ≡ false)
     by_loss true = fine
@@ -74,7 +74,7 @@ others-fit k rows rows' (c ∷ cs) e gone f = by_head (c.peer.number == k) refl 
 
 pub record OneMoved (rows' : List Row) (cs' : List ClientState) (c : CoreState) (up : QueueState) (here : Bool) : Type 0 where
   pub each : EachFits rows' cs'
-  pub rest : here ≡ true → (is_ended rows' ≡ false → Stands c rows') × (up.waiting ≡ pending_up rows')
+  pub rest : here ≡ true → (is_run_over rows' ≡ false → CoreRepresents c rows') × (up.waiting ≡ pending_up rows')
 
 pub one-moves : (k : ℕ) (rows rows' : List Row) → OthersStay k rows rows' → (R : ClientState → ClientState → Type 0) (cs cs' : List ClientState) (c' : CoreState) (up' : QueueState) → EachFits rows cs → ArePeersApart cs → ChangesOne k R cs cs'
     → ((x y : ClientState) → x.peer.number ≡ k → InFits rows x → R x y → InFits rows' y × PartFits rows' (part c' y.peer up')) → OneMoved rows' cs' c' up' (is_present cs k)

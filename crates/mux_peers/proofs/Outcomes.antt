@@ -18,8 +18,8 @@ use Rattle.mux_history.specs.Channels.{Channel, held_of, own_number_of, with_own
 use Rattle.mux_history.specs.Choices.{takes_number}
 use Rattle.mux_history.specs.Ledger.{breach}
 use Rattle.mux_history.specs.Policy.{Policy, may_open}
-use Rattle.mux_history.specs.Said.{Outcome, silent, sends, drops, confirmed_at, waiting_at, fails_open, is_failing, is_full_of_asks, on_breach, on_confirmed, on_unused, on_waiting, sent_summary, sent_open, sent_payload, sent_request, sends_as, sends_if, sends_open, reason_for, text_for}
-use Rattle.mux_history.specs.Treat.{bare}
+use Rattle.mux_history.specs.Said.{Outcome, silent, sends_payload, drops, confirmed_at, waiting_at, fails_open, is_failing, is_full_of_asks, on_breach, on_confirmed, on_unused, on_waiting, sent_summary, open_outcome, sent_payload, sent_request, sends_as, sends_if, sends_open, reason_for, text_for}
+use Rattle.mux_history.specs.Treat.{bare_row}
 use Rattle.mux_history.proofs.Readings.{reading-ok}
 
 -- something is sent
@@ -38,7 +38,7 @@ free-open : (own : List Row) (n pick : ℕ) (p : List ℕ) (sender : ℕ) (b : B
 free-open own n pick p sender true h = absurd (cc)
 free-open own n pick p sender false h = refl
 
-free-kind : (policy : Policy) (own : List Row) (n pick : ℕ) (p : List ℕ) (sender : ℕ) (what : Opens) → FreeOf (sent_open policy own pick p sender what) (sent_open policy own n p sender what)
+free-kind : (policy : Policy) (own : List Row) (n pick : ℕ) (p : List ℕ) (sender : ℕ) (what : Opens) → FreeOf (open_outcome policy own pick p sender what) (open_outcome policy own n p sender what)
 free-kind policy own n pick p sender what = by_permit (may_open policy what)
   where
     by_permit : (b : Bool) → FreeOf (elim b as (λ _. Outcome) [ true ↦ sends_open own pick p sender | false ↦ fails_open sender (reason_for what) (text_for what) ]) (elim b as (λ _. Outcome) [ true ↦ sends_open own n p sender | false ↦ fails_open sender (reason_for what) (text_for what) ])
@@ -62,7 +62,7 @@ and-some false c h = refl
 
 free-summary : (policy : Policy) (k : ℕ) (own : List Row) (n pick : ℕ) (p : List ℕ) (m : Summary) → (sends_some (sent_summary policy k own pick p m).sent && is_some (summary_sender_of m)) ≡ false → sent_summary policy k own n p m ≡ sent_summary policy k own pick p m
 free-summary policy k own n pick p (Open what sender w x) h =
-    free-unused sender (sent_open policy own pick p sender what) (sent_open policy own n p sender what) (with_own own sender) (free-kind policy own n pick p sender what) (and-some _ sender h)
+    free-unused sender (open_outcome policy own pick p sender what) (open_outcome policy own n p sender what) (with_own own sender) (free-kind policy own n pick p sender what) (and-some _ sender h)
 free-summary policy k own n pick p (Confirmation s sender w x) h =
     free-waiting s (on_unused sender (sends_as pick p) (with_own own sender)) (on_unused sender (sends_as n p) (with_own own sender)) (waiting_at own s)
     (free-unused sender (sends_as pick p) (sends_as n p) (with_own own sender) (free-sent n pick p)) (and-some _ sender h)
@@ -73,7 +73,7 @@ free-summary policy k own n pick p Refuses h = refl
 free-summary policy k own n pick p (Within r a) h = refl
 
 -- where no number is used the outcome is the same with any
-pub pick-free : (policy : Policy) (k : ℕ) (own : List Row) (n pick : ℕ) (p : List ℕ) → takes_number (bare (Says k (Payload p) None) k (sent_payload policy k own pick p)) ≡ false → sent_payload policy k own n p ≡ sent_payload policy k own pick p
+pub pick-free : (policy : Policy) (k : ℕ) (own : List Row) (n pick : ℕ) (p : List ℕ) → takes_number (bare_row (Says k (Payload p) None) k (sent_payload policy k own pick p)) ≡ false → sent_payload policy k own n p ≡ sent_payload policy k own pick p
 pick-free policy k own n pick p h = by_read (read_summary p) refl
   where
     by_read : (r : Result Summary Bad) → read_summary p ≡ r → sent_payload policy k own n p ≡ sent_payload policy k own pick p
@@ -94,7 +94,7 @@ quiet-open : (own : List Row) (pick : ℕ) (p : List ℕ) (sender : ℕ) (b : Bo
 quiet-open own pick p sender true = tt
 quiet-open own pick p sender false = tt
 
-quiet-kind : (policy : Policy) (own : List Row) (pick : ℕ) (p : List ℕ) (sender : ℕ) (what : Opens) → RecordsUndropped (sent_open policy own pick p sender what)
+quiet-kind : (policy : Policy) (own : List Row) (pick : ℕ) (p : List ℕ) (sender : ℕ) (what : Opens) → RecordsUndropped (open_outcome policy own pick p sender what)
 quiet-kind policy own pick p sender what = by_permit (may_open policy what)
   where
     by_permit : (b : Bool) → RecordsUndropped (elim b as (λ _. Outcome) [ true ↦ sends_open own pick p sender | false ↦ fails_open sender (reason_for what) (text_for what) ])
@@ -117,8 +117,8 @@ quiet-confirmed : (p : List ℕ) (s : ℕ) (act : Act) (x : Option Channel) → 
 quiet-confirmed p s act None = refl
 quiet-confirmed p s act (Some x) = quiet-breach p s (breach Up act x)
 
-quiet-within : (own : List Row) (p : List ℕ) (s : ℕ) (act : Act) (b : Bool) → RecordsUndropped (elim b as (λ _. Outcome) [ true ↦ on_waiting s (sends p) (waiting_at own s) | false ↦ on_confirmed p s act (confirmed_at own s) ])
-quiet-within own p s act true = quiet-waiting s (sends p) (waiting_at own s) tt
+quiet-within : (own : List Row) (p : List ℕ) (s : ℕ) (act : Act) (b : Bool) → RecordsUndropped (elim b as (λ _. Outcome) [ true ↦ on_waiting s (sends_payload p) (waiting_at own s) | false ↦ on_confirmed p s act (confirmed_at own s) ])
+quiet-within own p s act true = quiet-waiting s (sends_payload p) (waiting_at own s) tt
 quiet-within own p s act false = quiet-confirmed p s act (confirmed_at own s)
 
 quiet-if : (b : Bool) (p : List ℕ) → RecordsUndropped (sends_if b p)
@@ -140,7 +140,7 @@ quiet-transport true = refl
 quiet-transport false = tt
 
 quiet-summary : (policy : Policy) (k : ℕ) (own : List Row) (pick : ℕ) (p : List ℕ) (m : Summary) → RecordsUndropped (sent_summary policy k own pick p m)
-quiet-summary policy k own pick p (Open what sender w x) = quiet-unused sender (sent_open policy own pick p sender what) (with_own own sender) (quiet-kind policy own pick p sender what)
+quiet-summary policy k own pick p (Open what sender w x) = quiet-unused sender (open_outcome policy own pick p sender what) (with_own own sender) (quiet-kind policy own pick p sender what)
 quiet-summary policy k own pick p (Confirmation s sender w x) = quiet-waiting s (on_unused sender (sends_as pick p) (with_own own sender)) (waiting_at own s) (quiet-unused sender (sends_as pick p) (with_own own sender) tt)
 quiet-summary policy k own pick p (Transport number) = quiet-transport (number == DISCONNECT)
 quiet-summary policy k own pick p (Requests what wants) = quiet-asks policy k own p what wants (is_full_of_asks wants own)

@@ -11,12 +11,12 @@ use Rattle.mux_history.specs.Rows.{Row, rows_of, any_of, is_admit, is_lost, is_r
 use Rattle.mux_history.specs.Pending.{pending_up}
 use Rattle.mux_history.specs.Said.{Outcome, records}
 use Rattle.mux_history.specs.Settings.{by_lists}
-use Rattle.mux_history.specs.Treat.{bare, open_matters, row_of}
+use Rattle.mux_history.specs.Treat.{bare_row, open_matters, row_of}
 use Rattle.mux_history.specs.Log.{next_row}
 use Rattle.mux_history.proofs.Bools.{same-number}
 use Rattle.mux_history.proofs.OwnRows.{idle_row}
 use Rattle.mux_core.specs.State.{CoreState}
-use Rattle.mux_core.specs.Stands.{Stands}
+use Rattle.mux_core.specs.Stands.{CoreRepresents}
 use Rattle.mux_core.specs.Calls.{Admits, AdmitsOn}
 use Rattle.mux_peers.specs.declared.standing.Standing.TheVariants.{Awaited}
 use Rattle.mux_peers.specs.State.{ClientState}
@@ -119,7 +119,7 @@ enters-new k core core' cs cs' c admit is items policy pid picks given queue row
     (subst (EntersBy core' cs (cs ++ new_client k ∷ []) queue true rows) (sym (row-let-in policy pid picks given k rows new.fresh few)) (record {
       exact = a.exact;
       fit = record {
-        core = λ l. subst (λ b. Stands core' (bare (Admit k) k (admits_if b) ∷ rows)) few a.stands;
+        core = λ l. subst (λ b. CoreRepresents core' (bare_row (Admit k) k (admits_if b) ∷ rows)) few a.stands;
         each = each-last (let-in k ∷ rows) cs (new_client k) (others-fit k rows (let-in k ∷ rows) cs (stay k (let-in k) rows refl) gone fit.each) (new-fits k rows new.nonzero new.fresh);
         apart = apart-last cs (new_client k) fit.apart gone;
         up = fit.up ∙ sym (append-nil (pending_up rows));
@@ -154,7 +154,7 @@ enters-refused k core core' cs admit policy pid picks given queue rows fit live 
     subst (EntersBy core' cs cs queue false rows) (sym (row-refused policy pid picks given k rows new.fresh many)) (record {
       exact = a.exact;
       fit = record {
-        core = λ l. subst (λ b. Stands core' (bare (Admit k) k (admits_if b) ∷ rows)) many a.stands;
+        core = λ l. subst (λ b. CoreRepresents core' (bare_row (Admit k) k (admits_if b) ∷ rows)) many a.stands;
         each = others-fit k rows (refused k ∷ rows) cs (stay k (refused k) rows refl) (absent k rows cs new.fresh fit.each) fit.each;
         apart = fit.apart;
         up = fit.up ∙ sym (append-nil (pending_up rows));

@@ -9,15 +9,15 @@ use Rattle.mux_history.specs.declared.limits.TheConstants.{MAX_CHANNELS}
 use Rattle.mux_history.specs.declared.broke.Break.{Break}
 use Rattle.mux_history.specs.declared.ended.Ended.TheVariants as ended
 use Rattle.mux_history.specs.Summary.{Summary, Transport, Requests, Succeeds, Refuses, Open, Confirmation, Within, read_summary}
-use Rattle.mux_history.specs.Rows.{Row, rows_of, is_ended, is_lost, Heard, Fate, Goes, End}
+use Rattle.mux_history.specs.Rows.{Row, rows_of, is_run_over, is_lost, Heard, Fate, Goes, End}
 use Rattle.mux_history.specs.Channels.{held_of}
 use Rattle.mux_history.specs.Choices.{takes_number}
 use Rattle.mux_history.specs.Pending.{joined, pending_up}
 use Rattle.mux_history.specs.Policy.{Policy}
 use Rattle.mux_history.specs.Said.{Outcome, silent}
-use Rattle.mux_history.specs.Heard.{Dest, ToMaster, ToClient, Disconnects, Breaks, broken, dest, finishes, for_client, for_lost, for_master, received_for, received_summary, received_master}
+use Rattle.mux_history.specs.Heard.{Dest, ToMaster, ToClient, Disconnects, Breaks, broken, dest, outcome_of_end, for_client, for_lost, for_master, received_for, received_summary, received_master}
 use Rattle.mux_history.specs.Settings.{by_lists}
-use Rattle.mux_history.specs.Treat.{all_recorded, bare, goes, received_row, new_answers, row_of}
+use Rattle.mux_history.specs.Treat.{all_recorded, bare_row, goes, received_row, new_answers, row_of}
 use Rattle.mux_history.specs.Log.{next_row}
 use Rattle.mux_core.specs.declared.heard.Delivery as declared
 use Rattle.mux_core.specs.declared.heard.Delivery.TheVariants as heard
@@ -25,7 +25,7 @@ use Rattle.mux_core.specs.State.{CoreState}
 use Rattle.std.specs.List.{AllByRecursion}
 use Rattle.mux_history.proofs.Bools.{same-number}
 use Rattle.mux_core.specs.State as core
-use Rattle.mux_core.specs.Stands.{ClientFits, Look, Stands, is_member_known}
+use Rattle.mux_core.specs.Stands.{ClientFits, Look, CoreRepresents, is_member_known}
 use Rattle.mux_core.specs.Calls.{ReceivesAs, ReceivesClient, CoreReceivesOn, recorded_by}
 use Rattle.mux_peers.specs.State.{PeerState, Part, part}
 use Rattle.mux_peers.specs.Stands.{PartFits}
@@ -106,10 +106,10 @@ pub record ReceivedRow (p : List ℕ) (new : Part) (rows : List Row) (row : Row)
   pub untaken : takes_number row ≡ false
 
 parts-of : (p : List ℕ) (k : ℕ) (o : Outcome) (own : List Row) → ((row_of (Heard p) k o own).item ≡ Heard p) × ((row_of (Heard p) k o own).client ≡ k)
-parts-of p k o own = by_loss (Rattle.mux_history.specs.Rows.loses (Rattle.mux_history.specs.Treat.queued (all_recorded (bare (Heard p) k o) own) (bare (Heard p) k o) own))
+parts-of p k o own = by_loss (Rattle.mux_history.specs.Rows.loses (Rattle.mux_history.specs.Treat.queued (all_recorded (bare_row (Heard p) k o) own) (bare_row (Heard p) k o) own))
   where
     q : Row
-    q = Rattle.mux_history.specs.Treat.queued (all_recorded (bare (Heard p) k o) own) (bare (Heard p) k o) own
+    q = Rattle.mux_history.specs.Treat.queued (all_recorded (bare_row (Heard p) k o) own) (bare_row (Heard p) k o) own
 
     by_loss : (b : Bool) → (let row : Row = elim b as (λ _. Row) [ true ↦ record q { farewell = Rattle.mux_history.specs.Farewell.farewell q own } | false ↦ q ] in (row.item ≡ Heard p) × (row.client ≡ k))
     by_loss true = (refl, refl)
@@ -123,7 +123,7 @@ no-number p row e = ap (λ (item : Rattle.mux_history.specs.Rows.Item). Rattle.m
     and-no false = refl
 
 pub heard-client : (pid : ℕ) (picks : List ℕ) (given : List HouseReply) (p p' : List ℕ) (core0 core1 : CoreState) (peer : PeerState) (new : Part) (up up1 : QueueState) (n : ℕ) (rows : List Row)
-    → PartFits rows (part core0 peer up) → is_ended rows ≡ false → stands.is_lost peer.standing ≡ false → CoreReceivesOn core0 core1 p p' up up1 (heard.Client peer.number n) → ReceivesRecorded (recorded_by (heard.Client peer.number n) p') (part core1 peer up1) new
+    → PartFits rows (part core0 peer up) → is_run_over rows ≡ false → stands.is_standing_lost peer.standing ≡ false → CoreReceivesOn core0 core1 p p' up up1 (heard.Client peer.number n) → ReceivesRecorded (recorded_by (heard.Client peer.number n) p') (part core1 peer up1) new
     → ReceivedRow p new rows (next_row (by_lists core0.policy pid picks given) rows (Heard p))
 heard-client pid picks given p p' core0 core1 peer new up up1 n rows fits live here receives recorded =
     let k : ℕ = peer.number in
@@ -155,16 +155,16 @@ pub record QuietRow (p : List ℕ) (core1 : CoreState) (up1 : QueueState) (rows 
   pub k : ℕ
   pub ups : List (List ℕ)
   pub is : row ≡ made (Heard p) k ups [] [] Goes
-  pub core : Stands core1 (row ∷ rows)
+  pub core : CoreRepresents core1 (row ∷ rows)
   pub up : up1.waiting ≡ pending_up (row ∷ rows)
 
-quiet-row : (p : List ℕ) (k : ℕ) (o : Outcome) (core1 : CoreState) (up up1 : QueueState) (rows : List Row) → o.ends ≡ Goes → up.waiting ≡ pending_up rows → up1.waiting ≡ up.waiting ++ joined (map frame_payload o.sent) → Stands core1 (bare (Heard p) k o ∷ rows)
+quiet-row : (p : List ℕ) (k : ℕ) (o : Outcome) (core1 : CoreState) (up up1 : QueueState) (rows : List Row) → o.ends ≡ Goes → up.waiting ≡ pending_up rows → up1.waiting ≡ up.waiting ++ joined (map frame_payload o.sent) → CoreRepresents core1 (bare_row (Heard p) k o ∷ rows)
     → QuietRow p core1 up1 rows (made (Heard p) k o.sent [] [] Goes)
 quiet-row p k o core1 up up1 rows ends waits sent st = record {
   k = k;
   ups = o.sent;
   is = refl;
-  core = subst (λ (f : Fate). Stands core1 (made (Heard p) k o.sent [] [] f ∷ rows)) ends (down-free core1 (bare (Heard p) k o) rows [] st);
+  core = subst (λ (f : Fate). CoreRepresents core1 (made (Heard p) k o.sent [] [] f ∷ rows)) ends (down-free core1 (bare_row (Heard p) k o) rows [] st);
   up = sent ∙ (ap (λ l. l ++ joined (map frame_payload o.sent)) waits ∙ ap (λ (l : List (List ℕ)). pending_up rows ++ joined (map frame_payload l)) (sym (append-nil o.sent)));
 }
 
@@ -185,7 +185,7 @@ master-goes p = by_read (read_summary p)
     by_read (Ok m) = going-master m
 
 -- the master's, where nothing goes to a client; or an open that is answered for it
-pub heard-master : (pid : ℕ) (picks : List ℕ) (given : List HouseReply) (policy : Policy) (p p' : List ℕ) (core0 core1 : CoreState) (up up1 : QueueState) (rows : List Row) → Stands core0 rows → up.waiting ≡ pending_up rows → CoreReceivesOn core0 core1 p p' up up1 heard.Master
+pub heard-master : (pid : ℕ) (picks : List ℕ) (given : List HouseReply) (policy : Policy) (p p' : List ℕ) (core0 core1 : CoreState) (up up1 : QueueState) (rows : List Row) → CoreRepresents core0 rows → up.waiting ≡ pending_up rows → CoreReceivesOn core0 core1 p p' up up1 heard.Master
     → QuietRow p core1 up1 rows (next_row (by_lists policy pid picks given) rows (Heard p))
 heard-master pid picks given policy p p' core0 core1 up up1 rows st waits receives = by_dest (dest rows p) refl (receives rows st).row
   where
@@ -215,7 +215,7 @@ heard-master pid picks given policy p p' core0 core1 up up1 rows st waits receiv
     by_dest (Breaks why) e h = absurd (let d = h.to in cc)
 
 -- a client that is lost
-pub heard-lost : (pid : ℕ) (picks : List ℕ) (given : List HouseReply) (policy : Policy) (p p' : List ℕ) (core0 core1 : CoreState) (up up1 : QueueState) (k : ℕ) (rows : List Row) → Stands core0 rows → up.waiting ≡ pending_up rows → CoreReceivesOn core0 core1 p p' up up1 (heard.Lost k)
+pub heard-lost : (pid : ℕ) (picks : List ℕ) (given : List HouseReply) (policy : Policy) (p p' : List ℕ) (core0 core1 : CoreState) (up up1 : QueueState) (k : ℕ) (rows : List Row) → CoreRepresents core0 rows → up.waiting ≡ pending_up rows → CoreReceivesOn core0 core1 p p' up up1 (heard.Lost k)
     → QuietRow p core1 up1 rows (next_row (by_lists policy pid picks given) rows (Heard p))
 heard-lost pid picks given policy p p' core0 core1 up up1 k rows st waits receives = by_dest (dest rows p) refl (receives rows st).row
   where
@@ -234,7 +234,7 @@ pub record EndRow (p : List ℕ) (up1 : QueueState) (cause : _) (rows : List Row
 end-row : (p : List ℕ) (up up1 : QueueState) (cause : Rattle.mux_history.specs.declared.ended.Ended.Ended) (rows : List Row) (row : Row) → row ≡ made (Heard p) 0 [] [] [] (End cause) → up.waiting ≡ pending_up rows → up1 ≡ up → EndRow p up1 cause rows row
 end-row p up up1 cause rows row e waits same = record { is = e; up = ap (λ (q : QueueState). q.waiting) same ∙ (waits ∙ (sym (append-nil (pending_up rows)) ∙ ap (λ (r : Row). pending_up (r ∷ rows)) (sym e))) }
 
-pub heard-disconnects : (pid : ℕ) (picks : List ℕ) (given : List HouseReply) (policy : Policy) (p p' : List ℕ) (core0 core1 : CoreState) (up up1 : QueueState) (rows : List Row) → Stands core0 rows → up.waiting ≡ pending_up rows → CoreReceivesOn core0 core1 p p' up up1 heard.Disconnect
+pub heard-disconnects : (pid : ℕ) (picks : List ℕ) (given : List HouseReply) (policy : Policy) (p p' : List ℕ) (core0 core1 : CoreState) (up up1 : QueueState) (rows : List Row) → CoreRepresents core0 rows → up.waiting ≡ pending_up rows → CoreReceivesOn core0 core1 p p' up up1 heard.Disconnect
     → EndRow p up1 ended.Disconnected rows (next_row (by_lists policy pid picks given) rows (Heard p))
 heard-disconnects pid picks given policy p p' core0 core1 up up1 rows st waits receives = by_dest (dest rows p) refl (receives rows st).row
   where
@@ -244,7 +244,7 @@ heard-disconnects pid picks given policy p p' core0 core1 up up1 rows st waits r
     by_dest (ToClient k) e h = absurd h.to
     by_dest (Breaks why) e h = absurd (let d = h.to in cc)
 
-pub heard-broke : (pid : ℕ) (picks : List ℕ) (given : List HouseReply) (policy : Policy) (p p' : List ℕ) (core0 core1 : CoreState) (up up1 : QueueState) (why : Break) (index : ℕ) (rows : List Row) → Stands core0 rows → up.waiting ≡ pending_up rows
+pub heard-broke : (pid : ℕ) (picks : List ℕ) (given : List HouseReply) (policy : Policy) (p p' : List ℕ) (core0 core1 : CoreState) (up up1 : QueueState) (why : Break) (index : ℕ) (rows : List Row) → CoreRepresents core0 rows → up.waiting ≡ pending_up rows
     → index ≡ Rattle.std.specs.Prelude.min (Rattle.mux_history.specs.Heard.next_index rows) 18446744073709551615 → CoreReceivesOn core0 core1 p p' up up1 (heard.Broke why)
     → EndRow p up1 (ended.Broke index why) rows (next_row (by_lists policy pid picks given) rows (Heard p))
 heard-broke pid picks given policy p p' core0 core1 up up1 why index rows st waits place receives = by_dest (dest rows p) refl (receives rows st).row

@@ -7,7 +7,7 @@ use Rattle.mux_history.specs.declared.limits.TheConstants.{MAX_QUEUE}
 use Rattle.mux_history.specs.declared.why.Why.{Why}
 use Rattle.mux_history.specs.declared.why.Why.TheVariants as why
 use Rattle.mux_history.specs.Pending.{joined}
-use Rattle.mux_history.specs.Log.{fitting, overflow}
+use Rattle.mux_history.specs.Log.{frames_that_fit, overflow}
 use Rattle.mux_peers.specs.State.{PeerState, refusals_of}
 
 -- the frame of a refusal
@@ -18,7 +18,7 @@ refusal = frame_payload request_failure
 pub record Refusing (all left : ℕ) (first now : PeerState) : Type 0 where
   pub number : now.number ≡ first.number
   pub standing : now.standing ≡ first.standing
-  pub queue : now.queue ++ joined (fitting (length now.queue) (refusals_of left)) ≡ first.queue ++ joined (fitting (length first.queue) (refusals_of all))
+  pub queue : now.queue ++ joined (frames_that_fit (length now.queue) (refusals_of left)) ≡ first.queue ++ joined (frames_that_fit (length first.queue) (refusals_of all))
   pub full : overflow (length now.queue) (refusals_of left) ≡ overflow (length first.queue) (refusals_of all)
 
 -- ---- one frame and those after it
@@ -32,17 +32,17 @@ test-some n f true cause e = absurd (cc)
 test-some n f false cause e = refl
 
 abbrev fitting_if : Bool → ℕ → List ℕ → List (List ℕ) → List (List ℕ)
-fitting_if b n f gs = elim b as (λ _. List (List ℕ)) [ true ↦ f ∷ fitting (n + length f) gs | false ↦ [] ]
+fitting_if b n f gs = elim b as (λ _. List (List ℕ)) [ true ↦ f ∷ frames_that_fit (n + length f) gs | false ↦ [] ]
 
 abbrev overflow_if : Bool → ℕ → List ℕ → List (List ℕ) → Option Why
 overflow_if b n f gs = elim b as (λ _. Option Why) [ true ↦ overflow (n + length f) gs | false ↦ Some (why.QueueFull n (length f)) ]
 
-fit-head : (n : ℕ) (f : List ℕ) (gs : List (List ℕ)) → overflow n (f ∷ []) ≡ None → (fitting n (f ∷ gs) ≡ f ∷ fitting (n + length f) gs) × (overflow n (f ∷ gs) ≡ overflow (n + length f) gs)
+fit-head : (n : ℕ) (f : List ℕ) (gs : List (List ℕ)) → overflow n (f ∷ []) ≡ None → (frames_that_fit n (f ∷ gs) ≡ f ∷ frames_that_fit (n + length f) gs) × (overflow n (f ∷ gs) ≡ overflow (n + length f) gs)
 fit-head n f gs e =
     let t : nat_le (n + length f) MAX_QUEUE ≡ true = test-none n f (nat_le (n + length f) MAX_QUEUE) e in
     (ap (λ b. fitting_if b n f gs) t, ap (λ b. overflow_if b n f gs) t)
 
-full-head : (n : ℕ) (f : List ℕ) (gs : List (List ℕ)) (cause : Why) → overflow n (f ∷ []) ≡ Some cause → (fitting n (f ∷ gs) ≡ fitting n (f ∷ [])) × (overflow n (f ∷ gs) ≡ Some cause)
+full-head : (n : ℕ) (f : List ℕ) (gs : List (List ℕ)) (cause : Why) → overflow n (f ∷ []) ≡ Some cause → (frames_that_fit n (f ∷ gs) ≡ frames_that_fit n (f ∷ [])) × (overflow n (f ∷ gs) ≡ Some cause)
 full-head n f gs cause e =
     let t : nat_le (n + length f) MAX_QUEUE ≡ false = test-some n f (nat_le (n + length f) MAX_QUEUE) cause e in
     (ap (λ b. fitting_if b n f gs) t ∙ sym (ap (λ b. fitting_if b n f []) t), (ap (λ b. overflow_if b n f gs) t ∙ sym (ap (λ b. overflow_if b n f []) t)) ∙ e)
@@ -52,7 +52,7 @@ peer-same s t n a q = λ i. record { number = n i; standing = a i; queue = q i }
 
 -- a client for which frames were recorded, as far as they fit
 abbrev pub Recorded : List (List ℕ) → PeerState → PeerState → Type 0
-Recorded fs old new = new ≡ record old { queue = old.queue ++ joined (fitting (length old.queue) fs) }
+Recorded fs old new = new ≡ record old { queue = old.queue ++ joined (frames_that_fit (length old.queue) fs) }
 
 -- where the first fits, those after it go on from there
 recorded-head : (f : List ℕ) (peer new : PeerState) → Recorded (f ∷ []) peer new → overflow (length peer.queue) (f ∷ []) ≡ None → new.queue ≡ peer.queue ++ f
@@ -62,14 +62,14 @@ recorded-head f peer new recorded fit =
     ∙ ap (λ l. peer.queue ++ l) (append-nil f)
 
 pub recorded-then : (f : List ℕ) (gs : List (List ℕ)) (peer new : PeerState) → Recorded (f ∷ []) peer new → overflow (length peer.queue) (f ∷ []) ≡ None
-    → (new.queue ++ joined (fitting (length new.queue) gs) ≡ peer.queue ++ joined (fitting (length peer.queue) (f ∷ gs))) × (overflow (length new.queue) gs ≡ overflow (length peer.queue) (f ∷ gs))
+    → (new.queue ++ joined (frames_that_fit (length new.queue) gs) ≡ peer.queue ++ joined (frames_that_fit (length peer.queue) (f ∷ gs))) × (overflow (length new.queue) gs ≡ overflow (length peer.queue) (f ∷ gs))
 recorded-then f gs peer new recorded fit =
     let q : new.queue ≡ peer.queue ++ f = recorded-head f peer new recorded fit in
     let long : length new.queue ≡ length peer.queue + length f = ap length q ∙ length-append peer.queue f in
     let h = fit-head (length peer.queue) f gs fit in (
-      ap (λ n. new.queue ++ joined (fitting n gs)) long
-          ∙ (ap (λ l. l ++ joined (fitting (length peer.queue + length f) gs)) q
-          ∙ (append_assoc peer.queue f (joined (fitting (length peer.queue + length f) gs)) ∙ ap (λ l. peer.queue ++ joined l) (sym h.0))),
+      ap (λ n. new.queue ++ joined (frames_that_fit n gs)) long
+          ∙ (ap (λ l. l ++ joined (frames_that_fit (length peer.queue + length f) gs)) q
+          ∙ (append_assoc peer.queue f (joined (frames_that_fit (length peer.queue + length f) gs)) ∙ ap (λ l. peer.queue ++ joined l) (sym h.0))),
       ap (λ n. overflow n gs) long ∙ sym h.1,
     )
 
@@ -93,7 +93,7 @@ refusing-on all left m first now new f is e r recorded fit =
     record {
       number = ap (λ (t : PeerState). t.number) recorded ∙ r.number;
       standing = ap (λ (t : PeerState). t.standing) recorded ∙ r.standing;
-      queue = h.0 ∙ (ap (λ gs. now.queue ++ joined (fitting (length now.queue) gs)) (sym (one-more left m e)) ∙ r.queue);
+      queue = h.0 ∙ (ap (λ gs. now.queue ++ joined (frames_that_fit (length now.queue) gs)) (sym (one-more left m e)) ∙ r.queue);
       full = h.1 ∙ (ap (overflow (length now.queue)) (sym (one-more left m e)) ∙ r.full);
     }
 
@@ -104,7 +104,7 @@ refusing-full all left m first now new f cause is e r recorded full =
     let full' : overflow (length now.queue) (refusal ∷ []) ≡ Some cause = subst (λ g. overflow (length now.queue) (g ∷ []) ≡ Some cause) is full in
     let all-recorded = recorded-full refusal (refusals_of m) now new cause t full' in (
       peer-same new _ (ap (λ (t : PeerState). t.number) recorded ∙ r.number) (ap (λ (t : PeerState). t.standing) recorded ∙ r.standing)
-          (ap (λ (t : PeerState). t.queue) all-recorded ∙ (ap (λ gs. now.queue ++ joined (fitting (length now.queue) gs)) (sym (one-more left m e)) ∙ r.queue)),
+          (ap (λ (t : PeerState). t.queue) all-recorded ∙ (ap (λ gs. now.queue ++ joined (frames_that_fit (length now.queue) gs)) (sym (one-more left m e)) ∙ r.queue)),
       sym (over-full refusal (refusals_of m) (length now.queue) cause full') ∙ (ap (overflow (length now.queue)) (sym (one-more left m e)) ∙ r.full),
     )
 

@@ -7,10 +7,10 @@ use Rattle.ssh_grammar.specs.Said.{Mode, InControl, InProxy, Stopped, Outgoing, 
 use Rattle.ssh_grammar.proofs.Parses.{parse-at, parse-stopped}
 use Rattle.proxy_frames.specs.State.{QueueState}
 use Rattle.mux_history.specs.Policy.{Policy}
-use Rattle.mux_history.specs.Rows.{Row, rows_of, is_end, is_ended, is_out, Item, Says, Fate, Goes, Refused, Drop, End}
+use Rattle.mux_history.specs.Rows.{Row, rows_of, is_end, is_run_over, is_out, Item, Says, Fate, Goes, Refused, Drop, End}
 use Rattle.mux_history.specs.Choices.{numbers_taken, replies_given}
 use Rattle.mux_history.specs.Settings.{by_lists}
-use Rattle.mux_history.specs.Promises.{listens, stops}
+use Rattle.mux_history.specs.Promises.{is_still_accepting, serves_stop}
 use Rattle.mux_history.specs.Solo.{run_end_of}
 use Rattle.mux_history.specs.declared.ended.Ended.{Ended}
 use Rattle.mux_history.specs.Journal.{sent_item}
@@ -26,7 +26,7 @@ use Rattle.mux_peers.specs.Asked.{asks_of_rows, item_asks, sending_asks}
 use Rattle.mux_peers.specs.Bodies.{end_in}
 use Rattle.mux_peers.specs.Says.{IsOfBytes}
 use Rattle.mux_history.specs.Right.{AreFresh}
-use Rattle.mux_peers.specs.Pieces.{AreOfBytes, ReadsOn, RunsTo, behind, ended_then, rows_sent}
+use Rattle.mux_peers.specs.Pieces.{AreOfBytes, ReadsOn, RunsTo, with_sent_before, ended_then, rows_sent}
 use Rattle.mux_peers.proofs.Stood.{kept_here, out_is, own_row, standing_row, standing_step}
 
 -- ---- the last of many
@@ -41,19 +41,19 @@ map-last f (y ∷ xs) x = ap (λ l. f y ∷ l) (map-last f xs x)
 
 -- ---- a saying of a client that is read makes a row
 
-pub read-here : (s : Standing) → is_read s ≡ true → stands.is_lost s ≡ false
+pub read-here : (s : Standing) → is_read s ≡ true → stands.is_standing_lost s ≡ false
 read-here Awaited e = refl
 read-here Greeted e = refl
 read-here Proxied e = refl
 read-here Unread e = absurd (cc)
 read-here (Lost why) e = absurd (cc)
 
-makes-said : (s : Setting) (k : ℕ) (x : Outgoing) (rows : List Row) → is_ended rows ≡ false → is_out (rows_of k rows) ≡ false → more_of s rows (sent_item k x) ≡ next_row s rows (sent_item k x) ∷ rows
+makes-said : (s : Setting) (k : ℕ) (x : Outgoing) (rows : List Row) → is_run_over rows ≡ false → is_out (rows_of k rows) ≡ false → more_of s rows (sent_item k x) ≡ next_row s rows (sent_item k x) ∷ rows
 makes-said s k x rows live out =
     let makes : makes_next rows (sent_item k x) ≡ true = ap (λ b. elim b as (λ _. Bool) [ true ↦ false | false ↦ not (is_out (rows_of k rows)) ]) live ∙ ap not out in
     ap (λ b. elim b as (λ _. List Row) [ false ↦ rows | true ↦ next_row s rows (sent_item k x) ∷ rows ]) makes
 
-pub rows-last : (policy : Policy) (pid : ℕ) (picks : List ℕ) (given : List HouseReply) (k : ℕ) (rows : List Row) (says : List Outgoing) (x : Outgoing) → is_ended (rows_sent policy pid picks given k rows says) ≡ false → is_out (rows_of k (rows_sent policy pid picks given k rows says)) ≡ false
+pub rows-last : (policy : Policy) (pid : ℕ) (picks : List ℕ) (given : List HouseReply) (k : ℕ) (rows : List Row) (says : List Outgoing) (x : Outgoing) → is_run_over (rows_sent policy pid picks given k rows says) ≡ false → is_out (rows_of k (rows_sent policy pid picks given k rows says)) ≡ false
     → rows_sent policy pid picks given k rows (says ++ x ∷ []) ≡ next_row (by_lists policy pid picks given) (rows_sent policy pid picks given k rows says) (sent_item k x) ∷ rows_sent policy pid picks given k rows says
 rows-last policy pid picks given k rows says x live out =
     ap (more_all (by_lists policy pid picks given) rows) (map-last (sent_item k) says x)
@@ -67,16 +67,16 @@ rows-last policy pid picks given k rows says x live out =
 abbrev ShowsRead : Fate → Outgoing → Standing → Type 0
 ShowsRead f x s = is_read s ≡ true → (is_end f ≡ false) × (s ≡ stands_by x)
 
-shows-read : (f : Fate) (k : ℕ) (x : Outgoing) (given : Option HouseReply) (s s' : Standing) → stands.is_lost s ≡ false → s' ≡ standing_step f (Says k x given) s → ShowsRead f x s'
+shows-read : (f : Fate) (k : ℕ) (x : Outgoing) (given : Option HouseReply) (s s' : Standing) → stands.is_standing_lost s ≡ false → s' ≡ standing_step f (Says k x given) s → ShowsRead f x s'
 shows-read Goes k x given s s' here e r = (refl, e ∙ kept_here s (stands_by x) here)
 shows-read (Drop cause) k x given s s' here e r = absurd (let d : false ≡ true = sym (ap is_read e) ∙ r in cc)
 shows-read Refused k x given s s' here e r = absurd (let d : false ≡ true = sym (ap is_read e) ∙ r in cc)
 shows-read (End cause) k x given s s' here e r = absurd (let d : false ≡ true = sym (ap is_read (e ∙ kept_here s Unread here)) ∙ r in cc)
 
-shows-out : (f : Fate) (k : ℕ) (x : Outgoing) (given : Option HouseReply) (s s' : Standing) → stands.is_lost s ≡ false → s' ≡ standing_step f (Says k x given) s → is_read s' ≡ false → ((is_end f ≡ true) ⊎ (stands.is_lost s' ≡ true)) ⊎ (is_read (stands_by x) ≡ false)
+shows-out : (f : Fate) (k : ℕ) (x : Outgoing) (given : Option HouseReply) (s s' : Standing) → stands.is_standing_lost s ≡ false → s' ≡ standing_step f (Says k x given) s → is_read s' ≡ false → ((is_end f ≡ true) ⊎ (stands.is_standing_lost s' ≡ true)) ⊎ (is_read (stands_by x) ≡ false)
 shows-out Goes k x given s s' here e r = inr (sym (ap is_read (e ∙ kept_here s (stands_by x) here)) ∙ r)
-shows-out (Drop cause) k x given s s' here e r = inl (inr (ap stands.is_lost e))
-shows-out Refused k x given s s' here e r = inl (inr (ap stands.is_lost e))
+shows-out (Drop cause) k x given s s' here e r = inl (inr (ap stands.is_standing_lost e))
+shows-out Refused k x given s s' here e r = inl (inr (ap stands.is_standing_lost e))
 shows-out (End cause) k x given s s' here e r = inl (inl refl)
 
 -- ---- the mode
@@ -108,7 +108,7 @@ mode-stops (Lost why) content e r = absurd (cc)
 
 -- ---- one saying more
 
-pub behind-more : (says : List Outgoing) (x : Outgoing) (p : Parsed) → behind says (with_sending x p) ≡ behind (says ++ x ∷ []) p
+pub behind-more : (says : List Outgoing) (x : Outgoing) (p : Parsed) → with_sent_before says (with_sending x p) ≡ with_sent_before (says ++ x ∷ []) p
 behind-more says x p = ap (λ l. let q : Parsed = record { says = l; mode = p.mode; rest = p.rest } in q) (sym (append_assoc says (x ∷ []) p.says))
 
 pub record OneMore (policy : Policy) (pid : ℕ) (picks : List ℕ) (given : List HouseReply) (k : ℕ) (rows' : List Row) (x : Outgoing) (picked : List ℕ) (used : List HouseReply) (asks : List Asked) (core : CoreState) (up : QueueState) (peer : PeerState) (heard heard' : RunChange) : Type 0 where
@@ -121,7 +121,7 @@ pub record OneMore (policy : Policy) (pid : ℕ) (picks : List ℕ) (given : Lis
   pub taken : numbers_taken (next_row (by_lists policy pid picks given) rows' (sent_item k x) ∷ rows') ≡ numbers_taken rows' + length picked
   pub given_is : replies_given (next_row (by_lists policy pid picks given) rows' (sent_item k x) ∷ rows') ≡ replies_given rows' + length used
   pub fresh : IsOfBytes (sent_item k x) → AreFresh rows' → AreFresh (next_row (by_lists policy pid picks given) rows' (sent_item k x) ∷ rows')
-  pub stops_is : heard'.stops ≡ (heard.stops || stops (next_row (by_lists policy pid picks given) rows' (sent_item k x)) (rows_of (next_row (by_lists policy pid picks given) rows' (sent_item k x)).client rows'))
+  pub stops_is : heard'.stops ≡ (heard.stops || serves_stop (next_row (by_lists policy pid picks given) rows' (sent_item k x)) (rows_of (next_row (by_lists policy pid picks given) rows' (sent_item k x)).client rows'))
   pub ended_is : heard'.ended ≡ end_in (next_row (by_lists policy pid picks given) rows' (sent_item k x)).fate heard.ended
 
 pub bytes-last : (k : ℕ) (says : List Outgoing) (x : Outgoing) → AreOfBytes k (says ++ x ∷ []) → AreOfBytes k says × IsOfBytes (sent_item k x)
@@ -158,14 +158,14 @@ frame-runs policy pid picks given k mode all picked picked' used used' asks asks
     let row : Row = next_row (by_lists policy pid picks given) rows' (sent_item k x) in
     let on : ReadsOn all mode now rows' r.says = r.reads read in
     let stood : s ≡ standing_of own = r.fits.peer.standing_is ∙ ap (λ j. standing_of (rows_of j rows')) r.number in
-    let here : stands.is_lost s ≡ false = read-here s read in
-    let out : is_out own ≡ false = out_is own ∙ (ap stands.is_lost (sym stood) ∙ here) in
+    let here : stands.is_standing_lost s ≡ false = read-here s read in
+    let out : is_out own ≡ false = out_is own ∙ (ap stands.is_standing_lost (sym stood) ∙ here) in
     let last : rows_sent policy pid picks given k rows (r.says ++ x ∷ []) ≡ row ∷ rows' = rows-last policy pid picks given k rows r.says x on.live out in
     let mine : rows_of new.peer.number (row ∷ rows') ≡ row ∷ own = ap (λ j. rows_of j (row ∷ rows')) one.number ∙ own_row k row rows' one.client_is in
     let stands' : new.peer.standing ≡ standing_step row.fate (Says k x one.reply) s =
     one.fits.peer.standing_is ∙ (ap standing_of mine ∙ (standing_row (Says k x one.reply) row.fate row own one.item_is refl ∙ ap (standing_step row.fate (Says k x one.reply)) (sym stood))) in
-    let said-rest : parse mode all ≡ behind (r.says ++ x ∷ []) (parse (mode_after (parse_mode_of s) content) rest) =
-    on.rest ∙ (ap (behind r.says) (parse-at (parse_mode_of s) now.rest (Frame content rest) front) ∙ behind-more r.says x (parse (mode_after (parse_mode_of s) content) rest)) in
+    let said-rest : parse mode all ≡ with_sent_before (r.says ++ x ∷ []) (parse (mode_after (parse_mode_of s) content) rest) =
+    on.rest ∙ (ap (with_sent_before r.says) (parse-at (parse_mode_of s) now.rest (Frame content rest) front) ∙ behind-more r.says x (parse (mode_after (parse_mode_of s) content) rest)) in
     record {
       says = r.says ++ x ∷ [];
       number = one.number;
@@ -174,13 +174,13 @@ frame-runs policy pid picks given k mode all picked picked' used used' asks asks
       given_is = ap replies_given last ∙ (one.given_is ∙ (let t : replies_given rows' ≡ replies_given rows + length used = r.given_is in omega (arith, length-append used used')));
       asked = ap asks_of_rows last ∙ (ap (λ (l : List Asked). asks_of_rows rows' ++ l) (ap item_asks one.item_is ∙ one.asks_is) ∙ (ap (λ (l : List Asked). l ++ asks') r.asked ∙ append_assoc (asks_of_rows rows) asks asks'));
       fresh = λ bytes f. let q = bytes-last k r.says x bytes in subst AreFresh (sym last) (one.fresh q.1 (r.fresh q.0 f));
-      stops_is = ap listens last ∙ stops-more heard.stops (stops row (rows_of row.client rows')) heard'.stops (listens rows') (listens rows) one.stops_is r.stops_is;
+      stops_is = ap is_still_accepting last ∙ stops-more heard.stops (serves_stop row (rows_of row.client rows')) heard'.stops (is_still_accepting rows') (is_still_accepting rows) one.stops_is r.stops_is;
       ended_is = ap run_end_of last ∙ ended-more row.fate row rows' heard.ended heard'.ended (run_end_of rows) refl one.ended_is r.ended_is;
       reads = λ e.
           let shown = shows-read row.fate k x one.reply s new.peer.standing here stands' e in
           record {
-            live = ap is_ended last ∙ (ap (λ b. b || is_ended rows') shown.0 ∙ on.live);
-            rest = said-rest ∙ (ap (λ m. behind (r.says ++ x ∷ []) (parse m rest)) (sym (ap parse_mode_of shown.1 ∙ mode-next s content read)) ∙ ap (λ l. behind (r.says ++ x ∷ []) (parse (parse_mode_of new.peer.standing) l)) (sym (left ∙ ap (λ b. rest_if b rest) e)));
+            live = ap is_run_over last ∙ (ap (λ b. b || is_run_over rows') shown.0 ∙ on.live);
+            rest = said-rest ∙ (ap (λ m. with_sent_before (r.says ++ x ∷ []) (parse m rest)) (sym (ap parse_mode_of shown.1 ∙ mode-next s content read)) ∙ ap (λ l. with_sent_before (r.says ++ x ∷ []) (parse (parse_mode_of new.peer.standing) l)) (sym (left ∙ ap (λ b. rest_if b rest) e)));
           };
       over = λ e.
           record {
@@ -188,20 +188,20 @@ frame-runs policy pid picks given k mode all picked picked' used used' asks asks
             sends_all = ap (λ (p : Parsed). p.says) said-rest;
             none = elim (shows-out row.fate k x one.reply s new.peer.standing here stands' e) [
               | inl w ↦ inl (elim w [
-                | inl t ↦ inl (ap is_ended last ∙ ap (λ b. b || is_ended rows') t)
-                | inr t ↦ inr (ap (λ l. is_out (rows_of new.peer.number l)) last ∙ (out_is (rows_of new.peer.number (row ∷ rows')) ∙ (ap stands.is_lost (sym one.fits.peer.standing_is) ∙ t)))
+                | inl t ↦ inl (ap is_run_over last ∙ ap (λ b. b || is_run_over rows') t)
+                | inr t ↦ inr (ap (λ l. is_out (rows_of new.peer.number l)) last ∙ (out_is (rows_of new.peer.number (row ∷ rows')) ∙ (ap stands.is_standing_lost (sym one.fits.peer.standing_is) ∙ t)))
               ])
               | inr t ↦ inr (ap (λ m. (parse m rest).says) (mode-stops s content read t) ∙ ap (λ (p : Parsed). p.says) (parse-stopped rest))
             ];
-            stopped = λ h l. by_shown row rows' (is_ended rows') on.live h (sym (ap is_ended last) ∙ l) (shows-out row.fate k x one.reply s new.peer.standing here stands' e)
+            stopped = λ h l. by_shown row rows' (is_run_over rows') on.live h (sym (ap is_run_over last) ∙ l) (shows-out row.fate k x one.reply s new.peer.standing here stands' e)
                 (λ t. ap (λ (p : Parsed). p.mode) said-rest ∙ (ap (λ m. (parse m rest).mode) (mode-stops s content read t) ∙ ap (λ (p : Parsed). p.mode) (parse-stopped rest)));
             empty = left ∙ ap (λ b. rest_if b rest) e;
           };
     }
   where
     -- the run neither ended by the row nor was the client lost by it
-    by_shown : {P : Type 0} (row : Row) (rows' : List Row) (was : Bool) → is_ended rows' ≡ false → stands.is_lost new.peer.standing ≡ false → (is_end row.fate || is_ended rows') ≡ false → ((is_end row.fate ≡ true) ⊎ (stands.is_lost new.peer.standing ≡ true)) ⊎ (is_read (stands_by (sending_in (parse_mode_of now.peer.standing) content)) ≡ false)
+    by_shown : {P : Type 0} (row : Row) (rows' : List Row) (was : Bool) → is_run_over rows' ≡ false → stands.is_standing_lost new.peer.standing ≡ false → (is_end row.fate || is_run_over rows') ≡ false → ((is_end row.fate ≡ true) ⊎ (stands.is_standing_lost new.peer.standing ≡ true)) ⊎ (is_read (stands_by (sending_in (parse_mode_of now.peer.standing) content)) ≡ false)
         → (is_read (stands_by (sending_in (parse_mode_of now.peer.standing) content)) ≡ false → P) → P
-    by_shown row rows' was live h l (inl (inl t)) f = absurd (let d : true ≡ false = sym (ap (λ b. b || is_ended rows') t) ∙ l in cc)
+    by_shown row rows' was live h l (inl (inl t)) f = absurd (let d : true ≡ false = sym (ap (λ b. b || is_run_over rows') t) ∙ l in cc)
     by_shown row rows' was live h l (inl (inr t)) f = absurd (let d : true ≡ false = sym t ∙ h in cc)
     by_shown row rows' was live h l (inr t) f = f t

@@ -9,8 +9,8 @@ use Rattle.proxy_frames.specs.State.{QueueState}
 use Rattle.mux_history.specs.declared.ended.Ended.{Ended}
 use Rattle.mux_history.specs.declared.why.Why.{Why}
 use Rattle.mux_history.specs.Policy.{Policy}
-use Rattle.mux_history.specs.Rows.{BadServer, Row, rows_of, any_of, is_admit, is_end, is_ended, is_lost, loses, losses, Item, Heard, Fate, Goes, Refused, Drop, End}
-use Rattle.mux_history.specs.Heard.{Breaks, Dest, Disconnects, ToClient, ToMaster, dest, received_for, is_received, next_index}
+use Rattle.mux_history.specs.Rows.{BadServer, Row, rows_of, any_of, is_admit, is_end, is_run_over, is_lost, loses, losses, Item, Heard, Fate, Goes, Refused, Drop, End}
+use Rattle.mux_history.specs.Heard.{Breaks, Dest, Disconnects, ToClient, ToMaster, dest, received_for, is_server_payload, next_index}
 use Rattle.mux_history.specs.declared.broke.Break.TheVariants as broke
 use Rattle.mux_history.specs.declared.ended.Ended.TheVariants as ended
 use Rattle.mux_history.specs.Pending.{pending_up}
@@ -28,7 +28,7 @@ use Rattle.mux_peers.proofs.Ones.{other-fits}
 use Rattle.mux_peers.proofs.Mores.{parts-of}
 use Rattle.mux_peers.proofs.RowForms.{made}
 use Rattle.mux_peers.specs.Receivings.{AreHere, ReceivedBy, ReceivesAll, end_by}
-use Rattle.mux_peers.specs.Pieces.{behind}
+use Rattle.mux_peers.specs.Pieces.{with_sent_before}
 use Rattle.mux_peers.specs.Server.{ReceivesOnwards, ReceivedTo, rows_received}
 
 -- ---- the last of many
@@ -42,7 +42,7 @@ map-last [] x = refl
 map-last (y ∷ xs) x = ap (λ l. received_item y ∷ l) (map-last xs x)
 
 -- what the server sends makes a row while the run goes on
-pub makes-heard : (s : Setting) (item : Item) (rows : List Row) → is_ended rows ≡ false → makes_row rows item ≡ true → more_of s rows item ≡ next_row s rows item ∷ rows
+pub makes-heard : (s : Setting) (item : Item) (rows : List Row) → is_run_over rows ≡ false → makes_row rows item ≡ true → more_of s rows item ≡ next_row s rows item ∷ rows
 makes-heard s item rows live makes =
     let m : makes_next rows item ≡ true = ap (λ b. elim b as (λ _. Bool) [ true ↦ is_took item | false ↦ makes_row rows item ]) live ∙ makes in
     ap (λ b. elim b as (λ _. List Row) [ false ↦ rows | true ↦ next_row s rows item ∷ rows ]) m
@@ -87,10 +87,10 @@ here-more p row rows cs cs' e same here k a l = same k ∙ by_client (row.client
 
 place-more : (p : List ℕ) (row : Row) (rows : List Row) (i i' : ℕ) → row.item ≡ Heard p → i ≡ min (next_index rows) (2 ^ 64 - 1) → i' ≡ min (i + 1) (2 ^ 64 - 1) → i' ≡ min (next_index (row ∷ rows)) (2 ^ 64 - 1)
 place-more p row rows i i' e h g =
-    let n : next_index (row ∷ rows) ≡ next_index rows + 1 = ap (λ (x : Item). elim (is_received x) as (λ _. ℕ) [ true ↦ next_index rows + 1 | false ↦ next_index rows ]) e in
+    let n : next_index (row ∷ rows) ≡ next_index rows + 1 = ap (λ (x : Item). elim (is_server_payload x) as (λ _. ℕ) [ true ↦ next_index rows + 1 | false ↦ next_index rows ]) e in
     omega (arith, h, g, n)
 
-behind-more : (says : List Outgoing) (x : Outgoing) (p : Parsed) → behind says (with_sending x p) ≡ behind (says ++ x ∷ []) p
+behind-more : (says : List Outgoing) (x : Outgoing) (p : Parsed) → with_sent_before says (with_sending x p) ≡ with_sent_before (says ++ x ∷ []) p
 behind-more says x p = ap (λ l. let q : Parsed = record { says = l; mode = p.mode; rest = p.rest } in q) (sym (append_assoc says (x ∷ []) p.says))
 
 -- ---- one payload more
@@ -107,15 +107,15 @@ payload-heard policy pid picks given all noted noted' rows core core' cs cs' que
     let last : rows_received policy pid picks given rows (r.says ++ Payload content ∷ []) ≡ row ∷ rows' =
     ap (more_all s rows) (map-last r.says (Payload content)) ∙ (more-last s rows (map received_item r.says) (Heard content) ∙ makes-heard s (Heard content) rows' on.live refl) in
     let by : ReceivedBy noted' core' cs' queue' ended rows' row = subst (λ (q : Policy). ReceivedBy noted' core' cs' queue' ended rows' (next_row (by_lists q pid picks given) rows' (Heard content))) pol (receives pid picks given rows' r.fit on.live on.here on.place) in
-    let said : parse InProxy all ≡ behind (r.says ++ Payload content ∷ []) (parse InProxy rest') =
-    on.sent_is ∙ (ap (behind r.says) (parse-at InProxy rest (Frame content rest') front) ∙ behind-more r.says (Payload content) (parse InProxy rest')) in
+    let said : parse InProxy all ≡ with_sent_before (r.says ++ Payload content ∷ []) (parse InProxy rest') =
+    on.sent_is ∙ (ap (with_sent_before r.says) (parse-at InProxy rest (Frame content rest') front) ∙ behind-more r.says (Payload content) (parse InProxy rest')) in
     record {
       says = r.says ++ Payload content ∷ [];
       fit = subst (λ l. AllFit l core' cs' queue') (sym last) by.fit;
       lost = ap losses last ∙ (by.lost ∙ (ap (λ l. l ++ noted') r.lost ∙ append_assoc (losses rows) noted noted'));
       ended_is = by.ended_is ∙ (sym (end-shown row.fate row rows' refl (sym r.ended_is)) ∙ ap run_end_of (sym last));
       on = λ e. record {
-        live = ap is_ended last ∙ (ap (λ b. b || is_ended rows') (goes-on row.fate (sym by.ended_is ∙ e)) ∙ on.live);
+        live = ap is_run_over last ∙ (ap (λ b. b || is_run_over rows') (goes-on row.fate (sym by.ended_is ∙ e)) ∙ on.live);
         sent_is = said;
         here = subst (λ l. AreHere l cs') (sym last) (here-more content row rows' cs cs' (item rows') same on.here);
         place = place-more content row rows' i i' (item rows') on.place next ∙ ap (λ l. min (next_index l) (2 ^ 64 - 1)) (sym last);
@@ -135,7 +135,7 @@ heard-item policy pid picks given p rows = by_dest (dest rows p)
 
 -- a fault of the server ends the run
 pub fault-heard : (policy : Policy) (pid : ℕ) (picks : List ℕ) (given : List HouseReply) (fault : BadFrame) (rows : List Row) (core core' : CoreState) (cs : List ClientState) (queue : QueueState) (i : ℕ)
-    → AllFit rows core cs queue → is_ended rows ≡ false → i ≡ min (next_index rows) (2 ^ 64 - 1)
+    → AllFit rows core cs queue → is_run_over rows ≡ false → i ≡ min (next_index rows) (2 ^ 64 - 1)
     → ReceivedBy [] core' cs queue (Some (ended.Broke i (broke.Frame fault))) rows (next_row (by_lists policy pid picks given) rows (BadServer fault))
 fault-heard policy pid picks given fault rows core core' cs queue i fit live place = subst (ReceivedBy [] core' cs queue (Some (ended.Broke i (broke.Frame fault))) rows) is (record {
   fit = record { core = λ l. absurd (let d : true ≡ false = l in cc); each = each rows cs fit.each; apart = fit.apart; up = fit.up ∙ sym (append-nil (pending_up rows)) };

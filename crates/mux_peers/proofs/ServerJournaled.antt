@@ -9,12 +9,12 @@ use Rattle.proxy_frames.specs.State.{QueueState}
 use Rattle.mux_history.specs.declared.ended.Ended.{Ended}
 use Rattle.mux_history.specs.declared.why.Why.{Why}
 use Rattle.mux_history.specs.Policy.{Policy}
-use Rattle.mux_history.specs.Rows.{Row, Item, Says, Heard, BadServer, rows_of, is_ended}
+use Rattle.mux_history.specs.Rows.{Row, Item, Says, Heard, BadServer, rows_of, is_run_over}
 use Rattle.mux_history.specs.declared.limits.TheConstants.{NUMBERS_END}
 use Rattle.mux_history.specs.Channels.{holder, own_number_of}
 use Rattle.mux_history.specs.Choices.{has_reply, numbers_taken, replies_given, takes_number}
-use Rattle.mux_history.specs.Controls.{body_stops, greeted}
-use Rattle.mux_history.specs.Promises.{listens, stops}
+use Rattle.mux_history.specs.Controls.{body_stops, client_has_greeted}
+use Rattle.mux_history.specs.Promises.{is_still_accepting, serves_stop}
 use Rattle.mux_history.specs.Requests.{is_sent}
 use Rattle.mux_history.specs.Right.{AreFresh, carried_number}
 use Rattle.mux_history.specs.Settings.{by_lists}
@@ -22,7 +22,7 @@ use Rattle.mux_history.specs.Journal.{received_item}
 use Rattle.mux_history.specs.Log.{Setting, goes, makes_next, more_all, more_of, next_row}
 use Rattle.mux_core.specs.State.{CoreState}
 use Rattle.mux_peers.specs.State.{ClientState}
-use Rattle.mux_peers.specs.Pieces.{behind}
+use Rattle.mux_peers.specs.Pieces.{with_sent_before}
 use Rattle.mux_peers.specs.Server.{ReceivedTo, ReceivesOnwards, rows_received}
 use Rattle.mux_peers.specs.Laws.{IsReceivedTo, PiecesOfTheServer, PeersReadServer, rows_recorded}
 use Rattle.mux_peers.proofs.Journaled.{drop-front, map-append, more-append}
@@ -35,22 +35,22 @@ record Quiet (rows rows' : List Row) : Type 0 where
   taken : numbers_taken rows' ≡ numbers_taken rows
   given_is : replies_given rows' ≡ replies_given rows
   fresh : AreFresh rows → AreFresh rows'
-  stops_is : listens rows' ≡ listens rows
+  stops_is : is_still_accepting rows' ≡ is_still_accepting rows
 
 -- a control message of an item that stops the run's accepting, where its row goes on
 abbrev stops_by : Item → List Row → Bool
-stops_by item own = elim item [ Says k outgoing given ↦ elim outgoing [ Body body ↦ greeted own && body_stops body | _ ↦ false ] | _ ↦ false ]
+stops_by item own = elim item [ Says k outgoing given ↦ elim outgoing [ Body body ↦ client_has_greeted own && body_stops body | _ ↦ false ] | _ ↦ false ]
 
 and-false : (b : Bool) → (b && false) ≡ false
 and-false true = refl
 and-false false = refl
 
-quiet-row : (row : Row) (rows : List Row) → takes_number row ≡ false → has_reply row.item ≡ false → stops row (rows_of row.client rows) ≡ false → Quiet rows (row ∷ rows)
+quiet-row : (row : Row) (rows : List Row) → takes_number row ≡ false → has_reply row.item ≡ false → serves_stop row (rows_of row.client rows) ≡ false → Quiet rows (row ∷ rows)
 quiet-row row rows takes reply stop = record {
   taken = ap (λ b. elim b as (λ _. ℕ) [ true ↦ numbers_taken rows + 1 | false ↦ numbers_taken rows ]) takes;
   given_is = ap (λ b. elim b as (λ _. ℕ) [ true ↦ replies_given rows + 1 | false ↦ replies_given rows ]) reply;
   fresh = λ f. (subst (λ b. MatchBool b ((carried_number row.up < NUMBERS_END) × (holder rows (carried_number row.up) ≡ None)) (Unit {0})) (sym takes) tt, f);
-  stops_is = ap (λ b. not b && listens rows) stop;
+  stops_is = ap (λ b. not b && is_still_accepting rows) stop;
 }
 
 -- of an item that is no client's saying
@@ -91,12 +91,12 @@ quiet-all policy pid picks given (x ∷ xs) rows =
 
 -- ---- once the run is over nothing more makes a row
 
-no-row : (s : Setting) (x : Outgoing) (rows : List Row) → is_ended rows ≡ true → more_of s rows (received_item x) ≡ rows
+no-row : (s : Setting) (x : Outgoing) (rows : List Row) → is_run_over rows ≡ true → more_of s rows (received_item x) ≡ rows
 no-row s (Body p) rows e = ap (λ b. elim (elim b as (λ _. Bool) [ true ↦ false | false ↦ true ]) as (λ _. List Row) [ false ↦ rows | true ↦ next_row s rows (Heard p) ∷ rows ]) e
 no-row s (Payload p) rows e = ap (λ b. elim (elim b as (λ _. Bool) [ true ↦ false | false ↦ true ]) as (λ _. List Row) [ false ↦ rows | true ↦ next_row s rows (Heard p) ∷ rows ]) e
 no-row s (BadFraming fault) rows e = ap (λ b. elim (elim b as (λ _. Bool) [ true ↦ false | false ↦ true ]) as (λ _. List Row) [ false ↦ rows | true ↦ next_row s rows (BadServer fault) ∷ rows ]) e
 
-no-rows : (s : Setting) (xs : List Outgoing) (rows : List Row) → is_ended rows ≡ true → more_all s rows (map received_item xs) ≡ rows
+no-rows : (s : Setting) (xs : List Outgoing) (rows : List Row) → is_run_over rows ≡ true → more_all s rows (map received_item xs) ≡ rows
 no-rows s [] rows e = refl
 no-rows s (x ∷ xs) rows e = ap (λ l. more_all s l (map received_item xs)) (no-row s x rows e) ∙ no-rows s xs rows e
 
@@ -128,7 +128,7 @@ rows-same policy pid picks given before bytes rest rest' noted rows core cs queu
     by_end : (o : Option Ended) → ended ≡ o → more_all s rows (map received_item all.says) ≡ rows'
     by_end None e =
         let on : ReceivesOnwards (rest ++ bytes) cs rest' index rows' r.says = r.on e in
-        ap (λ xs. more_all s rows (map received_item xs)) (ap (λ (p : Parsed). p.says) (on.sent_is ∙ ap (behind r.says) (parse-at InProxy rest' More (whole e))) ∙ append-nil r.says)
+        ap (λ xs. more_all s rows (map received_item xs)) (ap (λ (p : Parsed). p.says) (on.sent_is ∙ ap (with_sent_before r.says) (parse-at InProxy rest' More (whole e))) ∙ append-nil r.says)
     by_end (Some cause) e =
         ap (λ xs. more_all s rows (map received_item xs)) r.over.1
         ∙ (ap (more_all s rows) (map-append received_item r.says r.over.0)
@@ -139,9 +139,9 @@ reads-on : (policy : Policy) (pid : ℕ) (picks : List ℕ) (given : List HouseR
     → PeersReadServer before rest → first_in InProxy rest' ≡ More → ended ≡ None → ReceivedTo policy pid picks given (rest ++ bytes) noted rows core cs queue rest' index ended → PeersReadServer (before ++ bytes) rest'
 reads-on policy pid picks given before bytes rest rest' noted rows core cs queue index ended reads whole e r =
     let on = r.on e in
-    let more : parse (parse InProxy before).mode ((parse InProxy before).rest ++ bytes) ≡ behind r.says (record { says = []; mode = InProxy; rest = rest' }) =
+    let more : parse (parse InProxy before).mode ((parse InProxy before).rest ++ bytes) ≡ with_sent_before r.says (record { says = []; mode = InProxy; rest = rest' }) =
     ap (λ (m : Mode). parse m ((parse InProxy before).rest ++ bytes)) reads.mode
-    ∙ (ap (λ (l : List ℕ). parse InProxy (l ++ bytes)) reads.rest ∙ (on.sent_is ∙ ap (behind r.says) (parse-at InProxy rest' More whole))) in
+    ∙ (ap (λ (l : List ℕ). parse InProxy (l ++ bytes)) reads.rest ∙ (on.sent_is ∙ ap (with_sent_before r.says) (parse-at InProxy rest' More whole))) in
     record {
       mode = ap (λ (p : Parsed). p.mode) (parse-append InProxy before bytes) ∙ ap (λ (p : Parsed). p.mode) more;
       rest = ap (λ (p : Parsed). p.rest) (parse-append InProxy before bytes) ∙ ap (λ (p : Parsed). p.rest) more;

@@ -12,7 +12,7 @@ use Rattle.mux_history.specs.declared.ended.Ended.{Ended}
 use Rattle.mux_history.specs.declared.ended.Ended.TheVariants as ended
 use Rattle.mux_history.specs.declared.why.Why.{Why}
 use Rattle.mux_history.specs.Policy.{Policy}
-use Rattle.mux_history.specs.Rows.{Row, BadServer, Fate, Goes, Refused, Drop, End, is_end, is_ended, losses}
+use Rattle.mux_history.specs.Rows.{Row, BadServer, Fate, Goes, Refused, Drop, End, is_end, is_run_over, losses}
 use Rattle.mux_history.specs.Settings.{by_lists}
 use Rattle.mux_history.specs.Solo.{run_end_of}
 use Rattle.mux_history.specs.Journal.{received_item}
@@ -22,7 +22,7 @@ use Rattle.mux_peers.specs.State.{ClientState, ClientsAndQueue}
 use Rattle.mux_peers.specs.Losing.{NotesMore}
 use Rattle.mux_peers.specs.Among.{AllFit}
 use Rattle.mux_peers.specs.Receivings.{ReceivedBy, end_by}
-use Rattle.mux_peers.specs.Pieces.{behind}
+use Rattle.mux_peers.specs.Pieces.{with_sent_before}
 use Rattle.mux_peers.specs.Room.{HasRoom}
 use Rattle.mux_peers.specs.Server.{AllAwait, ReceivingAll, ReceivesOnwards, ReceivedTo, EndsByServerFault, ServerFrame, ServerNext, ServerState, rows_received}
 use Rattle.mux_peers.proofs.Keeping.{among-then, keep-same, keep-then}
@@ -41,16 +41,16 @@ or-left true b e = absurd (cc)
 or-left false b e = refl
 
 -- a run that goes on has no end
-pub end-none : (rows : List Row) → is_ended rows ≡ false → run_end_of rows ≡ None
+pub end-none : (rows : List Row) → is_run_over rows ≡ false → run_end_of rows ≡ None
 end-none [] e = refl
 end-none (row ∷ rows) e =
-    end-shown row.fate row rows refl (end-none rows (or-first (is_end row.fate) (is_ended rows) e)) ∙ unended row.fate (or-left (is_end row.fate) (is_ended rows) e)
+    end-shown row.fate row rows refl (end-none rows (or-first (is_end row.fate) (is_run_over rows) e)) ∙ unended row.fate (or-left (is_end row.fate) (is_run_over rows) e)
 
 -- and one that has an end is over
-pub ended-some : (rows : List Row) (cause : Ended) → Some cause ≡ run_end_of rows → is_ended rows ≡ true
-ended-some rows cause e = by_end (is_ended rows) refl
+pub ended-some : (rows : List Row) (cause : Ended) → Some cause ≡ run_end_of rows → is_run_over rows ≡ true
+ended-some rows cause e = by_end (is_run_over rows) refl
   where
-    by_end : (b : Bool) → is_ended rows ≡ b → is_ended rows ≡ true
+    by_end : (b : Bool) → is_run_over rows ≡ b → is_run_over rows ≡ true
     by_end true t = t
     by_end false t = absurd (let d : Some cause ≡ None = e ∙ end-none rows t in cc)
 
@@ -100,7 +100,7 @@ heard-fault policy pid picks given all noted rows core cs queue rest rest' i i' 
       lost = ap losses last ∙ (by.lost ∙ (append-nil (losses rows') ∙ r.lost));
       ended_is = by.ended_is ∙ (sym (end-shown row.fate row rows' refl (sym r.ended_is)) ∙ ap run_end_of (sym last));
       on = λ e. absurd (cc);
-      over = ([], ap (λ (p : Parsed). p.says) (on.sent_is ∙ ap (behind r.says) (parse-at InProxy rest (Faulty fault) front)) ∙ sym (append-nil (r.says ++ BadFraming fault ∷ [])));
+      over = ([], ap (λ (p : Parsed). p.says) (on.sent_is ∙ ap (with_sent_before r.says) (parse-at InProxy rest (Faulty fault) front)) ∙ sym (append-nil (r.says ++ BadFraming fault ∷ [])));
     }
 
 receiving-frame : (all content rest : List ℕ) (old mid new : ClientsAndQueue) (first was now : ServerState) (ended' : Option Ended)

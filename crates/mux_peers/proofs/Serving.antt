@@ -7,7 +7,7 @@ use Rattle.ssh_grammar.specs.declared.fault.BadFrame.{BadFrame}
 use Rattle.ssh_grammar.specs.Frames.{Front, Frame, Faulty, first_frame}
 use Rattle.proxy_frames.specs.declared.next.Next.TheVariants as next
 use Rattle.proxy_frames.specs.State.{FramerState}
-use Rattle.proxy_frames.specs.Steps.{once_recorded, front_of, answer_to, after_front, over, with_written}
+use Rattle.proxy_frames.specs.Steps.{once_recorded, front_of, answer_to, after_front, written_over, with_written}
 use Rattle.mux_history.specs.declared.ended.Ended.{Ended}
 use Rattle.mux_peers.specs.State.{ClientsAndQueue}
 use Rattle.mux_peers.specs.Among.{is_present}
@@ -15,11 +15,11 @@ use Rattle.mux_peers.specs.Receivings.{ReceivesPayload}
 use Rattle.mux_peers.specs.Server.{ServerNext, ServerState}
 use Rattle.mux_peers.proofs.Fronts.{front_was, framed}
 
-rest-kept : (content w rest : List ℕ) → length w ≡ length content → drop (length content) (over w (content ++ rest)) ≡ rest
+rest-kept : (content w rest : List ℕ) → length w ≡ length content → drop (length content) (written_over w (content ++ rest)) ≡ rest
 rest-kept content w rest e = grind (arith, common_steps, e)
 
 pub written-rest : (f : FramerState) (content w : List ℕ) → f.current ≡ Some content → length w ≡ length content → (with_written f w).rest ≡ f.rest
-written-rest f content w e l = ap (λ (x : List ℕ). drop (length x) (over w (x ++ f.rest))) (ap (λ (o : Option (List ℕ)). elim o as (λ _. List ℕ) [ None ↦ [] | Some c ↦ c ]) e) ∙ rest-kept content w f.rest l
+written-rest f content w e l = ap (λ (x : List ℕ). drop (length x) (written_over w (x ++ f.rest))) (ap (λ (o : Option (List ℕ)). elim o as (λ _. List ℕ) [ None ↦ [] | Some c ↦ c ]) e) ∙ rest-kept content w f.rest l
 
 abbrev pub server_of : FramerState → ℕ → ServerState
 server_of f i = record { framing = f.framing; fault = f.fault; rest = f.rest; index = i }

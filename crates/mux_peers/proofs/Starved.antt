@@ -6,14 +6,14 @@ use Rattle.mux_outside.specs.House.{HouseState}
 use Rattle.mux_outside.specs.declared.house_mark.HouseMark.{HouseMark as Asked}
 use Rattle.mux_outside.specs.declared.house.HouseReply.{HouseReply}
 use Rattle.ssh_grammar.specs.Control.{ForwardAsk, OpenForward, CloseForward}
-use Rattle.ssh_grammar.specs.ReadControl.{Reading, read_control}
+use Rattle.ssh_grammar.specs.ReadControl.{ControlReading, read_control}
 use Rattle.ssh_grammar.specs.Frames.{Frame}
 use Rattle.ssh_grammar.specs.Said.{Mode, Parsed, Outgoing, Body, first_in, mode_after, parse, sending_in}
 use Rattle.ssh_grammar.proofs.Parses.{parse-at}
 use Rattle.proxy_frames.specs.declared.next.Next.TheVariants as next
 use Rattle.proxy_frames.specs.State.{FramerState, QueueState}
 use Rattle.proxy_frames.specs.Steps.{front_of, answer_to, after_front}
-use Rattle.mux_history.specs.Controls.{asks_house, body_asks, greeted, sent_body}
+use Rattle.mux_history.specs.Controls.{asks_house, body_asks, client_has_greeted, sent_body}
 use Rattle.mux_history.specs.Journal.{sent_item}
 use Rattle.mux_history.specs.Log.{Setting, makes_next, more_all, more_of, next_row}
 use Rattle.mux_history.specs.Policy.{Policy}
@@ -30,7 +30,7 @@ use Rattle.mux_peers.specs.Stands as stands
 use Rattle.mux_peers.specs.Among.{client_index}
 use Rattle.mux_peers.specs.Asked.{Applies, RecordsAsks, ask_of, asked_by, asks_of_rows, item_asks, reading_asks, sending_asks}
 use Rattle.mux_peers.specs.Decisions.{DecidesBy, reply_list}
-use Rattle.mux_peers.specs.Pieces.{Receiving, ReceivesPiece, ReadsOn, ReplyNext, RunsTo, behind, rows_sent}
+use Rattle.mux_peers.specs.Pieces.{Receiving, ReceivesPiece, ReadsOn, ReplyNext, RunsTo, with_sent_before, rows_sent}
 use Rattle.mux_peers.specs.Starved.{AsksAtMost, AsksBody, AsksFront, AsksNext, AsksThis, BeginsWithAsked, ReceivesSome, OneIs}
 use Rattle.mux_peers.proofs.Fronts.{Cuts, client_of, front_at, front_was}
 use Rattle.mux_peers.proofs.Heeding.{applies_recorded, records_none, records_then}
@@ -50,11 +50,11 @@ err-then (Err e) f p = f p
 
 -- ---- one control message
 
-asks-reading : (May : HouseReply → Type 0) (recorded recorded' : Option (List Asked)) (k : ℕ) (body : List ℕ) (r : Reading) → read_control body ≡ r → (elim r as (λ _. Bool) [ Err fault ↦ false | Ok c ↦ asks_house c ]) ≡ true → (recorded' ≡ recorded) ⊎ AsksThis May recorded recorded' (λ given. reading_asks k given r) → AsksAtMost May recorded recorded' k true body
+asks-reading : (May : HouseReply → Type 0) (recorded recorded' : Option (List Asked)) (k : ℕ) (body : List ℕ) (r : ControlReading) → read_control body ≡ r → (elim r as (λ _. Bool) [ Err fault ↦ false | Ok c ↦ asks_house c ]) ≡ true → (recorded' ≡ recorded) ⊎ AsksThis May recorded recorded' (λ given. reading_asks k given r) → AsksAtMost May recorded recorded' k true body
 asks-reading May recorded recorded' k body r e asks (inl same) = inl same
 asks-reading May recorded recorded' k body r e asks (inr this) = inr (record {
-  asks = ap (λ (x : Reading). elim x as (λ _. Bool) [ Err fault ↦ false | Ok c ↦ asks_house c ]) e ∙ asks;
-  this = (this.0, (this.1.0, subst (λ (x : Reading). RecordsAsks recorded recorded' (reading_asks k this.0 x)) (sym e) this.1.1));
+  asks = ap (λ (x : ControlReading). elim x as (λ _. Bool) [ Err fault ↦ false | Ok c ↦ asks_house c ]) e ∙ asks;
+  this = (this.0, (this.1.0, subst (λ (x : ControlReading). RecordsAsks recorded recorded' (reading_asks k this.0 x)) (sym e) this.1.1));
 })
 
 pub asks-open : (May : HouseReply → Type 0) (recorded recorded' : Option (List Asked)) (k id : ℕ) (body : List ℕ) (what : ForwardAsk) → read_control body ≡ Ok (OpenForward id what) → (recorded' ≡ recorded) ⊎ AsksThis May recorded recorded' (λ given. ask_of k id true what given ∷ []) → AsksAtMost May recorded recorded' k true body
@@ -148,13 +148,13 @@ asked-row policy pid picks given k mode all picked used asks rows core up now he
     let rows' : List Row = rows_sent policy pid picks given k rows r.says in
     let own : List Row = rows_of k rows' in
     let on : ReadsOn all mode now rows' r.says = r.reads read in
-    let here : stands.is_lost now.peer.standing ≡ false = read-here now.peer.standing read in
+    let here : stands.is_standing_lost now.peer.standing ≡ false = read-here now.peer.standing read in
     let mine : rows_of now.peer.number rows' ≡ own = ap (λ j. rows_of j rows') r.number in
-    let out : is_out own ≡ false = out_is own ∙ (ap stands.is_lost (sym (r.fits.peer.standing_is ∙ ap standing_of mine)) ∙ here) in
-    let greets : greeted own ≡ is_greeted now.peer.standing = ap greeted (sym mine) ∙ r.fits.peer.greeted_is here in
-    let asked : true ≡ (greeted own && body_asks body) = sym (ap (λ (b : Bool). b && body_asks body) greets ∙ ask) in
+    let out : is_out own ≡ false = out_is own ∙ (ap stands.is_standing_lost (sym (r.fits.peer.standing_is ∙ ap standing_of mine)) ∙ here) in
+    let greets : client_has_greeted own ≡ is_greeted now.peer.standing = ap client_has_greeted (sym mine) ∙ r.fits.peer.greeted_is here in
+    let asked : true ≡ (client_has_greeted own && body_asks body) = sym (ap (λ (b : Bool). b && body_asks body) greets ∙ ask) in
     let row-is = body-row policy pid picks given k rows' body (Some reply) asked (reply-after used (reply ∷ []) rows rows' given r.given_is next) in
-    let item-is = ap (λ (w : Row). w.item) row-is ∙ (parts-of (Says k (Body body) (Some reply)) k (sent_body pid k (Some reply) (greeted own) body) own).0 in
+    let item-is = ap (λ (w : Row). w.item) row-is ∙ (parts-of (Says k (Body body) (Some reply)) k (sent_body pid k (Some reply) (client_has_greeted own) body) own).0 in
     let last = rows-last policy pid picks given k rows r.says (Body body) on.live out in
     let more : List Asked = sending_asks now.peer.number (Body body) (Some reply) in
     ap (λ (y : Outgoing). asks_of_rows (rows_sent policy pid picks given k rows (r.says ++ y ∷ []))) is
@@ -200,7 +200,7 @@ receives-some May {asks} {asks'} {old} {mid} recorded' pid bytes core0 core up0 
           begins = λ picks replies rows fits live come reply.
               let r = h.goes picks replies rows fits live come (reply-first h.used (given ∷ []) rows replies reply) in
               let left : Parsed = parse (mode_after (parse_mode_of s) f.body) f.rest in
-              let says-all : all ≡ behind (r.says ++ x ∷ []) left = (r.reads read).rest ∙ (ap (behind r.says) (parse-at (parse_mode_of s) now.rest (Frame f.body f.rest) f.front_is) ∙ behind-more r.says x left) in
+              let says-all : all ≡ with_sent_before (r.says ++ x ∷ []) left = (r.reads read).rest ∙ (ap (with_sent_before r.says) (parse-at (parse_mode_of s) now.rest (Frame f.body f.rest) f.front_is) ∙ behind-more r.says x left) in
               begins-on core0.policy pid picks replies first.peer.number rows (r.says ++ x ∷ []) left.says all.says (h.asks ++ more) (ap (λ (p : Parsed). p.says) says-all)
               (asked-row core0.policy pid picks replies first.peer.number (parse_mode_of first.peer.standing) (first.rest ++ bytes) h.picked h.used h.asks rows core up now heard f.body given x read (control-says s f.body read f.control) f.asks.asks reply r);
         }

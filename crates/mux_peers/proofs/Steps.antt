@@ -10,10 +10,10 @@ use Rattle.proxy_frames.specs.State.{QueueState}
 use Rattle.mux_history.specs.Rows.{Row, rows_of, any_of, is_admit, is_lost, Says, Fate, Goes, Refused, Drop, End}
 use Rattle.mux_history.specs.Pending.{joined, pending_up}
 use Rattle.mux_history.specs.Farewell.{has_open_matters}
-use Rattle.mux_history.specs.Treat.{entered}
+use Rattle.mux_history.specs.Treat.{admitted_clients}
 use Rattle.mux_history.proofs.Bools.{same-number}
 use Rattle.mux_core.specs.State as core
-use Rattle.mux_core.specs.Stands.{Stands, ClientFits, Look, look, has_matters}
+use Rattle.mux_core.specs.Stands.{CoreRepresents, ClientFits, Look, look, has_matters}
 use Rattle.mux_peers.specs.declared.standing.Standing.{Standing}
 use Rattle.mux_peers.specs.declared.standing.Standing.TheVariants.{Lost, Unread}
 use Rattle.mux_peers.specs.State.{PeerState, part}
@@ -48,34 +48,34 @@ abbrev pub NotRefused : Fate → Type 0
 NotRefused Refused = ⊥
 NotRefused f = Unit {0}
 
-sends_standing : (f : Fate) (k : ℕ) (x : Outgoing) (given : Option HouseReply) (s : Standing) → NotRefused f → stands.is_lost s ≡ false → standing_step f (Says k x given) s ≡ standing_after f x
+sends_standing : (f : Fate) (k : ℕ) (x : Outgoing) (given : Option HouseReply) (s : Standing) → NotRefused f → stands.is_standing_lost s ≡ false → standing_step f (Says k x given) s ≡ standing_after f x
 sends_standing Goes k x given s n l = kept_here s (stands_by x) l
 sends_standing (Drop why) k x given s n l = refl
 sends_standing Refused k x given s n l = absurd n
 sends_standing (End cause) k x given s n l = kept_here s Unread l
 
-sends_greets : (f : Fate) (x : Outgoing) → NotRefused f → stands.is_lost (standing_after f x) ≡ false → true ≡ is_greeted (standing_after f x)
+sends_greets : (f : Fate) (x : Outgoing) → NotRefused f → stands.is_standing_lost (standing_after f x) ≡ false → true ≡ is_greeted (standing_after f x)
 sends_greets Goes x n l = sym (stands_greeted x)
 sends_greets (Drop why) x n l = absurd (cc)
 sends_greets Refused x n l = absurd n
 sends_greets (End cause) x n l = refl
 
 -- the client's own rows with the row
-peer-row : (k : ℕ) (x : Outgoing) (given : Option HouseReply) (ups fw down : List (List ℕ)) (f : Fate) (own : List Row) (s s' : Standing) (q q' : List ℕ) → NotRefused f → stands.is_lost s ≡ false → PeerFits own s q
+peer-row : (k : ℕ) (x : Outgoing) (given : Option HouseReply) (ups fw down : List (List ℕ)) (f : Fate) (own : List Row) (s s' : Standing) (q q' : List ℕ) → NotRefused f → stands.is_standing_lost s ≡ false → PeerFits own s q
     → s' ≡ standing_after f x → q' ≡ q ++ joined down → PeerFits (made (Says k x given) k ups fw down f ∷ own) s' q'
 peer-row k x given ups fw down f own s s' q q' fine here fits stands' queue' =
     let row : Row = made (Says k x given) k ups fw down f in
     record {
       admitted = ap (λ b. is_admit row || b) fits.admitted ∙ or_true (is_admit row);
       standing_is = stands' ∙ sym (standing_row (Says k x given) f row own refl refl ∙ (ap (standing_step f (Says k x given)) (sym fits.standing_is) ∙ sends_standing f k x given s fine here));
-      greeted_is = λ l. sends_greets f x fine (sym (ap stands.is_lost stands') ∙ l) ∙ ap is_greeted (sym stands');
+      greeted_is = λ l. sends_greets f x fine (sym (ap stands.is_standing_lost stands') ∙ l) ∙ ap is_greeted (sym stands');
       queue_is = queue' ∙ ap (λ z. z ++ joined down) fits.queue_is;
     }
 
 pub row-fits : (k : ℕ) (x : Outgoing) (given : Option HouseReply) (ups fw down : List (List ℕ)) (f : Fate) (rows : List Row) (peer peer' : PeerState) (s' : core.CoreState) (up up' : QueueState) → NotRefused f
-    → peer'.number ≡ k → stands.is_lost peer.standing ≡ false → PeerFits (rows_of k rows) peer.standing peer.queue → up.waiting ≡ pending_up rows
+    → peer'.number ≡ k → stands.is_standing_lost peer.standing ≡ false → PeerFits (rows_of k rows) peer.standing peer.queue → up.waiting ≡ pending_up rows
     → peer'.standing ≡ standing_after f x → peer'.queue ≡ peer.queue ++ joined down → up'.waiting ≡ up.waiting ++ joined (map frame_payload (ups ++ fw))
-    → Stands s' (made (Says k x given) k ups fw down f ∷ rows) → PartFits (made (Says k x given) k ups fw down f ∷ rows) (part s' peer' up')
+    → CoreRepresents s' (made (Says k x given) k ups fw down f ∷ rows) → PartFits (made (Says k x given) k ups fw down f ∷ rows) (part s' peer' up')
 row-fits k x given ups fw down f rows peer peer' s' up up' fine num here fits waits standing queue sent st =
     let row : Row = made (Says k x given) k ups fw down f in
     record {
@@ -100,17 +100,17 @@ member-last k x [] e = ap (λ b. b || false) e
 member-last k x (y ∷ xs) e = ap (λ b. (y == k) || b) (member-last k x xs e) ∙ or_true (y == k)
 
 -- one that was admitted is among those
-pub entered-among : (k : ℕ) (rows : List Row) → any_of is_admit (rows_of k rows) ≡ true → among k (entered rows) ≡ true
+pub entered-among : (k : ℕ) (rows : List Row) → any_of is_admit (rows_of k rows) ≡ true → among k (admitted_clients rows) ≡ true
 entered-among k [] h = absurd (cc)
 entered-among k (row ∷ rows) h = by_client (row.client == k) refl (is_admit row) refl (λ t. entered-among k rows t)
   where
-    by_client : (b : Bool) → (row.client == k) ≡ b → (c : Bool) → is_admit row ≡ c → (any_of is_admit (rows_of k rows) ≡ true → among k (entered rows) ≡ true) → among k (entered (row ∷ rows)) ≡ true
-    by_client true e true a ih = ap (λ (c : Bool). among k (entered rows ++ elim c as (λ _. List ℕ) [ true ↦ row.client ∷ [] | false ↦ [] ])) a ∙ member-last k row.client (entered rows) e
+    by_client : (b : Bool) → (row.client == k) ≡ b → (c : Bool) → is_admit row ≡ c → (any_of is_admit (rows_of k rows) ≡ true → among k (admitted_clients rows) ≡ true) → among k (admitted_clients (row ∷ rows)) ≡ true
+    by_client true e true a ih = ap (λ (c : Bool). among k (admitted_clients rows ++ elim c as (λ _. List ℕ) [ true ↦ row.client ∷ [] | false ↦ [] ])) a ∙ member-last k row.client (admitted_clients rows) e
     by_client true e false a ih =
-        member-more k (entered rows) (elim (is_admit row) as (λ _. List ℕ) [ true ↦ row.client ∷ [] | false ↦ [] ])
+        member-more k (admitted_clients rows) (elim (is_admit row) as (λ _. List ℕ) [ true ↦ row.client ∷ [] | false ↦ [] ])
         (ih (sym (ap (any_of is_admit) (own_row k row rows (same-number row.client k e)) ∙ ap (λ c. c || any_of is_admit (rows_of k rows)) a) ∙ h))
     by_client false e c a ih =
-        member-more k (entered rows) (elim (is_admit row) as (λ _. List ℕ) [ true ↦ row.client ∷ [] | false ↦ [] ])
+        member-more k (admitted_clients rows) (elim (is_admit row) as (λ _. List ℕ) [ true ↦ row.client ∷ [] | false ↦ [] ])
         (ih (sym (ap (λ (b : Bool). any_of is_admit (Rattle.std.proofs.Common.cond b (row ∷ rows_of k rows) (rows_of k rows))) e) ∙ h))
 
 kept-among : (k : ℕ) (test : ℕ → Bool) (xs : List ℕ) → among k xs ≡ true → test k ≡ true → among k (filter test xs) ≡ true
@@ -123,20 +123,20 @@ kept-among k test (x ∷ xs) h t = by_head (x == k) refl (test x) refl (λ a. ke
     by_head false e true p ih = ap (λ c. among k (Rattle.std.proofs.Common.cond c (x ∷ filter test xs) (filter test xs))) p ∙ (ap (λ b. b || among k (filter test xs)) e ∙ ih (sym (ap (λ b. b || among k xs) e) ∙ h))
     by_head false e false p ih = ap (λ c. among k (Rattle.std.proofs.Common.cond c (x ∷ filter test xs) (filter test xs))) p ∙ ih (sym (ap (λ b. b || among k xs) e) ∙ h)
 
-is-served : (l : Look) (k : ℕ) (cs : List core.MemberState) → AllByRecursion (ClientFits l) cs → among k (map (λ c. c.number) cs) ≡ true → l.lost k ≡ false → core.is_served cs k ≡ true
+is-served : (l : Look) (k : ℕ) (cs : List core.MemberState) → AllByRecursion (ClientFits l) cs → among k (map (λ c. c.number) cs) ≡ true → l.lost k ≡ false → core.is_member_served cs k ≡ true
 is-served l k [] all h here = absurd (cc)
 is-served l k (c ∷ cs) all h here = by_head (c.number == k) refl (λ t. is-served l k cs all.1 t here)
   where
-    by_head : (b : Bool) → (c.number == k) ≡ b → (among k (map (λ c. c.number) cs) ≡ true → core.is_served cs k ≡ true) → core.is_served (c ∷ cs) k ≡ true
+    by_head : (b : Bool) → (c.number == k) ≡ b → (among k (map (λ c. c.number) cs) ≡ true → core.is_member_served cs k ≡ true) → core.is_member_served (c ∷ cs) k ≡ true
     by_head true e ih =
         let lost : c.lost ≡ false = all.0.lost ∙ (ap l.lost (same-number c.number k e) ∙ here) in
-        ap (λ b. (b && not c.lost) || core.is_served cs k) e ∙ ap (λ b. not b || core.is_served cs k) lost
-    by_head false e ih = ap (λ b. (b && not c.lost) || core.is_served cs k) e ∙ ih (sym (ap (λ b. b || among k (map (λ c. c.number) cs)) e) ∙ h)
+        ap (λ b. (b && not c.lost) || core.is_member_served cs k) e ∙ ap (λ b. not b || core.is_member_served cs k) lost
+    by_head false e ih = ap (λ b. (b && not c.lost) || core.is_member_served cs k) e ∙ ih (sym (ap (λ b. b || among k (map (λ c. c.number) cs)) e) ∙ h)
 
 open-here : (own : List Row) (a b : Bool) → any_of is_admit own ≡ a → is_lost own ≡ b → a ≡ true → b ≡ false → has_open_matters own ≡ true
 open-here own a b e f t u = rw (e, f, t, u, has_open_matters) refl
 
-pub served-of : (s : core.CoreState) (rows : List Row) (k : ℕ) → Stands s rows → any_of is_admit (rows_of k rows) ≡ true → is_lost (rows_of k rows) ≡ false → core.is_served s.clients k ≡ true
+pub served-of : (s : core.CoreState) (rows : List Row) (k : ℕ) → CoreRepresents s rows → any_of is_admit (rows_of k rows) ≡ true → is_lost (rows_of k rows) ≡ false → core.is_member_served s.clients k ≡ true
 served-of s rows k st admitted here =
     is-served (look rows) k s.clients st.clients.each
-    (ap (among k) st.clients.numbers ∙ kept-among k (has_matters rows) (entered rows) (entered-among k rows admitted) (open-here (rows_of k rows) true false admitted here refl refl)) here
+    (ap (among k) st.clients.numbers ∙ kept-among k (has_matters rows) (admitted_clients rows) (entered-among k rows admitted) (open-here (rows_of k rows) true false admitted here refl refl)) here

@@ -12,20 +12,20 @@ use Rattle.mux_peers.specs.Stands.{is_greeted, keep_lost, standing_in, stands_by
 pub own_row : (k : ℕ) (row : Row) (rows : List Row) → row.client ≡ k → rows_of k (row ∷ rows) ≡ row ∷ rows_of k rows
 own_row k row rows e = let t : (row.client == k) ≡ true = eq-eqb row.client k e in rw t refl
 
-lost_kept : (s next : Standing) → stands.is_lost next ≡ false → stands.is_lost (keep_lost s next) ≡ stands.is_lost s
+lost_kept : (s next : Standing) → stands.is_standing_lost next ≡ false → stands.is_standing_lost (keep_lost s next) ≡ stands.is_standing_lost s
 lost_kept Awaited next e = e
 lost_kept Greeted next e = e
 lost_kept Proxied next e = e
 lost_kept Unread next e = e
 lost_kept (Lost why) next e = refl
 
-read_by : (m : Mode) → (stands.is_lost (standing_in m) ≡ false) × (is_greeted (standing_in m) ≡ true)
+read_by : (m : Mode) → (stands.is_standing_lost (standing_in m) ≡ false) × (is_greeted (standing_in m) ≡ true)
 read_by InControl = (refl, refl)
 read_by InProxy = (refl, refl)
 read_by Stopped = (refl, refl)
 
 -- what is sent leaves no client lost, and each one greeted
-pub stands_here : (x : Outgoing) → stands.is_lost (stands_by x) ≡ false
+pub stands_here : (x : Outgoing) → stands.is_standing_lost (stands_by x) ≡ false
 stands_here (Body body) = (read_by (after_body body)).0
 stands_here (Payload p) = refl
 stands_here (BadFraming f) = refl
@@ -54,7 +54,7 @@ step_at f row own e = ap (λ (f : Fate). elim f as (λ _. Standing) [ Drop cause
 pub standing_row : (item : Item) (f : Fate) (row : Row) (own : List Row) → row.item ≡ item → row.fate ≡ f → standing_of (row ∷ own) ≡ standing_step f item (standing_of own)
 standing_row item f row own i e = step_at f row own e ∙ ap (λ x. standing_step f x (standing_of own)) i
 
-pub kept_here : (s next : Standing) → stands.is_lost s ≡ false → keep_lost s next ≡ next
+pub kept_here : (s next : Standing) → stands.is_standing_lost s ≡ false → keep_lost s next ≡ next
 kept_here Awaited next l = refl
 kept_here Greeted next l = refl
 kept_here Proxied next l = refl
@@ -79,7 +79,7 @@ puts_at Goes item row e i = rw (e, i) refl
 pub out_row : (item : Item) (f : Fate) (row : Row) (own : List Row) → row.item ≡ item → row.fate ≡ f → is_out (row ∷ own) ≡ (puts_out f item || is_out own)
 out_row item f row own i e = ap (λ b. b || is_out own) (puts_at f item row e i)
 
-out_step : (f : Fate) (item : Item) (s : Standing) (out : Bool) → out ≡ stands.is_lost s → (puts_out f item || out) ≡ stands.is_lost (standing_step f item s)
+out_step : (f : Fate) (item : Item) (s : Standing) (out : Bool) → out ≡ stands.is_standing_lost s → (puts_out f item || out) ≡ stands.is_standing_lost (standing_step f item s)
 out_step (Drop cause) item s out e = refl
 out_step Refused item s out e = refl
 out_step (End cause) item s out e = e ∙ sym (lost_kept s Unread refl)
@@ -88,9 +88,9 @@ out_step Goes (Says k x given) s out e = e ∙ sym (lost_kept s (stands_by x) (s
 out_step Goes item s out e = e
 
 -- a client is out exactly where it stands as lost
-pub out_is : (own : List Row) → is_out own ≡ stands.is_lost (standing_of own)
+pub out_is : (own : List Row) → is_out own ≡ stands.is_standing_lost (standing_of own)
 out_is [] = refl
-out_is (row ∷ own) = out_row row.item row.fate row own refl refl ∙ (out_step row.fate row.item (standing_of own) (is_out own) (out_is own) ∙ ap stands.is_lost (sym (standing_row row.item row.fate row own refl refl)))
+out_is (row ∷ own) = out_row row.item row.fate row own refl refl ∙ (out_step row.fate row.item (standing_of own) (is_out own) (out_is own) ∙ ap stands.is_standing_lost (sym (standing_row row.item row.fate row own refl refl)))
 
 or_left : (a b c : Bool) → ((a || b) || c) ≡ false → (a ≡ false) × (c ≡ false)
 or_left true b c e = absurd (cc)

@@ -17,7 +17,7 @@ use Rattle.mux_history.specs.Pending.{joined}
 use Rattle.mux_history.specs.Policy.{Policy}
 use Rattle.mux_history.specs.Right.{carried_number}
 use Rattle.mux_history.specs.Said.{Outcome, drops, sent_summary, sent_payload}
-use Rattle.mux_history.specs.Treat.{bare, fitting, overflow}
+use Rattle.mux_history.specs.Treat.{bare_row, frames_that_fit, overflow}
 use Rattle.mux_history.proofs.Readings.{reading-ok}
 use Rattle.mux_history.proofs.Renumbered.{number-sent, sender-in, word}
 use Rattle.mux_history.proofs.Sends.{Sent, sent-by}
@@ -45,7 +45,7 @@ carries-sent own pick p m ups bytes reads (inl none) h = absurd (let d : false �
 carries-sent own pick p m ups bytes reads (inr (inl plain)) h = absurd (let d : false ≡ true = sym (ap (λ (us : List (List ℕ)). sends_some us && is_some (summary_sender_of m)) plain.up ∙ ap is_some plain.unowned) ∙ h in cc)
 carries-sent own pick p m ups bytes reads (inr (inr new)) h = ap carried_number new.up ∙ ap sent_number (number-sent p m (sender-in p m new.c bytes reads new.owned) pick)
 
-carries : (policy : Policy) (k : ℕ) (own : List Row) (pick : ℕ) (p : List ℕ) → AreBytes p → takes_number (bare (said k p) k (sent_payload policy k own pick p)) ≡ true → carried_number (sent_payload policy k own pick p).sent ≡ word pick
+carries : (policy : Policy) (k : ℕ) (own : List Row) (pick : ℕ) (p : List ℕ) → AreBytes p → takes_number (bare_row (said k p) k (sent_payload policy k own pick p)) ≡ true → carried_number (sent_payload policy k own pick p).sent ≡ word pick
 carries policy k own pick p bytes takes = by_read (read_summary p) refl
   where
     by_read : (r : Result Summary Bad) → read_summary p ≡ r → carried_number (sent_payload policy k own pick p).sent ≡ word pick
@@ -58,8 +58,8 @@ carries policy k own pick p bytes takes = by_read (read_summary p) refl
         sym (ap (λ (o : Outcome). sends_some o.sent && is_some (own_number_of (said k p))) b ∙ ap (λ (c : Option ℕ). sends_some (sent_summary policy k own pick p m).sent && is_some c) (reading-ok p m summary_sender_of None e)) ∙ takes in
         ap (λ (o : Outcome). carried_number o.sent) b ∙ carries-sent own pick p m (sent_summary policy k own pick p m).sent bytes e (sent-by policy k own pick p m) t
 
-fresh-carried : (policy : Policy) (k : ℕ) (own : List Row) (pick : ℕ) (p : List ℕ) (rows : List Row) (tk : Bool) → takes_number (bare (said k p) k (sent_payload policy k own pick p)) ≡ tk
-    → (takes_number (bare (said k p) k (sent_payload policy k own pick p)) ≡ true → IsFreshNumber rows pick) → FreshBy tk p rows (sent_payload policy k own pick p).sent
+fresh-carried : (policy : Policy) (k : ℕ) (own : List Row) (pick : ℕ) (p : List ℕ) (rows : List Row) (tk : Bool) → takes_number (bare_row (said k p) k (sent_payload policy k own pick p)) ≡ tk
+    → (takes_number (bare_row (said k p) k (sent_payload policy k own pick p)) ≡ true → IsFreshNumber rows pick) → FreshBy tk p rows (sent_payload policy k own pick p).sent
 fresh-carried policy k own pick p rows tk e fresh bytes t =
     let f : IsFreshNumber rows pick = fresh (e ∙ t) in
     let below : pick < 16384 = f.below in
@@ -72,7 +72,7 @@ abbrev pub takes_by : Verdict → List ℕ → Bool
 takes_by verdict.Sent p = is_some (own_number_of (said 0 p))
 takes_by v p = false
 
-unsent : (k : ℕ) (p : List ℕ) (o : Outcome) → o.sent ≡ [] → takes_number (bare (said k p) k o) ≡ false
+unsent : (k : ℕ) (p : List ℕ) (o : Outcome) → o.sent ≡ [] → takes_number (bare_row (said k p) k o) ≡ false
 unsent k p o e = ap (λ (ups : List (List ℕ)). sends_some ups && is_some (own_number_of (said k p))) e
 
 takes-shown : (v : Verdict) (old new : CoreState) (k : ℕ) (p : List ℕ) (pick : ℕ) (up up' : QueueState) (rows : List Row) → CoreSendsIn old new k p pick up up' v rows → takes_number (row_sent old k p pick rows) ≡ takes_by v p
@@ -127,7 +127,7 @@ says-quiet verdict.Silent p core0 core1 peer up up1 q s = record {
 
 -- it is answered, and the answer fits
 pub says-answer : (a p : List ℕ) (core0 core1 : CoreState) (peer peer' : PeerState) (up up1 : QueueState) → CoreSendsOn core0 core1 peer.number p up up1 (verdict.Answer a)
-    → peer' ≡ record peer { queue = peer.queue ++ joined (fitting (length peer.queue) (frame_payload a ∷ [])) } → overflow (length peer.queue) (frame_payload a ∷ []) ≡ None
+    → peer' ≡ record peer { queue = peer.queue ++ joined (frames_that_fit (length peer.queue) (frame_payload a ∷ [])) } → overflow (length peer.queue) (frame_payload a ∷ []) ≡ None
     → SendsPayload p (part core0 peer up) (part core1 peer' up1)
 says-answer a p core0 core1 peer peer' up up1 s recorded fit =
     let fs : List (List ℕ) = frame_payload a ∷ [] in record {
@@ -142,7 +142,7 @@ says-answer a p core0 core1 peer peer' up up1 s recorded fit =
 
 -- it is answered, and the answer doesn't fit
 pub says-full : (a p : List ℕ) (cause : Why) (core0 core1 core2 : CoreState) (peer seat1 peer' : PeerState) (up up1 up2 : QueueState) → CoreSendsOn core0 core1 peer.number p up up1 (verdict.Answer a)
-    → seat1 ≡ record peer { queue = peer.queue ++ joined (fitting (length peer.queue) (frame_payload a ∷ [])) } → overflow (length peer.queue) (frame_payload a ∷ []) ≡ Some cause
+    → seat1 ≡ record peer { queue = peer.queue ++ joined (frames_that_fit (length peer.queue) (frame_payload a ∷ [])) } → overflow (length peer.queue) (frame_payload a ∷ []) ≡ Some cause
     → peer' ≡ record seat1 { standing = Lost (Some cause) } → LeavesRecorded core1 core2 seat1.number up1 up2
     → SendsPayload p (part core0 peer up) (part core2 peer' up2)
 says-full a p cause core0 core1 core2 peer seat1 peer' up up1 up2 s recorded full left leaves =

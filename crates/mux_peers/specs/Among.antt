@@ -3,7 +3,7 @@ use Rattle.std.specs.Prelude.{◌≡◌, ◌==◌, ℕ, Bool, true, false, not, 
 use Rattle.std.specs.List.{AllByRecursion}
 use Rattle.proxy_frames.specs.State.{QueueState}
 use Rattle.mux_history.specs.declared.why.Why.{Why}
-use Rattle.mux_history.specs.Rows.{Row, rows_of, any_of, is_admit, is_ended, is_lost, is_refusal}
+use Rattle.mux_history.specs.Rows.{Row, rows_of, any_of, is_admit, is_run_over, is_lost, is_refusal}
 use Rattle.mux_history.specs.Pending.{pending_up}
 use Rattle.mux_history.specs.Promises.{is_empty}
 use Rattle.mux_core.specs.State.{CoreState}
@@ -35,7 +35,7 @@ ArePeersApart (c ∷ cs) = (is_present cs c.peer.number ≡ false) × ArePeersAp
 
 pub record AllFit (rows : List Row) (c : CoreState) (cs : List ClientState) (queue : QueueState) :
     Type 0 where
-  pub core : is_ended rows ≡ false → core.Stands c rows
+  pub core : is_run_over rows ≡ false → core.CoreRepresents c rows
   pub each : EachFits rows cs
   pub apart : ArePeersApart cs
   pub up : queue.waiting ≡ pending_up rows
@@ -74,7 +74,7 @@ KeepReading [] ds = ds ≡ []
 KeepReading (c ∷ cs) [] = ⊥
 KeepReading (c ∷ cs) (d ∷ ds) =
     ((d.peer.number ≡ c.peer.number)
-    × (stands.is_lost d.peer.standing ≡ false → (d.peer.standing ≡ c.peer.standing)
+    × (stands.is_standing_lost d.peer.standing ≡ false → (d.peer.standing ≡ c.peer.standing)
     × (d.rest ≡ c.rest))) × KeepReading cs ds
 
 -- the client of a number goes on so with what is noted, where it is here; the losses are noted
@@ -119,12 +119,12 @@ in_client none look [] k = none
 in_client none look (c ∷ cs) k = if c.peer.number == k then look c else in_client none look cs k
 
 -- the client of a number is here and isn't lost
-abbrev pub is_served : List ClientState → ℕ → Bool
-is_served cs k = in_client false (λ c. stands.not_lost c.peer.standing) cs k
+abbrev pub is_client_served : List ClientState → ℕ → Bool
+is_client_served cs k = in_client false (λ c. stands.not_lost c.peer.standing) cs k
 
 -- it is here, and what it sends is read
-abbrev pub is_received : List ClientState → ℕ → Bool
-is_received cs k = in_client false (λ c. stands.is_read c.peer.standing) cs k
+abbrev pub is_client_read : List ClientState → ℕ → Bool
+is_client_read cs k = in_client false (λ c. stands.is_read c.peer.standing) cs k
 
 -- a client whose stream was closed
 abbrev pub without_client : ℕ → List ClientState → List ClientState
@@ -134,9 +134,9 @@ without_client k cs = filter (λ c. not (c.peer.number == k)) cs
 abbrev pub not_leaving : ℕ → List (ℕ × Option Why) → List (ℕ × Option Why)
 not_leaving k leaving = filter (λ (l : ℕ × Option Why). not (l.0 == k)) leaving
 
-abbrev pub first_of : List (ℕ × Option Why) → Option (ℕ × Option Why)
-first_of [] = None
-first_of (l ∷ ls) = Some l
+abbrev pub first_lost_client : List (ℕ × Option Why) → Option (ℕ × Option Why)
+first_lost_client [] = None
+first_lost_client (l ∷ ls) = Some l
 
 -- the clients with the first of one number changed
 abbrev pub at_client : ℕ → (ClientState → ClientState) → List ClientState → List ClientState

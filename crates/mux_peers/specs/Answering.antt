@@ -5,12 +5,12 @@ use Rattle.mux_outside.specs.declared.house.HouseReply.{HouseReply}
 use Rattle.proxy_frames.specs.State.{QueueState}
 use Rattle.mux_history.specs.declared.why.Why.{Why}
 use Rattle.mux_history.specs.Policy.{Policy}
-use Rattle.mux_history.specs.Rows.{Row, HouseSays, is_end, is_ended, is_refusal}
+use Rattle.mux_history.specs.Rows.{Row, HouseSays, is_end, is_run_over, is_refusal}
 use Rattle.mux_history.specs.Settings.{by_lists}
 use Rattle.mux_history.specs.Log.{next_row}
 use Rattle.mux_core.specs.State.{CoreState}
 use Rattle.mux_peers.specs.State.{ClientState, ClientsAndQueue, Part, part}
-use Rattle.mux_peers.specs.Stands.{PartFits, is_lost}
+use Rattle.mux_peers.specs.Stands.{PartFits, is_standing_lost}
 use Rattle.mux_peers.specs.Losing.{loss_between}
 use Rattle.mux_peers.specs.Among.{PeerGoesAt}
 
@@ -29,7 +29,7 @@ pub record IsAnswered (k id : ℕ) (given : HouseReply) (new : Part) (rows : Lis
 pub record AnswersLater (id : ℕ) (given : HouseReply) (old new : Part) : Type 0 where
   pub number : new.peer.number ≡ old.peer.number
   pub goes : (policy : Policy) (pid : ℕ) (picks : List ℕ) (replies : List HouseReply)
-      (rows : List Row) → PartFits rows old → is_ended rows ≡ false → is_lost old.peer.standing ≡ false
+      (rows : List Row) → PartFits rows old → is_run_over rows ≡ false → is_standing_lost old.peer.standing ≡ false
       → IsAnswered old.peer.number id given new rows
       (next_row (by_lists policy pid picks replies) rows (HouseSays old.peer.number id given))
 

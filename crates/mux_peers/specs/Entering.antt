@@ -7,7 +7,7 @@ use Rattle.ssh_grammar.specs.Frames.{frame_answer}
 use Rattle.proxy_frames.specs.State.{QueueState}
 use Rattle.mux_history.specs.declared.limits.TheConstants.{MAX_CLIENTS}
 use Rattle.mux_history.specs.Policy.{Policy}
-use Rattle.mux_history.specs.Rows.{Row, Admit, is_ended}
+use Rattle.mux_history.specs.Rows.{Row, Admit, is_run_over}
 use Rattle.mux_history.specs.Settings.{by_lists}
 use Rattle.mux_history.specs.Log.{next_row, open_matters}
 use Rattle.mux_core.specs.State.{CoreState}
@@ -36,6 +36,6 @@ pub record EntersBy (core' : CoreState) (cs cs' : List ClientState) (queue : Que
 abbrev pub PeerEnters : ℕ → CoreState → CoreState → List ClientState → List ClientState → Bool → Type 0
 PeerEnters k core core' cs cs' let_in =
     (policy : Policy) (pid : ℕ) (picks : List ℕ) (given : List HouseReply) (queue : QueueState)
-    (rows : List Row) → AllFit rows core cs queue → is_ended rows ≡ false → IsNewClient k rows
+    (rows : List Row) → AllFit rows core cs queue → is_run_over rows ≡ false → IsNewClient k rows
     → EntersBy core' cs cs' queue let_in rows
     (next_row (by_lists policy pid picks given) rows (Admit k))

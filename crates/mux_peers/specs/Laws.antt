@@ -9,9 +9,9 @@ use Rattle.proxy_frames.specs.State.{QueueState}
 use Rattle.mux_history.specs.declared.ended.Ended.{Ended}
 use Rattle.mux_history.specs.Policy.{Policy}
 use Rattle.mux_history.specs.declared.why.Why.{Why}
-use Rattle.mux_history.specs.Rows.{Row, Gone, is_ended, losses}
+use Rattle.mux_history.specs.Rows.{Row, Gone, is_run_over, losses}
 use Rattle.mux_history.specs.Choices.{numbers_taken, replies_given}
-use Rattle.mux_history.specs.Promises.{listens}
+use Rattle.mux_history.specs.Promises.{is_still_accepting}
 use Rattle.mux_history.specs.Solo.{run_end_of}
 use Rattle.mux_history.specs.Right.{AreFresh}
 use Rattle.mux_history.specs.Settings.{by_lists}
@@ -20,7 +20,7 @@ use Rattle.mux_history.specs.Log.{more_all, next_row}
 use Rattle.mux_core.specs.State.{CoreState}
 use Rattle.mux_peers.specs.declared.run_change.RunChange.{RunChange}
 use Rattle.mux_peers.specs.State.{ClientState, part}
-use Rattle.mux_peers.specs.Stands.{PartFits, is_lost, is_read, parse_mode_of}
+use Rattle.mux_peers.specs.Stands.{PartFits, is_standing_lost, is_read, parse_mode_of}
 use Rattle.mux_peers.specs.Asked.{asks_of_rows}
 use Rattle.mux_peers.specs.Pieces.{RunsTo, ended_then}
 use Rattle.mux_peers.specs.Among.{AddsFor, AllFit, ChangesOne, MovesTo, is_present}
@@ -51,12 +51,12 @@ pub record IsReadTo (k : ℕ) (before bytes picked : List ℕ) (used : List Hous
   pub given_is : replies_given rows' ≡ replies_given rows + length used
   pub asked : asks_of_rows rows' ≡ asks_of_rows rows ++ asks
   pub fresh : AreBytes before → AreBytes bytes → AreFresh rows → AreFresh rows'
-  pub stops_is : listens rows' ≡ (not heard.stops && listens rows)
+  pub stops_is : is_still_accepting rows' ≡ (not heard.stops && is_still_accepting rows)
   pub ended_is : run_end_of rows' ≡ ended_then heard.ended (run_end_of rows)
-  pub live : is_read now.peer.standing ≡ true → is_ended rows' ≡ false
+  pub live : is_read now.peer.standing ≡ true → is_run_over rows' ≡ false
   -- one that isn't read any more, nor lost, has stopped for good
-  pub stopped : is_read now.peer.standing ≡ false → is_lost now.peer.standing ≡ false
-      → is_ended rows' ≡ false → (parse InControl (before ++ bytes)).mode ≡ Stopped
+  pub stopped : is_read now.peer.standing ≡ false → is_standing_lost now.peer.standing ≡ false
+      → is_run_over rows' ≡ false → (parse InControl (before ++ bytes)).mode ≡ Stopped
   pub reads : is_read now.peer.standing ≡ true → ReadsClientAs (before ++ bytes) now
 
 -- what was sent so far is all of the piece where nothing whole is left
@@ -95,7 +95,7 @@ pub record IsReceivedTo (before bytes : List ℕ) (noted : List (ℕ × Option W
   pub taken : numbers_taken rows' ≡ numbers_taken rows
   pub given_is : replies_given rows' ≡ replies_given rows
   pub fresh : AreFresh rows → AreFresh rows'
-  pub stops_is : listens rows' ≡ listens rows
+  pub stops_is : is_still_accepting rows' ≡ is_still_accepting rows
   pub awaits : ended ≡ None → AllAwait rows' core cs queue index
   pub reads : ended ≡ None → PeersReadServer (before ++ bytes) rest
 

@@ -9,7 +9,7 @@ use Rattle.ssh_grammar.specs.Said.{BadFraming}
 use Rattle.proxy_frames.specs.State.{QueueState}
 use Rattle.client_teardown.specs.declared.farewell.TheConstants.{FAREWELL_ROOM}
 use Rattle.mux_history.specs.declared.why.Why.TheVariants as why
-use Rattle.mux_history.specs.Rows.{Row, rows_of, is_ended, Says}
+use Rattle.mux_history.specs.Rows.{Row, rows_of, is_run_over, Says}
 use Rattle.mux_history.specs.Said.{drops}
 use Rattle.mux_history.specs.Log.{row_of}
 use Rattle.mux_core.specs.State.{CoreState}
@@ -53,8 +53,8 @@ pub record NextBody (May : HouseReply → Type 0) (before now : Option (List Ask
 -- a fault, from every log that the part represented
 abbrev pub FaultBy : BadFrame → Part → RunChange → Part → RunChange → Type 0
 FaultBy fault old heard new heard' =
-    (rows : List Row) → PartFits rows old → is_ended rows ≡ false
-    → stands.is_lost old.peer.standing ≡ false
+    (rows : List Row) → PartFits rows old → is_run_over rows ≡ false
+    → stands.is_standing_lost old.peer.standing ≡ false
     → DoesBody new heard heard' rows
     (row_of (Says old.peer.number (BadFraming fault) None) old.peer.number
     (drops (why.BadFrame fault)) (rows_of old.peer.number rows))

@@ -6,9 +6,9 @@ use Rattle.ssh_grammar.specs.Frames.{More}
 use Rattle.ssh_grammar.specs.Said.{Mode, Outgoing, Stopped, Parsed, first_in, parse}
 use Rattle.proxy_frames.specs.State.{QueueState}
 use Rattle.mux_history.specs.Policy.{Policy}
-use Rattle.mux_history.specs.Rows.{Row, rows_of, is_ended, is_out}
+use Rattle.mux_history.specs.Rows.{Row, rows_of, is_run_over, is_out}
 use Rattle.mux_history.specs.Choices.{numbers_taken, replies_given}
-use Rattle.mux_history.specs.Promises.{MayGive, listens}
+use Rattle.mux_history.specs.Promises.{MayGive, is_still_accepting}
 use Rattle.mux_history.specs.Solo.{run_end_of}
 use Rattle.mux_history.specs.declared.ended.Ended.{Ended}
 use Rattle.mux_history.specs.Right.{AreFresh}
@@ -18,7 +18,7 @@ use Rattle.mux_history.specs.Log.{more_all}
 use Rattle.mux_core.specs.State.{CoreState}
 use Rattle.mux_peers.specs.declared.run_change.RunChange.{RunChange}
 use Rattle.mux_peers.specs.State.{ClientState, part}
-use Rattle.mux_peers.specs.Stands.{PartFits, is_lost, is_read, parse_mode_of}
+use Rattle.mux_peers.specs.Stands.{PartFits, is_standing_lost, is_read, parse_mode_of}
 use Rattle.mux_peers.specs.Says.{ComeNext, IsOfBytes}
 use Rattle.mux_peers.specs.Asked.{RecordsAsks, asks_of_rows}
 
@@ -33,14 +33,14 @@ ReplyNext used rows given = (later : List HouseReply)
     × (drop (replies_given rows) given ≡ used ++ later)
 
 -- what was sent before what is sent by the rest
-abbrev pub behind : List Outgoing → Parsed → Parsed
-behind says p = record { says = says ++ p.says; mode = p.mode; rest = p.rest }
+abbrev pub with_sent_before : List Outgoing → Parsed → Parsed
+with_sent_before says p = record { says = says ++ p.says; mode = p.mode; rest = p.rest }
 
 -- while the client is read the run goes on, and the rest says the rest
 pub record ReadsOn (all : List ℕ) (mode : Mode) (now : ClientState) (rows' : List Row)
     (says : List Outgoing) : Type 0 where
-  pub live : is_ended rows' ≡ false
-  pub rest : parse mode all ≡ behind says (parse (parse_mode_of now.peer.standing) now.rest)
+  pub live : is_run_over rows' ≡ false
+  pub rest : parse mode all ≡ with_sent_before says (parse (parse_mode_of now.peer.standing) now.rest)
 
 -- once it isn't, nothing more makes a row: the run is over, or the client is out, or nothing more
 -- is sent
@@ -48,9 +48,9 @@ pub record ReadsNoMore (all : List ℕ) (mode : Mode) (now : ClientState) (rows'
     (says : List Outgoing) : Type 0 where
   pub more : List Outgoing
   pub sends_all : (parse mode all).says ≡ says ++ more
-  pub none : ((is_ended rows' ≡ true) ⊎ (is_out (rows_of now.peer.number rows') ≡ true))
+  pub none : ((is_run_over rows' ≡ true) ⊎ (is_out (rows_of now.peer.number rows') ≡ true))
       ⊎ (more ≡ [])
-  pub stopped : is_lost now.peer.standing ≡ false → is_ended rows' ≡ false
+  pub stopped : is_standing_lost now.peer.standing ≡ false → is_run_over rows' ≡ false
       → (parse mode all).mode ≡ Stopped
   pub empty : now.rest ≡ []
 
@@ -80,8 +80,8 @@ pub record RunsTo (policy : Policy) (pid : ℕ) (picks : List ℕ) (given : List
   pub asked : asks_of_rows (rows_sent policy pid picks given k rows says) ≡ asks_of_rows rows ++ asks
   pub fresh : AreOfBytes k says → AreFresh rows
       → AreFresh (rows_sent policy pid picks given k rows says)
-  pub stops_is : listens (rows_sent policy pid picks given k rows says)
-      ≡ (not heard.stops && listens rows)
+  pub stops_is : is_still_accepting (rows_sent policy pid picks given k rows says)
+      ≡ (not heard.stops && is_still_accepting rows)
   pub ended_is : run_end_of (rows_sent policy pid picks given k rows says)
       ≡ ended_then heard.ended (run_end_of rows)
   pub reads : is_read now.peer.standing ≡ true
@@ -101,7 +101,7 @@ pub record Receiving (May : HouseReply → Type 0) (start recorded : Option (Lis
   pub records : RecordsAsks start recorded asks
   pub policy : core.policy ≡ core0.policy
   pub goes : (picks : List ℕ) (given : List HouseReply) (rows : List Row)
-      → PartFits rows (part core0 first.peer up0) → is_ended rows ≡ false → ComeNext picked rows picks
+      → PartFits rows (part core0 first.peer up0) → is_run_over rows ≡ false → ComeNext picked rows picks
       → ReplyNext used rows given
       → RunsTo core0.policy pid picks given first.peer.number (parse_mode_of first.peer.standing) all
       picked used asks rows core up now heard

@@ -4,7 +4,7 @@ use Rattle.mux_outside.specs.declared.house.HouseReply.{HouseReply}
 use Rattle.proxy_frames.specs.State.{QueueState}
 use Rattle.mux_history.specs.declared.ended.Ended.{Ended}
 use Rattle.mux_history.specs.declared.why.Why.{Why}
-use Rattle.mux_history.specs.Rows.{Row, rows_of, any_of, is_admit, is_ended, is_lost, losses, Fate, End, Heard}
+use Rattle.mux_history.specs.Rows.{Row, rows_of, any_of, is_admit, is_run_over, is_lost, losses, Fate, End, Heard}
 use Rattle.mux_history.specs.Heard.{next_index}
 use Rattle.mux_history.specs.Settings.{by_lists}
 use Rattle.mux_history.specs.Log.{next_row}
@@ -34,7 +34,7 @@ abbrev pub ReceivesAll : List ℕ → ℕ → List (ℕ × Option Why) → CoreS
     → List ClientState → QueueState → QueueState → Option Ended → Type 0
 ReceivesAll p index noted core core' cs cs' up up' ended =
     (pid : ℕ) (picks : List ℕ) (given : List HouseReply) (rows : List Row) → AllFit rows core cs up
-    → is_ended rows ≡ false → AreHere rows cs → index ≡ min (next_index rows) (2 ^ 64 - 1)
+    → is_run_over rows ≡ false → AreHere rows cs → index ≡ min (next_index rows) (2 ^ 64 - 1)
     → ReceivedBy noted core' cs' up' ended rows
     (next_row (by_lists core.policy pid picks given) rows (Heard p))
 

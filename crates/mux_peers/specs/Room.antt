@@ -3,14 +3,14 @@ use Rattle.std.specs.Prelude.{◌≡◌, ◌≤◌, ◌+◌, ◌*◌, ℕ, List,
 use Rattle.proxy_frames.specs.State.{QueueState}
 use Rattle.client_teardown.specs.declared.farewell.TheConstants.{FAREWELL_ROOM}
 use Rattle.mux_peers.specs.State.{ClientState, ClientsAndQueue, IsUntouched}
-use Rattle.mux_peers.specs.Stands.{is_lost}
+use Rattle.mux_peers.specs.Stands.{is_standing_lost}
 use Rattle.mux_peers.specs.Losing.{NotesMore}
 use Rattle.mux_peers.specs.Among.{is_present, numbers}
 
 -- the clients that are not lost
 abbrev pub served_in : List ClientState → List ℕ
 served_in [] = []
-served_in (c ∷ cs) = if is_lost c.peer.standing then served_in cs else c.peer.number ∷ served_in cs
+served_in (c ∷ cs) = if is_standing_lost c.peer.standing then served_in cs else c.peer.number ∷ served_in cs
 
 -- there is room for the farewell of each of them
 abbrev pub HasRoom : List ClientState → QueueState → Type 0
@@ -24,7 +24,7 @@ pub record KeepsAll (cs cs' : List ClientState) (up up' : QueueState) : Type 0 w
 
 -- the room that a client's farewell may need yet
 abbrev pub farewell_room_of : ClientState → ℕ
-farewell_room_of c = if is_lost c.peer.standing then 0 else FAREWELL_ROOM
+farewell_room_of c = if is_standing_lost c.peer.standing then 0 else FAREWELL_ROOM
 
 -- where a client goes on so, the room for all others stays
 abbrev pub LeavesRoom : QueueState → QueueState → ClientState → ClientState → Type 0

@@ -3,7 +3,7 @@ use Rattle.std.specs.Prelude.{◌≡◌, ℕ, ◌+◌, List, ◌∷◌, ◌++◌
 use Rattle.mux_outside.specs.declared.house.HouseReply.{HouseReply}
 use Rattle.ssh_fields.specs.Fields.{AreBytes}
 use Rattle.ssh_grammar.specs.Said.{Payload}
-use Rattle.mux_history.specs.Rows.{Row, is_end, is_ended, Item, Says}
+use Rattle.mux_history.specs.Rows.{Row, is_end, is_run_over, Item, Says}
 use Rattle.mux_history.specs.Choices.{numbers_taken}
 use Rattle.mux_history.specs.Right.{AreFresh}
 use Rattle.mux_history.specs.Settings.{by_lists}
@@ -39,7 +39,7 @@ ComeNext picked rows picks = (later : List ℕ) × (drop (numbers_taken rows) pi
 pub record SendsPayload (p : List ℕ) (old new : Part) : Type 0 where
   pub picked : List ℕ
   pub goes : (pid : ℕ) (picks : List ℕ) (given : List HouseReply) (rows : List Row)
-      → PartFits rows old → is_ended rows ≡ false → old.peer.standing ≡ Proxied
+      → PartFits rows old → is_run_over rows ≡ false → old.peer.standing ≡ Proxied
       → ComeNext picked rows picks
       → Makes picked (Says old.peer.number (Payload p) None) new rows
       (next_row (by_lists old.core.policy pid picks given) rows

@@ -12,7 +12,7 @@ use Rattle.proxy_frames.specs.State.{QueueState}
 use Rattle.mux_history.specs.declared.ended.Ended.{Ended}
 use Rattle.mux_history.specs.Policy.{Policy}
 use Rattle.mux_history.specs.declared.why.Why.{Why}
-use Rattle.mux_history.specs.Rows.{Row, is_ended, losses}
+use Rattle.mux_history.specs.Rows.{Row, is_run_over, losses}
 use Rattle.mux_history.specs.Heard.{next_index}
 use Rattle.mux_history.specs.Settings.{by_lists}
 use Rattle.mux_history.specs.Solo.{run_end_of}
@@ -22,7 +22,7 @@ use Rattle.mux_core.specs.State.{CoreState}
 use Rattle.mux_peers.specs.State.{ClientState, ClientsAndQueue, IsUntouched}
 use Rattle.mux_peers.specs.Among.{AllFit, AreAmong, KeepReading, is_present}
 use Rattle.mux_peers.specs.Receivings.{AreHere, ReceivesPayload}
-use Rattle.mux_peers.specs.Pieces.{behind}
+use Rattle.mux_peers.specs.Pieces.{with_sent_before}
 
 -- the rows after what the server sends
 abbrev pub rows_received : Policy → ℕ → List ℕ → List HouseReply → List Row → List Outgoing → List Row
@@ -33,8 +33,8 @@ rows_received policy pid picks given rows says =
 -- place
 pub record ReceivesOnwards (all : List ℕ) (cs : List ClientState) (rest : List ℕ) (index : ℕ)
     (rows' : List Row) (says : List Outgoing) : Type 0 where
-  pub live : is_ended rows' ≡ false
-  pub sent_is : parse InProxy all ≡ behind says (parse InProxy rest)
+  pub live : is_run_over rows' ≡ false
+  pub sent_is : parse InProxy all ≡ with_sent_before says (parse InProxy rest)
   pub here : AreHere rows' cs
   pub place : index ≡ min (next_index rows') (2 ^ 64 - 1)
 
@@ -106,7 +106,7 @@ stream_end (b ∷ rest) index = ended.Broke index (broke.Cut (length (b ∷ rest
 pub record AllAwait (rows : List Row) (core : CoreState) (cs : List ClientState)
     (queue : QueueState) (index : ℕ) : Type 0 where
   pub fit : AllFit rows core cs queue
-  pub live : is_ended rows ≡ false
+  pub live : is_run_over rows ≡ false
   pub here : AreHere rows cs
   pub place : index ≡ min (next_index rows) (2 ^ 64 - 1)
 
@@ -128,7 +128,7 @@ pub record ReceivingAll (all : List ℕ) (old new : ClientsAndQueue) (first now 
       now.rest now.index ended
 
 -- a piece of the server: all that is sent by it was received, or the run is over
-pub record ReceivesBytes (bytes : List ℕ) (old new : ClientsAndQueue) (first now : ServerState)
+pub record ServerReceivesBytes (bytes : List ℕ) (old new : ClientsAndQueue) (first now : ServerState)
     (ended : Option Ended) : Type 0 where
   pub receiving : ReceivingAll (first.rest ++ bytes) old new first now ended
   pub whole : ended ≡ None → first_in InProxy now.rest ≡ More

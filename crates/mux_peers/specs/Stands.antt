@@ -3,20 +3,20 @@ use Rattle.std.specs.Prelude.{◌≡◌, ℕ, Bool, true, false, not, List, [], 
 use Rattle.ssh_grammar.specs.declared.framing.Framing.{Framing}
 use Rattle.ssh_grammar.specs.declared.framing.Framing.TheVariants as framing
 use Rattle.ssh_grammar.specs.Said.{Outgoing, Body, Payload, BadFraming, Mode, InControl, InProxy, Stopped, after_body}
-use Rattle.mux_history.specs.Rows.{Row, rows_of, any_of, is_admit, is_ended, Item, Says, Gone, Goes, Refused, Drop, End}
+use Rattle.mux_history.specs.Rows.{Row, rows_of, any_of, is_admit, is_run_over, Item, Says, Gone, Goes, Refused, Drop, End}
 use Rattle.mux_history.specs.Pending.{pending_down, pending_up}
-use Rattle.mux_history.specs.Controls.{greeted}
+use Rattle.mux_history.specs.Controls.{client_has_greeted}
 use Rattle.mux_core.specs.Stands as core
 use Rattle.mux_peers.specs.declared.standing.Standing.{Standing}
 use Rattle.mux_peers.specs.declared.standing.Standing.TheVariants.{Awaited, Greeted, Proxied, Unread, Lost}
 use Rattle.mux_peers.specs.State.{Part}
 
-abbrev pub is_lost : Standing → Bool
-is_lost (Lost why) = true
-is_lost _ = false
+abbrev pub is_standing_lost : Standing → Bool
+is_standing_lost (Lost why) = true
+is_standing_lost _ = false
 
 abbrev pub not_lost : Standing → Bool
-not_lost s = not (is_lost s)
+not_lost s = not (is_standing_lost s)
 
 -- the client has greeted
 abbrev pub is_greeted : Standing → Bool
@@ -31,7 +31,7 @@ is_read Proxied = true
 is_read Unread = false
 is_read (Lost why) = false
 
--- the client speaks to the server
+-- the client is in proxy mode
 abbrev pub is_proxied : Standing → Bool
 is_proxied Proxied = true
 is_proxied _ = false
@@ -90,12 +90,12 @@ standing_of (row ∷ before) = elim row.fate [
 pub record PeerFits (own : List Row) (standing : Standing) (queue : List ℕ) : Type 0 where
   pub admitted : any_of is_admit own ≡ true
   pub standing_is : standing ≡ standing_of own
-  pub greeted_is : is_lost standing ≡ false → greeted own ≡ is_greeted standing
+  pub greeted_is : is_standing_lost standing ≡ false → client_has_greeted own ≡ is_greeted standing
   pub queue_is : queue ≡ pending_down own
 
 -- while the run goes on the shared connection represents the rows; the client and what waits for
 -- the server always do
 pub record PartFits (rows : List Row) (p : Part) : Type 0 where
-  pub core : is_ended rows ≡ false → core.Stands p.core rows
+  pub core : is_run_over rows ≡ false → core.CoreRepresents p.core rows
   pub peer : PeerFits (rows_of p.peer.number rows) p.peer.standing p.peer.queue
   pub up : p.up.waiting ≡ pending_up rows

@@ -7,7 +7,7 @@ use Rattle.ssh_grammar.specs.Frames.{Front, Frame}
 use Rattle.ssh_grammar.specs.Said.{Body, parse}
 use Rattle.proxy_frames.specs.State.{QueueState}
 use Rattle.mux_history.specs.Controls.{body_asks}
-use Rattle.mux_history.specs.Rows.{Row, is_ended}
+use Rattle.mux_history.specs.Rows.{Row, is_run_over}
 use Rattle.mux_history.specs.Promises.{MayGive}
 use Rattle.mux_core.specs.State.{CoreState}
 use Rattle.mux_peers.specs.declared.standing.Standing.{Standing}
@@ -72,7 +72,7 @@ pub record ReceivesSome (May : HouseReply → Type 0) (recorded recorded' : Opti
   pub may : MayGive May used
   pub records : RecordsAsks recorded recorded' asks
   pub begins : (picks : List ℕ) (given : List HouseReply) (rows : List Row)
-      → PartFits rows (part core first.peer up) → is_ended rows ≡ false → ComeNext picked rows picks
+      → PartFits rows (part core first.peer up) → is_run_over rows ≡ false → ComeNext picked rows picks
       → ReplyNext used rows given
       → BeginsWithAsked (asks_of_rows rows) asks
       (asks_of_rows (rows_sent core.policy pid picks given first.peer.number rows

@@ -5,7 +5,7 @@ use Rattle.ssh_grammar.specs.SpellMessage.{request_failure}
 use Rattle.proxy_frames.specs.State.{QueueState}
 use Rattle.mux_history.specs.declared.why.Why.{Why}
 use Rattle.mux_history.specs.Pending.{joined}
-use Rattle.mux_history.specs.Log.{fitting, overflow}
+use Rattle.mux_history.specs.Log.{frames_that_fit, overflow}
 use Rattle.client_teardown.specs.declared.farewell.TheConstants.{FAREWELL_ROOM}
 use Rattle.mux_core.specs.State.{CoreState}
 use Rattle.mux_peers.specs.declared.standing.Standing.{Standing}
@@ -73,8 +73,8 @@ pub record KeepsPeer (up up' : QueueState) (old new : PeerState) : Type 0 where
   pub spare : KeepsRoom up up' new.standing
 
 -- a client for which these frames are recorded, as far as they fit into its queue
-abbrev pub recorded : List (List ℕ) → PeerState → PeerState
-recorded fs s = record s { queue = s.queue ++ joined (fitting (length s.queue) fs) }
+abbrev pub with_frames_queued : List (List ℕ) → PeerState → PeerState
+with_frames_queued fs s = record s { queue = s.queue ++ joined (frames_that_fit (length s.queue) fs) }
 
 -- and why it is to be dropped, where they don't
 abbrev pub full_of : List (List ℕ) → PeerState → Option Why

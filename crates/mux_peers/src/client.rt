@@ -6,7 +6,7 @@ ghost use Rattle.mux_peers.specs.Asked.{Applies};
 ghost use Rattle.mux_peers.specs.State.{client_took, part, refusals_of, KeepsPeer};
 ghost use Rattle.mux_peers.specs.Receives.{ReceivesRecorded};
 ghost use Rattle.ssh_grammar.specs.Said.{first_in};
-ghost use Rattle.mux_peers.specs.Stands.{is_lost, is_read, parse_mode_of};
+ghost use Rattle.mux_peers.specs.Stands.{is_standing_lost, is_read, parse_mode_of};
 ghost use Rattle.mux_peers.specs.Room.{LeavesRoom};
 ghost use Rattle.mux_peers.specs.Nexts.{MaySend, SendsNext};
 ghost use Rattle.mux_peers.specs.Pieces.{ReceivesIn, ReceivesPiece};
@@ -30,12 +30,12 @@ use std::marker::Model;
 
 /// A client: its state, and what it sent that isn't cut yet.
 #[derive(Drop)]
-pub struct Client {
+pub struct ClientEntry {
     peer: Peer,
     framer: Framer,
 }
 
-impl Model for Client {
+impl Model for ClientEntry {
     ghost use Rattle.std.specs.Prelude.{◌≡◌, true, None};
     ghost use Rattle.mux_peers.specs.State.{ClientState};
     ghost use Rattle.mux_peers.specs.Stands.{is_read, rest_if, framing_of};
@@ -51,12 +51,12 @@ impl Model for Client {
         → (a.framer.framing ≡ framing_of a.peer.standing) × (a.framer.fault ≡ None) };
 }
 
-impl Client {
+impl ClientEntry {
     /// A client that comes: the master's hello waits for it, and its own is awaited.
-    pub fn new(alloc: Global, number: u64) -> Result<Client, OutOfMemory>
+    pub fn new(alloc: Global, number: u64) -> Result<ClientEntry, OutOfMemory>
         ensures { IfOk result (λ client. client ≡ new_client number) }
     {
-        Ok(Client {
+        Ok(ClientEntry {
             peer: Peer::new(alloc, number)?,
             framer: Framer::new(alloc, Framing::Control),
         })
@@ -64,14 +64,14 @@ impl Client {
 
     /// Whether it is lost.
     pub fn is_lost(&self) -> bool
-        ensures { result ≡ is_lost self.now.peer.standing }
+        ensures { result ≡ is_standing_lost self.now.peer.standing }
     {
         matches!(self.peer.standing(), Standing::Lost(_))
     }
 
     /// Its stream is gone: what it left open is closed, where it isn't lost already.
     pub fn lose(&mut self, core: &mut Core, up: &mut Queue)
-        requires room { is_lost self.old.peer.standing ≡ false → FAREWELL_ROOM ≤ up.old.spare }
+        requires room { is_standing_lost self.old.peer.standing ≡ false → FAREWELL_ROOM ≤ up.old.spare }
         ensures loses { LosesIn core.old core.new up.old up.new self.old self.new }
         ensures policy { core.new.policy ≡ core.old.policy }
         ensures number { self.new.peer.number ≡ self.old.peer.number }
@@ -172,10 +172,10 @@ impl Client {
         up: &mut Queue,
     ) -> Result<(), OutOfMemory>
         requires payload { IsContent Proxy payload.now }
-        requires room { is_lost self.old.peer.standing ≡ false → FAREWELL_ROOM ≤ up.old.spare }
+        requires room { is_standing_lost self.old.peer.standing ≡ false → FAREWELL_ROOM ≤ up.old.spare }
         ensures stands { OnOk result (ReceivesRecorded (frame_payload payload.now ∷ refusals_of refusals)
             (part core.old self.old.peer up.old) (part core.new self.new.peer up.new)) }
-        ensures reads { is_lost self.new.peer.standing ≡ false
+        ensures reads { is_standing_lost self.new.peer.standing ≡ false
             → (self.new.peer.standing ≡ self.old.peer.standing) × (self.new.rest ≡ self.old.rest) }
         ensures policy { core.new.policy ≡ core.old.policy }
         ensures room { OnOk result (LeavesRoom up.old up.new self.old self.new) }
@@ -195,11 +195,11 @@ impl Client {
         core: &mut Core,
         up: &mut Queue,
     ) -> Result<(), OutOfMemory>
-        requires room { is_lost self.old.peer.standing ≡ false → FAREWELL_ROOM ≤ up.old.spare }
+        requires room { is_standing_lost self.old.peer.standing ≡ false → FAREWELL_ROOM ≤ up.old.spare }
         ensures answers { OnOk result (AnswersIn id reply core.old core.new up.old up.new self.old
             self.new) }
         ensures number { OnOk result (self.new.peer.number ≡ self.old.peer.number) }
-        ensures reads { is_lost self.new.peer.standing ≡ false
+        ensures reads { is_standing_lost self.new.peer.standing ≡ false
             → (self.new.peer.standing ≡ self.old.peer.standing) × (self.new.rest ≡ self.old.rest) }
         ensures policy { core.new.policy ≡ core.old.policy }
         ensures room { OnOk result (LeavesRoom up.old up.new self.old self.new) }

@@ -8,10 +8,10 @@ ghost use Rattle.ssh_grammar.specs.Frames.{frame_payload};
 ghost use Rattle.mux_history.specs.declared.limits.TheConstants.{MAX_CLIENTS as TheMost};
 ghost use Rattle.mux_peers.specs.State.{IsUntouched, client_took, clients_and_queue, no_clients, refusals_of};
 ghost use Rattle.mux_peers.specs.Asked.{Applies};
-ghost use Rattle.mux_peers.specs.Among.{ChangesOne, ReceivesAt, NotesOne, at_client, client_index, in_client, is_present, is_served, not_leaving, waiting_clients, without_client};
+ghost use Rattle.mux_peers.specs.Among.{ChangesOne, ReceivesAt, NotesOne, at_client, client_index, in_client, is_present, is_client_served, not_leaving, waiting_clients, without_client};
 ghost use Rattle.mux_peers.specs.Pieces.{ReceivesIn, unheard};
 ghost use Rattle.mux_peers.specs.Starved.{ReceivesSome, OneIs};
-ghost use Rattle.mux_peers.specs.Stands.{is_lost};
+ghost use Rattle.mux_peers.specs.Stands.{is_standing_lost};
 ghost use Rattle.mux_peers.specs.Losing.{LosesIn, NotesMore, loss_between};
 ghost use Rattle.mux_peers.specs.Room.{HasRoom, KeepsAll, LeavesRest, served_in};
 ghost use Rattle.mux_peers.specs.Answering.{AnswersAt};
@@ -20,7 +20,7 @@ ghost use Rattle.mux_peers.specs.Entering.{PeerEnters, new_client};
 mod views;
 
 use crate::ask_log::AskLog;
-use crate::client::Client;
+use crate::client::ClientEntry;
 use crate::run_change::RunChange;
 use crate::standing::Standing;
 use client_teardown::FAREWELL_ROOM;
@@ -38,7 +38,7 @@ use std::marker::Model;
 pub struct Clients {
     alloc: Global,
     /// Those that were admitted, in the order in which they came.
-    all: Vec<Client>,
+    all: Vec<ClientEntry>,
     /// Those that are lost or refused and whose streams are not closed, in that order, each with the
     /// cause for which it was dropped, if it was.
     leaving: Vec<(u64, Option<Why>)>,
@@ -53,7 +53,7 @@ impl Model for Clients {
 }
 
 // The place of a client, or the end.
-fn index_of(clients: &[Client], number: u64) -> usize
+fn index_of(clients: &[ClientEntry], number: u64) -> usize
     ensures { result ≡ client_index number clients.now }
 {
     for (i, client) in clients.iter().enumerate() {
@@ -65,7 +65,7 @@ fn index_of(clients: &[Client], number: u64) -> usize
 }
 
 // How many of them are not lost.
-fn count_served(clients: &[Client]) -> usize
+fn count_served(clients: &[ClientEntry]) -> usize
     ensures { result ≡ length (served_in clients.now) }
 {
     let mut count = 0;
@@ -78,7 +78,7 @@ fn count_served(clients: &[Client]) -> usize
 }
 
 // Those for which bytes wait, after these streams.
-fn add_waiting(list: &mut Streams, clients: &[Client]) -> Result<(), OutOfMemory>
+fn add_waiting(list: &mut Streams, clients: &[ClientEntry]) -> Result<(), OutOfMemory>
     ensures { OnOk result (list.new ≡ list.old ++ waiting_clients clients.now) }
 {
     for client in clients {
@@ -99,7 +99,7 @@ fn note_loss(
     ensures notes { OnOk result (leaving.new.items ≡ leaving.old.items
         ++ loss_between before now number) }
     ensures more { NotesMore leaving.old.items leaving.new.items }
-    ensures lost { OnErr result ((is_lost before ≡ false) × (is_lost now ≡ true)) }
+    ensures lost { OnErr result ((is_standing_lost before ≡ false) × (is_standing_lost now ≡ true)) }
 {
     match (before, now) {
         (Standing::Lost(_), _) => Ok(()),
@@ -132,7 +132,7 @@ impl Clients {
         ensures more { NotesMore self.old.leaving self.new.leaving }
         ensures policy { core.new.policy ≡ core.old.policy }
     {
-        let client = Client::new(self.alloc, number)?;
+        let client = ClientEntry::new(self.alloc, number)?;
         if !core.admit(number)? {
             self.leaving.push((number, None))?;
             return Ok(false);
@@ -245,7 +245,7 @@ impl Clients {
         ensures loses { is_present self.old.all number ≡ true → ChangesOne number
             (LosesIn core.old core.new up.old up.new) self.old.all self.new.all }
         ensures notes { OnOk result (self.new.leaving ≡ self.old.leaving
-            ++ (if is_served self.old.all number then (number, None) ∷ [] else [])) }
+            ++ (if is_client_served self.old.all number then (number, None) ∷ [] else [])) }
         ensures absent { is_present self.old.all number ≡ false
             → IsUntouched (clients_and_queue self.old core.old up.old) (clients_and_queue self.new core.new up.new) }
         ensures more { NotesMore self.old.leaving self.new.leaving }

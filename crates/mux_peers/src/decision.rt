@@ -32,7 +32,7 @@ const UNSUPPORTED: &[u8] = b"unsupported request";
 pub enum Effect {
     /// The client goes on.
     Goes,
-    /// The client speaks to the server from now on.
+    /// The client is in proxy mode from now on.
     Switches,
     /// Nothing that the client sends is read any more.
     Unreads,

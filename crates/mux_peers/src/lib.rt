@@ -14,7 +14,7 @@ mod server;
 mod standing;
 
 pub use ask_log::AskLog;
-pub use client::Client;
+pub use client::ClientEntry;
 pub use clients::Clients;
 pub use decision::{Decision, Effect, decide};
 pub use peer::Peer;

@@ -5,7 +5,7 @@ ghost use Rattle.ssh_grammar.specs.Frames.{frame_payload};
 ghost use Rattle.proxy_frames.specs.declared.queue.TheConstants.{LONGEST_PAYLOAD};
 ghost use Rattle.mux_core.specs.Calls.{LeavesUnsent, LeavesRecorded};
 ghost use Rattle.mux_peers.specs.declared.standing.Standing.TheVariants.{Lost};
-ghost use Rattle.mux_peers.specs.State.{full_of, part, refusals_of, recorded, KeepsRoom};
+ghost use Rattle.mux_peers.specs.State.{full_of, part, refusals_of, with_frames_queued, KeepsRoom};
 ghost use Rattle.mux_peers.specs.Says.{SendsPayload};
 ghost use Rattle.mux_peers.specs.Receives.{ReceivesRecorded};
 ghost use Rattle.mux_peers.specs.Losing.{Loses};
@@ -16,7 +16,7 @@ ghost use Rattle.mux_peers.specs.Decisions.{frames, is_stops, DecisionGoesOn, St
 ghost use Rattle.mux_peers.specs.Bodies.{FollowsBy};
 ghost use Rattle.mux_peers.specs.declared.run_change.RunChange.{RunChange as TheRunChange};
 ghost use Rattle.mux_peers.specs.Nexts.{FaultBy};
-ghost use Rattle.mux_peers.specs.Stands.{is_lost, is_read};
+ghost use Rattle.mux_peers.specs.Stands.{is_standing_lost, is_read};
 
 mod views;
 
@@ -90,7 +90,7 @@ impl Peer {
     // Queues a payload for it if the frame fits into the queue; else why it is to be dropped.
     fn report(&mut self, payload: &[u8]) -> Result<Option<Why>, OutOfMemory>
         requires { IsContent Proxy payload.now }
-        ensures queue { OnOk result (self.new ≡ recorded (frame_payload payload.now ∷ []) self.old) }
+        ensures queue { OnOk result (self.new ≡ with_frames_queued (frame_payload payload.now ∷ []) self.old) }
         ensures full { IfOk result (λ full.
             full ≡ full_of (frame_payload payload.now ∷ []) self.old) }
         ensures stays { self.new.standing ≡ self.old.standing }
@@ -106,7 +106,7 @@ impl Peer {
 
     // Queues so many refusals for it, as far as they fit into the queue.
     fn refuse(&mut self, refusals: u32) -> Result<Option<Why>, OutOfMemory>
-        ensures queue { OnOk result (self.new ≡ recorded (refusals_of refusals) self.old) }
+        ensures queue { OnOk result (self.new ≡ with_frames_queued (refusals_of refusals) self.old) }
         ensures full { IfOk result (λ full. full ≡ full_of (refusals_of refusals) self.old) }
         ensures stays { self.new.standing ≡ self.old.standing }
     {
@@ -128,7 +128,7 @@ impl Peer {
     fn record_all(&mut self, payload: &[u8], refusals: u32) -> Result<Option<Why>, OutOfMemory>
         requires { IsContent Proxy payload.now }
         ensures queue { OnOk result
-            (self.new ≡ recorded (frame_payload payload.now ∷ refusals_of refusals) self.old) }
+            (self.new ≡ with_frames_queued (frame_payload payload.now ∷ refusals_of refusals) self.old) }
         ensures full { IfOk result (λ full.
             full ≡ full_of (frame_payload payload.now ∷ refusals_of refusals) self.old) }
         ensures stays { self.new.standing ≡ self.old.standing }
@@ -224,7 +224,7 @@ impl Peer {
         requires payload { IsContent Proxy payload.now }
         requires room { FAREWELL_ROOM ≤ up.old.spare }
         ensures keeps { is_read self.new.standing ≡ true → self.new.standing ≡ self.old.standing }
-        ensures stays { is_lost self.new.standing ≡ false → self.new.standing ≡ self.old.standing }
+        ensures stays { is_standing_lost self.new.standing ≡ false → self.new.standing ≡ self.old.standing }
         ensures stands { OnOk result (ReceivesRecorded (frame_payload payload.now ∷ refusals_of refusals)
             (part core.old self.old up.old) (part core.new self.new up.new)) }
         ensures policy { core.new.policy ≡ core.old.policy }
@@ -242,7 +242,7 @@ impl Peer {
     // Queues a control frame for it, if there is one and it fits into the queue; else why it is to
     // be dropped.
     fn record_frame(&mut self, answer: &Option<Small>) -> Result<Option<Why>, OutOfMemory>
-        ensures queue { OnOk result (self.new ≡ recorded (frames answer.now) self.old) }
+        ensures queue { OnOk result (self.new ≡ with_frames_queued (frames answer.now) self.old) }
         ensures full { IfOk result (λ full. full ≡ full_of (frames answer.now) self.old) }
         ensures stays { self.new.standing ≡ self.old.standing }
     {
@@ -269,7 +269,7 @@ impl Peer {
     ) -> Result<(), OutOfMemory>
         requires room { FAREWELL_ROOM ≤ up.old.spare }
         ensures keeps { is_read self.new.standing ≡ true → self.new.standing ≡ self.old.standing }
-        ensures stays { is_lost self.new.standing ≡ false → self.new.standing ≡ self.old.standing }
+        ensures stays { is_standing_lost self.new.standing ≡ false → self.new.standing ≡ self.old.standing }
         ensures answers { OnOk result (AnswersLater id reply (part core.old self.old up.old)
             (part core.new self.new up.new)) }
         ensures policy { core.new.policy ≡ core.old.policy }

@@ -1,7 +1,7 @@
 ghost use Rattle.std.specs.Prelude.{◌≡◌, length, IfOk, OnOk, None};
 ghost use Rattle.ssh_grammar.specs.declared.framing.Framing.TheVariants.{Proxy as InFrames};
 ghost use Rattle.ssh_grammar.specs.Said.{first_in, InProxy};
-ghost use Rattle.mux_peers.specs.Server.{ReceivesBytes, ServerNext, new_server, stream_end};
+ghost use Rattle.mux_peers.specs.Server.{ServerReceivesBytes, ServerNext, new_server, stream_end};
 ghost use Rattle.mux_peers.specs.Losing.{NotesMore};
 ghost use Rattle.mux_peers.specs.Room.{HasRoom};
 ghost use Rattle.mux_peers.specs.State.{clients_and_queue};
@@ -115,7 +115,7 @@ impl Server {
         requires well { self.old.fault ≡ None }
         requires room { HasRoom clients.old.all up.old }
         ensures receives { IfOk result (λ ended.
-            ReceivesBytes bytes.now (clients_and_queue clients.old core.old up.old)
+            ServerReceivesBytes bytes.now (clients_and_queue clients.old core.old up.old)
             (clients_and_queue clients.new core.new up.new) self.old self.new ended) }
         ensures room { OnOk result
             (HasRoom clients.old.all up.old → HasRoom clients.new.all up.new) }

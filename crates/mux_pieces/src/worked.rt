@@ -4,7 +4,7 @@ ghost use Rattle.std.specs.Prelude.{◌≡◌, [], ◌∷◌, ◌++◌, codes, S
 ghost use Rattle.mux_history.specs.declared.why.Why.TheVariants.{NotYours};
 ghost use Rattle.mux_history.specs.Rows.{losses};
 ghost use Rattle.mux_history.specs.Solo.{IsUnshared};
-ghost use Rattle.mux_history.specs.Worked.{hex, open_setting, run, sent, recorded_in_proxy};
+ghost use Rattle.mux_history.specs.Worked.{hex, open_setting, run, sent_to_server, recorded_in_proxy};
 ghost use Rattle.mux_history.specs.WorkedProxy.{session};
 ghost use Rattle.mux_pieces.specs.Worked.{IntrusionMeetsAll, confirmation, intrusion, two_bytes};
 
@@ -24,7 +24,7 @@ pub fn both_clients_are_unshared()
 /// but its own.
 pub fn the_intruder_alone_is_dropped()
     ensures loss { losses (run intrusion) ≡ (1, Some (NotYours 6)) ∷ [] }
-    ensures up { sent (run intrusion) ≡ session 0 ++ (session 1
+    ensures up { sent_to_server (run intrusion) ≡ session 0 ++ (session 1
         ++ (hex (codes "00000006 00 61 00000005") ++ two_bytes 6)) }
     ensures other { recorded_in_proxy 2 (run intrusion) ≡ confirmation 0 6 ++ two_bytes 0 }
 {}

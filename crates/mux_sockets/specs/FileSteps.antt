@@ -2,7 +2,7 @@
 use Rattle.std.specs.Prelude.{◌≡◌, ◌≢◌, ℕ, List, [], ◌∷◌, Option, Some, None, option_map, bit_and, ◌⊎◌}
 use Rattle.mux_sockets.specs.declared.socket_files.SocketFile.{SocketFile}
 
--- a call on the file system, with what came of it
+-- a call on the file system, with its outcome
 pub data FileStep : Type 0 where
   -- what stands at a path was looked up
   Found : List ℕ → Option SocketFile → FileStep
@@ -24,9 +24,9 @@ abbrev pub after : FileStep → Option (List FileStep) → Option (List FileStep
 after step steps = option_map (λ before. step ∷ before) steps
 
 -- the steps after these, of which the first is the newest
-abbrev pub added : List FileStep → Option (List FileStep) → Option (List FileStep)
-added [] steps = steps
-added (step ∷ earlier) steps = after step (added earlier steps)
+abbrev pub steps_added : List FileStep → Option (List FileStep) → Option (List FileStep)
+steps_added [] steps = steps
+steps_added (step ∷ earlier) steps = after step (steps_added earlier steps)
 
 -- the bits of a mode that say who may use a file, and those of a file that its owner alone may
 abbrev pub IsPrivate : SocketFile → Type 0
@@ -54,7 +54,7 @@ named_steps path name = Removed name ∷ Linked name path ∷ []
 -- got its name, at which nothing was removed
 abbrev pub IsLaid : List ℕ → SocketFile → Option (List FileStep) → Option (List FileStep) → Type 0
 IsLaid path own old new = (name : List ℕ) × (name ≢ path)
-    × (new ≡ added (named_steps path name) (added (listening_steps name own) (after (Found path None) old)))
+    × (new ≡ steps_added (named_steps path name) (steps_added (listening_steps name own) (after (Found path None) old)))
 
 -- the names that these steps gave are removed again, and no other; the first argument is one whose
 -- removal came after them
@@ -73,7 +73,7 @@ LeaveNoName (Some later) (Removed name ∷ earlier) = ⊥
 
 -- no name was given that wasn't removed again, and no other was removed
 abbrev pub IsUndone : Option (List FileStep) → Option (List FileStep) → Type 0
-IsUndone old new = (steps : List FileStep) × (new ≡ added steps old) × LeaveNoName None steps
+IsUndone old new = (steps : List FileStep) × (new ≡ steps_added steps old) × LeaveNoName None steps
 
 -- a socket of this name didn't listen, or another file was found there
 abbrev pub FailsToListen : List ℕ → Option (List FileStep) → Option (List FileStep) → Type 0

@@ -1,7 +1,7 @@
 //! The control socket and its name in the file system.
 ghost use Rattle.std.specs.Prelude.{◌≡◌, ◌≢◌, ◌∷◌, [], IfOk, None, OnErr, OnOk, Some, false, true};
 ghost use Rattle.std.specs.String.{string_bytes};
-ghost use Rattle.mux_sockets.specs.FileSteps.{FailsToListen, IsPrivate, IsUndone, RemovesOwn, added, after, listening_steps, named_steps};
+ghost use Rattle.mux_sockets.specs.FileSteps.{FailsToListen, IsPrivate, IsUndone, RemovesOwn, steps_added, after, listening_steps, named_steps};
 ghost use Rattle.mux_sockets.specs.FileSteps.FileStep.{Bound, Found, Linked, Listening, Made, Moded, Removed};
 
 use crate::socket_files::{SocketFile, SocketFiles, SystemFiles};
@@ -20,7 +20,7 @@ const TRIES: u32 = 16;
 
 /// Where a control socket stands, and which file it is.
 #[derive(Drop)]
-pub struct Place {
+pub struct ControlPlace {
     pub path: String,
     pub own: SocketFile,
 }
@@ -29,7 +29,7 @@ pub struct Place {
 /// socket.
 pub struct NamedSocket<F: SocketFiles> {
     files: F,
-    place: Place,
+    place: ControlPlace,
 }
 
 /// The control socket of this machine.
@@ -44,7 +44,7 @@ impl<F: SocketFiles> Drop for NamedSocket<F> {
 
 impl<F: SocketFiles> NamedSocket<F> {
     /// A socket that has its name.
-    pub fn new(files: F, place: Place) -> NamedSocket<F> {
+    pub fn new(files: F, place: ControlPlace) -> NamedSocket<F> {
         NamedSocket { files, place }
     }
 }
@@ -73,11 +73,11 @@ pub fn listen_beside<F: SocketFiles>(
     files: &mut F,
     alloc: Global,
     path: &str,
-) -> io::Result<Unnamed<F::Socket>>
+) -> io::Result<Unnamed<F::Descriptor>>
     ensures name { IfOk result (λ unnamed. string_bytes unnamed.name ≢ path.now) }
     ensures private { IfOk result (λ unnamed. IsPrivate unnamed.own) }
     ensures steps { IfOk result (λ unnamed. F.recorded files.new
-        ≡ added (listening_steps (string_bytes unnamed.name) unnamed.own)
+        ≡ steps_added (listening_steps (string_bytes unnamed.name) unnamed.own)
         (after (Found path.now None) (F.recorded files.old))) }
     ensures err { OnErr result (IsUndone (F.recorded files.old) (F.recorded files.new)) }
 {
@@ -107,9 +107,9 @@ fn refuse_taken<F: SocketFiles>(files: &mut F, path: &str) -> io::Result<()>
 }
 
 // A socket without a name, of whose file its owner alone may make use, where the path is free.
-fn private_socket<F: SocketFiles>(files: &mut F, path: &str) -> io::Result<F::Socket>
+fn private_socket<F: SocketFiles>(files: &mut F, path: &str) -> io::Result<F::Descriptor>
     ensures ok { OnOk result (F.recorded files.new
-        ≡ added (Moded 0o600 ∷ Made ∷ Found path.now None ∷ []) (F.recorded files.old)) }
+        ≡ steps_added (Moded 0o600 ∷ Made ∷ Found path.now None ∷ []) (F.recorded files.old)) }
     ensures err { OnErr result (IsUndone (F.recorded files.old) (F.recorded files.new)) }
 {
     refuse_taken(files, path)?;
@@ -118,12 +118,12 @@ fn private_socket<F: SocketFiles>(files: &mut F, path: &str) -> io::Result<F::So
     Ok(socket)
 }
 
-// Has a socket of this name listen: the file that it is. Its mode is what it was given, whatever
-// the umask.
+// Has a socket of this name listen: the file that it is. It fails where the umask took from its
+// mode.
 fn listen_at<F: SocketFiles>(
     files: &mut F,
     name: &str,
-    socket: &F::Socket,
+    socket: &F::Descriptor,
 ) -> io::Result<SocketFile>
     ensures private { IfOk result (λ own. IsPrivate own) }
     ensures steps { IfOk result (λ own. F.recorded files.new
@@ -142,7 +142,7 @@ fn listen_at<F: SocketFiles>(
 fn bind_beside<F: SocketFiles>(
     files: &mut F,
     alloc: Global,
-    socket: &F::Socket,
+    socket: &F::Descriptor,
     path: &str,
 ) -> io::Result<String>
     ensures name { IfOk result (λ name. string_bytes name ≢ path.now) }
@@ -169,7 +169,7 @@ fn folder_of(alloc: Global, path: &str) -> io::Result<String> {
 }
 
 // Binds a socket to a name: whether that was free.
-fn is_bound<F: SocketFiles>(files: &mut F, socket: &F::Socket, name: &str) -> io::Result<bool>
+fn is_bound<F: SocketFiles>(files: &mut F, socket: &F::Descriptor, name: &str) -> io::Result<bool>
     ensures bound { IfOk result (λ is. is ≡ true
         → F.recorded files.new ≡ after (Bound name.now) (F.recorded files.old)) }
     ensures taken { IfOk result (λ is. is ≡ false → F.recorded files.new ≡ F.recorded files.old) }
@@ -234,12 +234,12 @@ impl<S: Drop> Unnamed<S> {
         files: &mut F,
         alloc: Global,
         path: &str,
-    ) -> io::Result<(S, Place)>
+    ) -> io::Result<(S, ControlPlace)>
         ensures socket { IfOk result (λ named. named.0 ≡ self.socket) }
         ensures path { IfOk result (λ named. string_bytes named.1.path ≡ path.now) }
         ensures own { IfOk result (λ named. named.1.own ≡ self.own) }
         ensures steps { OnOk result (F.recorded files.new
-            ≡ added (named_steps path.now (string_bytes self.name)) (F.recorded files.old)) }
+            ≡ steps_added (named_steps path.now (string_bytes self.name)) (F.recorded files.old)) }
         ensures err { OnErr result (F.recorded files.new
             ≡ after (Removed (string_bytes self.name)) (F.recorded files.old)) }
     {
@@ -257,14 +257,14 @@ fn place_at<F: SocketFiles>(
     name: &str,
     path: &str,
     own: SocketFile,
-) -> io::Result<Place>
+) -> io::Result<ControlPlace>
     ensures path { IfOk result (λ place. string_bytes place.path ≡ path.now) }
     ensures own { IfOk result (λ place. place.own ≡ own) }
     ensures steps { OnOk result (F.recorded files.new
         ≡ after (Linked name.now path.now) (F.recorded files.old)) }
     ensures err { OnErr result (F.recorded files.new ≡ F.recorded files.old) }
 {
-    let place = Place {
+    let place = ControlPlace {
         path: String::from_str(alloc, path)?,
         own,
     };

@@ -5,7 +5,7 @@ ghost use Rattle.std.specs.String.{string_bytes};
 ghost use Rattle.mux_edge.specs.Entries.{HasFewOwn};
 ghost use Rattle.mux_sockets.specs.FileSteps.{IsLaid, IsPrivate, IsUndone};
 
-use crate::control::{ControlSocket, Place, listen_beside};
+use crate::control::{ControlPlace, ControlSocket, listen_beside};
 use crate::socket_files::{SocketFiles, SystemFiles};
 use crate::transport::{connect, connect_unix};
 use mio::net::UnixListener;
@@ -79,7 +79,7 @@ fn lay<F: SocketFiles, T: Drop, C: FnOnce() -> io::Result<T>>(
     alloc: Global,
     path: &str,
     connect: C,
-) -> Result<(F::Socket, Place, T), Fault>
+) -> Result<(F::Descriptor, ControlPlace, T), Fault>
     requires { C.IsAlwaysCallable connect }
     ensures connection { IfOk result (λ laid. C.post connect (Ok laid.2)) }
     ensures path { IfOk result (λ laid. string_bytes laid.1.path ≡ path.now) }

@@ -25,7 +25,7 @@ pub struct SocketFile {
 /// Sockets, and the names of their files. The system's record nothing; all that is proved of a
 /// control socket holds of those that record.
 pub trait SocketFiles: Drop {
-    type Socket: Drop;
+    type Descriptor: Drop;
 
     // what was done, the newest first, where it is recorded
     ghost recorded: { Self → Option (List FileStep) } = { λ _. None };
@@ -35,22 +35,22 @@ pub trait SocketFiles: Drop {
         ensures { recorded self.new ≡ after (Found path.now result) (recorded self.old) };
 
     /// A socket without a name.
-    fn make(&mut self) -> io::Result<Self::Socket>
+    fn make(&mut self) -> io::Result<Self::Descriptor>
         ensures ok { OnOk result (recorded self.new ≡ after Made (recorded self.old)) }
         ensures err { OnErr result (recorded self.new ≡ recorded self.old) };
 
     /// Gives a socket the mode that its file will have.
-    fn set_mode(&mut self, socket: &Self::Socket, mode: u32) -> io::Result<()>
+    fn set_mode(&mut self, socket: &Self::Descriptor, mode: u32) -> io::Result<()>
         ensures ok { OnOk result (recorded self.new ≡ after (Moded mode) (recorded self.old)) }
         ensures err { OnErr result (recorded self.new ≡ recorded self.old) };
 
     /// Makes a file for a socket, at a name that is free.
-    fn bind(&mut self, socket: &Self::Socket, name: &str) -> io::Result<()>
+    fn bind(&mut self, socket: &Self::Descriptor, name: &str) -> io::Result<()>
         ensures ok { OnOk result (recorded self.new ≡ after (Bound name.now) (recorded self.old)) }
         ensures err { OnErr result (recorded self.new ≡ recorded self.old) };
 
     /// Has a socket listen.
-    fn listen(&mut self, socket: &Self::Socket) -> io::Result<()>
+    fn listen(&mut self, socket: &Self::Descriptor) -> io::Result<()>
         ensures ok { OnOk result (recorded self.new ≡ after Listening (recorded self.old)) }
         ensures err { OnErr result (recorded self.new ≡ recorded self.old) };
 
@@ -78,7 +78,7 @@ impl<R: Files + Net + Drop> SystemFiles<R> {
 }
 
 impl<R: Files + Net + Drop> SocketFiles for SystemFiles<R> {
-    type Socket = OwnedFd;
+    type Descriptor = OwnedFd;
 
     fn find(&mut self, path: &str) -> Option<SocketFile> {
         Some(file_of(fs::symlink_metadata(&self.rt, path).ok()?))
@@ -110,7 +110,7 @@ impl<R: Files + Net + Drop> SocketFiles for SystemFiles<R> {
     }
 }
 
-// What the system tells of a file.
+// What the system reports of a file.
 fn file_of(found: fs::Metadata) -> SocketFile {
     SocketFile {
         dev: found.dev(),

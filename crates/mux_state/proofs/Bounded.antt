@@ -19,8 +19,8 @@ use Rattle.mux_isolation.proofs.Bounded.{queues-bounded}
 use Rattle.mux_bounds.specs.Bounds.{StaysBelow, longest_server_queue}
 use Rattle.mux_bounds.proofs.ServerQueue.{stays-below}
 use Rattle.mux_state.specs.Bounds.{QueueShort, QueuesShort, ReadsInTime}
-use Rattle.mux_state.specs.State.{State, queue_in}
-use Rattle.mux_state.specs.Stands.{RowsFit, Stands, log, setting}
+use Rattle.mux_state.specs.State.{EngineState, queue_in}
+use Rattle.mux_state.specs.Stands.{RowsFit, RepresentsSoFar, log, run_setting}
 use Rattle.mux_state.proofs.Queues.{queue-pending}
 
 at-last : (P : List Row → Type 0) (rows : List Row) → AtEach P rows → P rows
@@ -28,14 +28,14 @@ at-last P [] all = all
 at-last P (row ∷ before) all = all.0
 
 -- the log of an engine is right
-right : (picks : List ℕ) (replies : List HouseReply) (taken : ℕ) (s : State) (closed : List ℕ) (marks : List Mark) (dn : List Asked) → RowsFit taken dn s closed (log s picks replies marks) → IsRight (setting s picks replies) marks 0 (log s picks replies marks)
+right : (picks : List ℕ) (replies : List HouseReply) (taken : ℕ) (s : EngineState) (closed : List ℕ) (marks : List Mark) (dn : List Asked) → RowsFit taken dn s closed (log s picks replies marks) → IsRight (run_setting s picks replies) marks 0 (log s picks replies marks)
 right picks replies taken s closed marks dn st = record { determined = journal-items s.core.policy s.pid picks replies marks; fresh = st.fresh }
 
 -- a client's stream has what its rows leave
 of-client : (k : ℕ) (rows : List Row) → is_server k ≡ false → pending k rows ≡ pending_down (rows_of k rows)
 of-client k rows nz = ap (λ b. elim b as (λ _. List ℕ) [ true ↦ pending_up rows | false ↦ pending_down (rows_of k rows) ]) nz
 
-pub short : (s : State) → QueuesShort s
+pub short : (s : EngineState) → QueuesShort s
 short s picked given marks closed st lawful stream unclosed = record { client = client; server = server }
   where
     rows : List Row
@@ -56,5 +56,5 @@ short s picked given marks closed st lawful stream unclosed = record { client = 
         subst (λ bytes. length bytes < longest_server_queue) (sym waits) bounds.below
 
 -- the same of bytes that are what waits
-pub short-here : (s : State) (stream : ℕ) (bytes : List ℕ) (picked : List ℕ) (given : List HouseReply) (marks : List Mark) (closed : List ℕ) → bytes ≡ queue_in s stream → Stands picked given s marks closed → IsLawful marks → among stream closed ≡ false → QueueShort picked given s marks stream bytes
+pub short-here : (s : EngineState) (stream : ℕ) (bytes : List ℕ) (picked : List ℕ) (given : List HouseReply) (marks : List Mark) (closed : List ℕ) → bytes ≡ queue_in s stream → RepresentsSoFar picked given s marks closed → IsLawful marks → among stream closed ≡ false → QueueShort picked given s marks stream bytes
 short-here s stream bytes picked given marks closed is st lawful unclosed = subst (QueueShort picked given s marks stream) (sym is) (short s picked given marks closed st lawful stream unclosed)

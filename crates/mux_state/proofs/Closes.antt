@@ -14,7 +14,7 @@ use Rattle.mux_history.specs.Promises.{is_empty}
 use Rattle.mux_peers.specs.Among.{is_present}
 use Rattle.mux_peers.specs.State.{ClientState}
 use Rattle.mux_peers.proofs.Stood.{out_is, out_row, or_true, own_row, puts_out}
-use Rattle.mux_state.specs.State.{State, closed_by, is_here, waiting_clients, waiting_in, without_client}
+use Rattle.mux_state.specs.State.{EngineState, closed_by, is_here, waiting_clients, waiting_streams, without_client}
 use Rattle.mux_state.specs.Stands.{BytesFit, Closes, EachReads, IsFirstLost, IsStrange, RowsFit, is_accepted, log, not_closed}
 use Rattle.mux_state.proofs.Lists.{apart_less, each_less, gone_less, lost_less, present_less, test_other, true_false, waiting_less, among-gone, among-less, among-was}
 
@@ -111,7 +111,7 @@ filter_twice p q r (x ∷ xs) h = twice_head p (q x) (r x) x (filter q xs) (filt
 -- ---- the parts of it
 
 -- the streams that wait, without one
-waiting_closed : (k : ℕ) (s : State) → k ≢ 0 → without k (waiting_in s) ≡ waiting_in (closed_by s k)
+waiting_closed : (k : ℕ) (s : EngineState) → k ≢ 0 → without k (waiting_streams s) ≡ waiting_streams (closed_by s k)
 waiting_closed k s nz = by_up (is_empty s.up.waiting)
   where
     by_up : (b : Bool) → without k (cond b (waiting_clients s.clients) (0 ∷ waiting_clients s.clients)) ≡ cond b (waiting_clients (without_client k s.clients)) (0 ∷ waiting_clients (without_client k s.clients))
@@ -131,13 +131,13 @@ closed_test : (k j : ℕ) (closed : List ℕ) (b : Bool) → (k == j) ≡ b → 
 closed_test k j closed b e = ap (λ x. x || among j closed) e
 
 -- who is here with one closed
-here-other : (k j : ℕ) (s : State) → k ≢ j → is_here (closed_by s k) j ≡ is_here s j
+here-other : (k j : ℕ) (s : EngineState) → k ≢ j → is_here (closed_by s k) j ≡ is_here s j
 here-other k j s ne = ap (λ b. b || among j (without k s.refused)) (present_less k j s.clients ne) ∙ ap (λ b. is_present s.clients j || b) (among-less k j s.refused ne)
 
-here-gone : (k : ℕ) (s : State) → is_here (closed_by s k) k ≡ false
+here-gone : (k : ℕ) (s : EngineState) → is_here (closed_by s k) k ≡ false
 here-gone k s = ap (λ b. b || among k (without k s.refused)) (gone_less k s.clients) ∙ among-gone k s.refused
 
-rows_closed : (taken : ℕ) (dn : List Asked) (s : State) (k : ℕ) (closed : List ℕ) (rows : List Row) → is_out (rows_of k rows) ≡ true → k ≢ 0 → RowsFit taken dn s closed rows → RowsFit taken dn (closed_by s k) (k ∷ closed) rows
+rows_closed : (taken : ℕ) (dn : List Asked) (s : EngineState) (k : ℕ) (closed : List ℕ) (rows : List Row) → is_out (rows_of k rows) ≡ true → k ≢ 0 → RowsFit taken dn s closed rows → RowsFit taken dn (closed_by s k) (k ∷ closed) rows
 rows_closed taken dn s k closed rows out nz st = record {
   taken_is = st.taken_is;
   drawn_is = st.drawn_is;
@@ -168,7 +168,7 @@ rows_closed taken dn s k closed rows out nz st = record {
   server_in = st.server_in;
 }
 
-bytes_closed : (s : State) (k : ℕ) (marks : List Mark) (closed : List ℕ) (rows : List Row) → is_out (rows_of k rows) ≡ true → k ≢ 0 → ((j : ℕ) → j ≢ 0 → is_here s j ≡ false → among j closed ≡ false → rows_of j rows ≡ []) → BytesFit s marks closed rows → BytesFit (closed_by s k) marks (k ∷ closed) rows
+bytes_closed : (s : EngineState) (k : ℕ) (marks : List Mark) (closed : List ℕ) (rows : List Row) → is_out (rows_of k rows) ≡ true → k ≢ 0 → ((j : ℕ) → j ≢ 0 → is_here s j ≡ false → among j closed ≡ false → rows_of j rows ≡ []) → BytesFit s marks closed rows → BytesFit (closed_by s k) marks (k ∷ closed) rows
 bytes_closed s k marks closed rows out nz absent st = record {
   are_bytes = st.are_bytes;
   clients = λ l. reads_less k marks s.clients (st.clients l);
@@ -184,10 +184,10 @@ bytes_closed s k marks closed rows out nz absent st = record {
 }
 
 -- the client that is closed is out
-first_out : (taken : ℕ) (dn : List Asked) (s : State) (k : ℕ) (closed : List ℕ) (rows : List Row) → IsFirstLost k s.leaving → RowsFit taken dn s closed rows → is_out (rows_of k rows) ≡ true
+first_out : (taken : ℕ) (dn : List Asked) (s : EngineState) (k : ℕ) (closed : List ℕ) (rows : List Row) → IsFirstLost k s.leaving → RowsFit taken dn s closed rows → is_out (rows_of k rows) ≡ true
 first_out taken dn s k closed rows first st = loss_is_out k rows (unfiltered k (not_closed closed) (losses rows) (subst (λ ls. in_losses k ls ≡ true) st.leaving_are (first_in k s.leaving first)))
 
-pub closes : (s : State) (k : ℕ) → IsFirstLost k s.leaving → Closes s (closed_by s k) k
+pub closes : (s : EngineState) (k : ℕ) → IsFirstLost k s.leaving → Closes s (closed_by s k) k
 closes s k first picked given marks closed st = record {
   asks = st.asks;
   each = st.each;

@@ -12,12 +12,12 @@ use Rattle.mux_outside.specs.declared.mark.Mark.TheVariants.{Accepts}
 use Rattle.proxy_frames.specs.State.{QueueState}
 use Rattle.mux_history.specs.declared.why.Why.{Why}
 use Rattle.mux_history.specs.Policy.{Policy}
-use Rattle.mux_history.specs.Rows.{Row, rows_of, any_of, is_admit, is_out, is_ended, losses, Admit}
+use Rattle.mux_history.specs.Rows.{Row, rows_of, any_of, is_admit, is_out, is_run_over, losses, Admit}
 use Rattle.mux_history.specs.Choices.{numbers_taken, replies_given}
 use Rattle.mux_history.specs.Right.{AreFresh}
 use Rattle.mux_history.specs.Settings.{by_lists}
 use Rattle.mux_history.specs.Solo.{run_end_of}
-use Rattle.mux_history.specs.Log.{entered as came, next_row}
+use Rattle.mux_history.specs.Log.{admitted_clients as came, next_row}
 use Rattle.mux_history.specs.Journal.{bytes_of, is_accepted, log_of_journal}
 use Rattle.mux_core.specs.State.{CoreState}
 use Rattle.mux_peers.specs.State.{ClientState}
@@ -26,8 +26,8 @@ use Rattle.mux_peers.specs.Asked.{asks_of_rows}
 use Rattle.mux_peers.specs.Entering.{PeerEnters, EntersBy, new_client}
 use Rattle.mux_peers.proofs.PeerEnters.{let-in, present-end, present-last, refused, row-let-in, row-refused}
 use Rattle.mux_peers.proofs.Stood.{own_row}
-use Rattle.mux_state.specs.State.{State, entered, is_here, numbers, waiting_in}
-use Rattle.mux_state.specs.Stands.{BytesFit, ClientReads, EachReads, GoesAlone, IsAllowed, IsKnown, IsStrange, RowsFit, ServerReads, Stands, EngineRepresents, log, not_closed, refusal}
+use Rattle.mux_state.specs.State.{EngineState, after_admission, is_here, numbers, waiting_streams}
+use Rattle.mux_state.specs.Stands.{BytesFit, ClientReads, EachReads, GoesAlone, IsAllowed, IsKnown, IsStrange, RowsFit, ServerReads, RepresentsSoFar, EngineRepresents, log, not_closed, refused_client_row}
 use Rattle.mux_state.proofs.Closes.{other_row, out_more}
 use Rattle.mux_state.proofs.Grows.{filter-append, served-more}
 use Rattle.mux_state.proofs.Lists.{test_other, true_false}
@@ -53,11 +53,11 @@ or-one false b e = e
 
 -- ---- who is here
 
-here-new : (s : State) (core' : CoreState) (up' : QueueState) (k : ℕ) (b : Bool) → is_here (entered s core' up' k b) k ≡ true
+here-new : (s : EngineState) (core' : CoreState) (up' : QueueState) (k : ℕ) (b : Bool) → is_here (after_admission s core' up' k b) k ≡ true
 here-new s core' up' k true = ap (λ t. t || among k s.refused) (present-end s.clients (new_client k) k (eq-eqb k k refl))
 here-new s core' up' k false = or-one (is_present s.clients k) (among k (s.refused ++ k ∷ [])) (among-last k k s.refused ∙ or-one (among k s.refused) ((k == k) || false) (ap (λ t. t || false) (eq-eqb k k refl)))
 
-here-old : (s : State) (core' : CoreState) (up' : QueueState) (k j : ℕ) (b : Bool) → k ≢ j → is_here (entered s core' up' k b) j ≡ is_here s j
+here-old : (s : EngineState) (core' : CoreState) (up' : QueueState) (k j : ℕ) (b : Bool) → k ≢ j → is_here (after_admission s core' up' k b) j ≡ is_here s j
 here-old s core' up' k j true ne = ap (λ t. t || among j s.refused) (present-last s.clients (new_client k) j (test_other k j ne))
 here-old s core' up' k j false ne = ap (λ t. is_present s.clients j || t) (among-last j k s.refused ∙ or-none (among j s.refused) ((k == j) || false) (ap (λ t. t || false) (test_other k j ne)))
 
@@ -107,7 +107,7 @@ end-new : (k : ℕ) (b : Bool) (rows : List Row) → run_end_of (new_row k b ∷
 end-new k true rows = refl
 end-new k false rows = refl
 
-ended-new : (k : ℕ) (b : Bool) (rows : List Row) → is_ended (new_row k b ∷ rows) ≡ is_ended rows
+ended-new : (k : ℕ) (b : Bool) (rows : List Row) → is_run_over (new_row k b ∷ rows) ≡ is_run_over rows
 ended-new k true rows = refl
 ended-new k false rows = refl
 
@@ -123,8 +123,8 @@ known-new : (k : ℕ) → IsKnown (let-in k ∷ [])
 known-new k = record { admitted = refl; out_is = refl }
 
 -- what an engine keeps besides
-pub record Comes (s : State) (core' : CoreState) (up' : QueueState) (k : ℕ) (b : Bool) (rows : List Row) : Type 0 where
-  pub fit : AllFit (new_row k b ∷ rows) core' (entered s core' up' k b).clients up'
+pub record Comes (s : EngineState) (core' : CoreState) (up' : QueueState) (k : ℕ) (b : Bool) (rows : List Row) : Type 0 where
+  pub fit : AllFit (new_row k b ∷ rows) core' (after_admission s core' up' k b).clients up'
   pub nonzero : k ≢ 0
   pub none : rows_of k rows ≡ []
   pub unclosed : (closed : List ℕ) → among k closed ≡ false → filter (not_closed closed) (loss_new k b) ≡ loss_new k b
@@ -143,13 +143,13 @@ known-on k false rows nz new was j a = let w : IsKnown (rows_of j rows) = was j 
   | inr q ↦ subst IsKnown (sym (other_row k j (refused k) rows refl q.1)) w
 ]
 
-refused-on : (k : ℕ) (b : Bool) (s : State) (core' : CoreState) (up' : QueueState) (rows : List Row) → rows_of k rows ≡ [] → ((j : ℕ) → among j s.refused ≡ true → rows_of j rows ≡ refusal j ∷ []) → (j : ℕ) → among j (entered s core' up' k b).refused ≡ true → rows_of j (new_row k b ∷ rows) ≡ refusal j ∷ []
+refused-on : (k : ℕ) (b : Bool) (s : EngineState) (core' : CoreState) (up' : QueueState) (rows : List Row) → rows_of k rows ≡ [] → ((j : ℕ) → among j s.refused ≡ true → rows_of j rows ≡ refused_client_row j ∷ []) → (j : ℕ) → among j (after_admission s core' up' k b).refused ≡ true → rows_of j (new_row k b ∷ rows) ≡ refused_client_row j ∷ []
 refused-on k true s core' up' rows new was j a = elim (eqb_tells k j) [
   | inl q ↦ true_false (sym (refused-out j rows (was j a)) ∙ ap is_out (ap (λ i. rows_of i rows) (sym q.1) ∙ new))
   | inr q ↦ other_row k j (let-in k) rows refl q.1 ∙ was j a
 ]
 refused-on k false s core' up' rows new was j a = elim (eqb_tells k j) [
-  | inl q ↦ own_row j (refused k) rows q.1 ∙ (ap (λ l. refused k ∷ l) (ap (λ i. rows_of i rows) (sym q.1) ∙ new) ∙ ap (λ i. refusal i ∷ []) q.1)
+  | inl q ↦ own_row j (refused k) rows q.1 ∙ (ap (λ l. refused k ∷ l) (ap (λ i. rows_of i rows) (sym q.1) ∙ new) ∙ ap (λ i. refused_client_row i ∷ []) q.1)
   | inr q ↦ other_row k j (refused k) rows refl q.1 ∙ was j (sym (among-last j k s.refused ∙ or-none (among j s.refused) ((k == j) || false) (ap (λ t. t || false) q.0)) ∙ a)
 ]
 
@@ -157,33 +157,33 @@ still-zero : (k : ℕ) (b : Bool) (js : List ℕ) → k ≢ 0 → among 0 js ≡
 still-zero k true js nz e = among-last 0 k js ∙ (or-none (among 0 js) ((k == 0) || false) (ap (λ t. t || false) (test_other k 0 nz)) ∙ e)
 still-zero k false js nz e = ap (among 0) (append-nil js) ∙ e
 
-numbers-new : (k : ℕ) (b : Bool) (s : State) (core' : CoreState) (up' : QueueState) → numbers (entered s core' up' k b).clients ≡ numbers s.clients ++ come k b
+numbers-new : (k : ℕ) (b : Bool) (s : EngineState) (core' : CoreState) (up' : QueueState) → numbers (after_admission s core' up' k b).clients ≡ numbers s.clients ++ come k b
 numbers-new k true s core' up' = numbers-last s.clients (new_client k)
 numbers-new k false s core' up' = sym (append-nil (numbers s.clients))
 
-pub record Kept (s new : State) (k : ℕ) (b : Bool) : Type 0 where
+pub record Kept (s new : EngineState) (k : ℕ) (b : Bool) : Type 0 where
   pub pid : new.pid ≡ s.pid
   pub server : new.server ≡ s.server
   pub listening : new.listening ≡ s.listening
   pub ended : new.ended ≡ s.ended
-  pub waiting : new.waiting ≡ waiting_in new
+  pub waiting : new.waiting ≡ waiting_streams new
   pub leaving : new.leaving ≡ s.leaving ++ loss_new k b
 
-kept-new : (s : State) (core' : CoreState) (up' : QueueState) (k : ℕ) (b : Bool) → Kept s (entered s core' up' k b) k b
+kept-new : (s : EngineState) (core' : CoreState) (up' : QueueState) (k : ℕ) (b : Bool) → Kept s (after_admission s core' up' k b) k b
 kept-new s core' up' k true = record { pid = refl; server = refl; listening = refl; ended = refl; waiting = refl; leaving = sym (append-nil s.leaving) }
 kept-new s core' up' k false = record { pid = refl; server = refl; listening = refl; ended = refl; waiting = refl; leaving = refl }
 
-up-new : (s : State) (core' : CoreState) (up' : QueueState) (k : ℕ) (b : Bool) → ((entered s core' up' k b).core ≡ core') × ((entered s core' up' k b).up ≡ up')
+up-new : (s : EngineState) (core' : CoreState) (up' : QueueState) (k : ℕ) (b : Bool) → ((after_admission s core' up' k b).core ≡ core') × ((after_admission s core' up' k b).up ≡ up')
 up-new s core' up' k true = (refl, refl)
 up-new s core' up' k false = (refl, refl)
 
-fit-as : (s : State) (core' : CoreState) (up' : QueueState) (k : ℕ) (b : Bool) (rows : List Row) → AllFit rows core' (entered s core' up' k b).clients up' → AllFit rows (entered s core' up' k b).core (entered s core' up' k b).clients (entered s core' up' k b).up
+fit-as : (s : EngineState) (core' : CoreState) (up' : QueueState) (k : ℕ) (b : Bool) (rows : List Row) → AllFit rows core' (after_admission s core' up' k b).clients up' → AllFit rows (after_admission s core' up' k b).core (after_admission s core' up' k b).clients (after_admission s core' up' k b).up
 fit-as s core' up' k true rows f = f
 fit-as s core' up' k false rows f = f
 
-rows-new : (taken : ℕ) (dn : List Asked) (s : State) (core' : CoreState) (up' : QueueState) (k : ℕ) (b : Bool) (closed : List ℕ) (rows : List Row) → among k closed ≡ false → Comes s core' up' k b rows → RowsFit taken dn s closed rows → RowsFit taken dn (entered s core' up' k b) closed (new_row k b ∷ rows)
+rows-new : (taken : ℕ) (dn : List Asked) (s : EngineState) (core' : CoreState) (up' : QueueState) (k : ℕ) (b : Bool) (closed : List ℕ) (rows : List Row) → among k closed ≡ false → Comes s core' up' k b rows → RowsFit taken dn s closed rows → RowsFit taken dn (after_admission s core' up' k b) closed (new_row k b ∷ rows)
 rows-new taken dn s core' up' k b closed rows unclosed c st =
-    let new : State = entered s core' up' k b in
+    let new : EngineState = after_admission s core' up' k b in
     let w : Kept s new k b = kept-new s core' up' k b in
     let row : Row = new_row k b in
     record {
@@ -226,16 +226,16 @@ reads-last marks (d ∷ cs) c e r = (e.0, reads-last marks cs c e.1 r)
 first-reads : (k : ℕ) → ClientReads [] (new_client k)
 first-reads k = record { mode_is = λ l. refl; rest_is = λ l. refl }
 
-reads-by : (s : State) (core' : CoreState) (up' : QueueState) (k : ℕ) (b : Bool) (marks : List Mark) → bytes_of k marks ≡ [] → EachReads marks s.clients → EachReads (Accepts k ∷ marks) (entered s core' up' k b).clients
+reads-by : (s : EngineState) (core' : CoreState) (up' : QueueState) (k : ℕ) (b : Bool) (marks : List Mark) → bytes_of k marks ≡ [] → EachReads marks s.clients → EachReads (Accepts k ∷ marks) (after_admission s core' up' k b).clients
 reads-by s core' up' k true marks none e = reads-last (Accepts k ∷ marks) s.clients (new_client k) (reads-new marks k s.clients e) (subst (λ b. ClientReads b (new_client k)) (sym (append-nil (bytes_of k marks) ∙ none)) (first-reads k))
 reads-by s core' up' k false marks none e = reads-new marks k s.clients e
 
 accepted-other : (k j : ℕ) (marks : List Mark) → k ≢ j → is_accepted j (Accepts k ∷ marks) ≡ is_accepted j marks
 accepted-other k j marks ne = ap (λ b. cond b true (is_accepted j marks)) (test_other k j ne)
 
-bytes-new : (s : State) (core' : CoreState) (up' : QueueState) (k : ℕ) (b : Bool) (marks : List Mark) (closed : List ℕ) (rows : List Row) → IsAllowed s marks (Accepts k) → BytesFit s marks closed rows → BytesFit (entered s core' up' k b) (Accepts k ∷ marks) closed (new_row k b ∷ rows)
+bytes-new : (s : EngineState) (core' : CoreState) (up' : QueueState) (k : ℕ) (b : Bool) (marks : List Mark) (closed : List ℕ) (rows : List Row) → IsAllowed s marks (Accepts k) → BytesFit s marks closed rows → BytesFit (after_admission s core' up' k b) (Accepts k ∷ marks) closed (new_row k b ∷ rows)
 bytes-new s core' up' k b marks closed rows al st =
-    let new : State = entered s core' up' k b in
+    let new : EngineState = after_admission s core' up' k b in
     let v : IsStrange s marks closed k = st.strange k al.1 in
     record {
       are_bytes = are-bytes-on s marks (Accepts k) tt al st.are_bytes;
@@ -260,29 +260,29 @@ row-by policy pid picks given k false rows new e = row-refused policy pid picks 
 roomy : (rows : List Row) (c : CoreState) (cs : List ClientState) (up up' : QueueState) → up'.waiting ≡ up.waiting → AllFit rows c cs up → AllFit rows c cs up'
 roomy rows c cs up up' e f = record { core = f.core; each = f.each; apart = f.apart; up = e ∙ f.up }
 
-pub goes-in : (s : State) (core' : CoreState) (up' : QueueState) (k : ℕ) (b : Bool) → s.ended ≡ None → core'.policy ≡ s.core.policy → up'.waiting ≡ s.up.waiting → PeerEnters k s.core core' s.clients (entered s core' up' k b).clients b → GoesAlone s (entered s core' up' k b) (Accepts k)
+pub goes-in : (s : EngineState) (core' : CoreState) (up' : QueueState) (k : ℕ) (b : Bool) → s.ended ≡ None → core'.policy ≡ s.core.policy → up'.waiting ≡ s.up.waiting → PeerEnters k s.core core' s.clients (after_admission s core' up' k b).clients b → GoesAlone s (after_admission s core' up' k b) (Accepts k)
 goes-in s core' up' k b live pol waits enters picked given marks closed st al = record {
   asks = st.asks;
   each = st.each;
   at = λ picks replies.
       let v : EngineRepresents (picked ++ picks) (given ++ replies) (length picked) st.asks s marks closed = st.at picks replies in
       let rows : List Row = log s (picked ++ picks) (given ++ replies) marks in
-      let on : is_ended rows ≡ false = sym (some-end rows) ∙ ap is_some (sym v.rows.ended_is ∙ live) in
+      let on : is_run_over rows ≡ false = sym (some-end rows) ∙ ap is_some (sym v.rows.ended_is ∙ live) in
       let strange : IsStrange s marks closed k = v.bytes.strange k al.1 in
       let none : rows_of k rows ≡ [] = v.rows.absent k al.0 strange.not_here strange.not_closed_yet in
-      let e : EntersBy core' s.clients (entered s core' up' k b).clients up' b rows (next_row (by_lists s.core.policy s.pid (picked ++ picks) (given ++ replies)) rows (Admit k)) =
+      let e : EntersBy core' s.clients (after_admission s core' up' k b).clients up' b rows (next_row (by_lists s.core.policy s.pid (picked ++ picks) (given ++ replies)) rows (Admit k)) =
       enters s.core.policy s.pid (picked ++ picks) (given ++ replies) up' rows (roomy rows s.core s.clients s.up up' waits v.rows.fit) on record { nonzero = al.0; fresh = none } in
       let row = row-by s.core.policy s.pid (picked ++ picks) (given ++ replies) k b rows none e.exact in
-      let comes : Comes s core' up' k b rows = record { fit = subst (λ r. AllFit (r ∷ rows) core' (entered s core' up' k b).clients up') row e.fit; nonzero = al.0; none = none; unclosed = unclosed-new k b } in
-      let is : log (entered s core' up' k b) (picked ++ picks) (given ++ replies) (Accepts k ∷ marks) ≡ new_row k b ∷ rows =
+      let comes : Comes s core' up' k b rows = record { fit = subst (λ r. AllFit (r ∷ rows) core' (after_admission s core' up' k b).clients up') row e.fit; nonzero = al.0; none = none; unclosed = unclosed-new k b } in
+      let is : log (after_admission s core' up' k b) (picked ++ picks) (given ++ replies) (Accepts k ∷ marks) ≡ new_row k b ∷ rows =
       log-as (picked ++ picks) (given ++ replies) (Accepts k ∷ marks) ∙ (one-more s (picked ++ picks) (given ++ replies) rows (Admit k) on refl ∙ ap (λ r. r ∷ rows) row) in
       record {
-        rows = subst (RowsFit (length picked) st.asks (entered s core' up' k b) closed) (sym is) (rows-new (length picked) st.asks s core' up' k b closed rows strange.not_closed_yet comes v.rows);
-        bytes = subst (BytesFit (entered s core' up' k b) (Accepts k ∷ marks) closed) (sym is) (bytes-new s core' up' k b marks closed rows al v.bytes);
+        rows = subst (RowsFit (length picked) st.asks (after_admission s core' up' k b) closed) (sym is) (rows-new (length picked) st.asks s core' up' k b closed rows strange.not_closed_yet comes v.rows);
+        bytes = subst (BytesFit (after_admission s core' up' k b) (Accepts k ∷ marks) closed) (sym is) (bytes-new s core' up' k b marks closed rows al v.bytes);
       };
 }
   where
-    log-as : (picks : List ℕ) (replies : List HouseReply) (marks : List Mark) → log (entered s core' up' k b) picks replies marks ≡ log s picks replies marks
+    log-as : (picks : List ℕ) (replies : List HouseReply) (marks : List Mark) → log (after_admission s core' up' k b) picks replies marks ≡ log s picks replies marks
     log-as picks replies marks =
-        ap (λ (c : CoreState). log_of_journal (by_lists c.policy (entered s core' up' k b).pid picks replies) marks) (up-new s core' up' k b).0
-        ∙ (ap (λ p. log_of_journal (by_lists p (entered s core' up' k b).pid picks replies) marks) pol ∙ ap (λ p. log_of_journal (by_lists s.core.policy p picks replies) marks) (kept-new s core' up' k b).pid)
+        ap (λ (c : CoreState). log_of_journal (by_lists c.policy (after_admission s core' up' k b).pid picks replies) marks) (up-new s core' up' k b).0
+        ∙ (ap (λ p. log_of_journal (by_lists p (after_admission s core' up' k b).pid picks replies) marks) pol ∙ ap (λ p. log_of_journal (by_lists s.core.policy p picks replies) marks) (kept-new s core' up' k b).pid)

@@ -9,15 +9,15 @@ use Rattle.mux_outside.specs.declared.house.HouseReply.{HouseReply}
 use Rattle.mux_outside.specs.declared.mark.Mark.{Mark}
 use Rattle.mux_outside.specs.declared.mark.Mark.TheVariants.{Gets}
 use Rattle.mux_history.specs.declared.ended.Ended.{Ended}
-use Rattle.mux_history.specs.Rows.{Row, rows_of, is_out, is_ended}
+use Rattle.mux_history.specs.Rows.{Row, rows_of, is_out, is_run_over}
 use Rattle.mux_history.specs.Settings.{by_lists}
 use Rattle.mux_history.specs.Solo.{run_end_of}
-use Rattle.mux_history.specs.Promises.{listens}
+use Rattle.mux_history.specs.Promises.{is_still_accepting}
 use Rattle.mux_history.specs.Log.{more_all}
 use Rattle.mux_history.specs.Journal.{bytes_of, is_own_stream, log_of_journal, new_received, new_sayings, unless_own}
 use Rattle.mux_peers.specs.declared.run_change.RunChange.{RunChange}
 use Rattle.mux_peers.specs.State.{ClientState}
-use Rattle.mux_peers.specs.Stands.{is_lost, is_read, standing_of}
+use Rattle.mux_peers.specs.Stands.{is_standing_lost, is_read, standing_of}
 use Rattle.mux_peers.specs.Among.{ChangesOne, EachFits, InFits, MovesTo, is_present}
 use Rattle.mux_peers.specs.Asked.{asks_of_rows}
 use Rattle.mux_peers.specs.Laws.{AllMoved, IsReadTo, rows_given}
@@ -25,8 +25,8 @@ use Rattle.mux_peers.specs.Pieces.{Receiving, ReceivesPiece, RunsTo, ended_then}
 use Rattle.mux_peers.proofs.Journaled.{pieces-of-a-client}
 use Rattle.mux_peers.proofs.Ones.{one-moves-all}
 use Rattle.mux_state.specs.Moves.{GainsAt}
-use Rattle.mux_state.specs.State.{State, loss_between, numbers, waiting_in}
-use Rattle.mux_state.specs.Stands.{BytesFit, ClientReads, EachReads, GoesOn, IsAllowed, IsStrange, RowsFit, ServerReads, EngineRepresents, log, setting}
+use Rattle.mux_state.specs.State.{EngineState, loss_between, numbers, waiting_streams}
+use Rattle.mux_state.specs.Stands.{BytesFit, ClientReads, EachReads, GoesOn, IsAllowed, IsStrange, RowsFit, ServerReads, EngineRepresents, log, run_setting}
 use Rattle.mux_state.proofs.Lists.{test_other, true_false}
 use Rattle.mux_state.proofs.Moved.{here-same, moved}
 use Rattle.mux_state.proofs.OneClient.{apart-here, numbers-one, open-here, reads-one, unclosed-one}
@@ -43,7 +43,7 @@ drop-front (x ∷ xs) ys = drop-front xs ys
 
 -- ---- a piece of a client that is read
 
-pub record PieceAt (May : HouseReply → Type 0) (before recorded : Option (List Asked)) (s new : State) (bytes : List ℕ) (x y : ClientState) (heard : RunChange) : Type 0 where
+pub record PieceAt (May : HouseReply → Type 0) (before recorded : Option (List Asked)) (s new : EngineState) (bytes : List ℕ) (x y : ClientState) (heard : RunChange) : Type 0 where
   pub pid : new.pid ≡ s.pid
   pub server : new.server ≡ s.server
   pub refused : new.refused ≡ s.refused
@@ -53,7 +53,7 @@ pub record PieceAt (May : HouseReply → Type 0) (before recorded : Option (List
   pub listening : new.listening ≡ (s.listening && not heard.stops)
   pub ended : new.ended ≡ heard.ended
   pub leaving : new.leaving ≡ s.leaving ++ loss_between x.peer.standing y.peer.standing x.peer.number
-  pub waiting : new.waiting ≡ waiting_in new
+  pub waiting : new.waiting ≡ waiting_streams new
 
 and-comm : (a b : Bool) → (a && b) ≡ (b && a)
 and-comm true true = refl
@@ -65,7 +65,7 @@ then-none : (e : Option Ended) → ended_then e None ≡ e
 then-none (Some cause) = refl
 then-none None = refl
 
-pub read-in : (s : _) → is_read s ≡ true → is_lost s ≡ false
+pub read-in : (s : _) → is_read s ≡ true → is_standing_lost s ≡ false
 read-in Rattle.mux_peers.specs.declared.standing.Standing.TheVariants.Awaited e = refl
 read-in Rattle.mux_peers.specs.declared.standing.Standing.TheVariants.Greeted e = refl
 read-in Rattle.mux_peers.specs.declared.standing.Standing.TheVariants.Proxied e = refl
@@ -73,12 +73,12 @@ read-in Rattle.mux_peers.specs.declared.standing.Standing.TheVariants.Unread e =
 read-in (Rattle.mux_peers.specs.declared.standing.Standing.TheVariants.Lost why) e = true_false (sym e)
 
 -- with these rows after it
-pub record PieceRows (s new : State) (x y : ClientState) (heard : RunChange) (picked : List ℕ) (used : List HouseReply) (asks : List Asked) (rows rows' : List Row) (old bytes : List ℕ) : Type 0 where
+pub record PieceRows (s new : EngineState) (x y : ClientState) (heard : RunChange) (picked : List ℕ) (used : List HouseReply) (asks : List Asked) (rows rows' : List Row) (old bytes : List ℕ) : Type 0 where
   pub on : SendsOn x.peer.number rows rows'
   pub to : IsReadTo x.peer.number old bytes picked used asks rows rows' new.core new.up y heard
-  pub live : is_ended rows ≡ false
+  pub live : is_run_over rows ≡ false
 
-rows-gain : (May : HouseReply → Type 0) (before recorded : Option (List Asked)) (taken : ℕ) (dn : List Asked) (given : List HouseReply) (s new : State) (bytes old : List ℕ) (x y : ClientState) (heard : RunChange) (picked : List ℕ) (used : List HouseReply) (asks : List Asked) (closed : List ℕ) (rows rows' : List Row)
+rows-gain : (May : HouseReply → Type 0) (before recorded : Option (List Asked)) (taken : ℕ) (dn : List Asked) (given : List HouseReply) (s new : EngineState) (bytes old : List ℕ) (x y : ClientState) (heard : RunChange) (picked : List ℕ) (used : List HouseReply) (asks : List Asked) (closed : List ℕ) (rows rows' : List Row)
     → AreBytes old → AreBytes bytes → length asks ≡ length used → is_present s.clients x.peer.number ≡ true → x.peer.number ≢ 0 → InFits rows x → PieceAt May before recorded s new bytes x y heard → PieceRows s new x y heard picked used asks rows rows' old bytes → RowsFit taken dn s closed rows
     → RowsFit (taken + length picked) (dn ++ asks) new closed rows'
 rows-gain May before recorded taken dn given s new bytes old x y heard picked used asks closed rows rows' ob nb each here nz fx c w st =
@@ -97,7 +97,7 @@ rows-gain May before recorded taken dn given s new bytes old x y heard picked us
       fresh = w.to.fresh ob nb st.fresh;
       fit = all.fit;
       ended_is = c.ended ∙ sym (w.to.ended_is ∙ (ap (ended_then heard.ended) (none-ended rows w.live) ∙ then-none heard.ended));
-      listening_is = c.listening ∙ (ap (λ b. b && not heard.stops) st.listening_is ∙ (and-comm (listens rows) (not heard.stops) ∙ sym w.to.stops_is));
+      listening_is = c.listening ∙ (ap (λ b. b && not heard.stops) st.listening_is ∙ (and-comm (is_still_accepting rows) (not heard.stops) ∙ sym w.to.stops_is));
       waiting_is = c.waiting;
       leaving_are = c.leaving;
       unclosed = unclosed-one closed k x.peer.standing y.peer.standing (open-here taken dn s closed rows k st here);
@@ -107,7 +107,7 @@ rows-gain May before recorded taken dn given s new bytes old x y heard picked us
       server_in = ap is_out (w.to.adds.others 0 (other 0 nz)) ∙ st.server_in;
     }
   where
-    none-ended : (rows : List Row) → is_ended rows ≡ false → run_end_of rows ≡ None
+    none-ended : (rows : List Row) → is_run_over rows ≡ false → run_end_of rows ≡ None
     none-ended rows e = none-of (run_end_of rows) (some-end rows ∙ e)
       where
         none-of : (o : Option Ended) → is_some o ≡ false → o ≡ None
@@ -119,20 +119,20 @@ rows-gain May before recorded taken dn given s new bytes old x y heard picked us
 
 -- ---- the bytes
 
-reads-now : (old bytes : List ℕ) (picked : List ℕ) (used : List HouseReply) (asks : List Asked) (rows rows' : List Row) (core : _) (up : _) (y : ClientState) (heard : RunChange) (k : ℕ) → is_ended rows' ≡ false → IsReadTo k old bytes picked used asks rows rows' core up y heard → ClientReads (old ++ bytes) y
+reads-now : (old bytes : List ℕ) (picked : List ℕ) (used : List HouseReply) (asks : List Asked) (rows rows' : List Row) (core : _) (up : _) (y : ClientState) (heard : RunChange) (k : ℕ) → is_run_over rows' ≡ false → IsReadTo k old bytes picked used asks rows rows' core up y heard → ClientReads (old ++ bytes) y
 reads-now old bytes picked used asks rows rows' core up y heard k live r = record {
   mode_is = λ l. by_read (is_read y.peer.standing) refl l;
   rest_is = λ e. (r.reads e).rest;
 }
   where
-    unread : (s : _) → is_read s ≡ false → is_lost s ≡ false → Rattle.mux_peers.specs.Stands.parse_mode_of s ≡ Stopped
+    unread : (s : _) → is_read s ≡ false → is_standing_lost s ≡ false → Rattle.mux_peers.specs.Stands.parse_mode_of s ≡ Stopped
     unread Rattle.mux_peers.specs.declared.standing.Standing.TheVariants.Awaited e l = true_false e
     unread Rattle.mux_peers.specs.declared.standing.Standing.TheVariants.Greeted e l = true_false e
     unread Rattle.mux_peers.specs.declared.standing.Standing.TheVariants.Proxied e l = true_false e
     unread Rattle.mux_peers.specs.declared.standing.Standing.TheVariants.Unread e l = refl
     unread (Rattle.mux_peers.specs.declared.standing.Standing.TheVariants.Lost why) e l = refl
 
-    by_read : (b : Bool) → is_read y.peer.standing ≡ b → is_lost y.peer.standing ≡ false → (parse InControl (old ++ bytes)).mode ≡ Rattle.mux_peers.specs.Stands.parse_mode_of y.peer.standing
+    by_read : (b : Bool) → is_read y.peer.standing ≡ b → is_standing_lost y.peer.standing ≡ false → (parse InControl (old ++ bytes)).mode ≡ Rattle.mux_peers.specs.Stands.parse_mode_of y.peer.standing
     by_read true e l = (r.reads e).mode
     by_read false e l = r.stopped e l live ∙ sym (unread y.peer.standing e l)
 
@@ -142,7 +142,7 @@ gets-quiet k j bytes ne = ap (λ b. elim b as (λ _. List ℕ) [ true ↦ bytes 
 pub gets-own : (k : ℕ) (bytes : List ℕ) (marks : List Mark) → bytes_of k (Gets k bytes ∷ marks) ≡ bytes_of k marks ++ bytes
 gets-own k bytes marks = ap (λ b. bytes_of k marks ++ elim b as (λ _. List ℕ) [ true ↦ bytes | false ↦ [] ]) (eq-eqb k k refl)
 
-bytes-gain : (May : HouseReply → Type 0) (before recorded : Option (List Asked)) (taken : ℕ) (dn : List Asked) (s new : State) (bytes : List ℕ) (x y : ClientState) (heard : RunChange) (picked : List ℕ) (used : List HouseReply) (asks : List Asked) (marks : List Mark) (closed : List ℕ) (rows rows' : List Row)
+bytes-gain : (May : HouseReply → Type 0) (before recorded : Option (List Asked)) (taken : ℕ) (dn : List Asked) (s new : EngineState) (bytes : List ℕ) (x y : ClientState) (heard : RunChange) (picked : List ℕ) (used : List HouseReply) (asks : List Asked) (marks : List Mark) (closed : List ℕ) (rows rows' : List Row)
     → is_present s.clients x.peer.number ≡ true → x.peer.number ≢ 0 → IsAllowed s marks (Gets x.peer.number bytes) → PieceAt May before recorded s new bytes x y heard → PieceRows s new x y heard picked used asks rows rows' (bytes_of x.peer.number marks) bytes → RowsFit taken dn s closed rows → BytesFit s marks closed rows
     → BytesFit new (Gets x.peer.number bytes ∷ marks) closed rows'
 bytes-gain May before recorded taken dn s new bytes x y heard picked used asks marks closed rows rows' here nz al c w fit st =
@@ -161,11 +161,11 @@ bytes-gain May before recorded taken dn s new bytes x y heard picked used asks m
 
 -- ---- all of it
 
-pub gets-log : (s : State) (picks : List ℕ) (replies : List HouseReply) (k : ℕ) (bytes : List ℕ) (marks : List Mark) → k ≢ 0 → is_own_stream k ≡ false → log s picks replies (Gets k bytes ∷ marks) ≡ rows_given s.core.policy s.pid picks replies k (bytes_of k marks) bytes (log s picks replies marks)
-gets-log s picks replies k bytes marks nz own = ap (λ b. more_all (setting s picks replies) (log s picks replies marks) (elim b as (λ _. List Rattle.mux_history.specs.Rows.Item) [ true ↦ new_received (bytes_of 0 marks) (bytes_of 0 marks ++ bytes) | false ↦ unless_own k (new_sayings k (bytes_of k marks) (bytes_of k marks ++ bytes)) ])) (test_other k 0 nz) ∙ ap (more_all (setting s picks replies) (log s picks replies marks)) (unless-not k (new_sayings k (bytes_of k marks) (bytes_of k marks ++ bytes)) own)
+pub gets-log : (s : EngineState) (picks : List ℕ) (replies : List HouseReply) (k : ℕ) (bytes : List ℕ) (marks : List Mark) → k ≢ 0 → is_own_stream k ≡ false → log s picks replies (Gets k bytes ∷ marks) ≡ rows_given s.core.policy s.pid picks replies k (bytes_of k marks) bytes (log s picks replies marks)
+gets-log s picks replies k bytes marks nz own = ap (λ b. more_all (run_setting s picks replies) (log s picks replies marks) (elim b as (λ _. List Rattle.mux_history.specs.Rows.Item) [ true ↦ new_received (bytes_of 0 marks) (bytes_of 0 marks ++ bytes) | false ↦ unless_own k (new_sayings k (bytes_of k marks) (bytes_of k marks ++ bytes)) ])) (test_other k 0 nz) ∙ ap (more_all (run_setting s picks replies) (log s picks replies marks)) (unless-not k (new_sayings k (bytes_of k marks) (bytes_of k marks ++ bytes)) own)
 
-piece-rows-of : (May : HouseReply → Type 0) (before recorded : Option (List Asked)) (s new : State) (bytes : List ℕ) (x y : ClientState) (heard : RunChange) (c : PieceAt May before recorded s new bytes x y heard) (picks : List ℕ) (replies : List HouseReply) (taken : ℕ) (dn : List Asked) (marks : List Mark) (closed : List ℕ) (rows : List Row)
-    → is_ended rows ≡ false → InFits rows x → RowsFit taken dn s closed rows → BytesFit s marks closed rows → ClientReads (bytes_of x.peer.number marks) x
+piece-rows-of : (May : HouseReply → Type 0) (before recorded : Option (List Asked)) (s new : EngineState) (bytes : List ℕ) (x y : ClientState) (heard : RunChange) (c : PieceAt May before recorded s new bytes x y heard) (picks : List ℕ) (replies : List HouseReply) (taken : ℕ) (dn : List Asked) (marks : List Mark) (closed : List ℕ) (rows : List Row)
+    → is_run_over rows ≡ false → InFits rows x → RowsFit taken dn s closed rows → BytesFit s marks closed rows → ClientReads (bytes_of x.peer.number marks) x
     → Rattle.mux_peers.specs.Says.ComeNext c.piece.receiving.picked rows picks → Rattle.mux_peers.specs.Pieces.ReplyNext c.piece.receiving.used rows replies
     → PieceRows s new x y heard c.piece.receiving.picked c.piece.receiving.used c.piece.receiving.asks rows (rows_given s.core.policy s.pid picks replies x.peer.number (bytes_of x.peer.number marks) bytes rows) (bytes_of x.peer.number marks) bytes
 piece-rows-of May before recorded s new bytes x y heard c picks replies taken dn marks closed rows live fx fit st reads come next =
@@ -179,7 +179,7 @@ piece-rows-of May before recorded s new bytes x y heard c picks replies taken dn
       live = live;
     }
 
-pub goes-piece : (May : HouseReply → Type 0) (before recorded : Option (List Asked)) (s new : State) (bytes : List ℕ) (x y : ClientState) (heard : RunChange) → s.ended ≡ None → is_present s.clients x.peer.number ≡ true → x.peer.number ≢ 0 → ((rows : List Row) → EachFits rows s.clients → InFits rows x) → ((marks : List Mark) → EachReads marks s.clients → ClientReads (bytes_of x.peer.number marks) x)
+pub goes-piece : (May : HouseReply → Type 0) (before recorded : Option (List Asked)) (s new : EngineState) (bytes : List ℕ) (x y : ClientState) (heard : RunChange) → s.ended ≡ None → is_present s.clients x.peer.number ≡ true → x.peer.number ≢ 0 → ((rows : List Row) → EachFits rows s.clients → InFits rows x) → ((marks : List Mark) → EachReads marks s.clients → ClientReads (bytes_of x.peer.number marks) x)
     → PieceAt May before recorded s new bytes x y heard → GoesOn May before recorded s new (Gets x.peer.number bytes)
 goes-piece May before recorded s new bytes x y heard none here nz fits reads c picked given marks closed st al = record {
   picks = h.picked;
@@ -212,7 +212,7 @@ goes-piece May before recorded s new bytes x y heard none here nz fits reads c p
         let r : List HouseReply = given ++ (h.used ++ replies) in
         let v : EngineRepresents p r (length picked) st.asks s marks closed = st.at (h.picked ++ picks) (h.used ++ replies) in
         let rows : List Row = log s p r marks in
-        let live : is_ended rows ≡ false = sym (some-end rows) ∙ ap is_some (sym v.rows.ended_is ∙ none) in
+        let live : is_run_over rows ≡ false = sym (some-end rows) ∙ ap is_some (sym v.rows.ended_is ∙ none) in
         let fx : InFits rows x = fits rows v.rows.fit.each in
         let come : Rattle.mux_peers.specs.Says.ComeNext h.picked rows p = (picks, ap (λ n. drop n p) v.rows.taken_is ∙ drop-front picked (h.picked ++ picks)) in
         let next : Rattle.mux_peers.specs.Pieces.ReplyNext h.used rows r = (replies, ap (λ n. drop n r) (v.rows.drawn_is ∙ st.each) ∙ drop-front given (h.used ++ replies)) in
@@ -240,7 +240,7 @@ goes-piece May before recorded s new bytes x y heard none here nz fits reads c p
 
 -- ---- among all
 
-pub goes-gained : (May : HouseReply → Type 0) (before recorded : Option (List Asked)) (s new : State) (k : ℕ) (bytes : List ℕ) → s.ended ≡ None → is_present s.clients k ≡ true → k ≢ 0 → GainsAt May before recorded s new k bytes → GoesOn May before recorded s new (Gets k bytes)
+pub goes-gained : (May : HouseReply → Type 0) (before recorded : Option (List Asked)) (s new : EngineState) (k : ℕ) (bytes : List ℕ) → s.ended ≡ None → is_present s.clients k ≡ true → k ≢ 0 → GainsAt May before recorded s new k bytes → GoesOn May before recorded s new (Gets k bytes)
 goes-gained May before recorded s new k bytes none here nz c =
     let p = pair k (λ x y. (is_read x.peer.standing ≡ true) × (ReceivesPiece May before recorded s.pid bytes s.core s.up x new.core new.up y c.heard × (new.leaving ≡ s.leaving ++ loss_between x.peer.standing y.peer.standing k))) s.clients new.clients here c.changes in
     subst (λ j. GoesOn May before recorded s new (Gets j bytes)) p.number

@@ -4,7 +4,7 @@ use Rattle.std.specs.Prelude.{filter}
 use Rattle.std.proofs.lemmas.Bool.Decides.{eqb_tells}
 use Rattle.mux_history.specs.declared.why.Why.{Why}
 use Rattle.mux_history.specs.Rows.{Row, rows_of, loses, is_out, is_refusal, is_admit, loss_by, losses, Item, Admit, Fate, Goes, Refused, Drop, End}
-use Rattle.mux_history.specs.Log.{entered, served}
+use Rattle.mux_history.specs.Log.{admitted_clients, served}
 use Rattle.mux_peers.specs.State.{ClientState}
 use Rattle.mux_peers.specs.Stands as stands
 use Rattle.mux_peers.specs.Among.{EachFits}
@@ -15,7 +15,7 @@ use Rattle.mux_state.proofs.Lists.{true_false}
 use Rattle.mux_state.proofs.Closes.{other_row, out_more}
 
 pub record Grows (rows rows' : List Row) (loss : List (ℕ × Option Why)) : Type 0 where
-  pub entered_is : entered rows' ≡ entered rows
+  pub entered_is : admitted_clients rows' ≡ admitted_clients rows
   pub known : (k : ℕ) → IsKnown (rows_of k rows) → IsKnown (rows_of k rows')
   pub out_stays : (k : ℕ) → is_out (rows_of k rows) ≡ true → is_out (rows_of k rows') ≡ true
   pub losses_are : losses rows' ≡ losses rows ++ loss
@@ -57,7 +57,7 @@ known-row row own r h = record {
 -- a row that admits no client and refuses no client
 pub grows-row : (item : Item) (row : Row) (rows : List Row) → row.item ≡ item → NotAdmit item → is_refusal row.fate ≡ false → Grows rows (row ∷ rows) (loss_by row)
 grows-row item row rows i admit fate = record {
-  entered_is = ap (λ b. entered rows ++ elim b as (λ _. List ℕ) [ true ↦ row.client ∷ [] | false ↦ [] ]) (not-admit row.fate item row refl i admit) ∙ append-nil (entered rows);
+  entered_is = ap (λ b. admitted_clients rows ++ elim b as (λ _. List ℕ) [ true ↦ row.client ∷ [] | false ↦ [] ]) (not-admit row.fate item row refl i admit) ∙ append-nil (admitted_clients rows);
   known = λ k h. elim (eqb_tells row.client k) [
     | inl q ↦ subst IsKnown (sym (own_row k row rows q.1)) (known-row row (rows_of k rows) fate h)
     | inr q ↦ subst IsKnown (sym (other_row row.client k row rows refl q.1)) h
@@ -75,7 +75,7 @@ here_in rows k = not (is_out (rows_of k rows))
 served-numbers : (rows : List Row) (cs : List ClientState) → EachFits rows cs → served_in cs ≡ filter (here_in rows) (numbers cs)
 served-numbers rows [] each = refl
 served-numbers rows (c ∷ cs) each =
-    let lost : stands.is_lost c.peer.standing ≡ is_out (rows_of c.peer.number rows) = ap stands.is_lost each.0.peer.standing_is ∙ sym (out_is (rows_of c.peer.number rows)) in
+    let lost : stands.is_standing_lost c.peer.standing ≡ is_out (rows_of c.peer.number rows) = ap stands.is_standing_lost each.0.peer.standing_is ∙ sym (out_is (rows_of c.peer.number rows)) in
     ap (λ b. cond b (served_in cs) (c.peer.number ∷ served_in cs)) lost
     ∙ (ap (λ l. cond (is_out (rows_of c.peer.number rows)) l (c.peer.number ∷ l)) (served-numbers rows cs each.1)
     ∙ turned (is_out (rows_of c.peer.number rows)) c.peer.number (filter (here_in rows) (numbers cs)))
@@ -109,17 +109,17 @@ filter-append p (x ∷ xs) ys = ap (λ l. cond (p x) (x ∷ l) l) (filter-append
     head false l m = refl
 
 -- those that are served stay those that the rows serve, also where some come
-pub served-more : (rows rows' : List Row) (more : List ℕ) (cs cs' : List ClientState) → ((k : ℕ) → is_out (rows_of k rows) ≡ true → is_out (rows_of k rows') ≡ true) → EachFits rows cs → EachFits rows' cs' → numbers cs' ≡ numbers cs ++ more → entered rows' ≡ entered rows ++ more → served_in cs ≡ served rows → served_in cs' ≡ served rows'
+pub served-more : (rows rows' : List Row) (more : List ℕ) (cs cs' : List ClientState) → ((k : ℕ) → is_out (rows_of k rows) ≡ true → is_out (rows_of k rows') ≡ true) → EachFits rows cs → EachFits rows' cs' → numbers cs' ≡ numbers cs ++ more → admitted_clients rows' ≡ admitted_clients rows ++ more → served_in cs ≡ served rows → served_in cs' ≡ served rows'
 served-more rows rows' more cs cs' stays each each' same come was =
-    let old : filter (here_in rows') (numbers cs) ≡ filter (here_in rows') (entered rows) =
+    let old : filter (here_in rows') (numbers cs) ≡ filter (here_in rows') (admitted_clients rows) =
     sym (filter-first (here_in rows') (here_in rows) (numbers cs) (λ k. not-here rows rows' k (stays k)))
     ∙ (ap (filter (here_in rows')) (sym (served-numbers rows cs each) ∙ was)
-    ∙ filter-first (here_in rows') (here_in rows) (entered rows) (λ k. not-here rows rows' k (stays k))) in
+    ∙ filter-first (here_in rows') (here_in rows) (admitted_clients rows) (λ k. not-here rows rows' k (stays k))) in
     served-numbers rows' cs' each'
     ∙ (ap (filter (here_in rows')) same
     ∙ (filter-append (here_in rows') (numbers cs) more
     ∙ (ap (λ l. l ++ filter (here_in rows') more) old
-    ∙ (sym (filter-append (here_in rows') (entered rows) more) ∙ ap (filter (here_in rows')) (sym come)))))
+    ∙ (sym (filter-append (here_in rows') (admitted_clients rows) more) ∙ ap (filter (here_in rows')) (sym come)))))
 
 pub served-grows : (rows rows' : List Row) (loss : List (ℕ × Option Why)) (cs cs' : List ClientState) → Grows rows rows' loss → EachFits rows cs → EachFits rows' cs' → numbers cs' ≡ numbers cs → served_in cs ≡ served rows → served_in cs' ≡ served rows'
-served-grows rows rows' loss cs cs' g each each' same was = served-more rows rows' [] cs cs' g.out_stays each each' (same ∙ sym (append-nil (numbers cs))) (g.entered_is ∙ sym (append-nil (entered rows))) was
+served-grows rows rows' loss cs cs' g each each' same was = served-more rows rows' [] cs cs' g.out_stays each each' (same ∙ sym (append-nil (numbers cs))) (g.entered_is ∙ sym (append-nil (admitted_clients rows))) was

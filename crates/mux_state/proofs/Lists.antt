@@ -7,7 +7,7 @@ use Rattle.mux_outside.specs.Streams.{among, without}
 use Rattle.mux_history.specs.Rows.{Row}
 use Rattle.mux_history.specs.Promises.{is_empty}
 use Rattle.mux_peers.specs.State.{ClientState}
-use Rattle.mux_peers.specs.Stands.{is_lost}
+use Rattle.mux_peers.specs.Stands.{is_standing_lost}
 use Rattle.mux_peers.specs.Among.{ArePeersApart, EachFits, InFits, is_present}
 use Rattle.mux_state.specs.State.{served_in, waiting_clients, without_client}
 
@@ -89,13 +89,13 @@ waiting_less k (c ∷ cs) = by_test (c.peer.number == k) refl (waiting_less k cs
     by_test true t ih = own_empty (is_empty c.peer.queue) t ih
     by_test false t ih = by_empty (is_empty c.peer.queue) t ih
 
-pub lost_less : (rows : List Row) (k : ℕ) (cs : List ClientState) → ((c : ClientState) → c.peer.number ≡ k → InFits rows c → is_lost c.peer.standing ≡ true) → EachFits rows cs → served_in (without_client k cs) ≡ served_in cs
+pub lost_less : (rows : List Row) (k : ℕ) (cs : List ClientState) → ((c : ClientState) → c.peer.number ≡ k → InFits rows c → is_standing_lost c.peer.standing ≡ true) → EachFits rows cs → served_in (without_client k cs) ≡ served_in cs
 lost_less rows k [] h each = refl
 lost_less rows k (c ∷ cs) h each = by_test (c.peer.number == k) refl (lost_less rows k cs h each.1)
   where
-    by_test : (b : Bool) → (c.peer.number == k) ≡ b → served_in (without_client k cs) ≡ served_in cs → served_in (cond (not b) (c ∷ without_client k cs) (without_client k cs)) ≡ cond (is_lost c.peer.standing) (served_in cs) (c.peer.number ∷ served_in cs)
+    by_test : (b : Bool) → (c.peer.number == k) ≡ b → served_in (without_client k cs) ≡ served_in cs → served_in (cond (not b) (c ∷ without_client k cs) (without_client k cs)) ≡ cond (is_standing_lost c.peer.standing) (served_in cs) (c.peer.number ∷ served_in cs)
     by_test true t ih = ih ∙ sym (ap (λ b. cond b (served_in cs) (c.peer.number ∷ served_in cs)) (h c (eqb-true c.peer.number k t) each.0))
-    by_test false t ih = ap (λ s. cond (is_lost c.peer.standing) s (c.peer.number ∷ s)) ih
+    by_test false t ih = ap (λ s. cond (is_standing_lost c.peer.standing) s (c.peer.number ∷ s)) ih
 
 -- ---- a number less
 

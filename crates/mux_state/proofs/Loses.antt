@@ -6,14 +6,14 @@ use Rattle.mux_outside.specs.declared.house_mark.HouseMark.{HouseMark as Asked}
 use Rattle.mux_outside.specs.declared.house.HouseReply.{HouseReply}
 use Rattle.mux_outside.specs.declared.mark.Mark.{Mark}
 use Rattle.mux_outside.specs.declared.mark.Mark.TheVariants.{Ends, Fails, WriteFails}
-use Rattle.mux_history.specs.Rows.{Row, rows_of, is_out, is_ended, Gone, Goes}
+use Rattle.mux_history.specs.Rows.{Row, rows_of, is_out, is_run_over, Gone, Goes}
 use Rattle.mux_history.specs.Farewell.{farewell}
 use Rattle.mux_history.specs.Settings.{by_lists}
 use Rattle.mux_history.specs.Log.{Setting, more_of, next_row}
 use Rattle.mux_history.specs.Journal.{bytes_in, bytes_of, is_accepted, is_own_stream, log_of_journal, unless_own}
 use Rattle.mux_peers.specs.declared.standing.Standing.TheVariants.{Lost}
 use Rattle.mux_peers.specs.State.{ClientState, part}
-use Rattle.mux_peers.specs.Stands.{PartFits, is_lost, is_read}
+use Rattle.mux_peers.specs.Stands.{PartFits, is_standing_lost, is_read}
 use Rattle.mux_peers.specs.Among.{AllFit, ChangesOne, InFits, MovesTo, is_present}
 use Rattle.mux_peers.specs.Asked.{asks_of_rows}
 use Rattle.mux_peers.specs.Laws.{AllMoved}
@@ -23,9 +23,9 @@ use Rattle.mux_peers.proofs.Losses.{gone, gone-row}
 use Rattle.mux_peers.proofs.Ones.{one-moves-all}
 use Rattle.mux_peers.proofs.RowForms.{made}
 use Rattle.mux_peers.proofs.Stood.{out_is}
-use Rattle.mux_state.specs.Moves.{IsEvent, IsGone, LosesAt}
-use Rattle.mux_state.specs.State.{State, numbers}
-use Rattle.mux_state.specs.Stands.{BytesFit, ClientReads, EachReads, GoesAlone, IsAllowed, IsStrange, RowsFit, ServerReads, Stands, EngineRepresents, log, setting}
+use Rattle.mux_state.specs.Moves.{IsStreamEvent, IsGone, LosesAt}
+use Rattle.mux_state.specs.State.{EngineState, numbers}
+use Rattle.mux_state.specs.Stands.{BytesFit, ClientReads, EachReads, GoesAlone, IsAllowed, IsStrange, RowsFit, ServerReads, RepresentsSoFar, EngineRepresents, log, run_setting}
 use Rattle.mux_state.proofs.Closes.{other_row}
 use Rattle.mux_state.proofs.Grows.{grows-row}
 use Rattle.mux_state.proofs.Lists.{true_false}
@@ -34,7 +34,7 @@ use Rattle.mux_state.proofs.OneClient.{all-fit, apart-here, changes-to, numbers-
 use Rattle.mux_state.proofs.Over.{are-bytes-on, next-live, unless-not, one-more, some-end, strange-on}
 use Rattle.mux_state.proofs.Refused.{apart-refused}
 
-pub gone-event : (mark : Mark) (k : ℕ) → IsGone mark k → IsEvent mark
+pub gone-event : (mark : Mark) (k : ℕ) → IsGone mark k → IsStreamEvent mark
 gone-event (Ends j) k g = tt
 gone-event (Fails j) k g = tt
 gone-event (WriteFails j) k g = tt
@@ -56,14 +56,14 @@ by-number : (s : Setting) (rows : List Row) (k : ℕ) (b : Bool) (xs : List _) �
 by-number s rows k true xs e own = absurd (cc)
 by-number s rows k false xs e own = ap (Rattle.mux_history.specs.Log.more_all s rows) (unless-not k (Gone k ∷ []) own)
 
-pub gone-log : (s : State) (picks : List ℕ) (replies : List HouseReply) (mark : Mark) (marks : List Mark) (k : ℕ) → k ≢ 0 → IsGone mark k → is_own_stream k ≡ false → log s picks replies (mark ∷ marks) ≡ more_of (setting s picks replies) (log s picks replies marks) (Gone k)
-gone-log s picks replies (Ends j) marks k nz g own = by-number (setting s picks replies) (log s picks replies marks) j (j == 0) _ (Rattle.mux_state.proofs.Lists.test_other j 0 (λ e. nz (sym g ∙ e))) (ap is_own_stream g ∙ own) ∙ ap (λ i. more_of (setting s picks replies) (log s picks replies marks) (Gone i)) g
-gone-log s picks replies (Fails j) marks k nz g own = by-number (setting s picks replies) (log s picks replies marks) j (j == 0) _ (Rattle.mux_state.proofs.Lists.test_other j 0 (λ e. nz (sym g ∙ e))) (ap is_own_stream g ∙ own) ∙ ap (λ i. more_of (setting s picks replies) (log s picks replies marks) (Gone i)) g
-gone-log s picks replies (WriteFails j) marks k nz g own = by-number (setting s picks replies) (log s picks replies marks) j (j == 0) _ (Rattle.mux_state.proofs.Lists.test_other j 0 (λ e. nz (sym g ∙ e))) (ap is_own_stream g ∙ own) ∙ ap (λ i. more_of (setting s picks replies) (log s picks replies marks) (Gone i)) g
+pub gone-log : (s : EngineState) (picks : List ℕ) (replies : List HouseReply) (mark : Mark) (marks : List Mark) (k : ℕ) → k ≢ 0 → IsGone mark k → is_own_stream k ≡ false → log s picks replies (mark ∷ marks) ≡ more_of (run_setting s picks replies) (log s picks replies marks) (Gone k)
+gone-log s picks replies (Ends j) marks k nz g own = by-number (run_setting s picks replies) (log s picks replies marks) j (j == 0) _ (Rattle.mux_state.proofs.Lists.test_other j 0 (λ e. nz (sym g ∙ e))) (ap is_own_stream g ∙ own) ∙ ap (λ i. more_of (run_setting s picks replies) (log s picks replies marks) (Gone i)) g
+gone-log s picks replies (Fails j) marks k nz g own = by-number (run_setting s picks replies) (log s picks replies marks) j (j == 0) _ (Rattle.mux_state.proofs.Lists.test_other j 0 (λ e. nz (sym g ∙ e))) (ap is_own_stream g ∙ own) ∙ ap (λ i. more_of (run_setting s picks replies) (log s picks replies marks) (Gone i)) g
+gone-log s picks replies (WriteFails j) marks k nz g own = by-number (run_setting s picks replies) (log s picks replies marks) j (j == 0) _ (Rattle.mux_state.proofs.Lists.test_other j 0 (λ e. nz (sym g ∙ e))) (ap is_own_stream g ∙ own) ∙ ap (λ i. more_of (run_setting s picks replies) (log s picks replies marks) (Gone i)) g
 gone-log s picks replies mark marks k nz g own = absurd g
 
 -- it isn't the master's own
-pub gone-client : (s : State) (marks : List Mark) (mark : Mark) (k : ℕ) → IsGone mark k → IsAllowed s marks mark → is_own_stream k ≡ false
+pub gone-client : (s : EngineState) (marks : List Mark) (mark : Mark) (k : ℕ) → IsGone mark k → IsAllowed s marks mark → is_own_stream k ≡ false
 gone-client s marks (Ends j) k g al = ap is_own_stream (sym g) ∙ al.1
 gone-client s marks (Fails j) k g al = ap is_own_stream (sym g) ∙ al.1
 gone-client s marks (WriteFails j) k g al = ap is_own_stream (sym g) ∙ al.1
@@ -71,21 +71,21 @@ gone-client s marks mark k g al = absurd g
 
 -- ---- one that is out makes no row
 
-no-gone : (s : Setting) (rows : List Row) (k : ℕ) → is_ended rows ≡ false → is_out (rows_of k rows) ≡ true → more_of s rows (Gone k) ≡ rows
+no-gone : (s : Setting) (rows : List Row) (k : ℕ) → is_run_over rows ≡ false → is_out (rows_of k rows) ≡ true → more_of s rows (Gone k) ≡ rows
 no-gone s rows k live out = ap (λ b. elim b as (λ _. List Row) [ false ↦ rows | true ↦ next_row s rows (Gone k) ∷ rows ]) (next-live rows (Gone k) live ∙ ap not out)
 
 -- where nothing more makes a row, the engine stands as it was
-pub still-gone : (s new : State) (k : ℕ) (mark : Mark) → k ≢ 0 → IsGone mark k → s.ended ≡ None → new ≡ s
-    → ((picks : List ℕ) (replies : List HouseReply) (taken : ℕ) (dn : List Asked) (marks : List Mark) (closed : List ℕ) → EngineRepresents picks replies taken dn s marks closed → IsAllowed s marks mark → is_ended (log s picks replies marks) ≡ false → is_out (rows_of k (log s picks replies marks)) ≡ true)
+pub still-gone : (s new : EngineState) (k : ℕ) (mark : Mark) → k ≢ 0 → IsGone mark k → s.ended ≡ None → new ≡ s
+    → ((picks : List ℕ) (replies : List HouseReply) (taken : ℕ) (dn : List Asked) (marks : List Mark) (closed : List ℕ) → EngineRepresents picks replies taken dn s marks closed → IsAllowed s marks mark → is_run_over (log s picks replies marks) ≡ false → is_out (rows_of k (log s picks replies marks)) ≡ true)
     → GoesAlone s new mark
-still-gone s new k mark nz g live same out picked given marks closed st al = subst (λ t. Stands picked given t (mark ∷ marks) closed) (sym same) record {
+still-gone s new k mark nz g live same out picked given marks closed st al = subst (λ t. RepresentsSoFar picked given t (mark ∷ marks) closed) (sym same) record {
   asks = st.asks;
   each = st.each;
   at = λ picks replies.
       let v : EngineRepresents (picked ++ picks) (given ++ replies) (length picked) st.asks s marks closed = st.at picks replies in
       let rows : List Row = log s (picked ++ picks) (given ++ replies) marks in
-      let on : is_ended rows ≡ false = sym (some-end rows) ∙ ap is_some (sym v.rows.ended_is ∙ live) in
-      let is : log s (picked ++ picks) (given ++ replies) (mark ∷ marks) ≡ rows = gone-log s (picked ++ picks) (given ++ replies) mark marks k nz g (gone-client s marks mark k g al) ∙ no-gone (setting s (picked ++ picks) (given ++ replies)) rows k on (out (picked ++ picks) (given ++ replies) (length picked) st.asks marks closed v al on) in
+      let on : is_run_over rows ≡ false = sym (some-end rows) ∙ ap is_some (sym v.rows.ended_is ∙ live) in
+      let is : log s (picked ++ picks) (given ++ replies) (mark ∷ marks) ≡ rows = gone-log s (picked ++ picks) (given ++ replies) mark marks k nz g (gone-client s marks mark k g al) ∙ no-gone (run_setting s (picked ++ picks) (given ++ replies)) rows k on (out (picked ++ picks) (given ++ replies) (length picked) st.asks marks closed v al on) in
       record {
         rows = subst (RowsFit (length picked) st.asks s closed) (sym is) v.rows;
         bytes = subst (BytesFit s (mark ∷ marks) closed) (sym is) record {
@@ -104,11 +104,11 @@ still-gone s new k mark nz g live same out picked given marks closed st al = sub
 
 -- ---- one that isn't lost
 
-out-not : (rows : List Row) (x : ClientState) → InFits rows x → is_lost x.peer.standing ≡ false → is_out (rows_of x.peer.number rows) ≡ false
-out-not rows x f here = out_is (rows_of x.peer.number rows) ∙ (ap is_lost (sym f.peer.standing_is) ∙ here)
+out-not : (rows : List Row) (x : ClientState) → InFits rows x → is_standing_lost x.peer.standing ≡ false → is_out (rows_of x.peer.number rows) ≡ false
+out-not rows x f here = out_is (rows_of x.peer.number rows) ∙ (ap is_standing_lost (sym f.peer.standing_is) ∙ here)
 
 -- whom the change finds
-found : (k : ℕ) (R : ClientState → ClientState → Type 0) (rows : List Row) (cs cs' : List ClientState) → ((x y : ClientState) → R x y → is_lost x.peer.standing ≡ false) → AllByRecursion (InFits rows) cs → is_present cs k ≡ true → ChangesOne k R cs cs' → is_out (rows_of k rows) ≡ false
+found : (k : ℕ) (R : ClientState → ClientState → Type 0) (rows : List Row) (cs cs' : List ClientState) → ((x y : ClientState) → R x y → is_standing_lost x.peer.standing ≡ false) → AllByRecursion (InFits rows) cs → is_present cs k ≡ true → ChangesOne k R cs cs' → is_out (rows_of k rows) ≡ false
 found k R rows [] cs' f all p h = absurd (cc)
 found k R rows (c ∷ cs) cs' f all p h = by_head (c.peer.number == k) refl p h (λ ds q w. found k R rows cs ds f all.1 q w)
   where
@@ -120,7 +120,7 @@ found k R rows (c ∷ cs) cs' f all p h = by_head (c.peer.number == k) refl p h 
 abbrev lost_row : ℕ → List Row → Row
 lost_row k rows = made (Gone k) k [] (farewell (gone k) (rows_of k rows)) [] Goes
 
-moves-to : (s new : State) (k : ℕ) (picks : List ℕ) (replies : List HouseReply) (rows : List Row) → is_ended rows ≡ false → AllFit rows s.core s.clients s.up → (x y : ClientState) → x.peer.number ≡ k → InFits rows x → (is_lost x.peer.standing ≡ false) × Loses (part s.core x.peer s.up) (part new.core y.peer new.up)
+moves-to : (s new : EngineState) (k : ℕ) (picks : List ℕ) (replies : List HouseReply) (rows : List Row) → is_run_over rows ≡ false → AllFit rows s.core s.clients s.up → (x y : ClientState) → x.peer.number ≡ k → InFits rows x → (is_standing_lost x.peer.standing ≡ false) × Loses (part s.core x.peer s.up) (part new.core y.peer new.up)
     → MovesTo (lost_row k rows ∷ rows) new.core new.up x y
 moves-to s new k picks replies rows live fit x y e f h = record {
   number = h.1.number;
@@ -128,18 +128,18 @@ moves-to s new k picks replies rows live fit x y e f h = record {
       (subst (λ j. PartFits (next_row (by_lists s.core.policy s.pid picks replies) rows (Gone j) ∷ rows) (part new.core y.peer new.up)) e (h.1.goes s.core.policy s.pid picks replies rows record { core = fit.core; peer = f.peer; up = fit.up } live h.0));
 }
 
-all-moved : (s new : State) (k : ℕ) (picks : List ℕ) (replies : List HouseReply) (rows : List Row) → LosesAt s new k → is_ended rows ≡ false → is_present s.clients k ≡ true → AllFit rows s.core s.clients s.up → AllMoved rows (lost_row k rows ∷ rows) new.core s.clients new.clients new.up
+all-moved : (s new : EngineState) (k : ℕ) (picks : List ℕ) (replies : List HouseReply) (rows : List Row) → LosesAt s new k → is_run_over rows ≡ false → is_present s.clients k ≡ true → AllFit rows s.core s.clients s.up → AllMoved rows (lost_row k rows ∷ rows) new.core s.clients new.clients new.up
 all-moved s new k picks replies rows c live here fit =
     one-moves-all k rows (lost_row k rows ∷ rows) s.core new.core s.clients new.clients s.up new.up fit
     (subst (λ r. Rattle.mux_peers.specs.Among.AddsFor k rows (r ∷ rows)) (gone-row s.core.policy s.pid picks replies k rows) (losses-add-for-one s.core.policy s.pid picks replies k rows)) here
-    (changes-to k (λ x y. (is_lost x.peer.standing ≡ false) × Loses (part s.core x.peer s.up) (part new.core y.peer new.up)) (MovesTo (lost_row k rows ∷ rows) new.core new.up) (InFits rows) s.clients new.clients (moves-to s new k picks replies rows live fit) (all-fit rows s.clients fit.each) c.changes)
+    (changes-to k (λ x y. (is_standing_lost x.peer.standing ≡ false) × Loses (part s.core x.peer s.up) (part new.core y.peer new.up)) (MovesTo (lost_row k rows ∷ rows) new.core new.up) (InFits rows) s.clients new.clients (moves-to s new k picks replies rows live fit) (all-fit rows s.clients fit.each) c.changes)
 
-rows-lost : (taken : ℕ) (dn : List Asked) (s new : State) (k : ℕ) (picks : List ℕ) (replies : List HouseReply) (closed : List ℕ) (rows : List Row) → k ≢ 0 → LosesAt s new k → is_ended rows ≡ false → is_present s.clients k ≡ true → RowsFit taken dn s closed rows → RowsFit taken dn new closed (lost_row k rows ∷ rows)
+rows-lost : (taken : ℕ) (dn : List Asked) (s new : EngineState) (k : ℕ) (picks : List ℕ) (replies : List HouseReply) (closed : List ℕ) (rows : List Row) → k ≢ 0 → LosesAt s new k → is_run_over rows ≡ false → is_present s.clients k ≡ true → RowsFit taken dn s closed rows → RowsFit taken dn new closed (lost_row k rows ∷ rows)
 rows-lost taken dn s new k picks replies closed rows nz c live here st =
     let row : Row = lost_row k rows in
     moved taken taken dn dn ((k, None) ∷ []) closed s new rows (row ∷ rows) st record {
       grows = grows-row (Gone k) row rows refl tt refl;
-      numbers_are = numbers-one k (λ x y. (is_lost x.peer.standing ≡ false) × Loses (part s.core x.peer s.up) (part new.core y.peer new.up)) s.clients new.clients (λ x y h. h.1.number) c.changes;
+      numbers_are = numbers-one k (λ x y. (is_standing_lost x.peer.standing ≡ false) × Loses (part s.core x.peer s.up) (part new.core y.peer new.up)) s.clients new.clients (λ x y h. h.1.number) c.changes;
       refused_is = c.refused;
       taken_is = st.taken_is;
       drawn_is = st.drawn_is;
@@ -159,28 +159,28 @@ rows-lost taken dn s new k picks replies closed rows nz c live here st =
 
 -- a client that is lost has nothing to read
 lost-reads : (bytes : List ℕ) (y : ClientState) → y.peer.standing ≡ Lost None → ClientReads bytes y
-lost-reads bytes y e = record { mode_is = λ l. true_false (sym (ap is_lost e) ∙ l); rest_is = λ l. true_false (sym l ∙ ap is_read e) }
+lost-reads bytes y e = record { mode_is = λ l. true_false (sym (ap is_standing_lost e) ∙ l); rest_is = λ l. true_false (sym l ∙ ap is_read e) }
 
-bytes-lost : (taken : ℕ) (dn : List Asked) (s new : State) (k : ℕ) (mark : Mark) (marks : List Mark) (closed : List ℕ) (rows : List Row) → IsGone mark k → IsAllowed s marks mark → LosesAt s new k → is_present s.clients k ≡ true → RowsFit taken dn s closed rows → BytesFit s marks closed rows → BytesFit new (mark ∷ marks) closed (lost_row k rows ∷ rows)
+bytes-lost : (taken : ℕ) (dn : List Asked) (s new : EngineState) (k : ℕ) (mark : Mark) (marks : List Mark) (closed : List ℕ) (rows : List Row) → IsGone mark k → IsAllowed s marks mark → LosesAt s new k → is_present s.clients k ≡ true → RowsFit taken dn s closed rows → BytesFit s marks closed rows → BytesFit new (mark ∷ marks) closed (lost_row k rows ∷ rows)
 bytes-lost taken dn s new k mark marks closed rows g al c here fit st =
-    let same : numbers new.clients ≡ numbers s.clients = numbers-one k (λ x y. (is_lost x.peer.standing ≡ false) × Loses (part s.core x.peer s.up) (part new.core y.peer new.up)) s.clients new.clients (λ x y h. h.1.number) c.changes in
+    let same : numbers new.clients ≡ numbers s.clients = numbers-one k (λ x y. (is_standing_lost x.peer.standing ≡ false) × Loses (part s.core x.peer s.up) (part new.core y.peer new.up)) s.clients new.clients (λ x y h. h.1.number) c.changes in
     record {
       are_bytes = are-bytes-on s marks mark (gone-event mark k g) al st.are_bytes;
-      clients = λ l. reads-one k (λ x y. (is_lost x.peer.standing ≡ false) × Loses (part s.core x.peer s.up) (part new.core y.peer new.up)) mark marks s.clients new.clients (λ j ne. gone-quiet mark k j g) (λ x y e r h. (h.1.number ∙ e, lost-reads (bytes_of k (mark ∷ marks)) y h.1.standing)) here (λ p. st.clients l) fit.fit.apart c.changes;
+      clients = λ l. reads-one k (λ x y. (is_standing_lost x.peer.standing ≡ false) × Loses (part s.core x.peer s.up) (part new.core y.peer new.up)) mark marks s.clients new.clients (λ j ne. gone-quiet mark k j g) (λ x y e r h. (h.1.number ∙ e, lost-reads (bytes_of k (mark ∷ marks)) y h.1.standing)) here (λ p. st.clients l) fit.fit.apart c.changes;
       server = λ l. subst (ServerReads (bytes_of 0 (mark ∷ marks))) (sym c.server) (subst (λ b. ServerReads b s.server) (sym (ap (λ b. bytes_of 0 marks ++ b) (gone-quiet mark k 0 g) ∙ append-nil (bytes_of 0 marks))) (st.server l));
       there = λ l j a p. st.there l j (sym (gone-accepts mark marks k j g) ∙ a) (sym (here-same s new j same c.refused) ∙ p);
       strange = λ j a. let w : IsStrange s (mark ∷ marks) closed j = strange-on s marks closed mark j (gone-event mark k g) al st.strange a in record { not_here = here-same s new j same c.refused ∙ w.not_here; not_closed_yet = w.not_closed_yet; no_bytes = w.no_bytes };
     }
 
-pub goes-lost : (s new : State) (k : ℕ) (mark : Mark) → k ≢ 0 → IsGone mark k → s.ended ≡ None → is_present s.clients k ≡ true → LosesAt s new k → GoesAlone s new mark
+pub goes-lost : (s new : EngineState) (k : ℕ) (mark : Mark) → k ≢ 0 → IsGone mark k → s.ended ≡ None → is_present s.clients k ≡ true → LosesAt s new k → GoesAlone s new mark
 goes-lost s new k mark nz g live here c picked given marks closed st al = record {
   asks = st.asks;
   each = st.each;
   at = λ picks replies.
       let v : EngineRepresents (picked ++ picks) (given ++ replies) (length picked) st.asks s marks closed = st.at picks replies in
       let rows : List Row = log s (picked ++ picks) (given ++ replies) marks in
-      let on : is_ended rows ≡ false = sym (some-end rows) ∙ ap is_some (sym v.rows.ended_is ∙ live) in
-      let in' : is_out (rows_of k rows) ≡ false = found k (λ x y. (is_lost x.peer.standing ≡ false) × Loses (part s.core x.peer s.up) (part new.core y.peer new.up)) rows s.clients new.clients (λ x y h. h.0) (all-fit rows s.clients v.rows.fit.each) here c.changes in
+      let on : is_run_over rows ≡ false = sym (some-end rows) ∙ ap is_some (sym v.rows.ended_is ∙ live) in
+      let in' : is_out (rows_of k rows) ≡ false = found k (λ x y. (is_standing_lost x.peer.standing ≡ false) × Loses (part s.core x.peer s.up) (part new.core y.peer new.up)) rows s.clients new.clients (λ x y h. h.0) (all-fit rows s.clients v.rows.fit.each) here c.changes in
       let is : log new (picked ++ picks) (given ++ replies) (mark ∷ marks) ≡ lost_row k rows ∷ rows =
       log-as (picked ++ picks) (given ++ replies) (mark ∷ marks) ∙ (gone-log s (picked ++ picks) (given ++ replies) mark marks k nz g (gone-client s marks mark k g al)
       ∙ (one-more s (picked ++ picks) (given ++ replies) rows (Gone k) on (ap not in') ∙ ap (λ r. r ∷ rows) (gone-row s.core.policy s.pid (picked ++ picks) (given ++ replies) k rows))) in

@@ -18,14 +18,14 @@ use Rattle.window_ledger.specs.declared.ledger.State.{State as Account}
 use Rattle.window_ledger.specs.declared.ledger.State.TheVariants.{Opened, Confirmed}
 use Rattle.window_ledger.specs.Stands.{IsStateOf, account_of}
 use Rattle.channel_table.specs.declared.channel.Channel.{Channel}
-use Rattle.channel_table.specs.Entries.{TableEntry, is_of}
+use Rattle.channel_table.specs.Entries.{TableEntry, is_channel_of}
 use Rattle.channel_table.specs.Stands.{ChannelsFit, EntryFits}
 use Rattle.forward_rules.specs.State.{Forward}
 use Rattle.forward_rules.specs.Stands as forwards
 use Rattle.forward_rules.specs.Stands.{AreForwardsListed, places_of}
 use Rattle.mux_core.specs.State.{CoreState}
 use Rattle.mux_core.specs.State as core
-use Rattle.mux_core.specs.Stands.{ClientFits, Look, Stands, look, unreplied_in}
+use Rattle.mux_core.specs.Stands.{ClientFits, Look, CoreRepresents, look, unreplied_in}
 use Rattle.mux_core.proofs.Found.{filters-turn, held-local}
 use Rattle.mux_peers.proofs.Steps.{served-of}
 use Rattle.mux_state.specs.Others.{HeldChannel, HeldForward, Matters, held_channel, held_forward, matters_of_core}
@@ -67,22 +67,22 @@ held-is e x h =
     ∙ ap (λ b. held-with (channel-with x.client x.own x.remote b) x.number (account-of x)) h.by))))
 
 -- those of a client, one by one
-channels-are : (k : ℕ) (es : List TableEntry) (xs : List history.Channel) → ChannelsFit es xs → map held_channel (filter (is_of k) es) ≡ map held-of (filter (local.is_of k) xs)
+channels-are : (k : ℕ) (es : List TableEntry) (xs : List history.Channel) → ChannelsFit es xs → map held_channel (filter (is_channel_of k) es) ≡ map held-of (filter (local.is_of k) xs)
 channels-are k [] [] fit = refl
 channels-are k [] (x ∷ xs) fit = absurd fit
 channels-are k (e ∷ es) [] fit = absurd fit
-channels-are k (e ∷ es) (x ∷ xs) fit = by_case (channels-are k es xs fit.1) (is_of k e) refl
+channels-are k (e ∷ es) (x ∷ xs) fit = by_case (channels-are k es xs fit.1) (is_channel_of k e) refl
   where
-    same : local.is_of k x ≡ is_of k e
+    same : local.is_of k x ≡ is_channel_of k e
     same = ap (λ i. i == k) (sym fit.0.client)
 
-    by_case : map held_channel (filter (is_of k) es) ≡ map held-of (filter (local.is_of k) xs) → (b : Bool) → is_of k e ≡ b → map held_channel (filter (is_of k) (e ∷ es)) ≡ map held-of (filter (local.is_of k) (x ∷ xs))
+    by_case : map held_channel (filter (is_channel_of k) es) ≡ map held-of (filter (local.is_of k) xs) → (b : Bool) → is_channel_of k e ≡ b → map held_channel (filter (is_channel_of k) (e ∷ es)) ≡ map held-of (filter (local.is_of k) (x ∷ xs))
     by_case ih true h =
-        ap (map held_channel) (filter-yes (is_of k) e es h)
+        ap (map held_channel) (filter-yes (is_channel_of k) e es h)
         ∙ (ap (λ l. held_channel e ∷ l) ih
         ∙ (ap (λ y. y ∷ map held-of (filter (local.is_of k) xs)) (held-is e x fit.0)
         ∙ sym (ap (map held-of) (filter-yes (local.is_of k) x xs (same ∙ h)))))
-    by_case ih false h = ap (map held_channel) (filter-no (is_of k) e es h) ∙ (ih ∙ sym (ap (map held-of) (filter-no (local.is_of k) x xs (same ∙ h))))
+    by_case ih false h = ap (map held_channel) (filter-no (is_channel_of k) e es h) ∙ (ih ∙ sym (ap (map held-of) (filter-no (local.is_of k) x xs (same ∙ h))))
 
 -- ---- forwardings
 
@@ -166,7 +166,7 @@ not-true : (b : Bool) → not b ≡ true → b ≡ false
 not-true true e = true_false (sym e)
 not-true false e = refl
 
-answers-are : (s : CoreState) (k : ℕ) (rows : List Row) → Stands s rows → find (is-mine k) s.clients ≡ answers-of k (rows_of k rows)
+answers-are : (s : CoreState) (k : ℕ) (rows : List Row) → CoreRepresents s rows → find (is-mine k) s.clients ≡ answers-of k (rows_of k rows)
 answers-are s k rows st = by_found (find (is-mine k) s.clients) refl (found-one (look rows) (is-mine k) s.clients st.clients.each)
   where
     own : List Row
@@ -203,7 +203,7 @@ matters-with channels requests forwards answers = record { channels = channels; 
 pub matters-by : ℕ → List Row → Matters
 matters-by k own = matters-with (map held-of (held_of own)) (unreplied_in (places_of own)) (map forward-of (current own)) (answers-of k own)
 
-pub matters-are : (s : CoreState) (k : ℕ) (rows : List Row) → Stands s rows → matters_of_core k s ≡ matters-by k (rows_of k rows)
+pub matters-are : (s : CoreState) (k : ℕ) (rows : List Row) → CoreRepresents s rows → matters_of_core k s ≡ matters-by k (rows_of k rows)
 unfolding matters-by
 matters-are s k rows st =
     let own : List Row = rows_of k rows in

@@ -4,16 +4,16 @@ use Rattle.std.specs.Prelude.{filter, ◌==◌}
 use Rattle.mux_outside.specs.Streams.{among}
 use Rattle.mux_outside.specs.declared.house_mark.HouseMark.{HouseMark as Asked}
 use Rattle.mux_history.specs.declared.why.Why.{Why}
-use Rattle.mux_history.specs.Rows.{Row, rows_of, is_out, is_ended, losses}
+use Rattle.mux_history.specs.Rows.{Row, rows_of, is_out, is_run_over, losses}
 use Rattle.mux_history.specs.Choices.{numbers_taken, replies_given}
 use Rattle.mux_history.specs.Right.{AreFresh}
 use Rattle.mux_history.specs.Solo.{run_end_of}
-use Rattle.mux_history.specs.Promises.{listens}
+use Rattle.mux_history.specs.Promises.{is_still_accepting}
 use Rattle.mux_peers.specs.State.{ClientState}
 use Rattle.mux_peers.specs.Among.{AllFit, is_present}
 use Rattle.mux_peers.specs.Asked.{asks_of_rows}
-use Rattle.mux_state.specs.State.{State, is_here, numbers, waiting_in}
-use Rattle.mux_state.specs.Stands.{RowsFit, not_closed, place, refusal}
+use Rattle.mux_state.specs.State.{EngineState, is_here, numbers, waiting_streams}
+use Rattle.mux_state.specs.Stands.{RowsFit, not_closed, next_frame_place, refused_client_row}
 use Rattle.mux_state.proofs.Grows.{Grows, filter-append, served-grows}
 use Rattle.mux_state.proofs.Lists.{either}
 
@@ -30,7 +30,7 @@ present-numbers cs cs' k e = present-in cs' ∙ (ap (λ l. in-list l) e ∙ sym 
     present-in (c ∷ cs) = ap (either (c.peer.number == k)) (present-in cs)
 
 -- what a move says of its own
-pub record Moves (taken : ℕ) (drawn : List Asked) (loss : List (ℕ × Option Why)) (closed : List ℕ) (old new : State) (rows rows' : List Row) : Type 0 where
+pub record Moves (taken : ℕ) (drawn : List Asked) (loss : List (ℕ × Option Why)) (closed : List ℕ) (old new : EngineState) (rows rows' : List Row) : Type 0 where
   pub grows : Grows rows rows' loss
   pub numbers_are : numbers new.clients ≡ numbers old.clients
   pub refused_is : new.refused ≡ old.refused
@@ -40,21 +40,21 @@ pub record Moves (taken : ℕ) (drawn : List Asked) (loss : List (ℕ × Option 
   pub fresh : AreFresh rows'
   pub fit : AllFit rows' new.core new.clients new.up
   pub ended_is : new.ended ≡ run_end_of rows'
-  pub listening_is : new.listening ≡ listens rows'
-  pub waiting_is : new.waiting ≡ waiting_in new
+  pub listening_is : new.listening ≡ is_still_accepting rows'
+  pub waiting_is : new.waiting ≡ waiting_streams new
   pub leaving_are : new.leaving ≡ old.leaving ++ loss
   -- those that are lost now were not closed before
   pub unclosed : filter (not_closed closed) loss ≡ loss
-  pub place_is : is_ended rows' ≡ false → new.server.index ≡ place rows'
+  pub place_is : is_run_over rows' ≡ false → new.server.index ≡ next_frame_place rows'
   pub absent : (k : ℕ) → k ≢ 0 → is_here old k ≡ false → rows_of k rows ≡ [] → rows_of k rows' ≡ []
   -- a client that was refused has no row more
-  pub refused_stay : (k : ℕ) → rows_of k rows ≡ refusal k ∷ [] → rows_of k rows' ≡ refusal k ∷ []
+  pub refused_stay : (k : ℕ) → rows_of k rows ≡ refused_client_row k ∷ [] → rows_of k rows' ≡ refused_client_row k ∷ []
   pub server_in : is_out (rows_of 0 rows') ≡ false
 
-pub here-same : (old new : State) (k : ℕ) → numbers new.clients ≡ numbers old.clients → new.refused ≡ old.refused → is_here new k ≡ is_here old k
+pub here-same : (old new : EngineState) (k : ℕ) → numbers new.clients ≡ numbers old.clients → new.refused ≡ old.refused → is_here new k ≡ is_here old k
 here-same old new k e r = ap (λ b. b || among k new.refused) (present-numbers old.clients new.clients k e) ∙ ap (λ js. is_present old.clients k || among k js) r
 
-pub moved : (taken taken' : ℕ) (drawn drawn' : List Asked) (loss : List (ℕ × Option Why)) (closed : List ℕ) (old new : State) (rows rows' : List Row) → RowsFit taken drawn old closed rows → Moves taken' drawn' loss closed old new rows rows' → RowsFit taken' drawn' new closed rows'
+pub moved : (taken taken' : ℕ) (drawn drawn' : List Asked) (loss : List (ℕ × Option Why)) (closed : List ℕ) (old new : EngineState) (rows rows' : List Row) → RowsFit taken drawn old closed rows → Moves taken' drawn' loss closed old new rows rows' → RowsFit taken' drawn' new closed rows'
 moved taken taken' drawn drawn' loss closed old new rows rows' st m = record {
   taken_is = m.taken_is;
   drawn_is = m.drawn_is;

@@ -9,10 +9,10 @@ use Rattle.mux_history.specs.Journal.{bytes_in, bytes_of}
 use Rattle.mux_peers.specs.declared.standing.Standing.{Standing}
 use Rattle.mux_peers.specs.declared.standing.Standing.TheVariants.{Awaited, Greeted, Proxied, Unread, Lost}
 use Rattle.mux_peers.specs.State.{ClientState}
-use Rattle.mux_peers.specs.Stands.{is_lost, standing_of}
+use Rattle.mux_peers.specs.Stands.{is_standing_lost, standing_of}
 use Rattle.mux_peers.specs.Among.{ChangesOne, EachFits, InFits, is_present}
 use Rattle.mux_peers.proofs.Stood.{kept_here, stands_here}
-use Rattle.mux_state.specs.State.{State, SameClient, in_client, is_here, loss_between, loss_in, numbers}
+use Rattle.mux_state.specs.State.{EngineState, SameClient, in_client, is_here, loss_between, loss_in, numbers}
 use Rattle.mux_state.specs.Stands.{ClientReads, EachReads, RowsFit, not_closed}
 use Rattle.mux_state.proofs.Lists.{either, test_other, true_false}
 
@@ -82,7 +82,7 @@ reads-one k R mark marks (c ∷ cs) cs' quiet f p e apart h = by_head (c.peer.nu
 
 -- ---- losses
 
-lost-in : (s : Standing) (k : ℕ) → is_lost s ≡ false → loss_in s k ≡ []
+lost-in : (s : Standing) (k : ℕ) → is_standing_lost s ≡ false → loss_in s k ≡ []
 lost-in Awaited k e = refl
 lost-in Greeted k e = refl
 lost-in Proxied k e = refl
@@ -90,7 +90,7 @@ lost-in Unread k e = refl
 lost-in (Lost why) k e = true_false e
 
 -- the loss of a row, by how its client stands after it
-pub loss-row : (row : Row) (own : List Row) (f : Fate) (item : Item) → row.fate ≡ f → row.item ≡ item → is_lost (standing_of own) ≡ false → is_refusal row.fate ≡ false → loss_by row ≡ loss_in (standing_of (row ∷ own)) row.client
+pub loss-row : (row : Row) (own : List Row) (f : Fate) (item : Item) → row.fate ≡ f → row.item ≡ item → is_standing_lost (standing_of own) ≡ false → is_refusal row.fate ≡ false → loss_by row ≡ loss_in (standing_of (row ∷ own)) row.client
 loss-row row own (Drop cause) item e i here fine = rw e refl
 loss-row row own Refused item e i here fine = true_false (sym (ap is_refusal e) ∙ fine)
 loss-row row own (End cause) item e i here fine =
@@ -102,7 +102,7 @@ loss-row row own Goes item e i here fine = rw (e, i) (sym (lost-in (standing_of 
 
 -- of one client that wasn't closed
 pub unclosed-one : (closed : List ℕ) (k : ℕ) (before now : Standing) → among k closed ≡ false → filter (not_closed closed) (loss_between before now k) ≡ loss_between before now k
-unclosed-one closed k before now e = by_before (is_lost before) now
+unclosed-one closed k before now e = by_before (is_standing_lost before) now
   where
     by_before : (b : Bool) (now : Standing) → filter (not_closed closed) (cond b [] (loss_in now k)) ≡ cond b [] (loss_in now k)
     by_before true now = refl
@@ -113,7 +113,7 @@ unclosed-one closed k before now e = by_before (is_lost before) now
     by_before false (Lost why) = ap (λ t. cond (not t) ((k, why) ∷ []) []) e
 
 -- a client that is here wasn't closed
-pub open-here : (taken : ℕ) (dn : List _) (s : State) (closed : List ℕ) (rows : List Row) (k : ℕ) → RowsFit taken dn s closed rows → is_present s.clients k ≡ true → among k closed ≡ false
+pub open-here : (taken : ℕ) (dn : List _) (s : EngineState) (closed : List ℕ) (rows : List Row) (k : ℕ) → RowsFit taken dn s closed rows → is_present s.clients k ≡ true → among k closed ≡ false
 open-here taken dn s closed rows k st here = by_closed (among k closed) refl
   where
     by_closed : (b : Bool) → among k closed ≡ b → b ≡ false
@@ -121,5 +121,5 @@ open-here taken dn s closed rows k st here = by_closed (among k closed) refl
     by_closed true e = true_false (sym (ap (λ b. b || among k s.refused) here) ∙ st.closed_gone k e)
 
 -- one that is here is another than one that isn't
-pub apart-here : (s : State) (k j : ℕ) → is_present s.clients k ≡ true → is_here s j ≡ false → k ≢ j
+pub apart-here : (s : EngineState) (k j : ℕ) → is_present s.clients k ≡ true → is_here s j ≡ false → k ≢ j
 apart-here s k j here gone e = true_false (sym (ap (λ b. b || among k s.refused) here) ∙ (ap (is_here s) e ∙ gone))

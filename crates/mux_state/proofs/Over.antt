@@ -13,19 +13,19 @@ use Rattle.ssh_grammar.specs.Said.{Outgoing, Body, Payload, BadFraming, InProxy,
 use Rattle.mux_history.specs.declared.ended.Ended.{Ended}
 use Rattle.mux_history.specs.declared.ended.Ended.TheVariants as ended
 use Rattle.mux_history.specs.declared.broke.Break.TheVariants as broke
-use Rattle.mux_history.specs.Rows.{Row, is_ended, Item, Gone, ServerEnd, ServerCut, ServerFailed, Fate, Goes, Refused, Drop, End}
-use Rattle.mux_history.specs.Heard.{finishes}
+use Rattle.mux_history.specs.Rows.{Row, is_run_over, Item, Gone, ServerEnd, ServerCut, ServerFailed, Fate, Goes, Refused, Drop, End}
+use Rattle.mux_history.specs.Heard.{outcome_of_end}
 use Rattle.mux_history.specs.Pending.{pending_up}
 use Rattle.mux_history.specs.Solo.{run_end_of}
-use Rattle.mux_history.specs.Log.{Setting, bare, is_took, makes_next, makes_row, more_all, more_of, next_row}
+use Rattle.mux_history.specs.Log.{Setting, bare_row, is_took, makes_next, makes_row, more_all, more_of, next_row}
 use Rattle.mux_history.specs.Journal.{bytes_in, bytes_of, received_item, is_accepted, is_own_stream, unless_own, items_in, new_received, new_sayings, sent_item, server_end}
 use Rattle.mux_peers.specs.State.{ClientState}
 use Rattle.mux_peers.specs.Among.{EachFits}
 use Rattle.mux_peers.specs.Asked.{asks_of_rows}
 use Rattle.mux_peers.proofs.Ones.{other-fits}
-use Rattle.mux_state.specs.Moves.{IsEvent}
-use Rattle.mux_state.specs.State.{State, over, server_cause}
-use Rattle.mux_state.specs.Stands.{BytesFit, GoesAlone, IsAllowed, IsStrange, RowsFit, ServerReads, EngineRepresents, log, place, setting}
+use Rattle.mux_state.specs.Moves.{IsStreamEvent}
+use Rattle.mux_state.specs.State.{EngineState, run_ended_by, server_cause}
+use Rattle.mux_state.specs.Stands.{BytesFit, GoesAlone, IsAllowed, IsStrange, RowsFit, ServerReads, EngineRepresents, log, next_frame_place, run_setting}
 use Rattle.mux_state.proofs.Closes.{other_row}
 use Rattle.mux_state.proofs.Grows.{NotAdmit, grows-row}
 use Rattle.mux_state.proofs.Refused.{refused-client}
@@ -35,24 +35,24 @@ use Rattle.mux_state.proofs.Takes.{more-yes}
 
 -- ---- after the end nothing more makes a row
 
-end-is : (f : Fate) (row : Row) (rows : List Row) → row.fate ≡ f → is_some (run_end_of rows) ≡ is_ended rows → is_some (run_end_of (row ∷ rows)) ≡ is_ended (row ∷ rows)
+end-is : (f : Fate) (row : Row) (rows : List Row) → row.fate ≡ f → is_some (run_end_of rows) ≡ is_run_over rows → is_some (run_end_of (row ∷ rows)) ≡ is_run_over (row ∷ rows)
 end-is Goes row rows e ih = rw e ih
 end-is Refused row rows e ih = rw e ih
 end-is (Drop why) row rows e ih = rw e ih
 end-is (End cause) row rows e ih = rw e refl
 
-pub some-end : (rows : List Row) → is_some (run_end_of rows) ≡ is_ended rows
+pub some-end : (rows : List Row) → is_some (run_end_of rows) ≡ is_run_over rows
 some-end [] = refl
 some-end (row ∷ rows) = end-is row.fate row rows refl (some-end rows)
 
-pub over-one : (s : Setting) (rows : List Row) (item : Item) → is_ended rows ≡ true → is_took item ≡ false → more_of s rows item ≡ rows
+pub over-one : (s : Setting) (rows : List Row) (item : Item) → is_run_over rows ≡ true → is_took item ≡ false → more_of s rows item ≡ rows
 over-one s rows item e t = ap (λ b. elim b as (λ _. List Row) [ false ↦ rows | true ↦ next_row s rows item ∷ rows ]) (ap (λ b. elim b as (λ _. Bool) [ true ↦ is_took item | false ↦ makes_row rows item ]) e ∙ t)
 
 abbrev NoneTaken : List Item → Type 0
 NoneTaken [] = Unit {0}
 NoneTaken (item ∷ items) = (is_took item ≡ false) × NoneTaken items
 
-pub over-all : (s : Setting) (items : List Item) (rows : List Row) → is_ended rows ≡ true → NoneTaken items → more_all s rows items ≡ rows
+pub over-all : (s : Setting) (items : List Item) (rows : List Row) → is_run_over rows ≡ true → NoneTaken items → more_all s rows items ≡ rows
 over-all s [] rows e n = refl
 over-all s (item ∷ items) rows e n = ap (λ r. more_all s r items) (over-one s rows item e n.0) ∙ over-all s items rows e n.1
 
@@ -85,7 +85,7 @@ unless-not k xs e = ap (λ b. elim b as (λ _. List Item) [ true ↦ [] | false 
 pub none-said-by : (j : ℕ) → (elim (HOUSE == j) as (λ _. List ℕ) [ true ↦ [] | false ↦ [] ]) ≡ []
 none-said-by j = elim (HOUSE == j) as (λ b. (elim b as (λ _. List ℕ) [ true ↦ [] | false ↦ [] ]) ≡ []) [ true ↦ refl | false ↦ refl ]
 
-none-taken : (before : List Mark) (mark : Mark) → IsEvent mark → NoneTaken (items_in before mark)
+none-taken : (before : List Mark) (mark : Mark) → IsStreamEvent mark → NoneTaken (items_in before mark)
 none-taken before (Accepts k) h = (refl, tt)
 none-taken before (Gets k bytes) h = by-stream (k == 0) (new_received (bytes_of 0 before) (bytes_of 0 before ++ bytes)) (unless_own k (new_sayings k (bytes_of k before) (bytes_of k before ++ bytes)))
     (none-heard (drop (length (parse InProxy (bytes_of 0 before)).says) (parse InProxy (bytes_of 0 before ++ bytes)).says)) (none-own k _ (none-said k (drop (length (said (bytes_of k before))) (said (bytes_of k before ++ bytes)))))
@@ -103,7 +103,7 @@ accepted-apart k j marks a b e = true_false (sym a ∙ (ap (λ i. is_accepted i 
 of-bytes : (k j : ℕ) (bytes : List ℕ) → k ≢ j → bytes_in j (Gets k bytes) ≡ []
 of-bytes k j bytes ne = ap (λ b. elim b as (λ _. List ℕ) [ true ↦ bytes | false ↦ [] ]) (test_other k j ne)
 
-pub still-strange : (s : State) (marks : List Mark) (mark : Mark) (j : ℕ) → IsEvent mark → IsAllowed s marks mark → is_accepted j (mark ∷ marks) ≡ false → (is_accepted j marks ≡ false) × (j ≢ 0 → bytes_in j mark ≡ [])
+pub still-strange : (s : EngineState) (marks : List Mark) (mark : Mark) (j : ℕ) → IsStreamEvent mark → IsAllowed s marks mark → is_accepted j (mark ∷ marks) ≡ false → (is_accepted j marks ≡ false) × (j ≢ 0 → bytes_in j mark ≡ [])
 still-strange s marks (Accepts k) j h al a = (before (k == j) a, λ nz. refl)
   where
     before : (b : Bool) → cond b true (is_accepted j marks) ≡ false → is_accepted j marks ≡ false
@@ -122,7 +122,7 @@ still-strange s marks (WriteFails k) j h al a = (a, λ nz. refl)
 still-strange s marks (House (HouseAnswer k id given)) j h al a = (a, λ nz. none-said-by j)
 still-strange s marks mark j h al a = absurd h
 
-pub strange-on : (s : State) (marks : List Mark) (closed : List ℕ) (mark : Mark) (j : ℕ) → IsEvent mark → IsAllowed s marks mark → ((j : ℕ) → is_accepted j marks ≡ false → IsStrange s marks closed j) → is_accepted j (mark ∷ marks) ≡ false → IsStrange s (mark ∷ marks) closed j
+pub strange-on : (s : EngineState) (marks : List Mark) (closed : List ℕ) (mark : Mark) (j : ℕ) → IsStreamEvent mark → IsAllowed s marks mark → ((j : ℕ) → is_accepted j marks ≡ false → IsStrange s marks closed j) → is_accepted j (mark ∷ marks) ≡ false → IsStrange s (mark ∷ marks) closed j
 strange-on s marks closed mark j h al was a =
     let q = still-strange s marks mark j h al a in
     let v : IsStrange s marks closed j = was j q.0 in
@@ -134,7 +134,7 @@ bytes-then : (a b : List ℕ) → AreBytes a → AreBytes b → AreBytes (a ++ b
 bytes-then [] b x y = y
 bytes-then (n ∷ a) b x y = (x.0, bytes-then a b x.1 y)
 
-bytes-at : (s : State) (marks : List Mark) (mark : Mark) (j : ℕ) → IsEvent mark → IsAllowed s marks mark → AreBytes (bytes_in j mark)
+bytes-at : (s : EngineState) (marks : List Mark) (mark : Mark) (j : ℕ) → IsStreamEvent mark → IsAllowed s marks mark → AreBytes (bytes_in j mark)
 bytes-at s marks (Accepts k) j h al = tt
 bytes-at s marks (Gets k bytes) j h al = by_stream (k == j)
   where
@@ -147,12 +147,12 @@ bytes-at s marks (Fails k) j h al = tt
 bytes-at s marks (WriteFails k) j h al = tt
 bytes-at s marks mark j h al = absurd h
 
-pub are-bytes-on : (s : State) (marks : List Mark) (mark : Mark) → IsEvent mark → IsAllowed s marks mark → ((t : ℕ) → AreBytes (bytes_of t marks)) → (t : ℕ) → AreBytes (bytes_of t (mark ∷ marks))
+pub are-bytes-on : (s : EngineState) (marks : List Mark) (mark : Mark) → IsStreamEvent mark → IsAllowed s marks mark → ((t : ℕ) → AreBytes (bytes_of t marks)) → (t : ℕ) → AreBytes (bytes_of t (mark ∷ marks))
 are-bytes-on s marks mark h al was t = bytes-then (bytes_of t marks) (bytes_in t mark) (was t) (bytes-at s marks mark t h al)
 
 -- ---- an engine whose run is over
 
-bytes-over : (s : State) (mark : Mark) (marks : List Mark) (closed : List ℕ) (rows : List Row) → IsEvent mark → IsAllowed s marks mark → is_ended rows ≡ true → BytesFit s marks closed rows → BytesFit s (mark ∷ marks) closed rows
+bytes-over : (s : EngineState) (mark : Mark) (marks : List Mark) (closed : List ℕ) (rows : List Row) → IsStreamEvent mark → IsAllowed s marks mark → is_run_over rows ≡ true → BytesFit s marks closed rows → BytesFit s (mark ∷ marks) closed rows
 bytes-over s mark marks closed rows h al e st = record {
   are_bytes = are-bytes-on s marks mark h al st.are_bytes;
   clients = λ l. true_false (sym e ∙ l);
@@ -161,15 +161,15 @@ bytes-over s mark marks closed rows h al e st = record {
   strange = λ j a. strange-on s marks closed mark j h al st.strange a;
 }
 
-pub goes-over : (s : State) (mark : Mark) (cause : Ended) → IsEvent mark → s.ended ≡ Some cause → GoesAlone s s mark
-goes-over s mark cause h over picked given marks closed st al = record {
+pub goes-over : (s : EngineState) (mark : Mark) (cause : Ended) → IsStreamEvent mark → s.ended ≡ Some cause → GoesAlone s s mark
+goes-over s mark cause h run_ended_by picked given marks closed st al = record {
   asks = st.asks;
   each = st.each;
   at = λ picks replies.
       let v : EngineRepresents (picked ++ picks) (given ++ replies) (length picked) st.asks s marks closed = st.at picks replies in
       let rows : List Row = log s (picked ++ picks) (given ++ replies) marks in
-      let e : is_ended rows ≡ true = sym (some-end rows) ∙ ap is_some (sym v.rows.ended_is ∙ over) in
-      let is : log s (picked ++ picks) (given ++ replies) (mark ∷ marks) ≡ rows = over-all (setting s (picked ++ picks) (given ++ replies)) (items_in marks mark) rows e (none-taken marks mark h) in
+      let e : is_run_over rows ≡ true = sym (some-end rows) ∙ ap is_some (sym v.rows.ended_is ∙ run_ended_by) in
+      let is : log s (picked ++ picks) (given ++ replies) (mark ∷ marks) ≡ rows = over-all (run_setting s (picked ++ picks) (given ++ replies)) (items_in marks mark) rows e (none-taken marks mark h) in
       record {
         rows = subst (RowsFit (length picked) st.asks s closed) (sym is) v.rows;
         bytes = subst (BytesFit s (mark ∷ marks) closed) (sym is) (bytes-over s mark marks closed rows h al e v.bytes);
@@ -185,16 +185,16 @@ IsEndItem ServerFailed = Unit {0}
 IsEndItem item = ⊥
 
 abbrev pub end_row : Item → Ended → Row
-end_row item cause = bare item 0 (finishes cause)
+end_row item cause = bare_row item 0 (outcome_of_end cause)
 
 each-end : (item : Item) (cause : Ended) (rows : List Row) (cs : List ClientState) → EachFits rows cs → EachFits (end_row item cause ∷ rows) cs
 each-end item cause rows [] each = tt
 each-end item cause rows (c ∷ cs) each = (other-fits 0 (end_row item cause) rows c refl each.0.nonzero each.0, each-end item cause rows cs each.1)
 
-rows-of-end : (item : Item) (taken : ℕ) (dn : List Asked) (s : State) (cause : Ended) (closed : List ℕ) (rows : List Row) → RowsFit taken dn s closed rows
+rows-of-end : (item : Item) (taken : ℕ) (dn : List Asked) (s : EngineState) (cause : Ended) (closed : List ℕ) (rows : List Row) → RowsFit taken dn s closed rows
     → Rattle.mux_history.specs.Choices.numbers_taken (end_row item cause ∷ rows) ≡ Rattle.mux_history.specs.Choices.numbers_taken rows → Rattle.mux_history.specs.Choices.replies_given (end_row item cause ∷ rows) ≡ Rattle.mux_history.specs.Choices.replies_given rows
-    → Rattle.mux_peers.specs.Asked.item_asks item ≡ [] → Rattle.mux_history.specs.Pending.took_up item ≡ 0 → NotAdmit item → RowsFit taken dn (over s cause) closed (end_row item cause ∷ rows)
-rows-of-end item taken dn s cause closed rows st numbers replies asks took admit = moved taken taken dn dn [] closed s (over s cause) rows (end_row item cause ∷ rows) st record {
+    → Rattle.mux_peers.specs.Asked.item_asks item ≡ [] → Rattle.mux_history.specs.Pending.took_up item ≡ 0 → NotAdmit item → RowsFit taken dn (run_ended_by s cause) closed (end_row item cause ∷ rows)
+rows-of-end item taken dn s cause closed rows st numbers replies asks took admit = moved taken taken dn dn [] closed s (run_ended_by s cause) rows (end_row item cause ∷ rows) st record {
   grows = grows-row item (end_row item cause) rows refl admit refl;
   numbers_are = refl;
   refused_is = refl;
@@ -219,13 +219,13 @@ rows-of-end item taken dn s cause closed rows st numbers replies asks took admit
   server_in = st.server_in;
 }
 
-rows-end : (taken : ℕ) (dn : List Asked) (s : State) (item : Item) (cause : Ended) (closed : List ℕ) (rows : List Row) → IsEndItem item → RowsFit taken dn s closed rows → RowsFit taken dn (over s cause) closed (end_row item cause ∷ rows)
+rows-end : (taken : ℕ) (dn : List Asked) (s : EngineState) (item : Item) (cause : Ended) (closed : List ℕ) (rows : List Row) → IsEndItem item → RowsFit taken dn s closed rows → RowsFit taken dn (run_ended_by s cause) closed (end_row item cause ∷ rows)
 rows-end taken dn s ServerEnd cause closed rows h st = rows-of-end ServerEnd taken dn s cause closed rows st refl refl refl refl tt
 rows-end taken dn s (ServerCut left) cause closed rows h st = rows-of-end (ServerCut left) taken dn s cause closed rows st refl refl refl refl tt
 rows-end taken dn s ServerFailed cause closed rows h st = rows-of-end ServerFailed taken dn s cause closed rows st refl refl refl refl tt
 rows-end taken dn s item cause closed rows h st = absurd h
 
-bytes-end : (s : State) (item : Item) (cause : Ended) (mark : Mark) (marks : List Mark) (closed : List ℕ) (rows : List Row) → IsEvent mark → IsAllowed s marks mark → BytesFit s marks closed rows → BytesFit (over s cause) (mark ∷ marks) closed (end_row item cause ∷ rows)
+bytes-end : (s : EngineState) (item : Item) (cause : Ended) (mark : Mark) (marks : List Mark) (closed : List ℕ) (rows : List Row) → IsStreamEvent mark → IsAllowed s marks mark → BytesFit s marks closed rows → BytesFit (run_ended_by s cause) (mark ∷ marks) closed (end_row item cause ∷ rows)
 bytes-end s item cause mark marks closed rows h al st = record {
   are_bytes = are-bytes-on s marks mark h al st.are_bytes;
   clients = λ l. true_false l;
@@ -235,53 +235,53 @@ bytes-end s item cause mark marks closed rows h al st = record {
 }
 
 -- what the server's stream does, while the run goes on
-pub ends-by : (s : State) (mark : Mark) (cause : Ended) → IsEvent mark
-    → ((picks : List ℕ) (replies : List HouseReply) (taken : ℕ) (dn : List Asked) (marks : List Mark) (closed : List ℕ) → EngineRepresents picks replies taken dn s marks closed → is_ended (log s picks replies marks) ≡ false
+pub ends-by : (s : EngineState) (mark : Mark) (cause : Ended) → IsStreamEvent mark
+    → ((picks : List ℕ) (replies : List HouseReply) (taken : ℕ) (dn : List Asked) (marks : List Mark) (closed : List ℕ) → EngineRepresents picks replies taken dn s marks closed → is_run_over (log s picks replies marks) ≡ false
     → (item : Item) × (IsEndItem item × (log s picks replies (mark ∷ marks) ≡ end_row item cause ∷ log s picks replies marks)))
-    → s.ended ≡ None → GoesAlone s (over s cause) mark
+    → s.ended ≡ None → GoesAlone s (run_ended_by s cause) mark
 ends-by s mark cause h makes live picked given marks closed st al = record {
   asks = st.asks;
   each = st.each;
   at = λ picks replies.
       let v : EngineRepresents (picked ++ picks) (given ++ replies) (length picked) st.asks s marks closed = st.at picks replies in
       let rows : List Row = log s (picked ++ picks) (given ++ replies) marks in
-      let e : is_ended rows ≡ false = sym (some-end rows) ∙ ap is_some (sym v.rows.ended_is ∙ live) in
+      let e : is_run_over rows ≡ false = sym (some-end rows) ∙ ap is_some (sym v.rows.ended_is ∙ live) in
       let m = makes (picked ++ picks) (given ++ replies) (length picked) st.asks marks closed v e in
       record {
-        rows = subst (RowsFit (length picked) st.asks (over s cause) closed) (sym m.1.1) (rows-end (length picked) st.asks s m.0 cause closed rows m.1.0 v.rows);
-        bytes = subst (BytesFit (over s cause) (mark ∷ marks) closed) (sym m.1.1) (bytes-end s m.0 cause mark marks closed rows h al v.bytes);
+        rows = subst (RowsFit (length picked) st.asks (run_ended_by s cause) closed) (sym m.1.1) (rows-end (length picked) st.asks s m.0 cause closed rows m.1.0 v.rows);
+        bytes = subst (BytesFit (run_ended_by s cause) (mark ∷ marks) closed) (sym m.1.1) (bytes-end s m.0 cause mark marks closed rows h al v.bytes);
       };
 }
 
-pub next-live : (rows : List Row) (item : Item) → is_ended rows ≡ false → makes_next rows item ≡ makes_row rows item
+pub next-live : (rows : List Row) (item : Item) → is_run_over rows ≡ false → makes_next rows item ≡ makes_row rows item
 next-live rows item live = ap (λ b. elim b as (λ _. Bool) [ true ↦ is_took item | false ↦ makes_row rows item ]) live
 
-pub one-more : (s : State) (picks : List ℕ) (replies : List HouseReply) (rows : List Row) (item : Item) → is_ended rows ≡ false → makes_row rows item ≡ true → more_of (setting s picks replies) rows item ≡ next_row (setting s picks replies) rows item ∷ rows
-one-more s picks replies rows item live m = more-yes (setting s picks replies) rows item (next-live rows item live ∙ m)
+pub one-more : (s : EngineState) (picks : List ℕ) (replies : List HouseReply) (rows : List Row) (item : Item) → is_run_over rows ≡ false → makes_row rows item ≡ true → more_of (run_setting s picks replies) rows item ≡ next_row (run_setting s picks replies) rows item ∷ rows
+one-more s picks replies rows item live m = more-yes (run_setting s picks replies) rows item (next-live rows item live ∙ m)
 
-pub goes-failed : (s : State) → s.ended ≡ None → GoesAlone s (over s ended.ServerFailed) (Fails 0)
+pub goes-failed : (s : EngineState) → s.ended ≡ None → GoesAlone s (run_ended_by s ended.ServerFailed) (Fails 0)
 goes-failed s live = ends-by s (Fails 0) ended.ServerFailed tt (λ picks replies taken dn marks closed v l. (ServerFailed, (tt, one-more s picks replies (log s picks replies marks) ServerFailed l refl))) live
 
-pub goes-unwritten : (s : State) → s.ended ≡ None → GoesAlone s (over s ended.ServerFailed) (WriteFails 0)
+pub goes-unwritten : (s : EngineState) → s.ended ≡ None → GoesAlone s (run_ended_by s ended.ServerFailed) (WriteFails 0)
 goes-unwritten s live = ends-by s (WriteFails 0) ended.ServerFailed tt (λ picks replies taken dn marks closed v l. (ServerFailed, (tt, one-more s picks replies (log s picks replies marks) ServerFailed l refl))) live
 
 abbrev cause_by : ℕ → List ℕ → Ended
 cause_by index [] = ended.ServerEnd
 cause_by index (b ∷ rest) = ended.Broke index (broke.Cut (length (b ∷ rest)))
 
-ends-row : (s : State) (picks : List ℕ) (replies : List HouseReply) (rows : List Row) (rest : List ℕ) → is_ended rows ≡ false → IsEndItem (server_end rest) × (more_of (setting s picks replies) rows (server_end rest) ≡ end_row (server_end rest) (cause_by (place rows) rest) ∷ rows)
+ends-row : (s : EngineState) (picks : List ℕ) (replies : List HouseReply) (rows : List Row) (rest : List ℕ) → is_run_over rows ≡ false → IsEndItem (server_end rest) × (more_of (run_setting s picks replies) rows (server_end rest) ≡ end_row (server_end rest) (cause_by (next_frame_place rows) rest) ∷ rows)
 ends-row s picks replies rows [] l = (tt, one-more s picks replies rows ServerEnd l refl)
 ends-row s picks replies rows (b ∷ rest) l = (tt, one-more s picks replies rows (ServerCut (length (b ∷ rest))) l refl)
 
-cause-is : (s : State) (rest : List ℕ) → s.server.rest ≡ rest → server_cause s ≡ cause_by s.server.index rest
+cause-is : (s : EngineState) (rest : List ℕ) → s.server.rest ≡ rest → server_cause s ≡ cause_by s.server.index rest
 cause-is s [] e = ap (λ (r : List ℕ). elim r as (λ _. Ended) [ [] ↦ ended.ServerEnd | b ∷ rest ↦ ended.Broke s.server.index (broke.Cut (length (b ∷ rest))) ]) e
 cause-is s (b ∷ rest) e = ap (λ (r : List ℕ). elim r as (λ _. Ended) [ [] ↦ ended.ServerEnd | b ∷ rest ↦ ended.Broke s.server.index (broke.Cut (length (b ∷ rest))) ]) e
 
-pub goes-ended : (s : State) → s.ended ≡ None → GoesAlone s (over s (server_cause s)) (Ends 0)
+pub goes-ended : (s : EngineState) → s.ended ≡ None → GoesAlone s (run_ended_by s (server_cause s)) (Ends 0)
 goes-ended s live = ends-by s (Ends 0) (server_cause s) tt (λ picks replies taken dn marks closed v l.
     let rows : List Row = log s picks replies marks in
     let reads : ServerReads (bytes_of 0 marks) s.server = v.bytes.server l in
     let rest : List ℕ = (parse InProxy (bytes_of 0 marks)).rest in
     let w = ends-row s picks replies rows rest l in
-    let c : server_cause s ≡ cause_by (place rows) rest = cause-is s rest (sym reads.rest_is) ∙ ap (λ i. cause_by i rest) (v.rows.place_is l) in
+    let c : server_cause s ≡ cause_by (next_frame_place rows) rest = cause-is s rest (sym reads.rest_is) ∙ ap (λ i. cause_by i rest) (v.rows.place_is l) in
     (server_end rest, (w.0, w.1 ∙ ap (λ x. end_row (server_end rest) x ∷ rows) (sym c)))) live

@@ -10,7 +10,7 @@ use Rattle.mux_history.specs.Pending.{pending, pending_down, pending_up}
 use Rattle.mux_history.specs.Promises.{has_output, is_empty}
 use Rattle.mux_peers.specs.State.{ClientState}
 use Rattle.mux_peers.specs.Among.{ArePeersApart, EachFits, is_present}
-use Rattle.mux_state.specs.State.{State, queue_in, waiting_clients, waiting_in}
+use Rattle.mux_state.specs.State.{EngineState, queue_in, waiting_clients, waiting_streams}
 use Rattle.mux_state.specs.Stands.{RowsFit}
 use Rattle.mux_state.proofs.Lists.{either, not_here, test_other}
 use Rattle.mux_state.proofs.Waits.{queue_at}
@@ -30,7 +30,7 @@ no-queue [] k gone = refl
 no-queue (c ∷ cs) k gone = let q : (c.peer.number ≢ k) × (is_present cs k ≡ false) = not_here k c cs gone in
     ap (λ b. cond b c.peer.queue (queue_at cs k)) (test_other c.peer.number k q.0) ∙ no-queue cs k q.1
 
-client-pending : (taken : ℕ) (dn : List Asked) (s : State) (closed : List ℕ) (rows : List Row) (k : ℕ) → RowsFit taken dn s closed rows → k ≢ 0 → among k closed ≡ false → queue_at s.clients k ≡ pending_down (rows_of k rows)
+client-pending : (taken : ℕ) (dn : List Asked) (s : EngineState) (closed : List ℕ) (rows : List Row) (k : ℕ) → RowsFit taken dn s closed rows → k ≢ 0 → among k closed ≡ false → queue_at s.clients k ≡ pending_down (rows_of k rows)
 client-pending taken dn s closed rows k st nz unclosed = by_here (is_present s.clients k) (among k s.refused) refl refl
   where
     by_here : (a b : Bool) → is_present s.clients k ≡ a → among k s.refused ≡ b → queue_at s.clients k ≡ pending_down (rows_of k rows)
@@ -39,7 +39,7 @@ client-pending taken dn s closed rows k st nz unclosed = by_here (is_present s.c
     by_here false false e r = no-queue s.clients k e ∙ sym (ap pending_down (st.absent k nz (ap (λ b. b || among k s.refused) e ∙ r) unclosed))
 
 -- what waits for a stream that is not closed is pending
-pub queue-pending : (taken : ℕ) (dn : List Asked) (s : State) (closed : List ℕ) (rows : List Row) (k : ℕ) → RowsFit taken dn s closed rows → among k closed ≡ false → queue_in s k ≡ pending k rows
+pub queue-pending : (taken : ℕ) (dn : List Asked) (s : EngineState) (closed : List ℕ) (rows : List Row) (k : ℕ) → RowsFit taken dn s closed rows → among k closed ≡ false → queue_in s k ≡ pending k rows
 queue-pending taken dn s closed rows k st unclosed = elim (eqb_tells k 0) [
   | inl q ↦ ap (λ b. cond b s.up.waiting (queue_at s.clients k)) q.0 ∙ (st.fit.up ∙ sym (ap (λ b. by_stream b) q.0))
   | inr q ↦ ap (λ b. cond b s.up.waiting (queue_at s.clients k)) q.0 ∙ (client-pending taken dn s closed rows k st q.1 unclosed ∙ sym (ap (λ b. by_stream b) q.0))
@@ -75,7 +75,7 @@ no-server rows [] e = refl
 no-server rows (c ∷ cs) e = ap (λ b. either b (is_present cs 0)) e.0.nonzero ∙ no-server rows cs e.1
 
 -- a stream waits where something waits for it
-stream-waits : (rows : List Row) (s : State) (k : ℕ) → EachFits rows s.clients → ArePeersApart s.clients → among k (waiting_in s) ≡ not (is_empty (queue_in s k))
+stream-waits : (rows : List Row) (s : EngineState) (k : ℕ) → EachFits rows s.clients → ArePeersApart s.clients → among k (waiting_streams s) ≡ not (is_empty (queue_in s k))
 stream-waits rows s k each apart = elim (eqb_tells k 0) [
   | inl q ↦ by_up (is_empty s.up.waiting) q.1 ∙ sym (ap (λ b. not (is_empty (cond b s.up.waiting (queue_at s.clients k)))) q.0)
   | inr q ↦ others (is_empty s.up.waiting) q.1 ∙ (client-waits k s.clients apart ∙ sym (ap (λ b. not (is_empty (cond b s.up.waiting (queue_at s.clients k)))) q.0))
@@ -92,5 +92,5 @@ stream-waits rows s k each apart = elim (eqb_tells k 0) [
     others true nz = refl
     others false nz = ap (λ b. b || among k (waiting_clients s.clients)) (test_other 0 k (λ e. nz (sym e)))
 
-pub waits-output : (taken : ℕ) (dn : List Asked) (s : State) (closed : List ℕ) (rows : List Row) (k : ℕ) → RowsFit taken dn s closed rows → among k closed ≡ false → among k s.waiting ≡ has_output rows k
+pub waits-output : (taken : ℕ) (dn : List Asked) (s : EngineState) (closed : List ℕ) (rows : List Row) (k : ℕ) → RowsFit taken dn s closed rows → among k closed ≡ false → among k s.waiting ≡ has_output rows k
 waits-output taken dn s closed rows k st unclosed = ap (among k) st.waiting_is ∙ (stream-waits rows s k st.fit.each st.fit.apart ∙ ap (λ q. not (is_empty q)) (queue-pending taken dn s closed rows k st unclosed))

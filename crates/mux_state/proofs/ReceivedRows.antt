@@ -11,7 +11,7 @@ use Rattle.mux_history.specs.Forwardings.{live_at}
 use Rattle.mux_history.specs.Summary.{Confirmation, Summary, Open, Refuses, Requests, Succeeds, Transport, Within, read_summary}
 use Rattle.mux_history.specs.Heard.{Breaks, Dest, Disconnects, ToClient, ToMaster, dest, dest_summary, for_master, received_for, received_master}
 use Rattle.mux_history.specs.Policy.{Policy}
-use Rattle.mux_history.specs.Requests.{Ask, asks, replies}
+use Rattle.mux_history.specs.Requests.{Ask, wanted_requests, replies}
 use Rattle.mux_history.specs.Rows.{Row, rows_of, is_refusal, loss_by, Item, BadServer, Heard}
 use Rattle.mux_history.specs.Settings.{by_lists}
 use Rattle.mux_history.specs.Log.{received_row, makes_next, more_all, more_of, next_row}
@@ -24,7 +24,7 @@ use Rattle.mux_peers.specs.Asked.{asks_of_rows}
 use Rattle.mux_peers.proofs.Receivings.{heard-goes}
 use Rattle.mux_peers.proofs.Mores.{parts-of}
 use Rattle.mux_peers.proofs.Ones.{unrefused-row}
-use Rattle.mux_state.specs.Stands.{refusal}
+use Rattle.mux_state.specs.Stands.{refused_client_row}
 use Rattle.mux_state.proofs.Closes.{other_row}
 use Rattle.mux_state.proofs.Grows.{Grows, grows-none, grows-on, grows-row}
 
@@ -32,21 +32,21 @@ use Rattle.mux_state.proofs.Grows.{Grows, grows-none, grows-on, grows-row}
 
 -- no request, no channel and no forwarding
 pub record IsIdle (own : List Row) : Type 0 where
-  pub asks_none : asks own ≡ []
+  pub asks_none : wanted_requests own ≡ []
   pub channels_none : channels_of own ≡ []
   pub live_none : (key : _) → live_at own key ≡ None
 
 pub idle-none : (own : List Row) → own ≡ [] → IsIdle own
-idle-none own e = record { asks_none = ap asks e; channels_none = ap channels_of e; live_none = λ key. ap (λ l. live_at l key) e }
+idle-none own e = record { asks_none = ap wanted_requests e; channels_none = ap channels_of e; live_none = λ key. ap (λ l. live_at l key) e }
 
-pub idle-refused : (k : ℕ) (own : List Row) → own ≡ refusal k ∷ [] → IsIdle own
-idle-refused k own e = record { asks_none = ap asks e; channels_none = ap channels_of e; live_none = λ key. ap (λ l. live_at l key) e }
+pub idle-refused : (k : ℕ) (own : List Row) → own ≡ refused_client_row k ∷ [] → IsIdle own
+idle-refused k own e = record { asks_none = ap wanted_requests e; channels_none = ap channels_of e; live_none = λ key. ap (λ l. live_at l key) e }
 
 never-asked : (rows : List Row) (k : ℕ) → IsIdle (rows_of k rows) → Asked rows k → ⊥
 never-asked rows k none a =
-    let got = get-filter (asks_for k) (asks rows) (length (replies rows)) a.ask a.is (ap (λ c. c == k) a.client ∙ eq-eqb k k refl) in
-    let at = ap (λ xs. slice_get xs (length (filter (asks_for k) (take (length (replies rows)) (asks rows))))) (asks-local k rows ∙ none.asks_none) in
-    none-get (length (filter (asks_for k) (take (length (replies rows)) (asks rows)))) a.ask (sym at ∙ got)
+    let got = get-filter (asks_for k) (wanted_requests rows) (length (replies rows)) a.ask a.is (ap (λ c. c == k) a.client ∙ eq-eqb k k refl) in
+    let at = ap (λ xs. slice_get xs (length (filter (asks_for k) (take (length (replies rows)) (wanted_requests rows))))) (asks-local k rows ∙ none.asks_none) in
+    none-get (length (filter (asks_for k) (take (length (replies rows)) (wanted_requests rows)))) a.ask (sym at ∙ got)
   where
     none-get : (n : ℕ) (a : Ask) → slice_get [] n ≡ Some a → ⊥
     none-get zero a e = cc

@@ -13,19 +13,19 @@ use Rattle.mux_outside.specs.declared.mark.Mark.{Mark}
 use Rattle.mux_outside.specs.declared.mark.Mark.TheVariants.{Gets}
 use Rattle.mux_history.specs.declared.why.Why.{Why}
 use Rattle.mux_history.specs.declared.ended.Ended.{Ended}
-use Rattle.mux_history.specs.Rows.{Row, rows_of, any_of, is_admit, is_out, is_ended, is_refusal, loses, losses, loss_by, Item, Gone, Fate, Goes, Refused, Drop, End}
+use Rattle.mux_history.specs.Rows.{Row, rows_of, any_of, is_admit, is_out, is_run_over, is_refusal, loses, losses, loss_by, Item, Gone, Fate, Goes, Refused, Drop, End}
 use Rattle.mux_history.specs.Settings.{by_lists}
 use Rattle.mux_history.specs.Solo.{run_end_of}
 use Rattle.mux_history.specs.Journal.{bytes_in, bytes_of, log_of_journal}
 use Rattle.mux_peers.specs.State.{ClientState}
-use Rattle.mux_peers.specs.Stands.{is_lost as lost, is_read, parse_mode_of}
+use Rattle.mux_peers.specs.Stands.{is_standing_lost as lost, is_read, parse_mode_of}
 use Rattle.mux_peers.specs.Among.{EachFits, KeepReading, is_present}
 use Rattle.mux_peers.specs.Receivings.{AreHere}
 use Rattle.mux_peers.specs.Laws.{IsReceivedTo, rows_recorded}
 use Rattle.mux_peers.specs.Server.{ReceivedTo}
 use Rattle.mux_peers.proofs.ServerJournaled.{pieces-of-the-server}
 use Rattle.mux_state.specs.Moves.{ReceivedAt}
-use Rattle.mux_state.specs.State.{State, numbers}
+use Rattle.mux_state.specs.State.{EngineState, numbers}
 use Rattle.mux_state.specs.Stands.{BytesFit, ClientReads, EachReads, GoesAlone, IsAllowed, IsStrange, RowsFit, EngineRepresents, log, not_closed}
 use Rattle.mux_state.proofs.Closes.{in_losses, loss_is_out, other_row}
 use Rattle.mux_state.proofs.ReceivedRows.{ReceivedOn, heard-on, idle-none, idle-refused}
@@ -97,7 +97,7 @@ server-stays rows rows' cs noted each all lost in' = by_out (is_out (rows_of 0 r
         by_old true f h = sym (loss_is_out 0 rows f) ∙ in'
         by_old false f h = sym h ∙ noted-not 0 cs noted (no-server rows cs each) all
 
-unclosed-noted : (taken : ℕ) (dn : List Asked) (s : State) (closed : List ℕ) (rows : List Row) (noted : List (ℕ × Option Why)) → RowsFit taken dn s closed rows → AllByRecursion (λ l. is_present s.clients l.0 ≡ true) noted → filter (not_closed closed) noted ≡ noted
+unclosed-noted : (taken : ℕ) (dn : List Asked) (s : EngineState) (closed : List ℕ) (rows : List Row) (noted : List (ℕ × Option Why)) → RowsFit taken dn s closed rows → AllByRecursion (λ l. is_present s.clients l.0 ≡ true) noted → filter (not_closed closed) noted ≡ noted
 unclosed-noted taken dn s closed rows [] st all = refl
 unclosed-noted taken dn s closed rows (l ∷ ls) st all =
     ap (λ b. cond (not b) (l ∷ filter (not_closed closed) ls) (filter (not_closed closed) ls)) (Rattle.mux_state.proofs.OneClient.open-here taken dn s closed rows l.0 st all.0)
@@ -106,7 +106,7 @@ unclosed-noted taken dn s closed rows (l ∷ ls) st all =
 -- ---- before it
 
 -- each client that was admitted and isn't lost is here
-are-here : (taken : ℕ) (dn : List Asked) (s : State) (marks : List Mark) (closed : List ℕ) (rows : List Row) → is_ended rows ≡ false → RowsFit taken dn s closed rows → AreHere rows s.clients
+are-here : (taken : ℕ) (dn : List Asked) (s : EngineState) (marks : List Mark) (closed : List ℕ) (rows : List Row) → is_run_over rows ≡ false → RowsFit taken dn s closed rows → AreHere rows s.clients
 are-here taken dn s marks closed rows live st k a l = by_present (is_present s.clients k) refl
   where
     -- it has rows, so it is here or closed; a closed or refused one is out
@@ -130,12 +130,12 @@ are-here taken dn s marks closed rows live st k a l = by_present (is_present s.c
 
 -- ---- all of it
 
-pub record ReceivedRows (s new : State) (noted : List (ℕ × Option Why)) (rows rows' : List Row) (old bytes : List ℕ) : Type 0 where
+pub record ReceivedRows (s new : EngineState) (noted : List (ℕ × Option Why)) (rows rows' : List Row) (old bytes : List ℕ) : Type 0 where
   pub on : ReceivedOn rows rows'
   pub to : IsReceivedTo old bytes noted rows rows' new.core new.clients new.up new.server.rest new.server.index new.ended
-  pub live : is_ended rows ≡ false
+  pub live : is_run_over rows ≡ false
 
-rows-heard : (taken : ℕ) (dn : List Asked) (s new : State) (bytes old : List ℕ) (closed : List ℕ) (rows rows' : List Row) → (c : ReceivedAt s new bytes) → numbers new.clients ≡ numbers s.clients → AllByRecursion (λ l. is_present s.clients l.0 ≡ true) c.piece.receiving.noted → ReceivedRows s new c.piece.receiving.noted rows rows' old bytes → RowsFit taken dn s closed rows → RowsFit taken dn new closed rows'
+rows-heard : (taken : ℕ) (dn : List Asked) (s new : EngineState) (bytes old : List ℕ) (closed : List ℕ) (rows rows' : List Row) → (c : ReceivedAt s new bytes) → numbers new.clients ≡ numbers s.clients → AllByRecursion (λ l. is_present s.clients l.0 ≡ true) c.piece.receiving.noted → ReceivedRows s new c.piece.receiving.noted rows rows' old bytes → RowsFit taken dn s closed rows → RowsFit taken dn new closed rows'
 rows-heard taken dn s new bytes old closed rows rows' c same all w st =
     let noted : List (ℕ × Option Why) = c.piece.receiving.noted in
     moved taken taken dn dn noted closed s new rows rows' st record {
@@ -158,7 +158,7 @@ rows-heard taken dn s new bytes old closed rows rows' c same all w st =
       server_in = server-stays rows rows' s.clients noted st.fit.each all w.to.lost st.server_in;
     }
   where
-    none-ended : (rows : List Row) → is_ended rows ≡ false → run_end_of rows ≡ None
+    none-ended : (rows : List Row) → is_run_over rows ≡ false → run_end_of rows ≡ None
     none-ended rows e = none-of (run_end_of rows) (some-end rows ∙ e)
       where
         none-of : (o : Option Ended) → is_some o ≡ false → o ≡ None
@@ -196,7 +196,7 @@ reads-kept marks (c ∷ cs) (d ∷ ds) h e = (one (bytes_of d.peer.number marks)
       rest_is = λ x. let w = h.0.1 (read-here d.peer.standing x) in r.rest_is (ap is_read (sym w.0) ∙ x) ∙ sym w.1;
     }
 
-bytes-heard : (taken : ℕ) (dn : List Asked) (s new : State) (bytes : List ℕ) (marks : List Mark) (closed : List ℕ) (rows rows' : List Row) → (c : ReceivedAt s new bytes) → KeepReading s.clients new.clients → IsAllowed s marks (Gets 0 bytes) → ReceivedRows s new c.piece.receiving.noted rows rows' (bytes_of 0 marks) bytes → RowsFit taken dn s closed rows → BytesFit s marks closed rows
+bytes-heard : (taken : ℕ) (dn : List Asked) (s new : EngineState) (bytes : List ℕ) (marks : List Mark) (closed : List ℕ) (rows rows' : List Row) → (c : ReceivedAt s new bytes) → KeepReading s.clients new.clients → IsAllowed s marks (Gets 0 bytes) → ReceivedRows s new c.piece.receiving.noted rows rows' (bytes_of 0 marks) bytes → RowsFit taken dn s closed rows → BytesFit s marks closed rows
     → BytesFit new (Gets 0 bytes ∷ marks) closed rows'
 bytes-heard taken dn s new bytes marks closed rows rows' c kept al w fit st =
     let mark : Mark = Gets 0 bytes in
@@ -209,17 +209,17 @@ bytes-heard taken dn s new bytes marks closed rows rows' c kept al w fit st =
       strange = λ j a. let v : IsStrange s (mark ∷ marks) closed j = strange-on s marks closed mark j tt al st.strange a in record { not_here = here-same s new j same c.refused ∙ v.not_here; not_closed_yet = v.not_closed_yet; no_bytes = v.no_bytes };
     }
   where
-    none-ended : (rows : List Row) → is_ended rows ≡ false → run_end_of rows ≡ None
+    none-ended : (rows : List Row) → is_run_over rows ≡ false → run_end_of rows ≡ None
     none-ended rows e = none-of (run_end_of rows) (some-end rows ∙ e)
       where
         none-of : (o : Option Ended) → is_some o ≡ false → o ≡ None
         none-of None e = refl
         none-of (Some x) e = true_false e
 
-heard-log : (s : State) (picks : List ℕ) (replies : List HouseReply) (bytes : List ℕ) (marks : List Mark) → log s picks replies (Gets 0 bytes ∷ marks) ≡ rows_recorded s.core.policy s.pid picks replies (bytes_of 0 marks) bytes (log s picks replies marks)
+heard-log : (s : EngineState) (picks : List ℕ) (replies : List HouseReply) (bytes : List ℕ) (marks : List Mark) → log s picks replies (Gets 0 bytes ∷ marks) ≡ rows_recorded s.core.policy s.pid picks replies (bytes_of 0 marks) bytes (log s picks replies marks)
 heard-log s picks replies bytes marks = refl
 
-goes-heard-so : (s new : State) (bytes : List ℕ) → s.ended ≡ None → (c : ReceivedAt s new bytes) → KeepReading s.clients new.clients → AllByRecursion (λ l. is_present s.clients l.0 ≡ true) c.piece.receiving.noted → GoesAlone s new (Gets 0 bytes)
+goes-heard-so : (s new : EngineState) (bytes : List ℕ) → s.ended ≡ None → (c : ReceivedAt s new bytes) → KeepReading s.clients new.clients → AllByRecursion (λ l. is_present s.clients l.0 ≡ true) c.piece.receiving.noted → GoesAlone s new (Gets 0 bytes)
 goes-heard-so s new bytes none c kept all picked given marks closed st al = record {
   asks = st.asks;
   each = st.each;
@@ -228,7 +228,7 @@ goes-heard-so s new bytes none c kept all picked given marks closed st al = reco
       let r : List HouseReply = given ++ replies in
       let v : EngineRepresents p r (length picked) st.asks s marks closed = st.at picks replies in
       let rows : List Row = log s p r marks in
-      let live : is_ended rows ≡ false = sym (some-end rows) ∙ ap is_some (sym v.rows.ended_is ∙ none) in
+      let live : is_run_over rows ≡ false = sym (some-end rows) ∙ ap is_some (sym v.rows.ended_is ∙ none) in
       let rows' : List Row = rows_recorded s.core.policy s.pid p r (bytes_of 0 marks) bytes rows in
       let h = c.piece.receiving in
       let heard : ReceivedTo s.core.policy s.pid p r (s.server.rest ++ bytes) h.noted rows new.core new.clients new.up new.server.rest new.server.index new.ended =
@@ -249,5 +249,5 @@ goes-heard-so s new bytes none c kept all picked given marks closed st al = reco
     log-as : (picks : List ℕ) (replies : List HouseReply) (marks : List Mark) → log new picks replies marks ≡ log s picks replies marks
     log-as picks replies marks = ap (λ p. log_of_journal (by_lists p new.pid picks replies) marks) c.piece.receiving.policy ∙ ap (λ p. log_of_journal (by_lists s.core.policy p picks replies) marks) c.pid
 
-pub goes-heard : (s new : State) (bytes : List ℕ) → s.ended ≡ None → ReceivedAt s new bytes → GoesAlone s new (Gets 0 bytes)
+pub goes-heard : (s new : EngineState) (bytes : List ℕ) → s.ended ≡ None → ReceivedAt s new bytes → GoesAlone s new (Gets 0 bytes)
 goes-heard s new bytes none c = goes-heard-so s new bytes none c c.piece.receiving.reading c.piece.receiving.among

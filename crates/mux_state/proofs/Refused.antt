@@ -5,10 +5,10 @@ use Rattle.std.proofs.lemmas.Bool.{eqb-true}
 use Rattle.mux_history.specs.Rows.{Row, rows_of, any_of, is_admit, is_out}
 use Rattle.mux_peers.specs.State.{ClientState}
 use Rattle.mux_peers.specs.Among.{EachFits, is_present}
-use Rattle.mux_state.specs.Stands.{refusal}
+use Rattle.mux_state.specs.Stands.{refused_client_row}
 use Rattle.mux_state.proofs.Lists.{either, true_false}
 
-pub refused-out : (k : ℕ) (rows : List Row) → rows_of k rows ≡ refusal k ∷ [] → is_out (rows_of k rows) ≡ true
+pub refused-out : (k : ℕ) (rows : List Row) → rows_of k rows ≡ refused_client_row k ∷ [] → is_out (rows_of k rows) ≡ true
 refused-out k rows e = ap is_out e
 
 -- one that is here was admitted
@@ -21,9 +21,9 @@ let-in-here rows (c ∷ cs) k each here = by_head (c.peer.number == k) refl here
     by_head false e p ih = ih p
 
 -- so it is another
-pub apart-refused : (rows : List Row) (cs : List ClientState) (k j : ℕ) → EachFits rows cs → is_present cs k ≡ true → rows_of j rows ≡ refusal j ∷ [] → k ≢ j
+pub apart-refused : (rows : List Row) (cs : List ClientState) (k j : ℕ) → EachFits rows cs → is_present cs k ≡ true → rows_of j rows ≡ refused_client_row j ∷ [] → k ≢ j
 apart-refused rows cs k j each here only e = true_false (sym (let-in-here rows cs k each here) ∙ (ap (λ i. any_of is_admit (rows_of i rows)) e ∙ ap (any_of is_admit) only))
 
 -- and no server
-pub refused-client : (rows : List Row) (j : ℕ) → is_out (rows_of 0 rows) ≡ false → rows_of j rows ≡ refusal j ∷ [] → j ≢ 0
+pub refused-client : (rows : List Row) (j : ℕ) → is_out (rows_of 0 rows) ≡ false → rows_of j rows ≡ refused_client_row j ∷ [] → j ≢ 0
 refused-client rows j in' only e = true_false (sym (refused-out j rows only) ∙ (ap (λ i. is_out (rows_of i rows)) e ∙ in'))

@@ -8,12 +8,12 @@ use Rattle.mux_outside.specs.declared.mark.Mark.{Mark}
 use Rattle.mux_outside.specs.declared.mark.Mark.TheVariants.{House}
 use Rattle.mux_history.specs.declared.ended.Ended.{Ended}
 use Rattle.mux_history.specs.declared.limits.TheConstants.{NUMBERS_END}
-use Rattle.mux_history.specs.Rows.{Row, rows_of, is_end, is_ended, is_out, loss_by, HouseSays, Item, Says, Fate, Goes, Refused, Drop, End}
+use Rattle.mux_history.specs.Rows.{Row, rows_of, is_end, is_run_over, is_out, loss_by, HouseSays, Item, Says, Fate, Goes, Refused, Drop, End}
 use Rattle.mux_history.specs.Channels.{own_number_of, holder}
 use Rattle.mux_history.specs.Choices.{has_reply, numbers_taken, replies_given, takes_number}
-use Rattle.mux_history.specs.Controls.{body_stops, greeted}
-use Rattle.mux_history.specs.Heard.{is_received, next_index}
-use Rattle.mux_history.specs.Promises.{listens}
+use Rattle.mux_history.specs.Controls.{body_stops, client_has_greeted}
+use Rattle.mux_history.specs.Heard.{is_server_payload, next_index}
+use Rattle.mux_history.specs.Promises.{is_still_accepting}
 use Rattle.mux_history.specs.Requests.{is_sent}
 use Rattle.mux_history.specs.Right.{AreFresh, carried_number}
 use Rattle.mux_history.specs.Settings.{by_lists}
@@ -22,7 +22,7 @@ use Rattle.mux_history.specs.Treat.{goes}
 use Rattle.mux_history.specs.Log.{more_of, next_row}
 use Rattle.mux_history.specs.Journal.{bytes_of, log_of_journal}
 use Rattle.mux_peers.specs.State.{ClientState, part}
-use Rattle.mux_peers.specs.Stands.{is_lost, standing_of}
+use Rattle.mux_peers.specs.Stands.{is_standing_lost, standing_of}
 use Rattle.mux_peers.specs.Among.{ChangesOne, EachFits, InFits, KeepReading, MovesTo, is_present}
 use Rattle.mux_peers.specs.Answering.{AnswersNoting, IsAnswered}
 use Rattle.mux_peers.specs.Asked.{asks_of_rows, item_asks}
@@ -31,8 +31,8 @@ use Rattle.mux_peers.proofs.Adds.{house-adds}
 use Rattle.mux_peers.proofs.Ones.{one-moves-all}
 use Rattle.mux_peers.proofs.Stood.{out_is, own_row}
 use Rattle.mux_state.specs.Moves.{AnsweredAt, NoneStands, not_lost}
-use Rattle.mux_state.specs.State.{State, loss_between, loss_in, numbers, waiting_in}
-use Rattle.mux_state.specs.Stands.{BytesFit, ClientReads, EachReads, GoesAlone, IsAllowed, IsStrange, RowsFit, ServerReads, EngineRepresents, log, setting}
+use Rattle.mux_state.specs.State.{EngineState, loss_between, loss_in, numbers, waiting_streams}
+use Rattle.mux_state.specs.Stands.{BytesFit, ClientReads, EachReads, GoesAlone, IsAllowed, IsStrange, RowsFit, ServerReads, EngineRepresents, log, run_setting}
 use Rattle.mux_state.proofs.Closes.{other_row}
 use Rattle.mux_state.proofs.Grows.{Grows, grows-row}
 use Rattle.mux_state.proofs.Receiving.{reads-kept}
@@ -71,19 +71,19 @@ same-end row rows Refused e n = ap (λ (f : Fate). elim f as (λ _. Option Ended
 same-end row rows (Drop why) e n = ap (λ (f : Fate). elim f as (λ _. Option Ended) [ End cause ↦ Some cause | _ ↦ run_end_of rows ]) e
 same-end row rows (End cause) e n = true_false n
 
-same-listens : (k id : ℕ) (given : HouseReply) (row : Row) (rows : List Row) → row.item ≡ HouseSays k id given → listens (row ∷ rows) ≡ listens rows
-same-listens k id given row rows is = ap (λ b. not b && listens rows) (by-item row.item is)
+same-listens : (k id : ℕ) (given : HouseReply) (row : Row) (rows : List Row) → row.item ≡ HouseSays k id given → is_still_accepting (row ∷ rows) ≡ is_still_accepting rows
+same-listens k id given row rows is = ap (λ b. not b && is_still_accepting rows) (by-item row.item is)
   where
-    by-item : (i : Item) → i ≡ HouseSays k id given → (goes row.fate && elim i as (λ _. Bool) [ Says k outgoing given ↦ elim outgoing as (λ _. Bool) [ Rattle.ssh_grammar.specs.Said.Body body ↦ greeted (rows_of row.client rows) && body_stops body | _ ↦ false ] | _ ↦ false ]) ≡ false
+    by-item : (i : Item) → i ≡ HouseSays k id given → (goes row.fate && elim i as (λ _. Bool) [ Says k outgoing given ↦ elim outgoing as (λ _. Bool) [ Rattle.ssh_grammar.specs.Said.Body body ↦ client_has_greeted (rows_of row.client rows) && body_stops body | _ ↦ false ] | _ ↦ false ]) ≡ false
     by-item (HouseSays k id given) e = and-false (goes row.fate)
     by-item i e = absurd (cc)
 
 same-index : (k id : ℕ) (given : HouseReply) (row : Row) (rows : List Row) → row.item ≡ HouseSays k id given → next_index (row ∷ rows) ≡ next_index rows
-same-index k id given row rows is = ap (λ (i : Item). elim (is_received i) as (λ _. ℕ) [ true ↦ next_index rows + 1 | false ↦ next_index rows ]) is
+same-index k id given row rows is = ap (λ (i : Item). elim (is_server_payload i) as (λ _. ℕ) [ true ↦ next_index rows + 1 | false ↦ next_index rows ]) is
 
 -- ---- a client that isn't lost
 
-record RepliedAt (s new : State) (id : ℕ) (given : HouseReply) (x y : ClientState) : Type 0 where
+record RepliedAt (s new : EngineState) (id : ℕ) (given : HouseReply) (x y : ClientState) : Type 0 where
   pid : new.pid ≡ s.pid
   policy : new.core.policy ≡ s.core.policy
   server : new.server ≡ s.server
@@ -91,16 +91,16 @@ record RepliedAt (s new : State) (id : ℕ) (given : HouseReply) (x y : ClientSt
   listening : new.listening ≡ s.listening
   ended : new.ended ≡ s.ended
   one : ChangesOne x.peer.number (IsPair x y) s.clients new.clients
-  here : is_lost x.peer.standing ≡ false
+  here : is_standing_lost x.peer.standing ≡ false
   answers : Rattle.mux_peers.specs.Answering.AnswersIn id given s.core new.core s.up new.up x y
   leaving : new.leaving ≡ s.leaving ++ loss_between x.peer.standing y.peer.standing x.peer.number
   reading : KeepReading s.clients new.clients
-  waiting : new.waiting ≡ waiting_in new
+  waiting : new.waiting ≡ waiting_streams new
 
-abbrev answer_row : State → List ℕ → List HouseReply → List Row → ℕ → ℕ → HouseReply → Row
-answer_row s picks replies rows k id given = next_row (setting s picks replies) rows (HouseSays k id given)
+abbrev answer_row : EngineState → List ℕ → List HouseReply → List Row → ℕ → ℕ → HouseReply → Row
+answer_row s picks replies rows k id given = next_row (run_setting s picks replies) rows (HouseSays k id given)
 
-rows-replied : (taken : ℕ) (dn : List Asked) (s new : State) (id : ℕ) (given : HouseReply) (x y : ClientState) (closed : List ℕ) (rows : List Row) (row : Row) → is_present s.clients x.peer.number ≡ true → x.peer.number ≢ 0 → InFits rows x → RepliedAt s new id given x y → is_ended rows ≡ false
+rows-replied : (taken : ℕ) (dn : List Asked) (s new : EngineState) (id : ℕ) (given : HouseReply) (x y : ClientState) (closed : List ℕ) (rows : List Row) (row : Row) → is_present s.clients x.peer.number ≡ true → x.peer.number ≢ 0 → InFits rows x → RepliedAt s new id given x y → is_run_over rows ≡ false
     → IsAnswered x.peer.number id given (part new.core y.peer new.up) rows row → RowsFit taken dn s closed rows → RowsFit taken dn new closed (row ∷ rows)
 rows-replied taken dn s new id given x y closed rows row here nz fx c live w st =
     let k : ℕ = x.peer.number in
@@ -110,7 +110,7 @@ rows-replied taken dn s new id given x y closed rows row here nz fx c live w st 
     one-moves-all k rows (row ∷ rows) s.core new.core s.clients new.clients s.up new.up st.fit (house-adds k id given row rows w.item_is w.client_is w.unrefused) here
     (redo k (MovesTo (row ∷ rows) new.core new.up) x y s.clients new.clients c.one record { number = num; fits = w.fits }) in
     let stands : standing_of (row ∷ rows_of k rows) ≡ y.peer.standing = ap standing_of (sym mine) ∙ (ap (λ j. standing_of (rows_of j (row ∷ rows))) (sym num) ∙ sym w.fits.peer.standing_is) in
-    let lostless : is_lost (standing_of (rows_of k rows)) ≡ false = ap is_lost (sym fx.peer.standing_is) ∙ c.here in
+    let lostless : is_standing_lost (standing_of (rows_of k rows)) ≡ false = ap is_standing_lost (sym fx.peer.standing_is) ∙ c.here in
     let loss : loss_by row ≡ loss_between x.peer.standing y.peer.standing k =
     loss-row row (rows_of k rows) row.fate row.item refl refl lostless w.unrefused
     ∙ (ap (loss_in (standing_of (row ∷ rows_of k rows))) w.client_is
@@ -141,7 +141,7 @@ reads-house : (mark : Asked) (marks : List Mark) (cs : List ClientState) → ((j
 reads-house mark marks [] same e = tt
 reads-house mark marks (c ∷ cs) same e = (subst (λ b. ClientReads b c) (sym (same c.peer.number)) e.0, reads-house mark marks cs same e.1)
 
-bytes-replied : (s new : State) (id : ℕ) (given : HouseReply) (x y : ClientState) (marks : List Mark) (closed : List ℕ) (rows rows' : List Row) → IsAllowed s marks (House (HouseAnswer x.peer.number id given)) → RepliedAt s new id given x y → is_ended rows ≡ false → BytesFit s marks closed rows → BytesFit new (House (HouseAnswer x.peer.number id given) ∷ marks) closed rows'
+bytes-replied : (s new : EngineState) (id : ℕ) (given : HouseReply) (x y : ClientState) (marks : List Mark) (closed : List ℕ) (rows rows' : List Row) → IsAllowed s marks (House (HouseAnswer x.peer.number id given)) → RepliedAt s new id given x y → is_run_over rows ≡ false → BytesFit s marks closed rows → BytesFit new (House (HouseAnswer x.peer.number id given) ∷ marks) closed rows'
 bytes-replied s new id given x y marks closed rows rows' al c live st =
     let k : ℕ = x.peer.number in
     let mark : Mark = House (HouseAnswer k id given) in
@@ -157,7 +157,7 @@ bytes-replied s new id given x y marks closed rows rows' al c live st =
 
 -- ---- all of it
 
-goes-replied-by : (s new : State) (id : ℕ) (given : HouseReply) (x y : ClientState) → s.ended ≡ None → is_present s.clients x.peer.number ≡ true → x.peer.number ≢ 0 → ((rows : List Row) → EachFits rows s.clients → InFits rows x) → RepliedAt s new id given x y → GoesAlone s new (House (HouseAnswer x.peer.number id given))
+goes-replied-by : (s new : EngineState) (id : ℕ) (given : HouseReply) (x y : ClientState) → s.ended ≡ None → is_present s.clients x.peer.number ≡ true → x.peer.number ≢ 0 → ((rows : List Row) → EachFits rows s.clients → InFits rows x) → RepliedAt s new id given x y → GoesAlone s new (House (HouseAnswer x.peer.number id given))
 goes-replied-by s new id given x y none here nz fits c picked given_before marks closed st al = record {
   asks = st.asks;
   each = st.each;
@@ -166,10 +166,10 @@ goes-replied-by s new id given x y none here nz fits c picked given_before marks
       let mark : Mark = House (HouseAnswer k id given) in
       let v : EngineRepresents (picked ++ picks) (given_before ++ replies) (length picked) st.asks s marks closed = st.at picks replies in
       let rows : List Row = log s (picked ++ picks) (given_before ++ replies) marks in
-      let live : is_ended rows ≡ false = sym (some-end rows) ∙ ap is_some (sym v.rows.ended_is ∙ none) in
+      let live : is_run_over rows ≡ false = sym (some-end rows) ∙ ap is_some (sym v.rows.ended_is ∙ none) in
       let fx : InFits rows x = fits rows v.rows.fit.each in
       let row : Row = answer_row s (picked ++ picks) (given_before ++ replies) rows k id given in
-      let in' : is_out (rows_of k rows) ≡ false = out_is (rows_of k rows) ∙ (ap is_lost (sym fx.peer.standing_is) ∙ c.here) in
+      let in' : is_out (rows_of k rows) ≡ false = out_is (rows_of k rows) ∙ (ap is_standing_lost (sym fx.peer.standing_is) ∙ c.here) in
       let w : IsAnswered k id given (part new.core y.peer new.up) rows row = c.answers.goes s.core.policy s.pid (picked ++ picks) (given_before ++ replies) rows record { core = v.rows.fit.core; peer = fx.peer; up = v.rows.fit.up } live c.here in
       let is : log new (picked ++ picks) (given_before ++ replies) (mark ∷ marks) ≡ row ∷ rows =
       log-as (picked ++ picks) (given_before ++ replies) (mark ∷ marks) ∙ one-more s (picked ++ picks) (given_before ++ replies) rows (HouseSays k id given) live (ap not in') in
@@ -182,9 +182,9 @@ goes-replied-by s new id given x y none here nz fits c picked given_before marks
     log-as : (picks : List ℕ) (replies : List HouseReply) (marks : List Mark) → log new picks replies marks ≡ log s picks replies marks
     log-as picks replies marks = ap (λ p. log_of_journal (by_lists p new.pid picks replies) marks) c.policy ∙ ap (λ p. log_of_journal (by_lists s.core.policy p picks replies) marks) c.pid
 
-pub goes-replied : (s new : State) (k id : ℕ) (given : HouseReply) → k ≢ 0 → s.ended ≡ None → is_present s.clients k ≡ true → AnsweredAt s new k id given → GoesAlone s new (House (HouseAnswer k id given))
+pub goes-replied : (s new : EngineState) (k id : ℕ) (given : HouseReply) → k ≢ 0 → s.ended ≡ None → is_present s.clients k ≡ true → AnsweredAt s new k id given → GoesAlone s new (House (HouseAnswer k id given))
 goes-replied s new k id given nz none here c =
-    let p = pair k (λ x y. (is_lost x.peer.standing ≡ false) × AnswersNoting k id given c.noted s.core new.core s.up new.up x y) s.clients new.clients here c.changes in
+    let p = pair k (λ x y. (is_standing_lost x.peer.standing ≡ false) × AnswersNoting k id given c.noted s.core new.core s.up new.up x y) s.clients new.clients here c.changes in
     subst (λ j. GoesAlone s new (House (HouseAnswer j id given))) p.number
     (goes-replied-by s new id given p.first p.now none (ap (is_present s.clients) p.number ∙ here) (λ z. nz (sym p.number ∙ z)) p.fits record {
       pid = c.pid;
@@ -203,10 +203,10 @@ goes-replied s new k id given nz none here c =
 
 -- ---- a client that is lost, or isn't there
 
-no-reply : (s : State) (picks : List ℕ) (replies : List HouseReply) (rows : List Row) (k id : ℕ) (given : HouseReply) → is_ended rows ≡ false → is_out (rows_of k rows) ≡ true → more_of (setting s picks replies) rows (HouseSays k id given) ≡ rows
+no-reply : (s : EngineState) (picks : List ℕ) (replies : List HouseReply) (rows : List Row) (k id : ℕ) (given : HouseReply) → is_run_over rows ≡ false → is_out (rows_of k rows) ≡ true → more_of (run_setting s picks replies) rows (HouseSays k id given) ≡ rows
 no-reply s picks replies rows k id given live out = ap (λ b. elim b as (λ _. List Row) [ false ↦ rows | true ↦ answer_row s picks replies rows k id given ∷ rows ]) (next-live rows (HouseSays k id given) live ∙ ap not out)
 
-pub goes-unreplied : (s : State) (k id : ℕ) (given : HouseReply) → s.ended ≡ None → NoneStands not_lost k s.clients → GoesAlone s s (House (HouseAnswer k id given))
+pub goes-unreplied : (s : EngineState) (k id : ℕ) (given : HouseReply) → s.ended ≡ None → NoneStands not_lost k s.clients → GoesAlone s s (House (HouseAnswer k id given))
 goes-unreplied s k id given none unserved picked used marks closed st al = record {
   asks = st.asks;
   each = st.each;
@@ -214,7 +214,7 @@ goes-unreplied s k id given none unserved picked used marks closed st al = recor
       let mark : Mark = House (HouseAnswer k id given) in
       let v : EngineRepresents (picked ++ picks) (used ++ replies) (length picked) st.asks s marks closed = st.at picks replies in
       let rows : List Row = log s (picked ++ picks) (used ++ replies) marks in
-      let live : is_ended rows ≡ false = sym (some-end rows) ∙ ap is_some (sym v.rows.ended_is ∙ none) in
+      let live : is_run_over rows ≡ false = sym (some-end rows) ∙ ap is_some (sym v.rows.ended_is ∙ none) in
       let quiet : (j : ℕ) → bytes_of j (mark ∷ marks) ≡ bytes_of j marks = λ j. ap (λ b. bytes_of j marks ++ b) (none-said-by j) ∙ append-nil (bytes_of j marks) in
       let is : log s (picked ++ picks) (used ++ replies) (mark ∷ marks) ≡ rows = no-reply s (picked ++ picks) (used ++ replies) rows k id given live (lost-out (length picked) st.asks s marks closed rows k live al.1 unserved v.rows v.bytes) in
       record {

@@ -4,21 +4,21 @@ use Rattle.std.specs.Prelude.{◌==◌, is_some}
 use Rattle.ssh_grammar.specs.Said.{InControl, InProxy, Stopped, parse}
 use Rattle.mux_outside.specs.declared.mark.Mark.{Mark}
 use Rattle.mux_outside.specs.declared.house.HouseReply.{HouseReply}
-use Rattle.mux_history.specs.Rows.{is_ended}
+use Rattle.mux_history.specs.Rows.{is_run_over}
 use Rattle.mux_history.specs.Journal.{bytes_of}
 use Rattle.mux_bounds.proofs.Lengths.{rest-few}
 use Rattle.mux_peers.specs.declared.standing.Standing.{Standing}
 use Rattle.mux_peers.specs.declared.standing.Standing.TheVariants.{Awaited, Greeted, Proxied, Unread, Lost}
 use Rattle.mux_peers.specs.State.{ClientState}
-use Rattle.mux_peers.specs.Stands.{is_lost, is_read, parse_mode_of}
-use Rattle.mux_state.specs.State.{State, in_client}
-use Rattle.mux_state.specs.Stands.{ClientReads, EachReads, Stands, log}
-use Rattle.mux_state.specs.Steps.{is_received}
+use Rattle.mux_peers.specs.Stands.{is_standing_lost, is_read, parse_mode_of}
+use Rattle.mux_state.specs.State.{EngineState, in_client}
+use Rattle.mux_state.specs.Stands.{ClientReads, EachReads, RepresentsSoFar, log}
+use Rattle.mux_state.specs.Steps.{is_client_read}
 use Rattle.mux_state.proofs.Lists.{true_false}
 use Rattle.mux_state.proofs.Looked.{stands_so}
 use Rattle.mux_state.proofs.Over.{some-end}
 
-read-mode : (s : Standing) → is_read s ≡ true → (is_lost s ≡ false) × (parse_mode_of s ≢ Stopped)
+read-mode : (s : Standing) → is_read s ≡ true → (is_standing_lost s ≡ false) × (parse_mode_of s ≢ Stopped)
 read-mode Awaited e = (refl, λ m. cc)
 read-mode Greeted e = (refl, λ m. cc)
 read-mode Proxied e = (refl, λ m. cc)
@@ -47,24 +47,24 @@ heard-short marks k (c ∷ cs) reads e = by_head (c.peer.number == k) e (heard-s
 
 -- ---- of an engine whose run goes on
 
-live-now : (s : State) (picked : List ℕ) (given : List HouseReply) (marks : List Mark) (closed : List ℕ) → Stands picked given s marks closed → is_some s.ended ≡ false → is_ended (log s (picked ++ []) (given ++ []) marks) ≡ false
+live-now : (s : EngineState) (picked : List ℕ) (given : List HouseReply) (marks : List Mark) (closed : List ℕ) → RepresentsSoFar picked given s marks closed → is_some s.ended ≡ false → is_run_over (log s (picked ++ []) (given ++ []) marks) ≡ false
 live-now s picked given marks closed st on = sym (some-end (log s (picked ++ []) (given ++ []) marks)) ∙ (ap is_some (sym (st.at [] []).rows.ended_is) ∙ on)
 
-pub server-rest : (s parts : State) (n : ℕ) (picked : List ℕ) (given : List HouseReply) (marks : List Mark) (closed : List ℕ) → parts ≡ s → n ≡ length parts.server.rest → is_some parts.ended ≡ false → Stands picked given s marks closed → n ≤ 262147
+pub server-rest : (s parts : EngineState) (n : ℕ) (picked : List ℕ) (given : List HouseReply) (marks : List Mark) (closed : List ℕ) → parts ≡ s → n ≡ length parts.server.rest → is_some parts.ended ≡ false → RepresentsSoFar picked given s marks closed → n ≤ 262147
 server-rest s parts n picked given marks closed view is on st =
-    let r = (st.at [] []).bytes.server (live-now s picked given marks closed st (ap (λ (x : State). is_some x.ended) (sym view) ∙ on)) in
+    let r = (st.at [] []).bytes.server (live-now s picked given marks closed st (ap (λ (x : EngineState). is_some x.ended) (sym view) ∙ on)) in
     let le : length s.server.rest ≤ 262147 = server-short (bytes_of 0 marks) s.server.rest r.mode_is r.rest_is in
-    omega (arith, le, is, ap (λ (x : State). length x.server.rest) view)
+    omega (arith, le, is, ap (λ (x : EngineState). length x.server.rest) view)
 
-pub client-rest : (s parts : State) (k n : ℕ) (picked : List ℕ) (given : List HouseReply) (marks : List Mark) (closed : List ℕ) → parts ≡ s → n ≡ length (in_client [] (λ c. c.rest) parts.clients k) → (is_received parts.clients k ≡ false → n ≡ 0) → is_some parts.ended ≡ false → Stands picked given s marks closed → n ≤ 262147
-client-rest s parts k n picked given marks closed view exact unheard on st = by_received (is_received s.clients k) refl
+pub client-rest : (s parts : EngineState) (k n : ℕ) (picked : List ℕ) (given : List HouseReply) (marks : List Mark) (closed : List ℕ) → parts ≡ s → n ≡ length (in_client [] (λ c. c.rest) parts.clients k) → (is_client_read parts.clients k ≡ false → n ≡ 0) → is_some parts.ended ≡ false → RepresentsSoFar picked given s marks closed → n ≤ 262147
+client-rest s parts k n picked given marks closed view exact unheard on st = by_received (is_client_read s.clients k) refl
   where
     same : parts.clients ≡ s.clients
-    same = ap (λ (x : State). x.clients) view
+    same = ap (λ (x : EngineState). x.clients) view
 
-    by_received : (b : Bool) → is_received s.clients k ≡ b → n ≤ 262147
+    by_received : (b : Bool) → is_client_read s.clients k ≡ b → n ≤ 262147
     by_received true e =
-        let reads : EachReads marks s.clients = (st.at [] []).bytes.clients (live-now s picked given marks closed st (ap (λ (x : State). is_some x.ended) (sym view) ∙ on)) in
+        let reads : EachReads marks s.clients = (st.at [] []).bytes.clients (live-now s picked given marks closed st (ap (λ (x : EngineState). is_some x.ended) (sym view) ∙ on)) in
         let le : length (in_client [] (λ c. c.rest) s.clients k) ≤ 262147 = heard-short marks k s.clients reads e in
         omega (arith, le, exact, ap (λ (l : List ClientState). length (in_client [] (λ c. c.rest) l k)) same)
-    by_received false e = omega (arith, unheard (ap (λ (l : List ClientState). is_received l k) same ∙ e))
+    by_received false e = omega (arith, unheard (ap (λ (l : List ClientState). is_client_read l k) same ∙ e))

@@ -7,10 +7,10 @@ use Rattle.proxy_frames.specs.Queued.{without_first_bytes}
 use Rattle.mux_outside.specs.Streams.{among, without}
 use Rattle.mux_history.specs.declared.why.Why.{Why}
 use Rattle.mux_peers.specs.State.{ClientState}
-use Rattle.mux_peers.specs.Stands.{is_lost}
+use Rattle.mux_peers.specs.Stands.{is_standing_lost}
 use Rattle.mux_peers.specs.Room.{HasRoom, served_in}
 use Rattle.mux_state.specs.Ready.{AreListed, IsEngineReady, IsEngineSound}
-use Rattle.mux_state.specs.State.{State, at_client, client_took, closed_by, taken, without_client}
+use Rattle.mux_state.specs.State.{EngineState, at_client, client_took, closed_by, took_and_listed, without_client}
 use Rattle.mux_state.proofs.Lists.{among-gone, among-less, among-was, true_false}
 use Rattle.mux_state.proofs.Takes.{Same, taken-same}
 
@@ -35,7 +35,7 @@ listed-closed k ks ls h j a = elim (eqb_tells k j) [
 ]
 
 -- where no client is to be closed none was refused
-pub none-refused : (s : State) → IsEngineSound s → s.leaving ≡ [] → s.refused ≡ []
+pub none-refused : (s : EngineState) → IsEngineSound s → s.leaving ≡ [] → s.refused ≡ []
 none-refused s h e = by_list s.refused s.leaving h.refused e
   where
     by_list : (ks : List ℕ) (ls : List (ℕ × Option Why)) → AreListed ks ls → ls ≡ [] → ks ≡ []
@@ -59,36 +59,36 @@ served-less k (c ∷ cs) = by_test (not (c.peer.number == k)) (served-less k cs)
     gone true ih = ih
     gone false ih = omega (arith, ih)
 
-    by_test : (b : Bool) → length (served_in less) ≤ length (served_in cs) → length (served_in (cond b (c ∷ less) less)) ≤ length (cond (is_lost c.peer.standing) (served_in cs) (c.peer.number ∷ served_in cs))
-    by_test true ih = kept (is_lost c.peer.standing) ih
-    by_test false ih = gone (is_lost c.peer.standing) ih
+    by_test : (b : Bool) → length (served_in less) ≤ length (served_in cs) → length (served_in (cond b (c ∷ less) less)) ≤ length (cond (is_standing_lost c.peer.standing) (served_in cs) (c.peer.number ∷ served_in cs))
+    by_test true ih = kept (is_standing_lost c.peer.standing) ih
+    by_test false ih = gone (is_standing_lost c.peer.standing) ih
 
 served-took : (t n : ℕ) (cs : List ClientState) → served_in (at_client t (client_took n) cs) ≡ served_in cs
 served-took t n [] = refl
 served-took t n (c ∷ cs) = by_head (c.peer.number == t) (served-took t n cs)
   where
-    by_head : (b : Bool) → served_in (at_client t (client_took n) cs) ≡ served_in cs → served_in (cond b (client_took n c ∷ cs) (c ∷ at_client t (client_took n) cs)) ≡ cond (is_lost c.peer.standing) (served_in cs) (c.peer.number ∷ served_in cs)
+    by_head : (b : Bool) → served_in (at_client t (client_took n) cs) ≡ served_in cs → served_in (cond b (client_took n c ∷ cs) (c ∷ at_client t (client_took n) cs)) ≡ cond (is_standing_lost c.peer.standing) (served_in cs) (c.peer.number ∷ served_in cs)
     by_head true ih = refl
-    by_head false ih = ap (λ l. cond (is_lost c.peer.standing) l (c.peer.number ∷ l)) ih
+    by_head false ih = ap (λ l. cond (is_standing_lost c.peer.standing) l (c.peer.number ∷ l)) ih
 
-room-taken : (s : State) (t n : ℕ) → HasRoom s.clients s.up → HasRoom (taken s t n).clients (taken s t n).up
+room-taken : (s : EngineState) (t n : ℕ) → HasRoom s.clients s.up → HasRoom (took_and_listed s t n).clients (took_and_listed s t n).up
 room-taken s t n room = by_server (t == 0)
   where
-    by_server : (b : Bool) → (let s' : State = cond b (record s { up = without_first_bytes n s.up }) (record s { clients = at_client t (client_took n) s.clients }) in HasRoom s'.clients s'.up)
+    by_server : (b : Bool) → (let s' : EngineState = cond b (record s { up = without_first_bytes n s.up }) (record s { clients = at_client t (client_took n) s.clients }) in HasRoom s'.clients s'.up)
     by_server true = room
     by_server false = omega (arith, ap length (served-took t n s.clients), room)
 
 -- ---- an engine
 
-pub sound-closed : (s : State) (k : ℕ) → IsEngineSound s → IsEngineSound (closed_by s k)
+pub sound-closed : (s : EngineState) (k : ℕ) → IsEngineSound s → IsEngineSound (closed_by s k)
 sound-closed s k h = record {
   ready = λ fed on. let r : IsEngineReady s = h.ready fed on in record { room = omega (arith, served-less k s.clients, r.room); cuts = r.cuts; well = r.well };
   refused = listed-closed k s.refused s.leaving h.refused;
 }
 
-pub sound-taken : (s : State) (t n : ℕ) → IsEngineSound s → IsEngineSound (taken s t n)
+pub sound-taken : (s : EngineState) (t n : ℕ) → IsEngineSound s → IsEngineSound (took_and_listed s t n)
 sound-taken s t n h =
-    let same : Same s (taken s t n) = taken-same s t n in
+    let same : Same s (took_and_listed s t n) = taken-same s t n in
     record {
       ready = λ fed on.
           let r : IsEngineReady s = h.ready (sym same.starved ∙ fed) (sym same.ended ∙ on) in

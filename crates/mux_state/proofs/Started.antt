@@ -5,24 +5,24 @@ use Rattle.mux_history.specs.Promises.{is_empty}
 use Rattle.mux_core.specs.Stands as core
 use Rattle.mux_peers.specs.Among.{ArePeersApart, EachFits, is_present}
 use Rattle.mux_peers.specs.Server.{ServerState, new_server}
-use Rattle.mux_state.specs.State.{HasNobody, State, is_here, served_in, waiting_clients, waiting_in}
-use Rattle.mux_state.specs.Stands.{BytesFit, EachReads, RowsFit, ServerReads, Stands}
+use Rattle.mux_state.specs.State.{HasNobody, EngineState, is_here, served_in, waiting_clients, waiting_streams}
+use Rattle.mux_state.specs.Stands.{BytesFit, EachReads, RowsFit, ServerReads, RepresentsSoFar}
 use Rattle.mux_state.proofs.Lists.{true_false}
 
-pub record IsStarted (s : State) : Type 0 where
-  pub core_stands : core.Stands s.core []
+pub record IsStarted (s : EngineState) : Type 0 where
+  pub core_stands : core.CoreRepresents s.core []
   pub server_is : s.server ≡ new_server
   pub nobody : HasNobody s
   pub listens_yet : s.listening ≡ true
   pub goes : s.ended ≡ None
 
-not-here : (s : State) (k : ℕ) → IsStarted s → is_here s k ≡ false
+not-here : (s : EngineState) (k : ℕ) → IsStarted s → is_here s k ≡ false
 not-here s k h = ap (λ cs. is_present cs k || among k s.refused) h.nobody.clients ∙ ap (among k) h.nobody.refused
 
-no-waiting : (s : State) → IsStarted s → waiting_in s ≡ []
+no-waiting : (s : EngineState) → IsStarted s → waiting_streams s ≡ []
 no-waiting s h = ap (λ q. cond (is_empty q) (waiting_clients s.clients) (0 ∷ waiting_clients s.clients)) h.nobody.silent ∙ ap waiting_clients h.nobody.clients
 
-rows-started : (s : State) → IsStarted s → RowsFit 0 [] s [] []
+rows-started : (s : EngineState) → IsStarted s → RowsFit 0 [] s [] []
 rows-started s h = record {
   taken_is = refl;
   drawn_is = refl;
@@ -44,7 +44,7 @@ rows-started s h = record {
   server_in = refl;
 }
 
-bytes-started : (s : State) → IsStarted s → BytesFit s [] [] []
+bytes-started : (s : EngineState) → IsStarted s → BytesFit s [] [] []
 bytes-started s h = record {
   are_bytes = λ t. tt;
   clients = λ l. subst (EachReads []) (sym h.nobody.clients) tt;
@@ -54,7 +54,7 @@ bytes-started s h = record {
 }
 
 -- it represents the empty journal
-pub stands-started : (s : State) → IsStarted s → Stands [] [] s [] []
+pub stands-started : (s : EngineState) → IsStarted s → RepresentsSoFar [] [] s [] []
 stands-started s h = record {
   asks = [];
   each = refl;

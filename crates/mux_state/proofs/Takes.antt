@@ -9,11 +9,11 @@ use Rattle.mux_outside.specs.declared.house.HouseReply.{HouseReply}
 use Rattle.mux_outside.specs.declared.mark.Mark.{Mark}
 use Rattle.mux_outside.specs.declared.mark.Mark.TheVariants.{Takes}
 use Rattle.proxy_frames.specs.Queued.{without_first_bytes}
-use Rattle.mux_history.specs.Rows.{Row, rows_of, is_out, is_ended, Item, Took}
+use Rattle.mux_history.specs.Rows.{Row, rows_of, is_out, is_run_over, Item, Took}
 use Rattle.mux_history.specs.Pending.{pending_down, pending_up}
 use Rattle.mux_history.specs.Said.{silent}
 use Rattle.mux_history.specs.Settings.{by_lists}
-use Rattle.mux_history.specs.Log.{Setting, bare, makes_next, more_of, next_row}
+use Rattle.mux_history.specs.Log.{Setting, bare_row, makes_next, more_of, next_row}
 use Rattle.mux_history.specs.Journal.{bytes_of, is_own_stream}
 use Rattle.mux_core.specs.Stands as core
 use Rattle.mux_core.proofs.Idle.{idle-stays}
@@ -22,8 +22,8 @@ use Rattle.mux_peers.specs.Among.{AllFit, ArePeersApart, EachFits, InFits, is_pr
 use Rattle.mux_peers.specs.Stands.{PeerFits}
 use Rattle.mux_peers.proofs.Stood.{own_row}
 use Rattle.mux_peers.proofs.Ones.{other-fits}
-use Rattle.mux_state.specs.State.{State, at_client, client_took, is_here, numbers, taken}
-use Rattle.mux_state.specs.Stands.{BytesFit, ClientReads, EachReads, GoesAlone, IsStrange, RowsFit, Stands, EngineRepresents, log, refusal, setting}
+use Rattle.mux_state.specs.State.{EngineState, at_client, client_took, is_here, numbers, took_and_listed}
+use Rattle.mux_state.specs.Stands.{BytesFit, ClientReads, EachReads, GoesAlone, IsStrange, RowsFit, RepresentsSoFar, EngineRepresents, log, refused_client_row, run_setting}
 use Rattle.mux_state.proofs.Closes.{other_row}
 use Rattle.mux_state.proofs.Grows.{grows-row}
 use Rattle.mux_state.proofs.Lists.{either, not_here, test_other, true_false}
@@ -32,15 +32,15 @@ use Rattle.mux_state.proofs.Refused.{apart-refused, refused-client}
 use Rattle.mux_state.proofs.Waits.{waiting-taken}
 
 abbrev pub took_row : ℕ → ℕ → Row
-took_row t n = bare (Took t n) t silent
+took_row t n = bare_row (Took t n) t silent
 
 -- ---- the log
 
 pub more-yes : (s : Setting) (rows : List Row) (item : Item) → makes_next rows item ≡ true → more_of s rows item ≡ next_row s rows item ∷ rows
 more-yes s rows item e = ap (λ b. elim b as (λ _. List Row) [ false ↦ rows | true ↦ next_row s rows item ∷ rows ]) e
 
-took-log : (s : State) (picks : List ℕ) (replies : List HouseReply) (t : ℕ) (bytes : List ℕ) (accepts : Bool) (marks : List Mark) → is_own_stream t ≡ false → log s picks replies (Takes t bytes accepts ∷ marks) ≡ took_row t (length bytes) ∷ log s picks replies marks
-took-log s picks replies t bytes accepts marks own = ap (λ b. Rattle.mux_history.specs.Log.more_all (setting s picks replies) (log s picks replies marks) (elim b as (λ _. List Rattle.mux_history.specs.Rows.Item) [ true ↦ [] | false ↦ Took t (length bytes) ∷ [] ])) own ∙ more-yes (setting s picks replies) (log s picks replies marks) (Took t (length bytes)) (by_end (is_ended (log s picks replies marks)))
+took-log : (s : EngineState) (picks : List ℕ) (replies : List HouseReply) (t : ℕ) (bytes : List ℕ) (accepts : Bool) (marks : List Mark) → is_own_stream t ≡ false → log s picks replies (Takes t bytes accepts ∷ marks) ≡ took_row t (length bytes) ∷ log s picks replies marks
+took-log s picks replies t bytes accepts marks own = ap (λ b. Rattle.mux_history.specs.Log.more_all (run_setting s picks replies) (log s picks replies marks) (elim b as (λ _. List Rattle.mux_history.specs.Rows.Item) [ true ↦ [] | false ↦ Took t (length bytes) ∷ [] ])) own ∙ more-yes (run_setting s picks replies) (log s picks replies marks) (Took t (length bytes)) (by_end (is_run_over (log s picks replies marks)))
   where
     by_end : (b : Bool) → (elim b as (λ _. Bool) [ true ↦ true | false ↦ true ]) ≡ true
     by_end true = refl
@@ -119,7 +119,7 @@ reads-took t n bytes accepts marks (c ∷ cs) each = by_head (c.peer.number == t
 
 -- ---- all of it
 
-idle : (c : Rattle.mux_core.specs.State.CoreState) (t n : ℕ) (rows : List Row) → core.Stands c rows → core.Stands c (took_row t n ∷ rows)
+idle : (c : Rattle.mux_core.specs.State.CoreState) (t n : ℕ) (rows : List Row) → core.CoreRepresents c rows → core.CoreRepresents c (took_row t n ∷ rows)
 idle c t n rows st = idle-stays c (took_row t n) rows st record { plain = record { item = tt; up = refl; farewell = refl }; keeps = refl; admits = refl }
 
 up-server : (n : ℕ) (rows : List Row) (q : List ℕ) (b : Bool) → b ≡ true → q ≡ pending_up rows → drop n q ≡ drop (elim b as (λ _. ℕ) [ true ↦ n | false ↦ 0 ]) (pending_up rows ++ [])
@@ -130,10 +130,10 @@ up-client : (n : ℕ) (rows : List Row) (q : List ℕ) (b : Bool) → b ≡ fals
 up-client n rows q true e h = absurd (cc)
 up-client n rows q false e h = h ∙ sym (append-nil (pending_up rows))
 
-fit-took : (s : State) (t n : ℕ) (rows : List Row) → (t ≢ 0 → is_present s.clients t ≡ true) → AllFit rows s.core s.clients s.up → AllFit (took_row t n ∷ rows) (taken s t n).core (taken s t n).clients (taken s t n).up
+fit-took : (s : EngineState) (t n : ℕ) (rows : List Row) → (t ≢ 0 → is_present s.clients t ≡ true) → AllFit rows s.core s.clients s.up → AllFit (took_row t n ∷ rows) (took_and_listed s t n).core (took_and_listed s t n).clients (took_and_listed s t n).up
 fit-took s t n rows here f = elim (eqb_tells t 0) [ inl q ↦ server (t == 0) q.0 q.1 | inr q ↦ client (t == 0) q.0 q.0 ]
   where
-    after : Bool → State
+    after : Bool → EngineState
     after b = cond b (record s { up = without_first_bytes n s.up }) (record s { clients = at_client t (client_took n) s.clients })
 
     absent : t ≡ 0 → (cs : List ClientState) → EachFits rows cs → is_present cs t ≡ false
@@ -149,14 +149,14 @@ fit-took s t n rows here f = elim (eqb_tells t 0) [ inl q ↦ server (t == 0) q.
     client false e z = record { core = λ l. idle s.core t n rows (f.core l); each = each-took t n rows s.clients f.apart f.each; apart = apart-took t n s.clients f.apart; up = up-client n rows s.up.waiting (t == 0) z f.up }
 
 -- the parts that a take leaves alone, by which stream it is of
-numbers-taken-as : (s : State) (t n : ℕ) → numbers (taken s t n).clients ≡ numbers s.clients
+numbers-taken-as : (s : EngineState) (t n : ℕ) → numbers (took_and_listed s t n).clients ≡ numbers s.clients
 numbers-taken-as s t n = by_server (t == 0)
   where
     by_server : (b : Bool) → numbers (cond b (record s { up = without_first_bytes n s.up }) (record s { clients = at_client t (client_took n) s.clients })).clients ≡ numbers s.clients
     by_server true = refl
     by_server false = numbers-took t n s.clients
 
-pub record Same (s new : State) : Type 0 where
+pub record Same (s new : EngineState) : Type 0 where
   pub pid : new.pid ≡ s.pid
   pub core : new.core ≡ s.core
   pub server : new.server ≡ s.server
@@ -166,10 +166,10 @@ pub record Same (s new : State) : Type 0 where
   pub ended : new.ended ≡ s.ended
   pub starved : new.starved ≡ s.starved
 
-pub taken-same : (s : State) (t n : ℕ) → Same s (taken s t n)
+pub taken-same : (s : EngineState) (t n : ℕ) → Same s (took_and_listed s t n)
 taken-same s t n = by_server (t == 0)
   where
-    by_server : (b : Bool) → (let s' : State = cond b (record s { up = without_first_bytes n s.up }) (record s { clients = at_client t (client_took n) s.clients }) in Same s (record s' { waiting = (taken s t n).waiting }))
+    by_server : (b : Bool) → (let s' : EngineState = cond b (record s { up = without_first_bytes n s.up }) (record s { clients = at_client t (client_took n) s.clients }) in Same s (record s' { waiting = (took_and_listed s t n).waiting }))
     by_server true = record { pid = refl; core = refl; server = refl; refused = refl; leaving = refl; listening = refl; ended = refl; starved = refl }
     by_server false = record { pid = refl; core = refl; server = refl; refused = refl; leaving = refl; listening = refl; ended = refl; starved = refl }
 
@@ -179,13 +179,13 @@ server-took t n rows h = elim (eqb_tells t 0) [
   | inr q ↦ ap is_out (other_row t 0 (took_row t n) rows refl q.1) ∙ h
 ]
 
-present-apart : (t k : ℕ) (s : State) → (t ≢ 0 → is_present s.clients t ≡ true) → k ≢ 0 → is_here s k ≡ false → t ≢ k
+present-apart : (t k : ℕ) (s : EngineState) → (t ≢ 0 → is_present s.clients t ≡ true) → k ≢ 0 → is_here s k ≡ false → t ≢ k
 present-apart t k s here nz gone e = true_false (sym (ap (λ b. b || among t s.refused) (here (λ z. nz (sym e ∙ z)))) ∙ (ap (is_here s) e ∙ gone))
 
-rows-took : (taken' : ℕ) (dn : List Asked) (s : State) (t n : ℕ) (closed : List ℕ) (rows : List Row) → (t ≢ 0 → is_present s.clients t ≡ true) → RowsFit taken' dn s closed rows → RowsFit taken' dn (taken s t n) closed (took_row t n ∷ rows)
+rows-took : (taken' : ℕ) (dn : List Asked) (s : EngineState) (t n : ℕ) (closed : List ℕ) (rows : List Row) → (t ≢ 0 → is_present s.clients t ≡ true) → RowsFit taken' dn s closed rows → RowsFit taken' dn (took_and_listed s t n) closed (took_row t n ∷ rows)
 rows-took taken' dn s t n closed rows here st =
-    let same : Same s (taken s t n) = taken-same s t n in
-    moved taken' taken' dn dn [] closed s (taken s t n) rows (took_row t n ∷ rows) st record {
+    let same : Same s (took_and_listed s t n) = taken-same s t n in
+    moved taken' taken' dn dn [] closed s (took_and_listed s t n) rows (took_row t n ∷ rows) st record {
       grows = grows-row (Took t n) (took_row t n) rows refl tt refl;
       numbers_are = numbers-taken-as s t n;
       refused_is = same.refused;
@@ -205,17 +205,17 @@ rows-took taken' dn s t n closed rows here st =
       server_in = server-took t n rows st.server_in;
     }
   where
-    refused-apart : (k : ℕ) → rows_of k rows ≡ refusal k ∷ [] → t ≢ k
+    refused-apart : (k : ℕ) → rows_of k rows ≡ refused_client_row k ∷ [] → t ≢ k
     refused-apart k q e = apart-refused rows s.clients t k st.fit.each (here (λ z. refused-client rows k st.server_in q (sym e ∙ z))) q e
 
-bytes-took : (s : State) (t n : ℕ) (bytes : List ℕ) (accepts : Bool) (marks : List Mark) (closed : List ℕ) (rows : List Row) → BytesFit s marks closed rows → BytesFit (taken s t n) (Takes t bytes accepts ∷ marks) closed (took_row t n ∷ rows)
+bytes-took : (s : EngineState) (t n : ℕ) (bytes : List ℕ) (accepts : Bool) (marks : List Mark) (closed : List ℕ) (rows : List Row) → BytesFit s marks closed rows → BytesFit (took_and_listed s t n) (Takes t bytes accepts ∷ marks) closed (took_row t n ∷ rows)
 bytes-took s t n bytes accepts marks closed rows st = record {
   are_bytes = λ k. subst Rattle.ssh_fields.specs.Fields.AreBytes (sym (append-nil (bytes_of k marks))) (st.are_bytes k);
   clients = λ l. reads (t == 0) (st.clients l);
   server = λ l. subst (λ v. Rattle.mux_state.specs.Stands.ServerReads (bytes_of 0 marks ++ []) v) (sym (taken-same s t n).server) (subst (λ b. Rattle.mux_state.specs.Stands.ServerReads b s.server) (sym (append-nil (bytes_of 0 marks))) (st.server l));
-  there = λ l k a p. st.there l k a (sym (here-same s (taken s t n) k (numbers-taken-as s t n) (taken-same s t n).refused) ∙ p);
+  there = λ l k a p. st.there l k a (sym (here-same s (took_and_listed s t n) k (numbers-taken-as s t n) (taken-same s t n).refused) ∙ p);
   strange = λ k a. let v : IsStrange s marks closed k = st.strange k a in record {
-    not_here = here-same s (taken s t n) k (numbers-taken-as s t n) (taken-same s t n).refused ∙ v.not_here;
+    not_here = here-same s (took_and_listed s t n) k (numbers-taken-as s t n) (taken-same s t n).refused ∙ v.not_here;
     not_closed_yet = v.not_closed_yet;
     no_bytes = λ nz. append-nil (bytes_of k marks) ∙ v.no_bytes nz;
   };
@@ -229,21 +229,21 @@ bytes-took s t n bytes accepts marks closed rows st = record {
     reads true e = quiet s.clients e
     reads false e = reads-took t n bytes accepts marks s.clients e
 
-pub goes-took : (s : State) (t n : ℕ) (bytes : List ℕ) (accepts : Bool) → length bytes ≡ n → GoesAlone s (taken s t n) (Takes t bytes accepts)
+pub goes-took : (s : EngineState) (t n : ℕ) (bytes : List ℕ) (accepts : Bool) → length bytes ≡ n → GoesAlone s (took_and_listed s t n) (Takes t bytes accepts)
 goes-took s t n bytes accepts e picked given marks closed st here = record {
   asks = st.asks;
   each = st.each;
   at = λ picks replies.
       let v : EngineRepresents (picked ++ picks) (given ++ replies) (length picked) st.asks s marks closed = st.at picks replies in
-      let same : Same s (taken s t n) = taken-same s t n in
+      let same : Same s (took_and_listed s t n) = taken-same s t n in
       let rows : List Row = log s (picked ++ picks) (given ++ replies) marks in
-      let is : log (taken s t n) (picked ++ picks) (given ++ replies) (Takes t bytes accepts ∷ marks) ≡ took_row t n ∷ rows =
-      log-same s (taken s t n) same (picked ++ picks) (given ++ replies) (Takes t bytes accepts ∷ marks) ∙ (took-log s (picked ++ picks) (given ++ replies) t bytes accepts marks here.1 ∙ ap (λ m. took_row t m ∷ rows) e) in
+      let is : log (took_and_listed s t n) (picked ++ picks) (given ++ replies) (Takes t bytes accepts ∷ marks) ≡ took_row t n ∷ rows =
+      log-same s (took_and_listed s t n) same (picked ++ picks) (given ++ replies) (Takes t bytes accepts ∷ marks) ∙ (took-log s (picked ++ picks) (given ++ replies) t bytes accepts marks here.1 ∙ ap (λ m. took_row t m ∷ rows) e) in
       record {
-        rows = subst (RowsFit (length picked) st.asks (taken s t n) closed) (sym is) (rows-took (length picked) st.asks s t n closed rows here.0 v.rows);
-        bytes = subst (BytesFit (taken s t n) (Takes t bytes accepts ∷ marks) closed) (sym is) (bytes-took s t n bytes accepts marks closed rows v.bytes);
+        rows = subst (RowsFit (length picked) st.asks (took_and_listed s t n) closed) (sym is) (rows-took (length picked) st.asks s t n closed rows here.0 v.rows);
+        bytes = subst (BytesFit (took_and_listed s t n) (Takes t bytes accepts ∷ marks) closed) (sym is) (bytes-took s t n bytes accepts marks closed rows v.bytes);
       };
 }
   where
-    log-same : (s new : State) → Same s new → (picks : List ℕ) (replies : List HouseReply) (marks : List Mark) → log new picks replies marks ≡ log s picks replies marks
+    log-same : (s new : EngineState) → Same s new → (picks : List ℕ) (replies : List HouseReply) (marks : List Mark) → log new picks replies marks ≡ log s picks replies marks
     log-same s new w picks replies marks = ap (λ (c : Rattle.mux_core.specs.State.CoreState). Rattle.mux_history.specs.Journal.log_of_journal (by_lists c.policy new.pid picks replies) marks) w.core ∙ ap (λ p. Rattle.mux_history.specs.Journal.log_of_journal (by_lists s.core.policy p picks replies) marks) w.pid

@@ -9,7 +9,7 @@ use Rattle.mux_history.specs.Settings.{by_lists}
 use Rattle.mux_history.specs.Log.{more_all}
 use Rattle.mux_history.specs.Journal.{bytes_of, is_own_stream, log_of_journal, unless_own}
 use Rattle.mux_peers.specs.State.{ClientState}
-use Rattle.mux_state.specs.State.{State}
+use Rattle.mux_state.specs.State.{EngineState}
 use Rattle.mux_state.specs.Stands.{BytesFit, ClientReads, EachReads, IsStrange, RowsFit, ServerReads, EngineRepresents, log}
 use Rattle.mux_state.proofs.Lists.{test_other}
 use Rattle.mux_state.specs.Twins.{AreTwins, HouseIsClient, OwnIsSilent, StandsAlike}
@@ -18,7 +18,7 @@ reads-alike : (a b : List Mark) (cs : List ClientState) → AreTwins a b → Eac
 reads-alike a b [] h each = tt
 reads-alike a b (c ∷ cs) h each = (subst (λ x. ClientReads x c) (h.bytes c.peer.number) each.0, reads-alike a b cs h each.1)
 
-bytes-alike : (s : State) (a b : List Mark) (closed : List ℕ) (rows : List Row) → AreTwins a b → BytesFit s a closed rows → BytesFit s b closed rows
+bytes-alike : (s : EngineState) (a b : List Mark) (closed : List ℕ) (rows : List Row) → AreTwins a b → BytesFit s a closed rows → BytesFit s b closed rows
 bytes-alike s a b closed rows h f = record {
   are_bytes = λ t. subst AreBytes (h.bytes t) (f.are_bytes t);
   clients = λ live. reads-alike a b s.clients h (f.clients live);

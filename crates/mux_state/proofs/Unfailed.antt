@@ -20,17 +20,17 @@ use Rattle.mux_history.specs.declared.ended.Ended.{Ended}
 use Rattle.mux_history.specs.declared.ended.Ended.TheVariants as ended
 use Rattle.mux_history.specs.Channels.{Channel, held_of, with_own}
 use Rattle.mux_history.specs.Choices.{FromLists, pick_of, replies_given, reply_at}
-use Rattle.mux_history.specs.Controls.{body_asks, first_control, first_unread, greeted, later_control, later_unread, sent_body, sent_first, sent_later}
+use Rattle.mux_history.specs.Controls.{body_asks, first_control, first_unread, client_has_greeted, later_control, later_unread, sent_body, sent_first, sent_later}
 use Rattle.mux_history.specs.Summary.{Act, Confirmation, Summary, Open, Refuses, Requests, Succeeds, Transport, Within, read_summary}
 use Rattle.mux_history.specs.Heard.{Breaks, Dest, Disconnects, ToClient, ToMaster, dest, for_master, received_for, received_master}
 use Rattle.mux_history.specs.Ledger.{breach}
 use Rattle.mux_history.specs.Policy.{Policy, may_open}
 use Rattle.mux_history.specs.Rows.{Row, rows_of, loses, Item, Heard, Says, Fate, Goes, Refused, Drop, End}
-use Rattle.mux_history.specs.Said.{Outcome, confirmed_at, drops, fails_open, is_failing, is_full_of_asks, on_breach, on_confirmed, on_unused, on_waiting, sent_summary, sent_open, sent_payload, sent_request, sends, sends_as, sends_if, sends_open, silent, waiting_at, reason_for, text_for}
+use Rattle.mux_history.specs.Said.{Outcome, confirmed_at, drops, fails_open, is_failing, is_full_of_asks, on_breach, on_confirmed, on_unused, on_waiting, sent_summary, open_outcome, sent_payload, sent_request, sends_payload, sends_as, sends_if, sends_open, silent, waiting_at, reason_for, text_for}
 use Rattle.mux_history.specs.Settings.{by_lists}
 use Rattle.mux_history.specs.Solo.{run_end_of}
 use Rattle.mux_history.specs.Journal.{received_item, sent_item}
-use Rattle.mux_history.specs.Log.{all_recorded, bare, fate_with, received_row, makes_next, more_all, more_of, next_row, overflow, queued, row_of, sent_by_client, treat}
+use Rattle.mux_history.specs.Log.{all_recorded, bare_row, fate_with, received_row, makes_next, more_all, more_of, next_row, overflow, queued, row_of, sent_by_client, treat}
 use Rattle.mux_history.specs.Pending.{waiting_down}
 use Rattle.mux_history.specs.Farewell.{farewell}
 use Rattle.mux_peers.proofs.Receivings.{heard-goes}
@@ -50,10 +50,10 @@ with-full Refused None h = tt
 with-full Refused (Some cause) h = tt
 
 row-unfailed : (item : Item) (k : ℕ) (o : Outcome) (own : List Row) → IsUnfailed o.ends → IsUnfailed (row_of item k o own).fate
-row-unfailed item k o own h = by_loss (loses q) (with-full o.ends (overflow (waiting_down own) (all_recorded (bare item k o) own)) h)
+row-unfailed item k o own h = by_loss (loses q) (with-full o.ends (overflow (waiting_down own) (all_recorded (bare_row item k o) own)) h)
   where
     q : Row
-    q = queued (all_recorded (bare item k o) own) (bare item k o) own
+    q = queued (all_recorded (bare_row item k o) own) (bare_row item k o) own
 
     by_loss : (b : Bool) → IsUnfailed q.fate → IsUnfailed (elim b as (λ _. Row) [ true ↦ record q { farewell = farewell q own } | false ↦ q ]).fate
     by_loss true h = h
@@ -71,7 +71,7 @@ fine-open own pick p sender = by_room (nat_lt (length (held_of own)) MAX_CHANNEL
     by_room true = tt
     by_room false = tt
 
-fine-kind : (policy : Policy) (own : List Row) (pick : ℕ) (p : List ℕ) (sender : ℕ) (what : Opens) → IsFine (sent_open policy own pick p sender what)
+fine-kind : (policy : Policy) (own : List Row) (pick : ℕ) (p : List ℕ) (sender : ℕ) (what : Opens) → IsFine (open_outcome policy own pick p sender what)
 fine-kind policy own pick p sender what = by_permit (may_open policy what)
   where
     by_permit : (b : Bool) → IsFine (elim b as (λ _. Outcome) [ true ↦ sends_open own pick p sender | false ↦ fails_open sender (reason_for what) (text_for what) ])
@@ -94,8 +94,8 @@ fine-confirmed : (p : List ℕ) (s : ℕ) (act : Act) (x : Option Channel) → I
 fine-confirmed p s act None = tt
 fine-confirmed p s act (Some x) = fine-breach p s (breach Up act x)
 
-fine-within : (own : List Row) (p : List ℕ) (s : ℕ) (act : Act) (b : Bool) → IsFine (elim b as (λ _. Outcome) [ true ↦ on_waiting s (sends p) (waiting_at own s) | false ↦ on_confirmed p s act (confirmed_at own s) ])
-fine-within own p s act true = fine-waiting s (sends p) (waiting_at own s) tt
+fine-within : (own : List Row) (p : List ℕ) (s : ℕ) (act : Act) (b : Bool) → IsFine (elim b as (λ _. Outcome) [ true ↦ on_waiting s (sends_payload p) (waiting_at own s) | false ↦ on_confirmed p s act (confirmed_at own s) ])
+fine-within own p s act true = fine-waiting s (sends_payload p) (waiting_at own s) tt
 fine-within own p s act false = fine-confirmed p s act (confirmed_at own s)
 
 fine-if : (b : Bool) (p : List ℕ) → IsFine (sends_if b p)
@@ -117,7 +117,7 @@ fine-transport true = tt
 fine-transport false = tt
 
 fine-summary : (policy : Policy) (k : ℕ) (own : List Row) (pick : ℕ) (p : List ℕ) (m : Summary) → IsFine (sent_summary policy k own pick p m)
-fine-summary policy k own pick p (Open what sender w x) = fine-unused sender (sent_open policy own pick p sender what) (with_own own sender) (fine-kind policy own pick p sender what)
+fine-summary policy k own pick p (Open what sender w x) = fine-unused sender (open_outcome policy own pick p sender what) (with_own own sender) (fine-kind policy own pick p sender what)
 fine-summary policy k own pick p (Confirmation s sender w x) = fine-waiting s (on_unused sender (sends_as pick p) (with_own own sender)) (waiting_at own s) (fine-unused sender (sends_as pick p) (with_own own sender) tt)
 fine-summary policy k own pick p (Transport number) = fine-transport (number == DISCONNECT)
 fine-summary policy k own pick p (Requests what wants) = fine-asks policy k own p what wants (is_full_of_asks wants own)
@@ -177,14 +177,14 @@ fine-body pid k given has_greeted body = by_read (read_control body) has_greeted
 -- ---- what is sent
 
 fine-outgoing : (policy : Policy) (pid k : ℕ) (own : List Row) (pick : ℕ) (x : Outgoing) (given : Option HouseReply) → IsFine (sent_by_client policy pid k own pick x given)
-fine-outgoing policy pid k own pick (Body body) given = fine-body pid k given (greeted own) body
+fine-outgoing policy pid k own pick (Body body) given = fine-body pid k given (client_has_greeted own) body
 fine-outgoing policy pid k own pick (Payload p) given = fine-payload policy k own pick p
 fine-outgoing policy pid k own pick (BadFraming fault) given = tt
 
 said-unfailed : (policy : Policy) (pid : ℕ) (picks : List ℕ) (given : List HouseReply) (k : ℕ) (x : Outgoing) (rows : List Row) → IsUnfailed (next_row (by_lists policy pid picks given) rows (sent_item k x)).fate
 said-unfailed policy pid picks given k (Payload p) rows = row-unfailed (Says k (Payload p) None) k (sent_by_client policy pid k (rows_of k rows) (pick_of (FromLists picks given) rows (Says k (Payload p) None)) (Payload p) None) (rows_of k rows) (fine-outgoing policy pid k (rows_of k rows) (pick_of (FromLists picks given) rows (Says k (Payload p) None)) (Payload p) None)
 said-unfailed policy pid picks given k (BadFraming fault) rows = row-unfailed (Says k (BadFraming fault) None) k (sent_by_client policy pid k (rows_of k rows) (pick_of (FromLists picks given) rows (Says k (BadFraming fault) None)) (BadFraming fault) None) (rows_of k rows) (fine-outgoing policy pid k (rows_of k rows) (pick_of (FromLists picks given) rows (Says k (BadFraming fault) None)) (BadFraming fault) None)
-said-unfailed policy pid picks given k (Body body) rows = by_ask (greeted (rows_of k rows) && body_asks body)
+said-unfailed policy pid picks given k (Body body) rows = by_ask (client_has_greeted (rows_of k rows) && body_asks body)
   where
     pick : ℕ
     pick = pick_of (FromLists picks given) rows (Says k (Body body) None)

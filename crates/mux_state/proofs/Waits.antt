@@ -9,7 +9,7 @@ use Rattle.mux_history.specs.Rows.{Row}
 use Rattle.mux_history.specs.Promises.{is_empty}
 use Rattle.mux_peers.specs.State.{ClientState}
 use Rattle.mux_peers.specs.Among.{ArePeersApart, EachFits, is_present}
-use Rattle.mux_state.specs.State.{State, at_client, client_took, in_client, taken, waiting_clients, waiting_in}
+use Rattle.mux_state.specs.State.{EngineState, at_client, client_took, in_client, took_and_listed, waiting_clients, waiting_streams}
 use Rattle.mux_state.proofs.Lists.{either, not_here, test_other, without_head}
 
 abbrev pub queue_at : List ClientState → ℕ → List ℕ
@@ -92,23 +92,23 @@ down-took k true false ws nz = without_head k 0 ws false (test_other 0 k (λ e. 
 down-took k false true ws nz = refl
 down-took k false false ws nz = refl
 
-pub waiting-taken : (rows : List Row) (s : State) (t n : ℕ) → EachFits rows s.clients → ArePeersApart s.clients → (t ≢ 0 → is_present s.clients t ≡ true) → s.waiting ≡ waiting_in s → (taken s t n).waiting ≡ waiting_in (taken s t n)
+pub waiting-taken : (rows : List Row) (s : EngineState) (t n : ℕ) → EachFits rows s.clients → ArePeersApart s.clients → (t ≢ 0 → is_present s.clients t ≡ true) → s.waiting ≡ waiting_streams s → (took_and_listed s t n).waiting ≡ waiting_streams (took_and_listed s t n)
 waiting-taken rows s t n each apart here was = elim (eqb_tells t 0) [
   | inl q ↦ server (t == 0) q.0 q.1
   | inr q ↦ client (t == 0) q.0 q.1
 ]
   where
-    after : Bool → State
+    after : Bool → EngineState
     after b = cond b (record s { up = Rattle.proxy_frames.specs.Queued.without_first_bytes n s.up }) (record s { clients = at_client t (client_took n) s.clients })
 
     queue_of : Bool → Bool → List ℕ
     queue_of b z = cond z (after b).up.waiting (queue_at (after b).clients t)
 
-    server : (b : Bool) → b ≡ true → t ≡ 0 → cond (is_empty (queue_of b b)) (without t s.waiting) s.waiting ≡ waiting_in (after b)
+    server : (b : Bool) → b ≡ true → t ≡ 0 → cond (is_empty (queue_of b b)) (without t s.waiting) s.waiting ≡ waiting_streams (after b)
     server true e z = ap (λ j. cond (is_empty (drop n s.up.waiting)) (without j s.waiting) s.waiting) z ∙ (ap (λ w. cond (is_empty (drop n s.up.waiting)) (without 0 w) w) was ∙ up-took n s.up.waiting (waiting_clients s.clients) (no-server rows s.clients each))
     server false e z = absurd (cc)
 
-    client : (b : Bool) → b ≡ false → t ≢ 0 → cond (is_empty (queue_of b b)) (without t s.waiting) s.waiting ≡ waiting_in (after b)
+    client : (b : Bool) → b ≡ false → t ≢ 0 → cond (is_empty (queue_of b b)) (without t s.waiting) s.waiting ≡ waiting_streams (after b)
     client true e nz = absurd (cc)
     client false e nz =
         let empty : Bool = is_empty (queue_at (at_client t (client_took n) s.clients) t) in

@@ -11,18 +11,18 @@ use Rattle.client_teardown.specs.declared.farewell.TheConstants.{FAREWELL_ROOM}
 use Rattle.mux_core.specs.State.{CoreState}
 use Rattle.mux_peers.specs.declared.run_change.RunChange.{RunChange}
 use Rattle.mux_peers.specs.State.{ClientState, ClientsState, clients_of, clients_and_queue, part}
-use Rattle.mux_peers.specs.Stands.{is_lost, is_read}
+use Rattle.mux_peers.specs.Stands.{is_standing_lost, is_read}
 use Rattle.mux_peers.specs.Among.{ChangesOne, Noting, NotesOne, is_present}
 use Rattle.mux_peers.specs.Answering.{AnswersAt, AnswersNoting}
 use Rattle.mux_peers.specs.Entering.{new_client}
 use Rattle.mux_peers.specs.Losing.{Loses, LosesIn, LosesNothing, loss_between}
 use Rattle.mux_peers.specs.Pieces.{ReceivesIn, ReceivesPiece}
 use Rattle.mux_peers.specs.Room.{HasRoom, served_in}
-use Rattle.mux_peers.specs.Server.{ReceivesBytes, ServerState}
+use Rattle.mux_peers.specs.Server.{ServerReceivesBytes, ServerState}
 use Rattle.mux_peers.proofs.Found.{receives-of}
 use Rattle.mux_state.specs.Moves.{AnsweredAt, GainsAt, ReceivedAt, LosesAt, not_lost}
-use Rattle.mux_state.specs.State.{State, clients_and_queue_of, entered}
-use Rattle.mux_state.specs.Steps.{EntersAt, ReceivesFrom, is_received, is_served, streams_waiting_of}
+use Rattle.mux_state.specs.State.{EngineState, clients_and_queue_of, after_admission}
+use Rattle.mux_state.specs.Steps.{EntersAt, ReceivesFrom, is_client_read, is_client_served, streams_waiting_of}
 use Rattle.mux_state.proofs.Lists.{true_false}
 use Rattle.mux_state.proofs.Looked.{changes-so, so-here}
 use Rattle.mux_state.proofs.OneClient.{changes-to}
@@ -37,32 +37,32 @@ changes-as k R S cs cs' f h = changes-to k R S (λ c. Unit {0}) cs cs' (λ x y e
 
 -- ---- a client whose stream is gone
 
-loses-of : (old new : CoreState) (up up' : QueueState) (x y : ClientState) → not_lost x.peer.standing ≡ true → LosesIn old new up up' x y → (is_lost x.peer.standing ≡ false) × Loses (part old x.peer up) (part new y.peer up')
-loses-of old new up up' x y e h = by_lost (is_lost x.peer.standing) refl h
+loses-of : (old new : CoreState) (up up' : QueueState) (x y : ClientState) → not_lost x.peer.standing ≡ true → LosesIn old new up up' x y → (is_standing_lost x.peer.standing ≡ false) × Loses (part old x.peer up) (part new y.peer up')
+loses-of old new up up' x y e h = by_lost (is_standing_lost x.peer.standing) refl h
   where
-    by_lost : (b : Bool) → is_lost x.peer.standing ≡ b → MatchBool b (LosesNothing old new up up' x y) (Loses (part old x.peer up) (part new y.peer up')) → (is_lost x.peer.standing ≡ false) × Loses (part old x.peer up) (part new y.peer up')
+    by_lost : (b : Bool) → is_standing_lost x.peer.standing ≡ b → MatchBool b (LosesNothing old new up up' x y) (Loses (part old x.peer up) (part new y.peer up')) → (is_standing_lost x.peer.standing ≡ false) × Loses (part old x.peer up) (part new y.peer up')
     by_lost true t h = true_false (sym (sym (ap not t) ∙ e))
     by_lost false t h = (t, h)
 
 -- an engine whose clients went on
-abbrev pub gone_on : State → ClientsState → CoreState → QueueState → List ℕ → State
+abbrev pub gone_on : EngineState → ClientsState → CoreState → QueueState → List ℕ → EngineState
 gone_on parts cs core up ws = record parts { core = core; up = up; clients = cs.all; leaving = cs.leaving; waiting = ws }
 
-pub record LoseParts (parts : State) (k : ℕ) (cs : ClientsState) (core : CoreState) (up : QueueState) (ws : List ℕ) : Type 0 where
-  pub served : is_served parts.clients k ≡ true
+pub record LoseParts (parts : EngineState) (k : ℕ) (cs : ClientsState) (core : CoreState) (up : QueueState) (ws : List ℕ) : Type 0 where
+  pub served : is_client_served parts.clients k ≡ true
   pub policy : core.policy ≡ parts.core.policy
   pub loses : is_present parts.clients k ≡ true → ChangesOne k (LosesIn parts.core core parts.up up) parts.clients cs.all
-  pub notes : cs.leaving ≡ parts.leaving ++ cond (is_served parts.clients k) ((k, None) ∷ []) []
+  pub notes : cs.leaving ≡ parts.leaving ++ cond (is_client_served parts.clients k) ((k, None) ∷ []) []
   pub waits : ws ≡ streams_waiting_of up.waiting cs.all
 
-pub lose-written : (s parts new : State) (k : ℕ) (cs : ClientsState) (core : CoreState) (up : QueueState) (ws : List ℕ) → parts ≡ s → new ≡ gone_on parts cs core up ws → LoseParts parts k cs core up ws → LosesAt s new k
+pub lose-written : (s parts new : EngineState) (k : ℕ) (cs : ClientsState) (core : CoreState) (up : QueueState) (ws : List ℕ) → parts ≡ s → new ≡ gone_on parts cs core up ws → LoseParts parts k cs core up ws → LosesAt s new k
 lose-written s parts new k cs core up ws view is p =
     let here : is_present parts.clients k ≡ true = so-here not_lost k parts.clients p.served in
-    let two : ChangesOne k (λ x y. (is_lost x.peer.standing ≡ false) × Loses (part parts.core x.peer parts.up) (part core y.peer up)) parts.clients cs.all =
-    changes-as k (λ x y. (not_lost x.peer.standing ≡ true) × LosesIn parts.core core parts.up up x y) (λ x y. (is_lost x.peer.standing ≡ false) × Loses (part parts.core x.peer parts.up) (part core y.peer up)) parts.clients cs.all
+    let two : ChangesOne k (λ x y. (is_standing_lost x.peer.standing ≡ false) × Loses (part parts.core x.peer parts.up) (part core y.peer up)) parts.clients cs.all =
+    changes-as k (λ x y. (not_lost x.peer.standing ≡ true) × LosesIn parts.core core parts.up up x y) (λ x y. (is_standing_lost x.peer.standing ≡ false) × Loses (part parts.core x.peer parts.up) (part core y.peer up)) parts.clients cs.all
     (λ x y r. loses-of parts.core core parts.up up x y r.0 r.1) (changes-so not_lost k (LosesIn parts.core core parts.up up) parts.clients cs.all p.served (p.loses here)) in
-    subst (λ (x : State). LosesAt x new k) view
-    (subst (λ (y : State). LosesAt parts y k) (sym is) record {
+    subst (λ (x : EngineState). LosesAt x new k) view
+    (subst (λ (y : EngineState). LosesAt parts y k) (sym is) record {
       pid = refl;
       policy = p.policy;
       server = refl;
@@ -76,28 +76,28 @@ lose-written s parts new k cs core up ws view is p =
 
 -- ---- a client to which the forwarder replies
 
-replies-of : (k id : ℕ) (given : HouseReply) (noted : List (ℕ × Option Why)) (old new : CoreState) (up up' : QueueState) (x y : ClientState) → not_lost x.peer.standing ≡ true → AnswersNoting k id given noted old new up up' x y → (is_lost x.peer.standing ≡ false) × AnswersNoting k id given noted old new up up' x y
-replies-of k id given noted old new up up' x y e h = (by_lost (is_lost x.peer.standing) refl, h)
+replies-of : (k id : ℕ) (given : HouseReply) (noted : List (ℕ × Option Why)) (old new : CoreState) (up up' : QueueState) (x y : ClientState) → not_lost x.peer.standing ≡ true → AnswersNoting k id given noted old new up up' x y → (is_standing_lost x.peer.standing ≡ false) × AnswersNoting k id given noted old new up up' x y
+replies-of k id given noted old new up up' x y e h = (by_lost (is_standing_lost x.peer.standing) refl, h)
   where
-    by_lost : (b : Bool) → is_lost x.peer.standing ≡ b → is_lost x.peer.standing ≡ false
+    by_lost : (b : Bool) → is_standing_lost x.peer.standing ≡ b → is_standing_lost x.peer.standing ≡ false
     by_lost true t = true_false (sym (sym (ap not t) ∙ e))
     by_lost false t = t
 
-pub record AnswerParts (parts : State) (k id : ℕ) (given : HouseReply) (cs : ClientsState) (core : CoreState) (up : QueueState) (ws : List ℕ) : Type 0 where
-  pub served : is_served parts.clients k ≡ true
+pub record AnswerParts (parts : EngineState) (k id : ℕ) (given : HouseReply) (cs : ClientsState) (core : CoreState) (up : QueueState) (ws : List ℕ) : Type 0 where
+  pub served : is_client_served parts.clients k ≡ true
   pub policy : core.policy ≡ parts.core.policy
   pub answers : AnswersAt k id given (clients_and_queue_of parts) (clients_and_queue cs core up)
   pub waits : ws ≡ streams_waiting_of up.waiting cs.all
 
-pub answer-written : (s parts new : State) (k id : ℕ) (given : HouseReply) (cs : ClientsState) (core : CoreState) (up : QueueState) (ws : List ℕ) → parts ≡ s → new ≡ gone_on parts cs core up ws → AnswerParts parts k id given cs core up ws → AnsweredAt s new k id given
+pub answer-written : (s parts new : EngineState) (k id : ℕ) (given : HouseReply) (cs : ClientsState) (core : CoreState) (up : QueueState) (ws : List ℕ) → parts ≡ s → new ≡ gone_on parts cs core up ws → AnswerParts parts k id given cs core up ws → AnsweredAt s new k id given
 answer-written s parts new k id given cs core up ws view is p =
     let a = p.answers in
     let here : is_present parts.clients k ≡ true = so-here not_lost k parts.clients p.served in
-    let two : ChangesOne k (λ x y. (is_lost x.peer.standing ≡ false) × AnswersNoting k id given a.noted parts.core core parts.up up x y) parts.clients cs.all =
-    changes-as k (λ x y. (not_lost x.peer.standing ≡ true) × AnswersNoting k id given a.noted parts.core core parts.up up x y) (λ x y. (is_lost x.peer.standing ≡ false) × AnswersNoting k id given a.noted parts.core core parts.up up x y) parts.clients cs.all
+    let two : ChangesOne k (λ x y. (is_standing_lost x.peer.standing ≡ false) × AnswersNoting k id given a.noted parts.core core parts.up up x y) parts.clients cs.all =
+    changes-as k (λ x y. (not_lost x.peer.standing ≡ true) × AnswersNoting k id given a.noted parts.core core parts.up up x y) (λ x y. (is_standing_lost x.peer.standing ≡ false) × AnswersNoting k id given a.noted parts.core core parts.up up x y) parts.clients cs.all
     (λ x y r. replies-of k id given a.noted parts.core core parts.up up x y r.0 r.1) (changes-so not_lost k (AnswersNoting k id given a.noted parts.core core parts.up up) parts.clients cs.all p.served (a.changes here)) in
-    subst (λ (x : State). AnsweredAt x new k id given) view
-    (subst (λ (y : State). AnsweredAt parts y k id given) (sym is) record {
+    subst (λ (x : EngineState). AnsweredAt x new k id given) view
+    (subst (λ (y : EngineState). AnsweredAt parts y k id given) (sym is) record {
       pid = refl;
       policy = p.policy;
       server = refl;
@@ -113,16 +113,16 @@ answer-written s parts new k id given cs core up ws view is p =
 
 -- ---- a client that sends something
 
-pub record GainParts (May : HouseReply → Type 0) (before recorded : Option (List Asked)) (parts : State) (k : ℕ) (bytes : List ℕ) (cs : ClientsState) (core : CoreState) (up : QueueState) (heard : RunChange) (ws : List ℕ) (listening : Bool) : Type 0 where
-  pub read : is_received parts.clients k ≡ true
+pub record GainParts (May : HouseReply → Type 0) (before recorded : Option (List Asked)) (parts : EngineState) (k : ℕ) (bytes : List ℕ) (cs : ClientsState) (core : CoreState) (up : QueueState) (heard : RunChange) (ws : List ℕ) (listening : Bool) : Type 0 where
+  pub read : is_client_read parts.clients k ≡ true
   pub receives : NotesOne k (ReceivesIn May before recorded parts.pid bytes parts.core core parts.up up heard) (clients_of parts.clients parts.leaving) cs
   pub listens : listening ≡ (parts.listening && not heard.stops)
   pub waits : ws ≡ streams_waiting_of up.waiting cs.all
 
-abbrev pub gain_new : State → ClientsState → CoreState → QueueState → RunChange → List ℕ → Bool → State
+abbrev pub gain_new : EngineState → ClientsState → CoreState → QueueState → RunChange → List ℕ → Bool → EngineState
 gain_new parts cs core up heard ws listening = record parts { core = core; up = up; clients = cs.all; leaving = cs.leaving; waiting = ws; listening = listening; ended = heard.ended }
 
-pub gain-written : (May : HouseReply → Type 0) (before recorded : Option (List Asked)) (s parts new : State) (k : ℕ) (bytes : List ℕ) (cs : ClientsState) (core : CoreState) (up : QueueState) (heard : RunChange) (ws : List ℕ) (listening : Bool)
+pub gain-written : (May : HouseReply → Type 0) (before recorded : Option (List Asked)) (s parts new : EngineState) (k : ℕ) (bytes : List ℕ) (cs : ClientsState) (core : CoreState) (up : QueueState) (heard : RunChange) (ws : List ℕ) (listening : Bool)
     → parts ≡ s → new ≡ gain_new parts cs core up heard ws listening → GainParts May before recorded parts k bytes cs core up heard ws listening → GainsAt May before recorded s new k bytes
 gain-written May before recorded s parts new k bytes cs core up heard ws listening view is p =
     let here : is_present parts.clients k ≡ true = so-here is_read k parts.clients p.read in
@@ -132,8 +132,8 @@ gain-written May before recorded s parts new k bytes cs core up heard ws listeni
     changes-as k (λ x y. (is_read x.peer.standing ≡ true) × R x y) S parts.clients cs.all
     (λ x y r. (r.0, (receives-of May before recorded parts.pid bytes parts.core core parts.up up heard x y r.0 r.1.goes, p.receives.leaves ∙ ap (λ (l : List (ℕ × Option Why)). parts.leaving ++ l) r.1.noted_is)))
     (changes-so is_read k R parts.clients cs.all p.read (p.receives.changes here)) in
-    subst (λ (x : State). GainsAt May before recorded x new k bytes) view
-    (subst (λ (y : State). GainsAt May before recorded parts y k bytes) (sym is) record {
+    subst (λ (x : EngineState). GainsAt May before recorded x new k bytes) view
+    (subst (λ (y : EngineState). GainsAt May before recorded parts y k bytes) (sym is) record {
       heard = heard;
       pid = refl;
       server = refl;
@@ -146,18 +146,18 @@ gain-written May before recorded s parts new k bytes cs core up heard ws listeni
 
 -- ---- the server
 
-pub record ReceiveParts (parts : State) (bytes : List ℕ) (cs : ClientsState) (core : CoreState) (up : QueueState) (server : ServerState) (ws : List ℕ) (ended : Option Ended) : Type 0 where
-  pub receives : ReceivesBytes bytes (clients_and_queue_of parts) (clients_and_queue cs core up) parts.server server ended
+pub record ReceiveParts (parts : EngineState) (bytes : List ℕ) (cs : ClientsState) (core : CoreState) (up : QueueState) (server : ServerState) (ws : List ℕ) (ended : Option Ended) : Type 0 where
+  pub receives : ServerReceivesBytes bytes (clients_and_queue_of parts) (clients_and_queue cs core up) parts.server server ended
   pub waits : ws ≡ streams_waiting_of up.waiting cs.all
 
-abbrev pub receive_new : State → ClientsState → CoreState → QueueState → ServerState → List ℕ → Option Ended → State
+abbrev pub receive_new : EngineState → ClientsState → CoreState → QueueState → ServerState → List ℕ → Option Ended → EngineState
 receive_new parts cs core up server ws ended = record parts { core = core; server = server; up = up; clients = cs.all; leaving = cs.leaving; waiting = ws; ended = ended }
 
-pub receive-written : (s parts new : State) (bytes : List ℕ) (cs : ClientsState) (core : CoreState) (up : QueueState) (server : ServerState) (ws : List ℕ) (ended : Option Ended)
+pub receive-written : (s parts new : EngineState) (bytes : List ℕ) (cs : ClientsState) (core : CoreState) (up : QueueState) (server : ServerState) (ws : List ℕ) (ended : Option Ended)
     → parts ≡ s → new ≡ receive_new parts cs core up server ws ended → ReceiveParts parts bytes cs core up server ws ended → ReceivedAt s new bytes
 receive-written s parts new bytes cs core up server ws ended view is p =
-    subst (λ (x : State). ReceivedAt x new bytes) view
-    (subst (λ (y : State). ReceivedAt parts y bytes) (sym is) record {
+    subst (λ (x : EngineState). ReceivedAt x new bytes) view
+    (subst (λ (y : EngineState). ReceivedAt parts y bytes) (sym is) record {
       pid = refl;
       refused = refl;
       listening = refl;
@@ -167,17 +167,17 @@ receive-written s parts new bytes cs core up server ws ended view is p =
 
 -- ---- a client that comes
 
-pub record EnterParts (parts : State) (k : ℕ) (cs : ClientsState) (core : CoreState) (up : QueueState) (refused : List ℕ) (ws : List ℕ) : Type 0 where
+pub record EnterParts (parts : EngineState) (k : ℕ) (cs : ClientsState) (core : CoreState) (up : QueueState) (refused : List ℕ) (ws : List ℕ) : Type 0 where
   pub policy : core.policy ≡ parts.core.policy
   pub waiting : up.waiting ≡ parts.up.waiting
   pub takes_in : ReceivesFrom k parts.core core (clients_of parts.clients parts.leaving) cs parts.refused refused
   pub waits : ws ≡ streams_waiting_of up.waiting cs.all
 
-abbrev pub enter_new : State → List ClientState → CoreState → QueueState → List ℕ → List (ℕ × Option Why) → List ℕ → State
+abbrev pub enter_new : EngineState → List ClientState → CoreState → QueueState → List ℕ → List (ℕ × Option Why) → List ℕ → EngineState
 enter_new parts cs core up refused ls ws = record parts { core = core; up = up; clients = cs; refused = refused; leaving = ls; waiting = ws }
 
-enters-as : (parts : State) (k : ℕ) (core : CoreState) (up : QueueState) (b : Bool) (cs : List ClientState) (refused : List ℕ) (ls : List (ℕ × Option Why)) (ws : List ℕ) → cs ≡ cond b (parts.clients ++ new_client k ∷ []) parts.clients → refused ≡ cond b parts.refused (parts.refused ++ k ∷ []) → ls ≡ cond b parts.leaving (parts.leaving ++ (k, None) ∷ []) → ws ≡ streams_waiting_of up.waiting cs
-    → enter_new parts cs core up refused ls ws ≡ entered parts core up k b
+enters-as : (parts : EngineState) (k : ℕ) (core : CoreState) (up : QueueState) (b : Bool) (cs : List ClientState) (refused : List ℕ) (ls : List (ℕ × Option Why)) (ws : List ℕ) → cs ≡ cond b (parts.clients ++ new_client k ∷ []) parts.clients → refused ≡ cond b parts.refused (parts.refused ++ k ∷ []) → ls ≡ cond b parts.leaving (parts.leaving ++ (k, None) ∷ []) → ws ≡ streams_waiting_of up.waiting cs
+    → enter_new parts cs core up refused ls ws ≡ after_admission parts core up k b
 enters-as parts k core up true cs refused ls ws e f g w =
     ap (λ (l : List ClientState). enter_new parts l core up refused ls ws) e
     ∙ (ap (λ (l : List ℕ). enter_new parts (parts.clients ++ new_client k ∷ []) core up l ls ws) f
@@ -189,11 +189,11 @@ enters-as parts k core up false cs refused ls ws e f g w =
     ∙ (ap (λ (l : List (ℕ × Option Why)). enter_new parts parts.clients core up (parts.refused ++ k ∷ []) l ws) g
     ∙ ap (λ (l : List ℕ). enter_new parts parts.clients core up (parts.refused ++ k ∷ []) (parts.leaving ++ (k, None) ∷ []) l) (w ∙ ap (streams_waiting_of up.waiting) e)))
 
-pub enter-written : (s parts new : State) (k : ℕ) (cs : ClientsState) (core : CoreState) (up : QueueState) (refused : List ℕ) (ws : List ℕ)
+pub enter-written : (s parts new : EngineState) (k : ℕ) (cs : ClientsState) (core : CoreState) (up : QueueState) (refused : List ℕ) (ws : List ℕ)
     → parts ≡ s → new ≡ enter_new parts cs.all core up refused cs.leaving ws → EnterParts parts k cs core up refused ws → EntersAt s new k
 enter-written s parts new k cs core up refused ws view is p =
-    subst (λ (x : State). EntersAt x new k) view
-    (subst (λ (y : State). EntersAt parts y k) (sym is) record {
+    subst (λ (x : EngineState). EntersAt x new k) view
+    (subst (λ (y : EngineState). EntersAt parts y k) (sym is) record {
       let_in = p.takes_in.let_in;
       policy = p.policy;
       waiting = p.waiting;
@@ -205,7 +205,7 @@ enter-written s parts new k cs core up refused ws view is p =
 
 served-last : (k : ℕ) (cs : List ClientState) → length (served_in (cs ++ new_client k ∷ [])) ≡ length (served_in cs) + 1
 served-last k [] = refl
-served-last k (c ∷ cs) = by_lost (is_lost c.peer.standing) (served-last k cs)
+served-last k (c ∷ cs) = by_lost (is_standing_lost c.peer.standing) (served-last k cs)
   where
     by_lost : (b : Bool) → length (served_in (cs ++ new_client k ∷ [])) ≡ length (served_in cs) + 1 → length (cond b (served_in (cs ++ new_client k ∷ [])) (c.peer.number ∷ served_in (cs ++ new_client k ∷ []))) ≡ length (cond b (served_in cs) (c.peer.number ∷ served_in cs)) + 1
     by_lost true ih = ih

@@ -8,27 +8,27 @@ use Rattle.mux_history.specs.declared.limits.TheConstants.{MAX_QUEUE}
 use Rattle.mux_history.specs.Journal.{IsLawful}
 use Rattle.mux_history.specs.Promises.{Throughout}
 use Rattle.mux_bounds.specs.Bounds.{ReadsWithRoom, longest_server_queue}
-use Rattle.mux_state.specs.Stands.{Stands, setting}
-use Rattle.mux_state.specs.State.{State, queue_in}
+use Rattle.mux_state.specs.Stands.{RepresentsSoFar, run_setting}
+use Rattle.mux_state.specs.State.{EngineState, queue_in}
 
 -- bytes are read, clients accepted and the forwarder read only while less than 4,194,304 bytes wait
 -- for the server
-abbrev pub ReadsInTime : List ℕ → List HouseReply → State → List Mark → Type 0
+abbrev pub ReadsInTime : List ℕ → List HouseReply → EngineState → List Mark → Type 0
 ReadsInTime picked given s marks =
     (picks : List ℕ) (replies : List HouseReply)
-    → Throughout (ReadsWithRoom (setting s (picked ++ picks) (given ++ replies))) marks
+    → Throughout (ReadsWithRoom (run_setting s (picked ++ picks) (given ++ replies))) marks
 
 -- no more than 33,554,432 bytes wait for a client, and less than 8,388,608 for the server, where
 -- reading stops in time
-pub record QueueShort (picked : List ℕ) (given : List HouseReply) (s : State) (marks : List Mark)
+pub record QueueShort (picked : List ℕ) (given : List HouseReply) (s : EngineState) (marks : List Mark)
     (stream : ℕ) (bytes : List ℕ) : Type 0 where
   pub client : is_server stream ≡ false → length bytes ≤ MAX_QUEUE
   pub server : is_server stream ≡ true → ReadsInTime picked given s marks → length bytes < longest_server_queue
 
 -- from every lawful journal for which an engine stands, for each stream that was not closed
-abbrev pub QueuesShort : State → Type 0
+abbrev pub QueuesShort : EngineState → Type 0
 QueuesShort s =
     (picked : List ℕ) (given : List HouseReply) (marks : List Mark) (closed : List ℕ)
-    → Stands picked given s marks closed → IsLawful marks
+    → RepresentsSoFar picked given s marks closed → IsLawful marks
     → (stream : ℕ) → among stream closed ≡ false
     → QueueShort picked given s marks stream (queue_in s stream)

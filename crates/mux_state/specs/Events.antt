@@ -14,8 +14,8 @@ use Rattle.mux_state.specs.declared.event.Event.TheVariants.{Accepted, FromClien
 use Rattle.mux_state.specs.declared.event.Went.{Went}
 use Rattle.mux_state.specs.declared.event.Went.TheVariants.{On, Ended as Over}
 use Rattle.mux_state.specs.Others.{ServerLeavesIdle}
-use Rattle.mux_state.specs.State.{State, SameClient, numbers}
-use Rattle.mux_state.specs.Stands.{GoesOn, IsAllowed, Stands}
+use Rattle.mux_state.specs.State.{EngineState, SameClient, numbers}
+use Rattle.mux_state.specs.Stands.{GoesOn, IsAllowed, RepresentsSoFar}
 
 -- a mark records this event; a stream fails at a wait or at a write
 abbrev pub MarkRecords : Event → Mark → Type 0
@@ -36,31 +36,31 @@ went_of (Some ended) = Over ended
 
 -- the streams of clients that are open: of those that were admitted, then of those that were
 -- refused
-abbrev pub here : State → List ℕ
+abbrev pub here : EngineState → List ℕ
 here s = numbers s.clients ++ s.refused
 
 -- the same streams are open
-pub record SameStreams (old new : State) : Type 0 where
+pub record SameStreams (old new : EngineState) : Type 0 where
   pub clients : numbers new.clients ≡ numbers old.clients
   pub refused : new.refused ≡ old.refused
 
 -- a client was admitted
-pub record LetsClientIn (k : ℕ) (old new : State) : Type 0 where
+pub record LetsClientIn (k : ℕ) (old new : EngineState) : Type 0 where
   pub clients : numbers new.clients ≡ numbers old.clients ++ k ∷ []
   pub refused : new.refused ≡ old.refused
 
 -- a client was refused
-pub record Refuses (k : ℕ) (old new : State) : Type 0 where
+pub record Refuses (k : ℕ) (old new : EngineState) : Type 0 where
   pub clients : numbers new.clients ≡ numbers old.clients
   pub refused : new.refused ≡ old.refused ++ k ∷ []
 
 -- who is here after an event of a run that goes on
-abbrev pub Arrives : Event → State → State → Type 0
+abbrev pub Arrives : Event → EngineState → EngineState → Type 0
 Arrives (Accepted k) old new = LetsClientIn k old new ⊎ Refuses k old new
 Arrives event old new = SameStreams old new
 
 -- each client but the one that the event is about; the server may send something to each of them
-abbrev pub LeavesOthers : Event → State → State → Type 0
+abbrev pub LeavesOthers : Event → EngineState → EngineState → Type 0
 LeavesOthers (Accepted k) old new = (j : ℕ) → k ≢ j → SameClient j old.clients new.clients
 LeavesOthers (FromClient k bytes) old new = (j : ℕ) → k ≢ j → SameClient j old.clients new.clients
 LeavesOthers (ClientEnd k) old new = (j : ℕ) → k ≢ j → SameClient j old.clients new.clients
@@ -84,21 +84,21 @@ MayEnd event now = (now ≢ Some ended.ServerFailed) × (now ≢ Some ended.Spen
     × ((index : ℕ) → now ≢ Some (ended.StartRefused index))
 
 -- from each journal for which the engine stood while the run went on
-abbrev pub EndsBy : Event → State → State → Mark → Type 0
+abbrev pub EndsBy : Event → EngineState → EngineState → Mark → Type 0
 EndsBy event old new mark =
     (picked : List ℕ) (given : List HouseReply) (marks : List Mark) (closed : List ℕ)
-    → Stands picked given old marks closed → IsAllowed old marks mark → old.ended ≡ None
+    → RepresentsSoFar picked given old marks closed → IsAllowed old marks mark → old.ended ≡ None
     → MayEnd event new.ended
 
 -- an event was applied: the engine goes on by each mark that records it, the server's piece leaves
 -- the clients as they were for which it makes no row, and the run may end so
 pub record TakesIn (May : HouseReply → Type 0) (before now : Option (List Asked)) (event : Event)
-    (old new : State) : Type 0 where
+    (old new : EngineState) : Type 0 where
   pub stands : (mark : Mark) → MarkRecords event mark → GoesOn May before now old new mark
   pub others : ServerLeavesIdle event old new
   pub ends : (mark : Mark) → MarkRecords event mark → EndsBy event old new mark
 
-pub record EngineKeeps (event : Event) (old new : State) : Type 0 where
+pub record EngineKeeps (event : Event) (old new : EngineState) : Type 0 where
   pub pid : new.pid ≡ old.pid
   pub policy : new.core.policy ≡ old.core.policy
   pub others : LeavesOthers event old new
@@ -108,7 +108,7 @@ pub record EngineKeeps (event : Event) (old new : State) : Type 0 where
   pub over : (cause : Ended) → old.ended ≡ Some cause → new ≡ old
 
 -- what an event answers: how the run ended, if it did; and that there was no memory, which lasts
-pub record AnswersSo (result : Result Went OutOfMemory) (old new : State) : Type 0 where
+pub record AnswersSo (result : Result Went OutOfMemory) (old new : EngineState) : Type 0 where
   pub went : IfOk result (λ went. went ≡ went_of new.ended)
   pub starved : old.starved ≡ true → IsErr result
   pub err : OnErr result (new.starved ≡ true)

@@ -15,29 +15,29 @@ use Rattle.mux_core.specs.State.{CoreState}
 use Rattle.mux_peers.specs.declared.run_change.RunChange.{RunChange}
 use Rattle.mux_peers.specs.declared.standing.Standing.{Standing}
 use Rattle.mux_peers.specs.State.{ClientState}
-use Rattle.mux_peers.specs.Stands.{is_lost, is_read}
+use Rattle.mux_peers.specs.Stands.{is_standing_lost, is_read}
 pub use Rattle.mux_peers.specs.Stands.{not_lost}
 use Rattle.mux_peers.specs.Among.{ChangesOne, KeepReading, is_present}
 use Rattle.mux_peers.specs.Answering.{AnswersNoting}
 use Rattle.mux_peers.specs.Entering.{PeerEnters}
 use Rattle.mux_peers.specs.Losing.{Loses}
 use Rattle.mux_peers.specs.Pieces.{ReceivesPiece}
-use Rattle.mux_peers.specs.Server.{ReceivesBytes}
+use Rattle.mux_peers.specs.Server.{ServerReceivesBytes}
 use Rattle.mux_peers.specs.State as clients
-use Rattle.mux_state.specs.State.{State, closed_by, clients_and_queue_of, entered, loss_between, over, server_cause, taken, waiting_in}
+use Rattle.mux_state.specs.State.{EngineState, closed_by, clients_and_queue_of, after_admission, loss_between, run_ended_by, server_cause, took_and_listed, waiting_streams}
 use Rattle.mux_state.specs.Stands.{Closes, GoesAlone, GoesOn, IsFirstLost}
 
 -- ---- marks
 
 -- something happened at a stream
-abbrev pub IsEvent : Mark → Type 0
-IsEvent (Accepts k) = Unit {0}
-IsEvent (Gets k bytes) = Unit {0}
-IsEvent (Ends k) = Unit {0}
-IsEvent (Fails k) = Unit {0}
-IsEvent (WriteFails k) = Unit {0}
-IsEvent (House (HouseAnswer k id given)) = Unit {0}
-IsEvent mark = ⊥
+abbrev pub IsStreamEvent : Mark → Type 0
+IsStreamEvent (Accepts k) = Unit {0}
+IsStreamEvent (Gets k bytes) = Unit {0}
+IsStreamEvent (Ends k) = Unit {0}
+IsStreamEvent (Fails k) = Unit {0}
+IsStreamEvent (WriteFails k) = Unit {0}
+IsStreamEvent (House (HouseAnswer k id given)) = Unit {0}
+IsStreamEvent mark = ⊥
 
 -- a stream is gone
 abbrev pub IsGone : Mark → ℕ → Type 0
@@ -54,21 +54,21 @@ NoneStands test k cs =
     AllByRecursion (λ c. (c.peer.number == k) ≡ true → test c.peer.standing ≡ false) cs
 
 -- the stream of a client that wasn't lost is gone
-pub record LosesAt (s new : State) (k : ℕ) : Type 0 where
+pub record LosesAt (s new : EngineState) (k : ℕ) : Type 0 where
   pub pid : new.pid ≡ s.pid
   pub policy : new.core.policy ≡ s.core.policy
   pub server : new.server ≡ s.server
   pub refused : new.refused ≡ s.refused
   pub listening : new.listening ≡ s.listening
   pub ended : new.ended ≡ s.ended
-  pub changes : ChangesOne k (λ x y. (is_lost x.peer.standing ≡ false)
+  pub changes : ChangesOne k (λ x y. (is_standing_lost x.peer.standing ≡ false)
       × Loses (clients.part s.core x.peer s.up) (clients.part new.core y.peer new.up))
       s.clients new.clients
   pub leaving : new.leaving ≡ s.leaving ++ (k, None) ∷ []
-  pub waiting : new.waiting ≡ waiting_in new
+  pub waiting : new.waiting ≡ waiting_streams new
 
 -- a client that is read gave bytes
-pub record GainsAt (May : HouseReply → Type 0) (before recorded : Option (List Asked)) (s new : State)
+pub record GainsAt (May : HouseReply → Type 0) (before recorded : Option (List Asked)) (s new : EngineState)
     (k : ℕ) (bytes : List ℕ) : Type 0 where
   pub heard : RunChange
   pub pid : new.pid ≡ s.pid
@@ -80,10 +80,10 @@ pub record GainsAt (May : HouseReply → Type 0) (before recorded : Option (List
       s.clients new.clients
   pub listening : new.listening ≡ (s.listening && not heard.stops)
   pub ended : new.ended ≡ heard.ended
-  pub waiting : new.waiting ≡ waiting_in new
+  pub waiting : new.waiting ≡ waiting_streams new
 
 -- the forwarder replied to a client that isn't lost
-pub record AnsweredAt (s new : State) (k id : ℕ) (given : HouseReply) : Type 0 where
+pub record AnsweredAt (s new : EngineState) (k id : ℕ) (given : HouseReply) : Type 0 where
   pub pid : new.pid ≡ s.pid
   pub policy : new.core.policy ≡ s.core.policy
   pub server : new.server ≡ s.server
@@ -92,74 +92,74 @@ pub record AnsweredAt (s new : State) (k id : ℕ) (given : HouseReply) : Type 0
   pub ended : new.ended ≡ s.ended
   pub noted : List (ℕ × Option Why)
   pub leaving : new.leaving ≡ s.leaving ++ noted
-  pub changes : ChangesOne k (λ x y. (is_lost x.peer.standing ≡ false)
+  pub changes : ChangesOne k (λ x y. (is_standing_lost x.peer.standing ≡ false)
       × AnswersNoting k id given noted s.core new.core s.up new.up x y) s.clients new.clients
   pub reading : KeepReading s.clients new.clients
-  pub waiting : new.waiting ≡ waiting_in new
+  pub waiting : new.waiting ≡ waiting_streams new
 
 -- the server gave bytes
-pub record ReceivedAt (s new : State) (bytes : List ℕ) : Type 0 where
+pub record ReceivedAt (s new : EngineState) (bytes : List ℕ) : Type 0 where
   pub pid : new.pid ≡ s.pid
   pub refused : new.refused ≡ s.refused
   pub listening : new.listening ≡ s.listening
-  pub piece : ReceivesBytes bytes (clients_and_queue_of s) (clients_and_queue_of new) s.server new.server new.ended
-  pub waiting : new.waiting ≡ waiting_in new
+  pub piece : ServerReceivesBytes bytes (clients_and_queue_of s) (clients_and_queue_of new) s.server new.server new.ended
+  pub waiting : new.waiting ≡ waiting_streams new
 
 -- ---- the laws
 
 -- a stream is closed, and bytes are accepted by one
 abbrev pub ClosedGoesOn : Type 0
-ClosedGoesOn = (s : State) (k : ℕ) → IsFirstLost k s.leaving → Closes s (closed_by s k) k
+ClosedGoesOn = (s : EngineState) (k : ℕ) → IsFirstLost k s.leaving → Closes s (closed_by s k) k
 
 abbrev pub TakenGoesOn : Type 0
-TakenGoesOn = (s : State) (t n : ℕ) (bytes : List ℕ) (accepts : Bool)
-    → length bytes ≡ n → GoesAlone s (taken s t n) (Takes t bytes accepts)
+TakenGoesOn = (s : EngineState) (t n : ℕ) (bytes : List ℕ) (accepts : Bool)
+    → length bytes ≡ n → GoesAlone s (took_and_listed s t n) (Takes t bytes accepts)
 
 -- after the end of the run nothing changes
 abbrev pub OverStays : Type 0
-OverStays = (s : State) (mark : Mark) (cause : Ended) → IsEvent mark → s.ended ≡ Some cause
+OverStays = (s : EngineState) (mark : Mark) (cause : Ended) → IsStreamEvent mark → s.ended ≡ Some cause
     → GoesAlone s s mark
 
 -- the server's stream ends or fails
 pub record ServerLaws : Type 0 where
-  pub ends : (s : State) → s.ended ≡ None → GoesAlone s (over s (server_cause s)) (Ends 0)
-  pub fails : (s : State) → s.ended ≡ None → GoesAlone s (over s ended.ServerFailed) (Fails 0)
-  pub unwritten : (s : State) → s.ended ≡ None
-      → GoesAlone s (over s ended.ServerFailed) (WriteFails 0)
+  pub ends : (s : EngineState) → s.ended ≡ None → GoesAlone s (run_ended_by s (server_cause s)) (Ends 0)
+  pub fails : (s : EngineState) → s.ended ≡ None → GoesAlone s (run_ended_by s ended.ServerFailed) (Fails 0)
+  pub unwritten : (s : EngineState) → s.ended ≡ None
+      → GoesAlone s (run_ended_by s ended.ServerFailed) (WriteFails 0)
 
 -- a client comes
 abbrev pub EnteredGoesOn : Type 0
 EnteredGoesOn =
-    (s : State) (core' : CoreState) (up' : QueueState) (k : ℕ) (let_in : Bool)
+    (s : EngineState) (core' : CoreState) (up' : QueueState) (k : ℕ) (let_in : Bool)
     → s.ended ≡ None → core'.policy ≡ s.core.policy → up'.waiting ≡ s.up.waiting
-    → PeerEnters k s.core core' s.clients (entered s core' up' k let_in).clients let_in
-    → GoesAlone s (entered s core' up' k let_in) (Accepts k)
+    → PeerEnters k s.core core' s.clients (after_admission s core' up' k let_in).clients let_in
+    → GoesAlone s (after_admission s core' up' k let_in) (Accepts k)
 
 -- the stream of a client is gone: of one that wasn't lost, and of none
 pub record LossLaws : Type 0 where
-  pub goes : (s new : State) (k : ℕ) (mark : Mark) → k ≢ 0 → IsGone mark k → s.ended ≡ None
+  pub goes : (s new : EngineState) (k : ℕ) (mark : Mark) → k ≢ 0 → IsGone mark k → s.ended ≡ None
       → is_present s.clients k ≡ true → LosesAt s new k → GoesAlone s new mark
-  pub stays : (s : State) (k : ℕ) (mark : Mark) → k ≢ 0 → IsGone mark k → s.ended ≡ None
+  pub stays : (s : EngineState) (k : ℕ) (mark : Mark) → k ≢ 0 → IsGone mark k → s.ended ≡ None
       → NoneStands not_lost k s.clients → GoesAlone s s mark
 
 -- the forwarder replies to a client later, and to one that is lost
 abbrev pub AnsweredGoesOn : Type 0
-AnsweredGoesOn = (s new : State) (k id : ℕ) (given : HouseReply) → k ≢ 0 → s.ended ≡ None
+AnsweredGoesOn = (s new : EngineState) (k id : ℕ) (given : HouseReply) → k ≢ 0 → s.ended ≡ None
     → is_present s.clients k ≡ true → AnsweredAt s new k id given
     → GoesAlone s new (House (HouseAnswer k id given))
 
 -- a client that is read gave bytes
 abbrev pub GainedGoesOn : (HouseReply → Type 0) → Type 0
-GainedGoesOn May = (before recorded : Option (List Asked)) (s new : State) (k : ℕ) (bytes : List ℕ)
+GainedGoesOn May = (before recorded : Option (List Asked)) (s new : EngineState) (k : ℕ) (bytes : List ℕ)
     → s.ended ≡ None → is_present s.clients k ≡ true → k ≢ 0 → GainsAt May before recorded s new k bytes
     → GoesOn May before recorded s new (Gets k bytes)
 
 -- and one that isn't
 abbrev pub UnheardStays : (HouseReply → Type 0) → Type 0
-UnheardStays May = (recorded : Option (List Asked)) (s : State) (k : ℕ) (bytes : List ℕ) → k ≢ 0
+UnheardStays May = (recorded : Option (List Asked)) (s : EngineState) (k : ℕ) (bytes : List ℕ) → k ≢ 0
     → s.ended ≡ None → NoneStands is_read k s.clients → GoesOn May recorded recorded s s (Gets k bytes)
 
 -- the server gave bytes
 abbrev pub ReceivedGoesOn : Type 0
-ReceivedGoesOn = (s new : State) (bytes : List ℕ) → s.ended ≡ None → ReceivedAt s new bytes
+ReceivedGoesOn = (s new : EngineState) (bytes : List ℕ) → s.ended ≡ None → ReceivedAt s new bytes
     → GoesAlone s new (Gets 0 bytes)

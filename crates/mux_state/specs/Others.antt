@@ -8,7 +8,7 @@ use Rattle.mux_history.specs.Rows.{rows_of}
 use Rattle.mux_history.specs.Requests.{Ask}
 use Rattle.window_ledger.specs.declared.ledger.Ledger.{Ledger}
 use Rattle.channel_table.specs.declared.channel.Channel.{Channel}
-use Rattle.channel_table.specs.Entries.{TableEntry, is_of}
+use Rattle.channel_table.specs.Entries.{TableEntry, is_channel_of}
 use Rattle.channel_table.specs.Stands.{shown_number}
 use Rattle.forward_rules.specs.State.{Forward}
 use Rattle.mux_core.specs.State.{CoreState}
@@ -18,9 +18,9 @@ use Rattle.mux_peers.specs.Among.{is_present}
 use Rattle.mux_state.specs.declared.event.Event.{Event}
 use Rattle.mux_state.specs.declared.event.Event.TheVariants.{FromServer}
 use Rattle.mux_state.specs.Moves.{ReceivedAt}
-use Rattle.mux_state.specs.Stands.{IsAllowed, Stands, log}
-use Rattle.mux_state.specs.State.{State, SameClient, in_client}
-use Rattle.mux_state.specs.Steps.{is_served}
+use Rattle.mux_state.specs.Stands.{IsAllowed, RepresentsSoFar, log}
+use Rattle.mux_state.specs.State.{EngineState, SameClient, in_client}
+use Rattle.mux_state.specs.Steps.{is_client_served}
 
 -- ---- what the shared connection keeps of a client
 
@@ -53,7 +53,7 @@ pub record Matters : Type 0 where
 
 abbrev pub matters_of_core : ℕ → CoreState → Matters
 matters_of_core k c = record {
-  channels = map held_channel (filter (is_of k) c.channels);
+  channels = map held_channel (filter (is_channel_of k) c.channels);
   requests = filter (λ a. a.client == k) c.asks;
   forwards = map held_forward (filter (λ f. f.client == k) c.forwards);
   answers =
@@ -68,40 +68,40 @@ peer_in cs k = in_client None (λ c. Some c.peer) cs k
 
 -- it stands as it did, and the same bytes wait for it; where it isn't lost, the same of its own
 -- bytes are not read yet; and while the run goes on its matters are the same
-pub record StaysAsItWas (k : ℕ) (old new : State) : Type 0 where
+pub record StaysAsItWas (k : ℕ) (old new : EngineState) : Type 0 where
   pub peer : peer_in new.clients k ≡ peer_in old.clients k
-  pub client : is_served old.clients k ≡ true → SameClient k old.clients new.clients
+  pub client : is_client_served old.clients k ≡ true → SameClient k old.clients new.clients
   pub matters : new.ended ≡ None → matters_of_core k new.core ≡ matters_of_core k old.core
 
 -- the server's piece makes no row for a client: the rows of the client are those of before
-abbrev pub MakesNoRow : ℕ → List ℕ → State → List ℕ → List HouseReply → List Mark → Type 0
+abbrev pub MakesNoRow : ℕ → List ℕ → EngineState → List ℕ → List HouseReply → List Mark → Type 0
 MakesNoRow k bytes s picks replies marks =
     rows_of k (log s picks replies (Gets 0 bytes ∷ marks)) ≡ rows_of k (log s picks replies marks)
 
 -- from every journal for which the engine stood, whatever is picked and replied later: each client
 -- for which the server's piece makes no row stays as it was
-abbrev pub LeavesIdle : List ℕ → State → State → Type 0
+abbrev pub LeavesIdle : List ℕ → EngineState → EngineState → Type 0
 LeavesIdle bytes old new =
     (picked : List ℕ) (given : List HouseReply) (marks : List Mark) (closed : List ℕ)
-    → Stands picked given old marks closed → IsAllowed old marks (Gets 0 bytes)
+    → RepresentsSoFar picked given old marks closed → IsAllowed old marks (Gets 0 bytes)
     → (picks : List ℕ) (replies : List HouseReply) (k : ℕ)
     → MakesNoRow k bytes old (picked ++ picks) (given ++ replies) marks → StaysAsItWas k old new
 
 -- of the events those of the server's bytes alone; what the others leave, `LeavesOthers` defines
-abbrev pub ServerLeavesIdle : Event → State → State → Type 0
+abbrev pub ServerLeavesIdle : Event → EngineState → EngineState → Type 0
 ServerLeavesIdle (FromServer bytes) old new = LeavesIdle bytes.now old new
 ServerLeavesIdle event old new = Unit {0}
 
 -- whatever was received from the server
 abbrev pub ReceivedLeavesIdle : Type 0
-ReceivedLeavesIdle = (s new : State) (bytes : List ℕ) → s.ended ≡ None → ReceivedAt s new bytes
+ReceivedLeavesIdle = (s new : EngineState) (bytes : List ℕ) → s.ended ≡ None → ReceivedAt s new bytes
     → LeavesIdle bytes s new
 
 -- ---- what is kept of a client follows from its own rows
 
 -- where both runs go on its matters are the same, and where it is here in both, so are how it stands
 -- and what waits for it
-pub record IsKeptAlike (k : ℕ) (s t : State) : Type 0 where
+pub record IsKeptAlike (k : ℕ) (s t : EngineState) : Type 0 where
   pub peer : is_present s.clients k ≡ true → is_present t.clients k ≡ true
       → peer_in t.clients k ≡ peer_in s.clients k
   pub matters : s.ended ≡ None → t.ended ≡ None → matters_of_core k t.core ≡ matters_of_core k s.core
@@ -109,9 +109,9 @@ pub record IsKeptAlike (k : ℕ) (s t : State) : Type 0 where
 -- of two engines, or of one at two moments, which represent journals with the same rows of a client
 abbrev pub KeptByOwnRows : Type 0
 KeptByOwnRows =
-    (s t : State) (picked picked' : List ℕ) (given given' : List HouseReply)
+    (s t : EngineState) (picked picked' : List ℕ) (given given' : List HouseReply)
     (marks marks' : List Mark) (closed closed' : List ℕ)
-    → Stands picked given s marks closed → Stands picked' given' t marks' closed'
+    → RepresentsSoFar picked given s marks closed → RepresentsSoFar picked' given' t marks' closed'
     → (picks picks' : List ℕ) (replies replies' : List HouseReply) (k : ℕ)
     → rows_of k (log t (picked' ++ picks') (given' ++ replies') marks')
     ≡ rows_of k (log s (picked ++ picks) (given ++ replies) marks) → IsKeptAlike k s t

@@ -1,9 +1,9 @@
 -- What the fields of an engine show.
 use Rattle.mux_state.specs.declared.engine.Engine.TheInside.{Inside}
-use Rattle.mux_state.specs.State.{State}
+use Rattle.mux_state.specs.State.{EngineState}
 
 -- the state that an engine is in
-abbrev pub state_of : Inside → State
+abbrev pub state_of : Inside → EngineState
 state_of a = record {
   pid = a.pid;
   core = a.core;

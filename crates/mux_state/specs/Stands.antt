@@ -11,31 +11,31 @@ use Rattle.mux_outside.specs.declared.mark.Mark.TheVariants.{Waits, Accepts, Get
 use Rattle.mux_outside.specs.declared.house_mark.HouseMark.{HouseMark}
 use Rattle.mux_outside.specs.declared.house_mark.HouseMark.TheVariants.{HouseAnswer}
 use Rattle.mux_history.specs.declared.why.Why.{Why}
-use Rattle.mux_history.specs.Rows.{Row, rows_of, is_out, is_ended, losses, any_of, is_lost as has_loss, is_admit, Admit, Refused}
+use Rattle.mux_history.specs.Rows.{Row, rows_of, is_out, is_run_over, losses, any_of, is_lost as has_loss, is_admit, Admit, Refused}
 use Rattle.mux_history.specs.Choices.{numbers_taken, replies_given}
 use Rattle.mux_history.specs.Right.{AreFresh}
 use Rattle.mux_history.specs.Heard.{next_index}
 use Rattle.mux_history.specs.Settings.{by_lists}
-use Rattle.mux_history.specs.Log.{Setting, bare, served, entered}
+use Rattle.mux_history.specs.Log.{Setting, bare_row, served, admitted_clients}
 use Rattle.mux_history.specs.Solo.{run_end_of}
 use Rattle.mux_history.specs.Journal.{bytes_of, is_own_stream, log_of_journal}
 pub use Rattle.mux_history.specs.Journal.{is_accepted}
-use Rattle.mux_history.specs.Promises.{listens, MayGive}
+use Rattle.mux_history.specs.Promises.{is_still_accepting, MayGive}
 use Rattle.mux_peers.specs.State.{ClientState}
-use Rattle.mux_peers.specs.Stands.{is_lost, is_read, parse_mode_of}
+use Rattle.mux_peers.specs.Stands.{is_standing_lost, is_read, parse_mode_of}
 use Rattle.mux_peers.specs.Among.{AllFit, is_present}
 use Rattle.mux_peers.specs.Asked.{asks_of_rows, RecordsAsks}
 use Rattle.mux_peers.specs.Starved.{BeginsWithAsked}
 use Rattle.mux_peers.specs.Server.{ServerState}
-use Rattle.mux_state.specs.State.{State, is_here, served_in, waiting_in}
+use Rattle.mux_state.specs.State.{EngineState, is_here, served_in, waiting_streams}
 
 -- the run of an engine with these numbers and replies
-abbrev pub setting : State → List ℕ → List HouseReply → Setting
-setting s picks replies = by_lists s.core.policy s.pid picks replies
+abbrev pub run_setting : EngineState → List ℕ → List HouseReply → Setting
+run_setting s picks replies = by_lists s.core.policy s.pid picks replies
 
 -- its rows
-abbrev pub log : State → List ℕ → List HouseReply → List Mark → List Row
-log s picks replies marks = log_of_journal (setting s picks replies) marks
+abbrev pub log : EngineState → List ℕ → List HouseReply → List Mark → List Row
+log s picks replies marks = log_of_journal (run_setting s picks replies) marks
 
 -- ---- for rows
 
@@ -48,17 +48,17 @@ pub record IsKnown (own : List Row) : Type 0 where
   pub out_is : is_out own ≡ has_loss own
 
 -- the only row of a client that was refused
-abbrev pub refusal : ℕ → Row
-refusal k = bare (Admit k) k (record { sent = []; recorded = []; ends = Refused })
+abbrev pub refused_client_row : ℕ → Row
+refused_client_row k = bare_row (Admit k) k (record { sent = []; recorded = []; ends = Refused })
 
 -- the place of the server's next frame
-abbrev pub place : List Row → ℕ
-place rows = min (next_index rows) (2 ^ 64 - 1)
+abbrev pub next_frame_place : List Row → ℕ
+next_frame_place rows = min (next_index rows) (2 ^ 64 - 1)
 
 -- with so many numbers used, and this requested of the forwarder: the shared connection, the
 -- clients and what waits for the server represent the rows, and everything else that is kept is
 -- what the rows define
-pub record RowsFit (taken : ℕ) (drawn : List Asked) (s : State) (closed : List ℕ)
+pub record RowsFit (taken : ℕ) (drawn : List Asked) (s : EngineState) (closed : List ℕ)
     (rows : List Row) : Type 0 where
   pub taken_is : numbers_taken rows ≡ taken
   pub drawn_is : replies_given rows ≡ length drawn
@@ -66,26 +66,26 @@ pub record RowsFit (taken : ℕ) (drawn : List Asked) (s : State) (closed : List
   pub fresh : AreFresh rows
   pub fit : AllFit rows s.core s.clients s.up
   pub ended_is : s.ended ≡ run_end_of rows
-  pub listening_is : s.listening ≡ listens rows
-  pub waiting_is : s.waiting ≡ waiting_in s
+  pub listening_is : s.listening ≡ is_still_accepting rows
+  pub waiting_is : s.waiting ≡ waiting_streams s
   pub leaving_are : s.leaving ≡ filter (not_closed closed) (losses rows)
   pub served_are : served_in s.clients ≡ served rows
-  pub place_is : is_ended rows ≡ false → s.server.index ≡ place rows
+  pub place_is : is_run_over rows ≡ false → s.server.index ≡ next_frame_place rows
   -- a client that is neither here nor closed has no rows
   pub absent : (k : ℕ) → k ≢ 0 → is_here s k ≡ false → among k closed ≡ false → rows_of k rows ≡ []
   pub closed_gone : (k : ℕ) → among k closed ≡ true → is_here s k ≡ false
-  pub refused_only : (k : ℕ) → among k s.refused ≡ true → rows_of k rows ≡ refusal k ∷ []
+  pub refused_only : (k : ℕ) → among k s.refused ≡ true → rows_of k rows ≡ refused_client_row k ∷ []
   pub closed_out : (k : ℕ) → among k closed ≡ true → is_out (rows_of k rows) ≡ true
-  pub known : (k : ℕ) → among k (entered rows) ≡ true → IsKnown (rows_of k rows)
+  pub known : (k : ℕ) → among k (admitted_clients rows) ≡ true → IsKnown (rows_of k rows)
   -- the server is no client
-  pub unentered : among 0 (entered rows) ≡ false
+  pub unentered : among 0 (admitted_clients rows) ≡ false
   pub server_in : is_out (rows_of 0 rows) ≡ false
 
 -- ---- for bytes
 
 -- a client that isn't lost has read its bytes so far
 pub record ClientReads (bytes : List ℕ) (c : ClientState) : Type 0 where
-  pub mode_is : is_lost c.peer.standing ≡ false → (parse InControl bytes).mode
+  pub mode_is : is_standing_lost c.peer.standing ≡ false → (parse InControl bytes).mode
       ≡ parse_mode_of c.peer.standing
   pub rest_is : is_read c.peer.standing ≡ true → (parse InControl bytes).rest ≡ c.rest
 
@@ -99,18 +99,18 @@ pub record ServerReads (bytes : List ℕ) (server : ServerState) : Type 0 where
 
 -- a client that was never accepted: it is not known, and it sent nothing, unless its number is that
 -- of a stream of the master's own
-pub record IsStrange (s : State) (marks : List Mark) (closed : List ℕ) (k : ℕ) : Type 0 where
+pub record IsStrange (s : EngineState) (marks : List Mark) (closed : List ℕ) (k : ℕ) : Type 0 where
   pub not_here : is_here s k ≡ false
   pub not_closed_yet : among k closed ≡ false
   pub no_bytes : (k ≢ 0) × (is_own_stream k ≡ false) → bytes_of k marks ≡ []
 
-pub record BytesFit (s : State) (marks : List Mark) (closed : List ℕ) (rows : List Row) :
+pub record BytesFit (s : EngineState) (marks : List Mark) (closed : List ℕ) (rows : List Row) :
     Type 0 where
   pub are_bytes : (t : ℕ) → AreBytes (bytes_of t marks)
-  pub clients : is_ended rows ≡ false → EachReads marks s.clients
-  pub server : is_ended rows ≡ false → ServerReads (bytes_of 0 marks) s.server
+  pub clients : is_run_over rows ≡ false → EachReads marks s.clients
+  pub server : is_run_over rows ≡ false → ServerReads (bytes_of 0 marks) s.server
   -- while the run goes on, one that was accepted is here or closed
-  pub there : is_ended rows ≡ false → (k : ℕ) → is_accepted k marks ≡ true → is_here s k ≡ false
+  pub there : is_run_over rows ≡ false → (k : ℕ) → is_accepted k marks ≡ true → is_here s k ≡ false
       → among k closed ≡ true
   pub strange : (k : ℕ) → is_accepted k marks ≡ false → IsStrange s marks closed k
 
@@ -118,13 +118,13 @@ pub record BytesFit (s : State) (marks : List Mark) (closed : List ℕ) (rows : 
 
 -- with these picks and replies
 pub record EngineRepresents (picks : List ℕ) (replies : List HouseReply) (taken : ℕ) (drawn : List Asked)
-    (s : State) (marks : List Mark) (closed : List ℕ) : Type 0 where
+    (s : EngineState) (marks : List Mark) (closed : List ℕ) : Type 0 where
   pub rows : RowsFit taken drawn s closed (log s picks replies marks)
   pub bytes : BytesFit s marks closed (log s picks replies marks)
 
 -- these numbers were used and these replies given so far, one to each request, and whatever is
 -- picked and replied later, the engine represents the marks and the clients that were closed
-pub record Stands (picked : List ℕ) (given : List HouseReply) (s : State) (marks : List Mark)
+pub record RepresentsSoFar (picked : List ℕ) (given : List HouseReply) (s : EngineState) (marks : List Mark)
     (closed : List ℕ) : Type 0 where
   pub asks : List Asked
   pub each : length asks ≡ length given
@@ -140,7 +140,7 @@ HouseAllowed marks mark = Unit {0}
 
 -- what may come after these marks: a client is accepted once, and other marks name one that was
 -- accepted; none names a stream of the master's own
-abbrev pub IsAllowed : State → List Mark → Mark → Type 0
+abbrev pub IsAllowed : EngineState → List Mark → Mark → Type 0
 IsAllowed s marks (Accepts k) =
     (k ≢ 0) × (is_accepted k marks ≡ false) × (is_own_stream k ≡ false)
 IsAllowed s marks (Gets k bytes) =
@@ -160,13 +160,13 @@ IsAllowed s marks (Waits waiting want streams shown) = Unit {0}
 -- the engine represents the journal with the mark. To the forwarder, which recorded `before` and
 -- records `now`, exactly these requests were reported, which are those that the new rows have.
 pub record GoesBy (May : HouseReply → Type 0) (before now : Option (List Asked)) (picked : List ℕ)
-    (given : List HouseReply) (old new : State) (mark : Mark) (marks : List Mark)
+    (given : List HouseReply) (old new : EngineState) (mark : Mark) (marks : List Mark)
     (closed : List ℕ) : Type 0 where
   pub picks : List ℕ
   pub replies : List HouseReply
   pub asks : List Asked
   pub may : MayGive May replies
-  pub stands : Stands (picked ++ picks) (given ++ replies) new (mark ∷ marks) closed
+  pub stands : RepresentsSoFar (picked ++ picks) (given ++ replies) new (mark ∷ marks) closed
   pub recorded : RecordsAsks before now asks
   pub asked : (p : List ℕ) (r : List HouseReply)
       → asks_of_rows (log new ((picked ++ picks) ++ p) ((given ++ replies) ++ r) (mark ∷ marks))
@@ -174,18 +174,18 @@ pub record GoesBy (May : HouseReply → Type 0) (before now : Option (List Asked
 
 -- from every journal that the engine represented, it stands afterwards for that journal with the
 -- mark
-abbrev pub GoesOn : (HouseReply → Type 0) → Option (List Asked) → Option (List Asked) → State
-    → State → Mark → Type 0
+abbrev pub GoesOn : (HouseReply → Type 0) → Option (List Asked) → Option (List Asked) → EngineState
+    → EngineState → Mark → Type 0
 GoesOn May before now old new mark =
     (picked : List ℕ) (given : List HouseReply) (marks : List Mark) (closed : List ℕ)
-    → Stands picked given old marks closed → IsAllowed old marks mark
+    → RepresentsSoFar picked given old marks closed → IsAllowed old marks mark
     → GoesBy May before now picked given old new mark marks closed
 
 -- Memory ran out for the mark. Some numbers more were picked and some replies given, each of which
 -- the forwarder may give. To the forwarder, which recorded `before` and records `now`, these
 -- requests were reported, which are the first of those that the rows of the mark have.
 pub record AsksFirst (May : HouseReply → Type 0) (before now : Option (List Asked))
-    (picked : List ℕ) (given : List HouseReply) (s : State) (mark : Mark) (marks : List Mark) :
+    (picked : List ℕ) (given : List HouseReply) (s : EngineState) (mark : Mark) (marks : List Mark) :
     Type 0 where
   pub picks : List ℕ
   pub replies : List HouseReply
@@ -197,19 +197,19 @@ pub record AsksFirst (May : HouseReply → Type 0) (before now : Option (List As
       (asks_of_rows (log s ((picked ++ picks) ++ p) ((given ++ replies) ++ r) (mark ∷ marks)))
 
 -- from every journal that the engine represented
-abbrev pub CutsShort : (HouseReply → Type 0) → Option (List Asked) → Option (List Asked) → State
+abbrev pub CutsShort : (HouseReply → Type 0) → Option (List Asked) → Option (List Asked) → EngineState
     → Mark → Type 0
 CutsShort May before now s mark =
     (picked : List ℕ) (given : List HouseReply) (marks : List Mark) (closed : List ℕ)
-    → Stands picked given s marks closed → IsAllowed s marks mark
+    → RepresentsSoFar picked given s marks closed → IsAllowed s marks mark
     → AsksFirst May before now picked given s mark marks
 
 -- an engine goes on where nothing is picked and nothing is requested of the forwarder
-abbrev pub GoesAlone : State → State → Mark → Type 0
+abbrev pub GoesAlone : EngineState → EngineState → Mark → Type 0
 GoesAlone old new mark =
     (picked : List ℕ) (given : List HouseReply) (marks : List Mark) (closed : List ℕ)
-    → Stands picked given old marks closed → IsAllowed old marks mark
-    → Stands picked given new (mark ∷ marks) closed
+    → RepresentsSoFar picked given old marks closed → IsAllowed old marks mark
+    → RepresentsSoFar picked given new (mark ∷ marks) closed
 
 -- the client is the first of those that are lost and not closed
 abbrev pub IsFirstLost : ℕ → List (ℕ × Option Why) → Type 0
@@ -217,7 +217,7 @@ IsFirstLost k [] = ⊥
 IsFirstLost k (l ∷ ls) = l.0 ≡ k
 
 -- and from every list of clients that were closed, for that list with the client
-abbrev pub Closes : State → State → ℕ → Type 0
+abbrev pub Closes : EngineState → EngineState → ℕ → Type 0
 Closes old new k =
     (picked : List ℕ) (given : List HouseReply) (marks : List Mark) (closed : List ℕ)
-    → Stands picked given old marks closed → Stands picked given new marks (k ∷ closed)
+    → RepresentsSoFar picked given old marks closed → RepresentsSoFar picked given new marks (k ∷ closed)

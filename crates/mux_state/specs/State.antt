@@ -15,7 +15,7 @@ pub use Rattle.mux_peers.specs.State.{client_took}
 use Rattle.mux_peers.specs.Server.{ServerState}
 use Rattle.mux_peers.specs.Among.{is_present}
 use Rattle.mux_peers.specs.Entering.{new_client}
-pub use Rattle.mux_peers.specs.Among.{at_client, first_of, in_client, numbers, waiting_clients, without_client}
+pub use Rattle.mux_peers.specs.Among.{at_client, first_lost_client, in_client, numbers, waiting_clients, without_client}
 pub use Rattle.mux_peers.specs.Losing.{loss_in, loss_between}
 pub use Rattle.mux_peers.specs.Room.{served_in}
 
@@ -25,7 +25,7 @@ pub use Rattle.mux_peers.specs.Room.{served_in}
 --   that are lost or refused and not closed in that order.
 -- - The streams with something that waits.
 -- - Whether clients are accepted, and how the run ended.
-pub record State : Type 0 where
+pub record EngineState : Type 0 where
   pub pid : ℕ
   pub core : CoreState
   pub server : ServerState
@@ -39,7 +39,7 @@ pub record State : Type 0 where
   pub starved : Bool
 
 -- no client is here, and nothing waits
-pub record HasNobody (s : State) : Type 0 where
+pub record HasNobody (s : EngineState) : Type 0 where
   pub clients : s.clients ≡ []
   pub refused : s.refused ≡ []
   pub leaving : s.leaving ≡ []
@@ -49,7 +49,7 @@ pub record HasNobody (s : State) : Type 0 where
 -- ---- the clients
 
 -- the clients, the shared connection, and what waits for the server
-abbrev pub clients_and_queue_of : State → ClientsAndQueue
+abbrev pub clients_and_queue_of : EngineState → ClientsAndQueue
 clients_and_queue_of s = clients_and_queue (clients_of s.clients s.leaving) s.core s.up
 
 -- a client as it was
@@ -59,22 +59,22 @@ SameClient k old new = in_client None (λ c. Some c) new k ≡ in_client None (�
 -- ---- the streams, of which 0 is the server's
 
 -- what waits for a stream
-abbrev pub queue_in : State → ℕ → List ℕ
+abbrev pub queue_in : EngineState → ℕ → List ℕ
 queue_in s t = if is_server t then s.up.waiting else in_client [] (λ c. c.peer.queue) s.clients t
 
 -- the bytes that a stream gave and that are not cut yet: none at the end of the run
-abbrev pub rest_in : State → ℕ → List ℕ
+abbrev pub rest_in : EngineState → ℕ → List ℕ
 rest_in s t =
     if is_some s.ended then [] else if is_server t then s.server.rest
     else in_client [] (λ c. c.rest) s.clients t
 
 -- the streams with something that waits
-abbrev pub waiting_in : State → List ℕ
-waiting_in s = if is_empty s.up.waiting then waiting_clients s.clients
+abbrev pub waiting_streams : EngineState → List ℕ
+waiting_streams s = if is_empty s.up.waiting then waiting_clients s.clients
     else 0 ∷ waiting_clients s.clients
 
 -- a client whose stream was closed: nothing waits for it any more
-abbrev pub closed_by : State → ℕ → State
+abbrev pub closed_by : EngineState → ℕ → EngineState
 closed_by s k = record s {
   clients = without_client k s.clients;
   refused = without k s.refused;
@@ -86,22 +86,22 @@ closed_by s k = record s {
 -- ---- what was accepted
 
 -- so many bytes that a stream accepted, and then the streams that wait
-abbrev pub took : State → ℕ → ℕ → State
+abbrev pub took : EngineState → ℕ → ℕ → EngineState
 took s t n = if is_server t then record s { up = without_first_bytes n s.up }
     else record s { clients = at_client t (client_took n) s.clients }
 
-abbrev pub taken : State → ℕ → ℕ → State
-taken s t n = record (took s t n) {
+abbrev pub took_and_listed : EngineState → ℕ → ℕ → EngineState
+took_and_listed s t n = record (took s t n) {
   waiting = if is_empty (queue_in (took s t n) t) then without t s.waiting else s.waiting;
 }
 
 -- ---- the end of the run
 
-abbrev pub over : State → Ended → State
-over s cause = record s { ended = Some cause }
+abbrev pub run_ended_by : EngineState → Ended → EngineState
+run_ended_by s cause = record s { ended = Some cause }
 
 -- why it ends where the server's stream does: inside a frame that breaks the protocol
-abbrev pub server_cause : State → Ended
+abbrev pub server_cause : EngineState → Ended
 server_cause s = elim s.server.rest [
   | [] ↦ ended.ServerEnd
   | b ∷ rest ↦ ended.Broke s.server.index (broke.Cut (length (b ∷ rest)))
@@ -111,17 +111,17 @@ server_cause s = elim s.server.rest [
 
 -- the stream of a client is open: the client was admitted, or it was refused and its stream is not
 -- closed yet
-abbrev pub is_here : State → ℕ → Bool
+abbrev pub is_here : EngineState → ℕ → Bool
 is_here s k = is_present s.clients k || among k s.refused
 
 -- ---- a client comes
 
 -- it is admitted, or refused, after which the streams that wait are listed anew
-abbrev pub entered : State → CoreState → QueueState → ℕ → Bool → State
-entered s core' up' k true =
+abbrev pub after_admission : EngineState → CoreState → QueueState → ℕ → Bool → EngineState
+after_admission s core' up' k true =
     let s' = record s { core = core'; up = up'; clients = s.clients ++ new_client k ∷ [] } in
-    record s' { waiting = waiting_in s' }
-entered s core' up' k false =
+    record s' { waiting = waiting_streams s' }
+after_admission s core' up' k false =
     let s' = record s {
       core = core';
       up = up';
@@ -129,4 +129,4 @@ entered s core' up' k false =
       leaving =
           s.leaving ++ (k, None) ∷ [];
     } in
-    record s' { waiting = waiting_in s' }
+    record s' { waiting = waiting_streams s' }

@@ -9,8 +9,8 @@ use Rattle.mux_outside.specs.declared.start_ask.StartAsk.{StartAsk}
 use Rattle.mux_history.specs.declared.limits.TheConstants.{HOUSE}
 use Rattle.mux_history.specs.Journal.{bytes_of, is_accepted, is_own_stream, log_of_journal}
 use Rattle.mux_history.specs.Log.{Setting}
-use Rattle.mux_state.specs.State.{State}
-use Rattle.mux_state.specs.Stands.{Stands}
+use Rattle.mux_state.specs.State.{EngineState}
+use Rattle.mux_state.specs.Stands.{RepresentsSoFar}
 
 -- two journals have the same rows, bytes and clients
 pub record AreTwins (a b : List Mark) : Type 0 where
@@ -20,8 +20,8 @@ pub record AreTwins (a b : List Mark) : Type 0 where
 
 -- an engine that represents one represents the other
 abbrev pub StandsAlike : Type 0
-StandsAlike = (a b : List Mark) (picked : List ℕ) (given : List HouseReply) (s : State)
-    (closed : List ℕ) → AreTwins a b → Stands picked given s a closed → Stands picked given s b closed
+StandsAlike = (a b : List Mark) (picked : List ℕ) (given : List HouseReply) (s : EngineState)
+    (closed : List ℕ) → AreTwins a b → RepresentsSoFar picked given s a closed → RepresentsSoFar picked given s b closed
 
 -- the forwarder is admitted, sends and accepts as a client does
 pub record HouseIsClient : Type 0 where
@@ -32,7 +32,7 @@ pub record HouseIsClient : Type 0 where
       → AreTwins (Takes HOUSE bytes accepts ∷ marks) (House (HouseTook n) ∷ marks)
 
 -- what it was asked and what it ordered leave all as it was, and so do its listeners, and its streams
--- where they end, fail or take bytes
+-- where they end, fail or accept bytes
 pub record OwnIsSilent : Type 0 where
   pub asked : (marks : List Mark) (client id : ℕ) (opening : Bool) (ask : StartAsk)
       (reply : HouseReply) → AreTwins marks (House (HouseAsked client id opening ask reply) ∷ marks)

@@ -9,9 +9,9 @@ ghost use Rattle.mux_state.specs.Events.{AnswersSo, EngineKeeps, TakesIn, MarkRe
 ghost use Rattle.mux_state.specs.Moves.{AnsweredAt, ReceivedAt, LosesAt};
 ghost use Rattle.mux_state.specs.Others.{LeavesIdle};
 ghost use Rattle.mux_state.specs.Ready.{IsEngineReady};
-ghost use Rattle.mux_state.specs.Stands.{CutsShort, Stands};
-ghost use Rattle.mux_state.specs.State.{HasNobody, numbers, over};
-ghost use Rattle.mux_state.specs.Steps.{EntersAt, GainsFrom, is_received, is_served};
+ghost use Rattle.mux_state.specs.Stands.{CutsShort, RepresentsSoFar};
+ghost use Rattle.mux_state.specs.State.{HasNobody, numbers, run_ended_by};
+ghost use Rattle.mux_state.specs.Steps.{EntersAt, GainsFrom, is_client_read, is_client_served};
 
 mod views;
 
@@ -47,10 +47,10 @@ pub struct Engine {
 }
 
 impl Model for Engine {
-    ghost use Rattle.mux_state.specs.State.{State};
+    ghost use Rattle.mux_state.specs.State.{EngineState};
     ghost use Rattle.mux_state.specs.Ready.{IsEngineSound};
 
-    ghost Value = { State };
+    ghost Value = { EngineState };
 
     ghost use Rattle.mux_state.specs.Shown.{state_of};
 
@@ -79,7 +79,7 @@ impl Engine {
         ensures nobody { IfOk result HasNobody }
         ensures listening { IfOk result (λ engine. engine.listening ≡ true) }
         ensures room { IfOk result (λ engine. TheMost * TheRoom ≤ engine.up.spare) }
-        ensures stands { IfOk result (λ engine. Stands [] [] engine [] []) }
+        ensures stands { IfOk result (λ engine. RepresentsSoFar [] [] engine [] []) }
     {
         let mut engine = Engine {
             pid,
@@ -203,7 +203,7 @@ impl Engine {
         requires ready { IsEngineReady self.old }
         ensures gains { OnOk result (GainsFrom H.may (Some asks.old) (Some asks.new) self.old
             self.new client bytes.now) }
-        ensures untold { is_received self.old.clients client ≡ false
+        ensures untold { is_client_read self.old.clients client ≡ false
             → asks.new ≡ asks.old }
         ensures applies { Applies result asks.old asks.new (H.state house.old) (H.state house.new) }
         ensures cut { OnErr result (OneIs client (ReceivesSome H.may (H.state house.old).recorded
@@ -233,9 +233,9 @@ impl Engine {
     fn lose(&mut self, client: u64) -> Result<(), OutOfMemory>
         requires starved { self.old.starved ≡ true }
         requires ready { IsEngineReady self.old }
-        ensures loses { OnOk result (is_served self.old.clients client ≡ true
+        ensures loses { OnOk result (is_client_served self.old.clients client ≡ true
             → LosesAt self.old self.new client) }
-        ensures stays { OnOk result (is_served self.old.clients client ≡ false
+        ensures stays { OnOk result (is_client_served self.old.clients client ≡ false
             → self.new ≡ self.old) }
         ensures ready { OnOk result (IsEngineReady self.new) }
         ensures starved { self.new.starved ≡ true }
@@ -251,9 +251,9 @@ impl Engine {
     fn answer(&mut self, client: u64, id: u32, reply: HouseReply) -> Result<(), OutOfMemory>
         requires starved { self.old.starved ≡ true }
         requires ready { IsEngineReady self.old }
-        ensures answers { OnOk result (is_served self.old.clients client ≡ true
+        ensures answers { OnOk result (is_client_served self.old.clients client ≡ true
             → AnsweredAt self.old self.new client id reply) }
-        ensures stays { OnOk result (is_served self.old.clients client ≡ false
+        ensures stays { OnOk result (is_client_served self.old.clients client ≡ false
             → self.new ≡ self.old) }
         ensures numbers { OnOk result (numbers self.new.clients ≡ numbers self.old.clients) }
         ensures ready { OnOk result (IsEngineReady self.new) }
@@ -286,7 +286,7 @@ impl Engine {
     // The run is over.
     fn end(&mut self, cause: Ended)
         requires starved { self.old.starved ≡ true }
-        ensures { self.new ≡ over self.old cause }
+        ensures { self.new ≡ run_ended_by self.old cause }
     {
         self.ended = Some(cause);
     }

@@ -7,7 +7,7 @@ ghost use Rattle.mux_history.specs.Promises.{is_empty};
 ghost use Rattle.mux_peers.specs.Losing.{NotesMore};
 ghost use Rattle.mux_state.specs.Ready.{AreListed};
 ghost use Rattle.mux_state.specs.State.{at_client, client_took};
-ghost use Rattle.mux_state.specs.Steps.{ReceivesFrom, waiting_for, streams_waiting_of};
+ghost use Rattle.mux_state.specs.Steps.{ReceivesFrom, bytes_waiting_for, streams_waiting_of};
 
 use mux_core::Core;
 use mux_outside::Streams;
@@ -36,12 +36,12 @@ pub fn take_in(
 
 // So many bytes that wait for a stream were accepted: whether none waits now.
 pub fn take(up: &mut Queue, clients: &mut Clients, stream: u64, n: usize) -> bool
-    requires { n ≤ length (waiting_for up.old clients.old.all stream) }
+    requires { n ≤ length (bytes_waiting_for up.old clients.old.all stream) }
     ensures up { up.new ≡ (if is_server stream then without_first_bytes n up.old else up.old) }
     ensures clients { clients.new.all ≡ (if is_server stream then clients.old.all
         else at_client stream (client_took n) clients.old.all) }
     ensures leaving { clients.new.leaving ≡ clients.old.leaving }
-    ensures left { result ≡ is_empty (waiting_for up.new clients.new.all stream) }
+    ensures left { result ≡ is_empty (bytes_waiting_for up.new clients.new.all stream) }
 {
     if stream == 0 {
         up.took(n);

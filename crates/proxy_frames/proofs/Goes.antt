@@ -3,20 +3,20 @@ use Rattle.std.proofs.Common.{◌≡◌, ℕ, List, [], ◌∷◌, ◌++◌, ref
 use Rattle.ssh_fields.specs.Fields.{AreBytes}
 use Rattle.ssh_grammar.specs.declared.fault.BadFrame.{BadFrame}
 use Rattle.ssh_grammar.specs.Frames.{Cut, cut, frame, Front, Frame, More, Faulty, first_frame}
-use Rattle.ssh_grammar.specs.IsFrame.{joined}
+use Rattle.ssh_grammar.specs.IsFrame.{bytes_of_frames}
 use Rattle.ssh_grammar.proofs.Cuts.{Extends, first-extends, cut-at}
 use Rattle.ssh_grammar.proofs.Frames.{IsFirst, first-is}
 use Rattle.proxy_frames.specs.declared.next.Next.TheVariants as next
 use Rattle.proxy_frames.specs.State.{FramerState}
 use Rattle.proxy_frames.specs.Steps.{pushed, once_recorded, front_of, answer_to, after_front}
-use Rattle.proxy_frames.specs.FramerHistory.{FramerHistory, FramerRepresents, FramerGoesOn, HasRecorded, and_bytes, and_frame, and_fault, and_next, and_next_in, next_in, next_of, first_of, frame_next, cut_of, to_come}
+use Rattle.proxy_frames.specs.FramerHistory.{FramerHistory, FramerRepresents, FramerGoesOn, HasRecorded, and_bytes, and_frame, and_fault, and_next, and_next_in, next_in, next_frame, first_given_frame, frame_next, cut_of, to_come}
 use Rattle.proxy_frames.proofs.Stands.{stands_by, to_come-is, fault-is, valid-and, joined-and}
 
 -- ---- more bytes
 
 pub pushed-stands : (h : FramerHistory) (f : FramerState) (piece : List ℕ) → FramerRepresents h f → FramerRepresents (and_bytes piece h) (pushed piece f)
 pushed-stands h f piece st = stands_by (and_bytes piece h) (pushed piece f) st.valid
-    (ap (λ b. b ++ piece) st.filled ∙ append_assoc (joined h.framing h.given) f.rest piece) st.fault (by_recorded h.recorded st.recorded)
+    (ap (λ b. b ++ piece) st.filled ∙ append_assoc (bytes_of_frames h.framing h.given) f.rest piece) st.fault (by_recorded h.recorded st.recorded)
   where
     by_recorded : (t : Option BadFrame) → HasRecorded t h f → HasRecorded t (and_bytes piece h) (pushed piece f)
     by_recorded None is = is
@@ -26,16 +26,16 @@ pushed-stands h f piece st = stands_by (and_bytes piece h) (pushed piece f) st.v
 
 -- what is answered to a front, and what it leaves, is what the history says
 pub record Goes (h : FramerHistory) (f : FramerState) (front : Front) : Type 0 where
-  pub answer : answer_to front ≡ next_of h
+  pub answer : answer_to front ≡ next_frame h
   pub current : (after_front front f).current ≡ frame_next h
   pub stands : FramerRepresents (and_next h) (after_front front f)
 
 -- before a fault was reported the history goes by the frames to come
-goes-on : (h : FramerHistory) (f : FramerState) (front : Front) (after : FramerHistory) → h.recorded ≡ None → answer_to front ≡ next_in (to_come h) (cut_of h).fault → (after_front front f).current ≡ first_of (to_come h)
+goes-on : (h : FramerHistory) (f : FramerState) (front : Front) (after : FramerHistory) → h.recorded ≡ None → answer_to front ≡ next_in (to_come h) (cut_of h).fault → (after_front front f).current ≡ first_given_frame (to_come h)
     → and_next_in (to_come h) (cut_of h).fault h ≡ after → FramerRepresents after (after_front front f) → Goes h f front
 goes-on h f front after e answer current goes stands = record {
   answer = answer ∙ sym (ap (λ (t : Option BadFrame). once_recorded t next.Bad (next_in (to_come h) (cut_of h).fault)) e);
-  current = current ∙ sym (ap (λ (t : Option BadFrame). once_recorded t (λ _. None) (first_of (to_come h))) e);
+  current = current ∙ sym (ap (λ (t : Option BadFrame). once_recorded t (λ _. None) (first_given_frame (to_come h))) e);
   stands = subst (λ (x : FramerHistory). FramerRepresents x (after_front front f)) (sym (ap (λ (t : Option BadFrame). once_recorded t (λ _. h) (and_next_in (to_come h) (cut_of h).fault h)) e ∙ goes)) stands;
 }
 
@@ -43,7 +43,7 @@ goes-on h f front after e answer current goes stands = record {
 goes-recorded : (h : FramerHistory) (f : FramerState) (fault : BadFrame) → h.recorded ≡ Some fault → FramerRepresents h f → Goes h f (Faulty fault)
 goes-recorded h f fault e st = record {
   answer = sym (ap (λ (t : Option BadFrame). once_recorded t next.Bad (next_in (to_come h) (cut_of h).fault)) e);
-  current = sym (ap (λ (t : Option BadFrame). once_recorded t (λ _. None) (first_of (to_come h))) e);
+  current = sym (ap (λ (t : Option BadFrame). once_recorded t (λ _. None) (first_given_frame (to_come h))) e);
   stands = subst (λ (x : FramerHistory). FramerRepresents x (after_front (Faulty fault) f)) (sym (ap (λ (t : Option BadFrame). once_recorded t (λ _. h) (and_next_in (to_come h) (cut_of h).fault h)) e))
       (record {
         valid = st.valid;
@@ -60,11 +60,11 @@ goes-frame h f content rest e st framing front is =
     let c : cut h.framing f.rest ≡ record { frames = content ∷ (cut h.framing rest).frames; rest = (cut h.framing rest).rest; fault = (cut h.framing rest).fault } = cut-at h.framing f.rest (Frame content rest) front in
     let coming : to_come h ≡ content ∷ (cut h.framing rest).frames = to_come-is h f st ∙ ap (λ (x : Cut). x.frames) c in
     let fault = (cut_of h).fault in
-    let filled : h.bytes ≡ joined h.framing (h.given ++ content ∷ []) ++ rest =
-    st.filled ∙ (ap (λ l. joined h.framing h.given ++ l) is.1 ∙ (sym (append_assoc (joined h.framing h.given) (frame h.framing content) rest) ∙ ap (λ l. l ++ rest) (sym (joined-and h.framing h.given content)))) in
+    let filled : h.bytes ≡ bytes_of_frames h.framing (h.given ++ content ∷ []) ++ rest =
+    st.filled ∙ (ap (λ l. bytes_of_frames h.framing h.given ++ l) is.1 ∙ (sym (append_assoc (bytes_of_frames h.framing h.given) (frame h.framing content) rest) ∙ ap (λ l. l ++ rest) (sym (joined-and h.framing h.given content)))) in
     goes-on h f (Frame content rest) (and_frame content h) e
     (sym (ap (λ (l : List (List ℕ)). next_in l fault) coming))
-    (sym (ap first_of coming))
+    (sym (ap first_given_frame coming))
     (ap (λ (l : List (List ℕ)). and_next_in l fault h) coming)
     (stands_by (and_frame content h) (after_front (Frame content rest) f) (valid-and h.framing h.given content st.valid is.0) filled st.fault
     (subst (λ (t : Option BadFrame). HasRecorded t (and_frame content h) (after_front (Frame content rest) f)) (sym e) framing))
@@ -77,7 +77,7 @@ goes-more h f e st framing front =
     let fault : (cut_of h).fault ≡ None = fault-is h f st ∙ ap (λ (x : Cut). x.fault) c in
     goes-on h f More h e
     (sym (ap (λ (l : List (List ℕ)). next_in l (cut_of h).fault) coming ∙ ap (next_in []) fault))
-    (sym (ap first_of coming))
+    (sym (ap first_given_frame coming))
     (ap (λ (l : List (List ℕ)). and_next_in l (cut_of h).fault h) coming ∙ ap (λ (t : Option BadFrame). and_next_in [] t h) fault)
     (stands_by h (after_front More f) st.valid st.filled st.fault (subst (λ (t : Option BadFrame). HasRecorded t h (after_front More f)) (sym e) framing))
 
@@ -89,7 +89,7 @@ goes-fault h f bad e st front =
     let fault : (cut_of h).fault ≡ Some bad = fault-is h f st ∙ ap (λ (x : Cut). x.fault) c in
     goes-on h f (Faulty bad) (and_fault bad h) e
     (sym (ap (λ (l : List (List ℕ)). next_in l (cut_of h).fault) coming ∙ ap (next_in []) fault))
-    (sym (ap first_of coming))
+    (sym (ap first_given_frame coming))
     (ap (λ (l : List (List ℕ)). and_next_in l (cut_of h).fault h) coming ∙ ap (λ (t : Option BadFrame). and_next_in [] t h) fault)
     (stands_by (and_fault bad h) (after_front (Faulty bad) f) st.valid st.filled refl front)
 

@@ -8,7 +8,7 @@ use Rattle.ssh_grammar.specs.Laws.{cut_then}
 use Rattle.ssh_grammar.proofs.Cuts.{IsShorter, first-shorter, Extends, first-extends, cut-at, cut-append}
 use Rattle.proxy_frames.specs.State.{FramerState}
 use Rattle.proxy_frames.specs.Steps.{new_framer, pushed, once_recorded, front_of, after_front}
-use Rattle.proxy_frames.specs.Runs.{Taken, taken_front, frames_taken_by, taken, taken_of, stream_of_pieces, cut_taken}
+use Rattle.proxy_frames.specs.Runs.{Taken, taken_front, frames_taken_by, frames_taken, taken_of, stream_of_pieces, cut_taken}
 use Rattle.proxy_frames.specs.FramerHistory.{cut_of, to_come}
 use Rattle.proxy_frames.specs.Laws.{PiecesGiveTheCut, AnyPiecesGiveTheSame, AnyTimeGivesTheSame}
 use Rattle.proxy_frames.proofs.Stands.{to_come-is, fault-is}
@@ -43,7 +43,7 @@ taken-is (suc n) f none h = subst (λ (front : Front). IsCut f.framing (cut f.fr
     by_front (Faulty bad) e s go = record { made = sym (cut-at f.framing f.rest (Faulty bad) e); cuts = refl }
 
 -- after a fault nothing is removed
-taken-recorded : (f : FramerState) (bad : BadFrame) → f.fault ≡ Some bad → IsCut f.framing (record { frames = []; rest = f.rest; fault = Some bad }) (taken f)
+taken-recorded : (f : FramerState) (bad : BadFrame) → f.fault ≡ Some bad → IsCut f.framing (record { frames = []; rest = f.rest; fault = Some bad }) (frames_taken f)
 taken-recorded f bad e =
     let n : length f.rest + 1 ≡ suc (length f.rest) = omega arith in
     let front : front_of f ≡ Faulty bad = ap (λ (t : Option BadFrame). once_recorded t Faulty (first_frame f.framing f.rest)) e in
@@ -77,25 +77,25 @@ record Follows (framing : Framing) (bytes : List ℕ) (f : FramerState) : Type 0
   fault : f.fault ≡ (cut framing bytes).fault
 
 -- one more piece
-piece-taken : (framing : Framing) (bytes piece : List ℕ) (f : FramerState) → Follows framing bytes f → IsCut framing (cut framing ((cut framing bytes).rest ++ piece)) (taken (pushed piece f))
+piece-taken : (framing : Framing) (bytes piece : List ℕ) (f : FramerState) → Follows framing bytes f → IsCut framing (cut framing ((cut framing bytes).rest ++ piece)) (frames_taken (pushed piece f))
 piece-taken framing bytes piece f is = by_fault (cut framing bytes).fault refl
   where
-    by_fault : (t : Option BadFrame) → (cut framing bytes).fault ≡ t → IsCut framing (cut framing ((cut framing bytes).rest ++ piece)) (taken (pushed piece f))
+    by_fault : (t : Option BadFrame) → (cut framing bytes).fault ≡ t → IsCut framing (cut framing ((cut framing bytes).rest ++ piece)) (frames_taken (pushed piece f))
     by_fault None e =
-        let all : IsCut f.framing (cut f.framing (f.rest ++ piece)) (taken (pushed piece f)) = taken-is (length (f.rest ++ piece) + 1) (pushed piece f) (is.fault ∙ e) (omega arith) in
+        let all : IsCut f.framing (cut f.framing (f.rest ++ piece)) (frames_taken (pushed piece f)) = taken-is (length (f.rest ++ piece) + 1) (pushed piece f) (is.fault ∙ e) (omega arith) in
         record { made = all.made ∙ (ap (λ k. cut k (f.rest ++ piece)) is.cuts ∙ ap (λ l. cut framing (l ++ piece)) is.rest); cuts = all.cuts ∙ is.cuts }
     by_fault (Some bad) e =
         let old : List ℕ = (cut framing bytes).rest in
         let there : first_frame framing old ≡ Faulty bad = fault-stands (length bytes + 1) framing bytes bad (omega arith) e in
         let stays : first_frame framing (old ++ piece) ≡ Faulty bad = subst (λ (front : Front). Extends piece front (first_frame framing (old ++ piece))) there (first-extends framing old piece) in
-        let all : IsCut f.framing (record { frames = []; rest = f.rest ++ piece; fault = Some bad }) (taken (pushed piece f)) = taken-recorded (pushed piece f) bad (is.fault ∙ e) in
+        let all : IsCut f.framing (record { frames = []; rest = f.rest ++ piece; fault = Some bad }) (frames_taken (pushed piece f)) = taken-recorded (pushed piece f) bad (is.fault ∙ e) in
         record { made = all.made ∙ (ap (λ l. record { frames = []; rest = l ++ piece; fault = Some bad }) is.rest ∙ sym (cut-at framing (old ++ piece) (Faulty bad) stays)); cuts = all.cuts ∙ is.cuts }
 
 pieces-taken : (framing : Framing) (bytes : List ℕ) (f : FramerState) (pieces : List (List ℕ)) → Follows framing bytes f → cut_then (cut framing bytes) (cut_taken (taken_of f pieces)) ≡ cut framing (bytes ++ stream_of_pieces pieces)
 pieces-taken framing bytes f [] is =
     (λ i. record { frames = append-nil (cut framing bytes).frames i; rest = is.rest i; fault = is.fault i }) ∙ ap (cut framing) (sym (append-nil bytes))
 pieces-taken framing bytes f (piece ∷ pieces) is =
-    let t : Taken = taken (pushed piece f) in
+    let t : Taken = frames_taken (pushed piece f) in
     let one : IsCut framing (cut framing ((cut framing bytes).rest ++ piece)) t = piece-taken framing bytes piece f is in
     let grown : cut framing (bytes ++ piece) ≡ cut_then (cut framing bytes) (cut_taken t) = cut-append framing bytes piece ∙ ap (cut_then (cut framing bytes)) (sym one.made) in
     let next : Follows framing (bytes ++ piece) t.framer = record { cuts = one.cuts; rest = sym (ap (λ (x : Cut). x.rest) grown); fault = sym (ap (λ (x : Cut). x.fault) grown) } in

@@ -4,7 +4,7 @@ use Rattle.std.specs.List.{AllByRecursion}
 use Rattle.ssh_grammar.specs.declared.fault.BadFrame.{BadFrame}
 use Rattle.ssh_grammar.specs.declared.framing.Framing.{Framing}
 use Rattle.ssh_grammar.specs.Frames.{Cut, cut, Faulty, first_frame}
-use Rattle.ssh_grammar.specs.IsFrame.{IsContent, joined}
+use Rattle.ssh_grammar.specs.IsFrame.{IsContent, bytes_of_frames}
 use Rattle.proxy_frames.specs.declared.next.Next.{Next}
 use Rattle.proxy_frames.specs.declared.next.Next.TheVariants as next
 use Rattle.proxy_frames.specs.State.{FramerState}
@@ -31,8 +31,8 @@ abbrev pub to_come : FramerHistory → List (List ℕ)
 to_come h = drop (length h.given) (cut_of h).frames
 
 -- the bytes after the frames that were given
-abbrev pub left : FramerHistory → List ℕ
-left h = drop (length (joined h.framing h.given)) h.bytes
+abbrev pub bytes_after_frames : FramerHistory → List ℕ
+bytes_after_frames h = drop (length (bytes_of_frames h.framing h.given)) h.bytes
 
 -- ---- how it goes on
 
@@ -53,7 +53,7 @@ abbrev pub and_switch : Framing → FramerHistory → FramerHistory
 and_switch framing h =
     once_recorded h.recorded (λ _. h) (record {
       framing = framing;
-      bytes = left h;
+      bytes = bytes_after_frames h;
       given = [];
       recorded = None;
     })
@@ -67,16 +67,16 @@ next_in [] (Some fault) = next.Bad fault
 next_in [] None = next.More
 
 -- the same, but a fault that was reported is reported again
-abbrev pub next_of : FramerHistory → Next
-next_of h = once_recorded h.recorded next.Bad (next_in (to_come h) (cut_of h).fault)
+abbrev pub next_frame : FramerHistory → Next
+next_frame h = once_recorded h.recorded next.Bad (next_in (to_come h) (cut_of h).fault)
 
 -- the frame that it gives, if it is one
-abbrev pub first_of : List (List ℕ) → Option (List ℕ)
-first_of (content ∷ more) = Some content
-first_of [] = None
+abbrev pub first_given_frame : List (List ℕ) → Option (List ℕ)
+first_given_frame (content ∷ more) = Some content
+first_given_frame [] = None
 
 abbrev pub frame_next : FramerHistory → Option (List ℕ)
-frame_next h = once_recorded h.recorded (λ _. None) (first_of (to_come h))
+frame_next h = once_recorded h.recorded (λ _. None) (first_given_frame (to_come h))
 
 -- what came and what was given then
 abbrev pub and_next_in : List (List ℕ) → Option BadFrame → FramerHistory → FramerHistory
@@ -90,8 +90,8 @@ and_next h = once_recorded h.recorded (λ _. h) (and_next_in (to_come h) (cut_of
 -- ---- what a framer represents
 
 -- frames that were given, before a cut
-abbrev pub behind : List (List ℕ) → Cut → Cut
-behind given c = record { frames = given ++ c.frames; rest = c.rest; fault = c.fault }
+abbrev pub with_frames_before : List (List ℕ) → Cut → Cut
+with_frames_before given c = record { frames = given ++ c.frames; rest = c.rest; fault = c.fault }
 
 -- while no fault was reported the framer cuts as the history does; one that was reported is at the
 -- front of its rest
@@ -103,8 +103,8 @@ HasRecorded (Some fault) h f = first_frame h.framing f.rest ≡ Faulty fault
 -- after the last one and the fault are those of the framer's rest
 pub record FramerRepresents (h : FramerHistory) (f : FramerState) : Type 0 where
   pub valid : AllByRecursion (IsContent h.framing) h.given
-  pub filled : h.bytes ≡ joined h.framing h.given ++ f.rest
-  pub frames : cut_of h ≡ behind h.given (cut h.framing f.rest)
+  pub filled : h.bytes ≡ bytes_of_frames h.framing h.given ++ f.rest
+  pub frames : cut_of h ≡ with_frames_before h.given (cut h.framing f.rest)
   pub fault : f.fault ≡ h.recorded
   pub recorded : HasRecorded h.recorded h f
 
@@ -116,4 +116,4 @@ FramerGoesOn old new event = (h : FramerHistory) → FramerRepresents h old → 
 -- of each history that it represented, this is what comes next
 abbrev pub IsNextFrame : FramerState → Next → FramerState → Type 0
 IsNextFrame old answer new =
-    (h : FramerHistory) → FramerRepresents h old → (answer ≡ next_of h) × (new.current ≡ frame_next h)
+    (h : FramerHistory) → FramerRepresents h old → (answer ≡ next_frame h) × (new.current ≡ frame_next h)

@@ -6,13 +6,13 @@ use Rattle.ssh_grammar.specs.declared.fault.BadFrame.{BadFrame}
 use Rattle.ssh_grammar.specs.declared.framing.Framing.{Framing}
 use Rattle.ssh_grammar.specs.declared.framing.Framing.TheVariants as framing
 use Rattle.ssh_grammar.specs.Frames.{More, Faulty, first_frame, cut}
-use Rattle.ssh_grammar.specs.IsFrame.{IsContent, joined}
+use Rattle.ssh_grammar.specs.IsFrame.{IsContent, bytes_of_frames}
 use Rattle.ssh_grammar.specs.Said.{InProxy, Body, Payload, after_body, said}
 use Rattle.ssh_grammar.specs.Laws.{KeepControl, says}
 use Rattle.proxy_frames.specs.State.{FramerState}
 use Rattle.proxy_frames.specs.Steps.{new_framer, with_written}
 use Rattle.proxy_frames.specs.Fronts.{IsPartial, IsPrefix, IsFault}
-use Rattle.proxy_frames.specs.FramerHistory.{FramerHistory, FramerRepresents, to_come, left, behind}
+use Rattle.proxy_frames.specs.FramerHistory.{FramerHistory, FramerRepresents, to_come, bytes_after_frames, with_frames_before}
 use Rattle.proxy_frames.specs.Runs.{taken_of, cut_taken, stream_of_pieces}
 
 -- ---- in any pieces
@@ -50,7 +50,7 @@ AnyTimeGivesTheSame =
 -- what is left at a switch is all that follows the frames that were given
 abbrev pub NothingIsLost : Type 0
 NothingIsLost =
-    (h : FramerHistory) (f : FramerState) → FramerRepresents h f → h.bytes ≡ joined h.framing h.given ++ left h
+    (h : FramerHistory) (f : FramerState) → FramerRepresents h f → h.bytes ≡ bytes_of_frames h.framing h.given ++ bytes_after_frames h
 
 -- where the last control message given begins the proxy, all bytes say the messages given, and then
 -- the payloads and the fault of what is left and of what comes after the switch
@@ -60,7 +60,7 @@ SwitchedIsSent =
     → h.framing ≡ framing.Control → h.given ≡ bodies ++ last ∷ [] → KeepControl bodies
     → after_body last ≡ InProxy
     → said (h.bytes ++ more) ≡ map Body bodies
-    ++ (Body last ∷ says framing.Proxy Payload (left h ++ more))
+    ++ (Body last ∷ says framing.Proxy Payload (bytes_after_frames h ++ more))
 
 -- ---- at the front
 
@@ -95,7 +95,7 @@ abbrev pub QueuedFramesAreCut : Type 0
 QueuedFramesAreCut =
     (framing : Framing) (contents : List (List ℕ)) (rest : List ℕ)
     → AllByRecursion (IsContent framing) contents
-    → cut framing (joined framing contents ++ rest) ≡ behind contents (cut framing rest)
+    → cut framing (bytes_of_frames framing contents ++ rest) ≡ with_frames_before contents (cut framing rest)
 
 -- ---- in a frame
 

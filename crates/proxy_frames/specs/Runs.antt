@@ -26,14 +26,14 @@ frames_taken_by zero f = record { frames = []; framer = f }
 frames_taken_by (suc n) f = taken_front (frames_taken_by n) f (front_of f)
 
 -- all frames that are there
-abbrev pub taken : FramerState → Taken
-taken f = frames_taken_by (length f.rest + 1) f
+abbrev pub frames_taken : FramerState → Taken
+frames_taken f = frames_taken_by (length f.rest + 1) f
 
 -- of each piece, all frames that are there then
 abbrev pub taken_of : FramerState → List (List ℕ) → Taken
 taken_of f [] = record { frames = []; framer = f }
 taken_of f (piece ∷ pieces) =
-    and_taken (taken (pushed piece f)).frames (taken_of (taken (pushed piece f)).framer pieces)
+    and_taken (frames_taken (pushed piece f)).frames (taken_of (frames_taken (pushed piece f)).framer pieces)
 
 -- the bytes of all pieces
 abbrev pub stream_of_pieces : List (List ℕ) → List ℕ

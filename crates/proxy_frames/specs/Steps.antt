@@ -44,8 +44,8 @@ after_front (Faulty fault) f = record f { current = None; fault = Some fault }
 -- ---- what is written in the current frame
 
 -- bytes with others written over their front
-abbrev pub over : List ℕ → List ℕ → List ℕ
-over written bytes = take (length bytes) (written ++ drop (length written) bytes)
+abbrev pub written_over : List ℕ → List ℕ → List ℕ
+written_over written bytes = take (length bytes) (written ++ drop (length written) bytes)
 
 -- the frame, and nothing where there is none
 abbrev pub frame_of : FramerState → List ℕ
@@ -55,7 +55,7 @@ frame_of f = elim f.current [ None ↦ [] | Some content ↦ content ]
 -- else changes
 abbrev pub with_written : FramerState → List ℕ → FramerState
 with_written f written =
-    let all = over written (frame_of f ++ f.rest) in
+    let all = written_over written (frame_of f ++ f.rest) in
     record f {
       rest = drop (length (frame_of f)) all;
       current =

@@ -142,7 +142,7 @@ impl Framer {
 }
 
 // Drops so many first bytes. The others are moved down once, and the room stays.
-fn remove_front(bytes: &mut Vec<u8>, n: usize)
+pub(crate) fn remove_front(bytes: &mut Vec<u8>, n: usize)
     requires { n ≤ length bytes.old.items }
     ensures items { bytes.new.items ≡ drop n bytes.old.items }
     ensures capacity { vec_capacity bytes.new ≡ vec_capacity bytes.old }

@@ -7,7 +7,7 @@ use Rattle.ssh_fields.specs.Fields.{AreBytes, take_u8, split_at}
 use Rattle.ssh_fields.proofs.Fields.{AreBytes-behind, value_and_rest}
 use Rattle.socks_dialog.specs.Hosts.{dotted, grouped}
 use Rattle.socks_dialog.specs.Replies.{refused4, no_authentication, no_method, reply5, general_failure, unknown_command, unknown_address}
-use Rattle.socks_dialog.specs.Socks.{Dialog, connects, breaks, replying, either, on, take_port, take_text, name4, is_for_name, user4, address4, command4, socks4, end5, name5, address5, reserved5, command5, request5, methods5, socks5, version, socks}
+use Rattle.socks_dialog.specs.Socks.{Dialog, dialog_connects, breaks, replying, either_dialog, on, take_port, take_text, name4, is_for_name, user4, address4, command4, socks4, end5, name5, address5, reserved5, command5, request5, methods5, socks5, version, socks}
 use Rattle.socks_dialog.specs.Laws.{followed}
 use Rattle.socks_dialog.specs.declared.outcome.Outcome.TheVariants.{Wants, Connects, Breaks}
 use Rattle.socks_dialog.proofs.Fields.{Stands, IsField, u8-field, port-field, bytes-field, text-field}
@@ -47,7 +47,7 @@ parse-breaks reply = record {
   front = λ a. record { front = []; whole = refl; alone = refl; wanting = λ e. absurd (not_breaks reply e) };
 }
 
-pub parse-connects : (host : List ℕ) (port : ℕ) → IsParse (connects host port)
+pub parse-connects : (host : List ℕ) (port : ℕ) → IsParse (dialog_connects host port)
 parse-connects host port = record {
   stays = λ a more ne. refl;
   grows = λ a more. record { later = []; is = refl };
@@ -67,7 +67,7 @@ parse-replying reply f p = record {
 }
 
 pub parse-either : (b : Bool) (f g : List ℕ → Dialog) → IsParse f → IsParse g
-    → IsParse (λ a. either b (f a) (g a))
+    → IsParse (λ a. either_dialog b (f a) (g a))
 parse-either true f g p q = p
 parse-either false f g p q = q
 
@@ -149,7 +149,7 @@ name4-parse port (Some (b ∷ bytes)) = parse-connects (b ∷ bytes) port
 user4-parse : (port : ℕ) (address : List ℕ) (o : Option (List ℕ)) → IsParse (user4 port address o)
 user4-parse port address None = parse-breaks refused4
 user4-parse port address (Some user) =
-    parse-either (is_for_name address) (λ a. on (take_text a) (name4 port)) (connects (dotted address) port)
+    parse-either (is_for_name address) (λ a. on (take_text a) (name4 port)) (dialog_connects (dotted address) port)
     (on_text (name4 port) (name4-parse port)) (parse-connects (dotted address) port)
 
 address4-parse : (port : ℕ) → IsParse (address4 port)
@@ -162,7 +162,7 @@ command4-parse command =
     (on_port address4 address4-parse) (parse-breaks refused4)
 
 end5-parse : (host : List ℕ) → IsParse (end5 host)
-end5-parse host = on_port (connects host) (parse-connects host)
+end5-parse host = on_port (dialog_connects host) (parse-connects host)
 
 name5-parse : (size : ℕ) → IsParse (name5 size)
 name5-parse size =
@@ -219,10 +219,10 @@ Ends n f = (a : List ℕ) → AreBytes a → (f a).outcome ≡ Wants → length 
 ends-breaks : (n : ℕ) (reply : List ℕ) → Ends n (breaks reply)
 ends-breaks n reply a bytes e = absurd (not_breaks reply e)
 
-ends-connects : (n : ℕ) (host : List ℕ) (port : ℕ) → Ends n (connects host port)
+ends-connects : (n : ℕ) (host : List ℕ) (port : ℕ) → Ends n (dialog_connects host port)
 ends-connects n host port a bytes e = absurd (not_connects host port e)
 
-ends-either : (n : ℕ) (b : Bool) (f g : List ℕ → Dialog) → Ends n f → Ends n g → Ends n (λ a. either b (f a) (g a))
+ends-either : (n : ℕ) (b : Bool) (f g : List ℕ → Dialog) → Ends n f → Ends n g → Ends n (λ a. either_dialog b (f a) (g a))
 ends-either n true f g p q = p
 ends-either n false f g p q = q
 
@@ -269,7 +269,7 @@ name4-ends port (Some (b ∷ bytes)) = ends-connects 0 (b ∷ bytes) port
 user4-ends : (port : ℕ) (address : List ℕ) (o : Option (List ℕ)) → Ends 256 (user4 port address o)
 user4-ends port address None = ends-breaks 256 refused4
 user4-ends port address (Some user) =
-    ends-either 256 (is_for_name address) (λ a. on (take_text a) (name4 port)) (connects (dotted address) port)
+    ends-either 256 (is_for_name address) (λ a. on (take_text a) (name4 port)) (dialog_connects (dotted address) port)
     (ends-text 0 (name4 port) (name4-ends port)) (ends-connects 256 (dotted address) port)
 
 address4-ends : (port : ℕ) → Ends 516 (address4 port)
@@ -282,7 +282,7 @@ command4-ends command l =
     (ends-port 516 address4 address4-ends) (ends-breaks 518 refused4)
 
 end5-ends : (host : List ℕ) → Ends 2 (end5 host)
-end5-ends host = ends-port 0 (connects host) (ends-connects 0 host)
+end5-ends host = ends-port 0 (dialog_connects host) (ends-connects 0 host)
 
 name5-ends : (size : ℕ) → size < 256 → Ends 257 (name5 size)
 name5-ends size l =

@@ -5,7 +5,7 @@ use Rattle.std.specs.List.{list_any}
 use Rattle.ssh_fields.specs.Fields.{take_u8, split_at}
 use Rattle.socks_dialog.specs.Hosts.{dotted, grouped}
 use Rattle.socks_dialog.specs.Replies.{no_authentication}
-use Rattle.socks_dialog.specs.Socks.{Dialog, on, either, replying, take_port, take_text, is_for_name, name4, user4, address4, command4, socks4, end5, name5, address5, reserved5, command5, request5, methods5, version, socks}
+use Rattle.socks_dialog.specs.Socks.{Dialog, on, either_dialog, replying, take_port, take_text, is_for_name, name4, user4, address4, command4, socks4, end5, name5, address5, reserved5, command5, request5, methods5, version, socks}
 
 -- ---- none
 
@@ -14,7 +14,7 @@ none-on : {X : Type 0} (o : Option (X × List ℕ)) (next : X → List ℕ → D
 none-on None next none = refl
 none-on (Some p) next none = none p.0 p.1
 
-none-either : (b : Bool) (c d : Dialog) → c.replies ≡ [] → d.replies ≡ [] → (either b c d).replies ≡ []
+none-either : (b : Bool) (c d : Dialog) → c.replies ≡ [] → d.replies ≡ [] → (either_dialog b c d).replies ≡ []
 none-either true c d first second = first
 none-either false c d first second = second
 
@@ -73,7 +73,7 @@ few-on None next few = omega arith
 few-on (Some p) next few = few p.0 p.1
 
 few-either : (b : Bool) (c d : Dialog) → length c.replies ≤ 1 → length d.replies ≤ 1
-    → length (either b c d).replies ≤ 1
+    → length (either_dialog b c d).replies ≤ 1
 few-either true c d first second = first
 few-either false c d first second = second
 

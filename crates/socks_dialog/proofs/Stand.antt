@@ -2,22 +2,22 @@
 use Rattle.std.proofs.Common.{◌≡◌, ◌≢◌, ◌∙◌, refl, sym, ap, subst, arith, ℕ, suc, ◌+◌, ◌<◌, ◌≤◌, List, [], ◌∷◌, ◌++◌, length, get_or, take, drop, add-zero, length-append, length-drop, drop-cons}
 use Rattle.std.proofs.lemmas.List.{take-append-le, take_more, length-take-le}
 use Rattle.socks_dialog.specs.Socks.{Dialog, socks}
-use Rattle.socks_dialog.specs.State.{State, dialog_bytes, pushed, step_in, gives_in, to_give, step_of, stepped, IsConnect, HasConnect, GivesConnect, DialogHistory, and_dialog_bytes, and_step, DialogRepresents, DialogGoesOn, IsNextStep, RestIs}
+use Rattle.socks_dialog.specs.State.{DialogState, dialog_bytes, dialog_pushed, step_in, gives_in, to_give, step_of, dialog_stepped, IsConnect, HasConnect, GivesConnect, DialogHistory, and_dialog_bytes, and_step, DialogRepresents, DialogGoesOn, IsNextStep, RestIs}
 use Rattle.socks_dialog.specs.declared.outcome.Outcome.{Outcome}
 use Rattle.socks_dialog.specs.declared.outcome.Outcome.TheVariants.{Wants, Connects, Breaks}
 use Rattle.socks_dialog.proofs.Dialogs.{ended, socks-parse}
 use Rattle.socks_dialog.proofs.Kept.{kept_alone, kept_outcome, kept_joins, kept_rest}
 
 -- the dialog by what it kept is that of all bytes
-same_dialog : (h : DialogHistory) (d : State) → DialogRepresents h d → socks d.bytes ≡ ended (socks h.bytes)
+same_dialog : (h : DialogHistory) (d : DialogState) → DialogRepresents h d → socks d.bytes ≡ ended (socks h.bytes)
 same_dialog h d s = ap socks s.bytes ∙ kept_alone h.bytes
 
-given_length : (h : DialogHistory) (d : State) → DialogRepresents h d → length h.given ≡ d.given
+given_length : (h : DialogHistory) (d : DialogState) → DialogRepresents h d → length h.given ≡ d.given
 given_length h d s = ap length s.given ∙ length-take-le d.given (socks h.bytes).replies s.some
 
 -- ---- more bytes
 
-pub stands_push : (piece : List ℕ) (d : State) → DialogGoesOn d (pushed piece d) (and_dialog_bytes piece)
+pub stands_push : (piece : List ℕ) (d : DialogState) → DialogGoesOn d (dialog_pushed piece d) (and_dialog_bytes piece)
 stands_push piece d = λ h s.
     let grown = socks-parse.grows h.bytes piece in
     record {
@@ -30,13 +30,13 @@ stands_push piece d = λ h s.
           omega (arith, ap length grown.is, length-append (socks h.bytes).replies grown.later);
     }
 
-pub rest_push : (piece : List ℕ) (d : State) (taken : ℕ)
+pub rest_push : (piece : List ℕ) (d : DialogState) (taken : ℕ)
     → length d.bytes + taken ≡ length (dialog_bytes (d.bytes ++ piece)) → RestIs d piece taken
 rest_push piece d taken count = λ h s. kept_rest h.bytes d.bytes piece taken s.bytes count
 
 -- ---- a step
 
-pub stands_next : (d : State) → IsNextStep d (step_of d)
+pub stands_next : (d : DialogState) → IsNextStep d (step_of d)
 stands_next d = λ h s.
     ap (λ (e : Dialog). step_in (to_give d.given e) e.outcome) (same_dialog h d s)
     ∙ ap (λ n. step_in (drop n (socks h.bytes).replies) (socks h.bytes).outcome) (sym (given_length h d s))
@@ -49,10 +49,10 @@ one_more R g reply more e =
     let same : get_or R g [] ≡ reply = cc in
     (take_more R g [] inside ∙ ap (λ r. take g R ++ r ∷ []) same, inside)
 
-still : (h : DialogHistory) (d : State) → DialogRepresents h d → DialogRepresents h (record d { given = d.given + 0 })
+still : (h : DialogHistory) (d : DialogState) → DialogRepresents h d → DialogRepresents h (record d { given = d.given + 0 })
 still h d s = subst (λ n. DialogRepresents h (record d { given = n })) (sym (add-zero d.given)) s
 
-stands_left : (h : DialogHistory) (d : State) → DialogRepresents h d → (left : List (List ℕ))
+stands_left : (h : DialogHistory) (d : DialogState) → DialogRepresents h d → (left : List (List ℕ))
     → drop d.given (socks h.bytes).replies ≡ left → (o : Outcome)
     → DialogRepresents (and_step (step_in left o) h) (record d { given = d.given + gives_in left })
 stands_left h d s [] e Wants = still h d s
@@ -66,7 +66,7 @@ stands_left h d s (reply ∷ more) e o =
       some = let inside : d.given < length (socks h.bytes).replies = one.1 in omega arith;
     }
 
-pub stands_step : (d : State) → DialogGoesOn d (stepped d) (and_step (step_of d))
+pub stands_step : (d : DialogState) → DialogGoesOn d (dialog_stepped d) (and_step (step_of d))
 stands_step d = λ h s.
     subst (λ (e : Dialog). DialogRepresents (and_step (step_in (to_give d.given e) e.outcome) h)
     (record d { given = d.given + gives_in (to_give d.given e) }))
@@ -81,7 +81,7 @@ connect_in [] Wants given = absurd given
 connect_in [] (Connects host port) given = tt
 connect_in [] (Breaks reply) given = absurd given
 
-pub connect_given : (d : State) → GivesConnect (step_of d) → HasConnect (stepped d)
+pub connect_given : (d : DialogState) → GivesConnect (step_of d) → HasConnect (dialog_stepped d)
 connect_given d given = connect_in (to_give d.given (socks d.bytes)) (socks d.bytes).outcome given
 
 not_wanting : (o : Outcome) → IsConnect o → o ≢ Wants
@@ -89,7 +89,7 @@ not_wanting Wants there = absurd there
 not_wanting (Connects host port) there = λ e. cc
 not_wanting (Breaks reply) there = absurd there
 
-pub connect_stays : (piece : List ℕ) (d : State) → HasConnect d → HasConnect (pushed piece d)
+pub connect_stays : (piece : List ℕ) (d : DialogState) → HasConnect d → HasConnect (dialog_pushed piece d)
 connect_stays piece d there =
     let same : (socks (dialog_bytes (d.bytes ++ piece))).outcome ≡ (socks d.bytes).outcome =
     kept_outcome (d.bytes ++ piece)

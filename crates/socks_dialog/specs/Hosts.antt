@@ -4,14 +4,14 @@ use Rattle.std.specs.Prelude.{ℕ, ◌+◌, ◌*◌, ◌/◌, ◌%◌, List, [],
 -- ---- IPv4: dotted decimal
 
 -- a decimal digit
-abbrev pub digit : ℕ → ℕ
-digit n = 48 + n % 10
+abbrev pub decimal_digit : ℕ → ℕ
+decimal_digit n = 48 + n % 10
 
 -- a byte in decimal
 abbrev pub decimal : ℕ → List ℕ
 decimal byte =
-    (if nat_le 100 byte then digit (byte / 100) ∷ [] else [])
-    ++ ((if nat_le 10 byte then digit (byte / 10) ∷ [] else []) ++ digit byte ∷ [])
+    (if nat_le 100 byte then decimal_digit (byte / 100) ∷ [] else [])
+    ++ ((if nat_le 10 byte then decimal_digit (byte / 10) ∷ [] else []) ++ decimal_digit byte ∷ [])
 
 -- bytes in decimal, each after a dot
 abbrev pub behind_dots : List ℕ → List ℕ

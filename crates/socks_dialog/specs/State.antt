@@ -7,7 +7,7 @@ use Rattle.socks_dialog.specs.declared.step.DialogStep.{DialogStep}
 use Rattle.socks_dialog.specs.declared.step.DialogStep.TheVariants as step
 
 -- the bytes of the dialog so far, and how many of its replies were given
-pub record State : Type 0 where
+pub record DialogState : Type 0 where
   pub bytes : List ℕ
   pub given : ℕ
 
@@ -28,12 +28,12 @@ pub record AreBytesWithin (kept : ℕ) (bytes : List ℕ) : Type 0 where
 -- ---- calls
 
 -- no byte came
-abbrev pub new_dialog : State
+abbrev pub new_dialog : DialogState
 new_dialog = record { bytes = []; given = 0 }
 
 -- after more bytes
-abbrev pub pushed : List ℕ → State → State
-pushed piece d = record d { bytes = dialog_bytes (d.bytes ++ piece) }
+abbrev pub dialog_pushed : List ℕ → DialogState → DialogState
+dialog_pushed piece d = record d { bytes = dialog_bytes (d.bytes ++ piece) }
 
 -- the outcome as a step
 abbrev pub step_to : Outcome → DialogStep
@@ -55,11 +55,11 @@ gives_in [] = 0
 abbrev pub to_give : ℕ → Dialog → List (List ℕ)
 to_give given d = drop given d.replies
 
-abbrev pub step_of : State → DialogStep
+abbrev pub step_of : DialogState → DialogStep
 step_of d = step_in (to_give d.given (socks d.bytes)) (socks d.bytes).outcome
 
-abbrev pub stepped : State → State
-stepped d = record d { given = d.given + gives_in (to_give d.given (socks d.bytes)) }
+abbrev pub dialog_stepped : DialogState → DialogState
+dialog_stepped d = record d { given = d.given + gives_in (to_give d.given (socks d.bytes)) }
 
 -- this end was given
 abbrev pub IsConnect : Outcome → Type 0
@@ -67,7 +67,7 @@ IsConnect Wants = ⊥
 IsConnect (Connects host port) = Unit {0}
 IsConnect (Breaks reply) = ⊥
 
-abbrev pub HasConnect : State → Type 0
+abbrev pub HasConnect : DialogState → Type 0
 HasConnect d = IsConnect (socks d.bytes).outcome
 
 -- a step gives it
@@ -78,7 +78,7 @@ GivesConnect (step.Reply reply) = ⊥
 GivesConnect (step.Bad reply) = ⊥
 
 -- the version that the dialog began with
-abbrev pub version_of : State → ℕ
+abbrev pub version_of : DialogState → ℕ
 version_of d = slice_index d.bytes 0
 
 -- ---- over all that came
@@ -96,8 +96,8 @@ abbrev pub and_dialog_bytes : List ℕ → DialogHistory → DialogHistory
 and_dialog_bytes piece h = record h { bytes = h.bytes ++ piece }
 
 -- what comes next: the first reply that wasn't given, and after the last one the outcome
-abbrev pub next_of : DialogHistory → DialogStep
-next_of h = step_in (to_give (length h.given) (socks h.bytes)) (socks h.bytes).outcome
+abbrev pub next_dialog_step : DialogHistory → DialogStep
+next_dialog_step h = step_in (to_give (length h.given) (socks h.bytes)) (socks h.bytes).outcome
 
 -- a reply was given by this step, or none
 abbrev pub and_step : DialogStep → DialogHistory → DialogHistory
@@ -105,21 +105,21 @@ and_step (step.Reply reply) h = record h { given = h.given ++ reply ∷ [] }
 and_step _ h = h
 
 -- the dialog is that of all bytes, and the replies given are its first ones
-pub record DialogRepresents (h : DialogHistory) (d : State) : Type 0 where
+pub record DialogRepresents (h : DialogHistory) (d : DialogState) : Type 0 where
   pub bytes : d.bytes ≡ dialog_bytes h.bytes
   pub given : h.given ≡ take d.given (socks h.bytes).replies
   pub some : d.given ≤ length (socks h.bytes).replies
 
 -- of each history that it represented before a call, it represents afterwards what that became
-abbrev pub DialogGoesOn : State → State → (DialogHistory → DialogHistory) → Type 0
+abbrev pub DialogGoesOn : DialogState → DialogState → (DialogHistory → DialogHistory) → Type 0
 DialogGoesOn old new event = (h : DialogHistory) → DialogRepresents h old → DialogRepresents (event h) new
 
 -- of each history that it represented, this is what comes next
-abbrev pub IsNextStep : State → DialogStep → Type 0
-IsNextStep old answer = (h : DialogHistory) → DialogRepresents h old → answer ≡ next_of h
+abbrev pub IsNextStep : DialogState → DialogStep → Type 0
+IsNextStep old answer = (h : DialogHistory) → DialogRepresents h old → answer ≡ next_dialog_step h
 
 -- of each history that it represented, what follows the dialog is what followed it, and then these
 -- bytes but for so many
-abbrev pub RestIs : State → List ℕ → ℕ → Type 0
+abbrev pub RestIs : DialogState → List ℕ → ℕ → Type 0
 RestIs old piece taken = (h : DialogHistory) → DialogRepresents h old
     → (socks (h.bytes ++ piece)).rest ≡ (socks h.bytes).rest ++ drop taken piece

@@ -1,7 +1,7 @@
 ghost use Rattle.std.specs.Prelude.{◌≡◌, ◌+◌, ◌-◌, ◌≤◌, ◌++◌, length, min, take};
 ghost use Rattle.ssh_fields.specs.Fields.{AreBytes};
 ghost use Rattle.socks_dialog.specs.Replies.{granted_to, refused_to};
-ghost use Rattle.socks_dialog.specs.State.{dialog_bytes, AreBytesWithin, new_dialog, pushed, step_of, stepped, HasConnect, GivesConnect, version_of, new_dialog_history, DialogRepresents, DialogGoesOn, and_dialog_bytes, and_step, IsNextStep, RestIs};
+ghost use Rattle.socks_dialog.specs.State.{dialog_bytes, AreBytesWithin, new_dialog, dialog_pushed, step_of, dialog_stepped, HasConnect, GivesConnect, version_of, new_dialog_history, DialogRepresents, DialogGoesOn, and_dialog_bytes, and_step, IsNextStep, RestIs};
 
 use crate::outcome::Outcome;
 use crate::read::read;
@@ -25,9 +25,9 @@ pub struct Dialog {
 
 impl Model for Dialog {
     ghost use Rattle.std.specs.Prelude.{◌≤◌, take};
-    ghost use Rattle.socks_dialog.specs.State.{State, count_given, AreBytesWithin};
+    ghost use Rattle.socks_dialog.specs.State.{DialogState, count_given, AreBytesWithin};
 
-    ghost Value = { State };
+    ghost Value = { DialogState };
 
     ghost view = { λ d. record { bytes = take d.kept d.bytes; given = count_given d.replied } };
 
@@ -83,7 +83,7 @@ impl Dialog {
 
     // Keeps those of more bytes that belong to the dialog: how many they are.
     fn keep(&mut self, bytes: &[u8]) -> usize
-        ensures exact { self.new ≡ pushed bytes.now self.old }
+        ensures exact { self.new ≡ dialog_pushed bytes.now self.old }
         ensures front { self.new.bytes ≡ self.old.bytes ++ take result bytes.now }
         ensures within { result ≤ length bytes.now }
     {
@@ -95,7 +95,7 @@ impl Dialog {
     /// More bytes of the client: how many of them belong to the dialog. The rest are data, which
     /// follow it.
     pub fn push(&mut self, bytes: &[u8]) -> usize
-        ensures exact { self.new ≡ pushed bytes.now self.old }
+        ensures exact { self.new ≡ dialog_pushed bytes.now self.old }
         ensures front { self.new.bytes ≡ self.old.bytes ++ take result bytes.now }
         ensures within { result ≤ length bytes.now }
         ensures stands { DialogGoesOn self.old self.new (and_dialog_bytes bytes.now) }
@@ -108,7 +108,7 @@ impl Dialog {
     // The next step, by the dialog's bytes.
     fn next(&mut self) -> DialogStep
         ensures exact { result ≡ step_of self.old }
-        ensures given { self.new ≡ stepped self.old }
+        ensures given { self.new ≡ dialog_stepped self.old }
     {
         let reading = read(&self.bytes[..self.kept]);
         if reading.chosen && !self.replied {
@@ -125,7 +125,7 @@ impl Dialog {
     /// What the dialog does next. Each reply is given once.
     pub fn step(&mut self) -> DialogStep
         ensures exact { result ≡ step_of self.old }
-        ensures given { self.new ≡ stepped self.old }
+        ensures given { self.new ≡ dialog_stepped self.old }
         ensures next { IsNextStep self.old result }
         ensures stands { DialogGoesOn self.old self.new (and_step result) }
         ensures connect { GivesConnect result → HasConnect self.new }

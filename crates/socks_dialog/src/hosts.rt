@@ -1,12 +1,12 @@
 //! How an address is written as a host.
 ghost use Rattle.std.specs.Prelude.{◌≡◌, ◌+◌, ◌*◌, ◌≤◌, ◌<◌, ◌++◌, length};
-ghost use Rattle.socks_dialog.specs.Hosts.{digit, hex_digit, decimal, hexadecimal, dotted, grouped};
+ghost use Rattle.socks_dialog.specs.Hosts.{decimal_digit, hex_digit, decimal, hexadecimal, dotted, grouped};
 
 use ssh_fields::Small;
 
 // A decimal digit.
 fn digit_of(n: u8) -> u8
-    ensures { result ≡ digit n }
+    ensures { result ≡ decimal_digit n }
 {
     b'0' + n % 10
 }

@@ -1,5 +1,5 @@
 //! What the bytes of a dialog are read as.
-ghost use Rattle.socks_dialog.specs.Socks.{wants, connects, breaks};
+ghost use Rattle.socks_dialog.specs.Socks.{wants_more_bytes, dialog_connects, breaks};
 ghost use Rattle.socks_dialog.specs.Reads.{IsPlainDialog};
 
 use ssh_fields::Small;
@@ -27,7 +27,7 @@ pub struct DialogReading {
 
 /// More bytes are wanted.
 pub fn wants_more() -> DialogReading
-    ensures { IsPlainDialog result wants }
+    ensures { IsPlainDialog result wants_more_bytes }
 {
     DialogReading {
         chosen: false,
@@ -38,7 +38,7 @@ pub fn wants_more() -> DialogReading
 
 /// A connection is asked for.
 pub fn asks_for(host: Small, port: u16, rest: &[u8]) -> DialogReading
-    ensures { IsPlainDialog result (connects host port rest.now) }
+    ensures { IsPlainDialog result (dialog_connects host port rest.now) }
 {
     DialogReading {
         chosen: false,

@@ -6,7 +6,7 @@ use Rattle.ssh_fields.proofs.Fields.{take_u32-u32, take_str-str}
 use Rattle.ssh_grammar.specs.declared.framing.Framing.TheVariants as framing
 use Rattle.ssh_grammar.specs.Control.{Answer, Greets, Okay, PermissionDenied, Failed, Alive, RemotePort, Proxies}
 use Rattle.ssh_grammar.specs.SpellControl.{spell_answer}
-use Rattle.ssh_grammar.specs.ReadAnswer.{on_end, read_one, read_two, read_reason, read_answer, IsAnswer}
+use Rattle.ssh_grammar.specs.ReadAnswer.{answer_on_end, read_one, read_two, read_reason, read_answer, IsAnswer}
 use Rattle.ssh_grammar.specs.Frames.{frame_answer, cut}
 use Rattle.ssh_grammar.specs.IsFrame.{IsContent}
 use Rattle.ssh_grammar.proofs.Frames.{cut-frame}
@@ -21,8 +21,8 @@ str_read : (next : List ℕ × List ℕ → Option Answer) (x : Option Answer) (
 str_read next x bytes s tail fits is go =
     ap (λ o. elim o as (λ _. Option Answer) [ None ↦ None | Some p ↦ next p ]) (ap take_str is ∙ take_str-str s tail fits) ∙ go tail refl
 
-end_read : (bytes : List ℕ) (a : Answer) → bytes ≡ [] → on_end bytes a ≡ Some a
-end_read bytes a e = ap (λ x. on_end x a) e
+end_read : (bytes : List ℕ) (a : Answer) → bytes ≡ [] → answer_on_end bytes a ≡ Some a
+end_read bytes a e = ap (λ x. answer_on_end x a) e
 
 one_read : (answer : ℕ → Answer) (rest : List ℕ) (n : ℕ) → n < 2 ^ 32 → rest ≡ u32 n → read_one answer rest ≡ Some (answer n)
 one_read answer rest n fits e = u32_read _ _ rest n [] fits e (λ r e0. end_read r (answer n) e0)

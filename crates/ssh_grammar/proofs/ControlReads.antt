@@ -7,7 +7,7 @@ use Rattle.ssh_grammar.specs.declared.fault.BadControl.TheVariants as bad
 use Rattle.ssh_grammar.specs.declared.numbers.TheConstants as number
 use Rattle.ssh_grammar.specs.Tables.{by_number}
 use Rattle.ssh_grammar.specs.Control.{ForwardAsk, Control, Hello, NewSession, AliveCheck, Terminate, OpenForward, CloseForward, StdioForward, StopListening, Proxy}
-use Rattle.ssh_grammar.specs.ReadControl.{on_end, on_pairs, read_id, read_unread, read_hello, read_forward, read_unknown, forms, read_control}
+use Rattle.ssh_grammar.specs.ReadControl.{control_on_end, on_pairs, read_id, read_unread, read_hello, read_forward, read_unknown, control_forms, read_control}
 use Rattle.ssh_grammar.specs.SpellControl.{spell_pairs, spell_ask, spell_control}
 use Rattle.ssh_grammar.specs.IsMessage.{IsNumber}
 use Rattle.ssh_grammar.specs.IsControl.{IsAsk, IsPair, IsControl, SpellsControl}
@@ -19,7 +19,7 @@ record IsBehind (kind : ℕ) (rest : List ℕ) (c : Control) : Type 0 where
   is_control : IsControl c
   spelled : u32 kind ++ rest ≡ spell_control c
 
-end_step : (Q : Control → Type 0) (bytes : List ℕ) (at : ℕ) (c : Control) → (bytes ≡ [] → Q c) → IfOk (on_end bytes at c) Q
+end_step : (Q : Control → Type 0) (bytes : List ℕ) (at : ℕ) (c : Control) → (bytes ≡ [] → Q c) → IfOk (control_on_end bytes at c) Q
 end_step Q [] at c go = go refl
 end_step Q (b ∷ bytes) at c go = tt
 
@@ -61,13 +61,13 @@ unknown_is kind rest Q = u32_less (take_u32 rest)
     u32_less None = tt
     u32_less (Some p) = tt
 
-kind_is : (kind : ℕ) (rest : List ℕ) → AreBytes rest → IfOk (by_number forms kind (read_unknown kind) rest) (IsBehind kind rest)
-kind_is kind rest h = by_number-holds (λ read. IfOk (read rest) (IsBehind kind rest)) forms kind (read_unknown kind) rows (unknown_is kind rest (IsBehind kind rest))
+kind_is : (kind : ℕ) (rest : List ℕ) → AreBytes rest → IfOk (by_number control_forms kind (read_unknown kind) rest) (IsBehind kind rest)
+kind_is kind rest h = by_number-holds (λ read. IfOk (read rest) (IsBehind kind rest)) control_forms kind (read_unknown kind) rows (unknown_is kind rest (IsBehind kind rest))
   where
     at : (k : ℕ) (read : List ℕ → Result Control BadControl) → IfOk (read rest) (IsBehind k rest) → kind ≡ k → IfOk (read rest) (IsBehind kind rest)
     at k read is same = subst (λ k. IfOk (read rest) (IsBehind k rest)) (sym same) is
 
-    rows : AllByRecursion (λ row. kind ≡ row.0 → IfOk (row.1 rest) (IsBehind kind rest)) forms
+    rows : AllByRecursion (λ row. kind ≡ row.0 → IfOk (row.1 rest) (IsBehind kind rest)) control_forms
     rows = (
       at number.HELLO read_hello (hello_is rest h),
       (
@@ -100,7 +100,7 @@ kind_is kind rest h = by_number-holds (λ read. IfOk (read rest) (IsBehind kind 
 -- what reads as a control message is a body of it
 pub reads_is_spelled : (body : List ℕ) → AreBytes body → IfOk (read_control body) (λ c. SpellsControl c body)
 reads_is_spelled body h = u32_step (λ c. SpellsControl c body) _ _ body h (λ kind rest fits e h0.
-    weaken (by_number forms kind (read_unknown kind) rest) kind rest e (kind_is kind rest h0))
+    weaken (by_number control_forms kind (read_unknown kind) rest) kind rest e (kind_is kind rest h0))
   where
     weaken : (r : Result Control BadControl) (kind : ℕ) (rest : List ℕ) → body ≡ u32 kind ++ rest → IfOk r (IsBehind kind rest) → IfOk r (λ c. SpellsControl c body)
     weaken (Ok c) kind rest e is = record { is_control = is.is_control; spelled = e ∙ is.spelled }

@@ -3,14 +3,14 @@ use Rattle.std.proofs.Common.{◌≡◌, ℕ, zero, suc, ◌≤◌, List, [], �
 use Rattle.std.specs.List.{AllByRecursion}
 use Rattle.ssh_fields.specs.Fields.{u32, str}
 use Rattle.ssh_grammar.specs.Control.{ForwardAsk, Control, Hello, NewSession, AliveCheck, Terminate, OpenForward, CloseForward, StdioForward, StopListening, Proxy}
-use Rattle.ssh_grammar.specs.ReadControl.{on_end, on_pairs, read_id, read_unread, read_hello, read_forward, read_control}
+use Rattle.ssh_grammar.specs.ReadControl.{control_on_end, on_pairs, read_id, read_unread, read_hello, read_forward, read_control}
 use Rattle.ssh_grammar.specs.SpellControl.{spell_pairs, spell_ask, spell_control}
 use Rattle.ssh_grammar.specs.IsMessage.{IsNumber}
 use Rattle.ssh_grammar.specs.IsControl.{IsAsk, IsPair, IsControl, SpellsControl}
 use Rattle.ssh_grammar.proofs.Steps.{u32_read, str_read}
 
-end_read : (bytes : List ℕ) (at : ℕ) (c : Control) → bytes ≡ [] → on_end bytes at c ≡ Ok c
-end_read bytes at c e = ap (λ x. on_end x at c) e
+end_read : (bytes : List ℕ) (at : ℕ) (c : Control) → bytes ≡ [] → control_on_end bytes at c ≡ Ok c
+end_read bytes at c e = ap (λ x. control_on_end x at c) e
 
 id_read : (message : ℕ → Control) (rest : List ℕ) (id : ℕ) → IsNumber id → rest ≡ u32 id → read_id message rest ≡ Ok (message id)
 id_read message rest id fits e = u32_read _ _ _ rest id [] fits e (λ r e0. end_read r _ (message id) e0)
@@ -20,7 +20,7 @@ unread_read message rest id unread fits e = u32_read _ _ _ rest id unread fits e
 
 -- the bytes of pairs are as many as pairs at least
 pairs_read : (n : ℕ) (pairs : List (List ℕ × List ℕ)) (rest : List ℕ) (at : ℕ) (next : List (List ℕ × List ℕ) → Control) → length rest ≤ n → AllByRecursion IsPair pairs → rest ≡ spell_pairs pairs → on_pairs n rest at next ≡ Ok (next pairs)
-pairs_read zero [] rest at next le fit e = ap (λ x. on_end x at (next [])) e
+pairs_read zero [] rest at next le fit e = ap (λ x. control_on_end x at (next [])) e
 pairs_read (suc n) [] rest at next le fit e = ap (λ x. on_pairs (suc n) x at next) e
 pairs_read zero (pair ∷ pairs) rest at next le fit e = absurd (let l : length rest ≡ length (spell_pairs (pair ∷ pairs)) = ap length e in omega arith)
 pairs_read (suc n) (pair ∷ pairs) [] at next le fit e = absurd (let l : length (spell_pairs (pair ∷ pairs)) ≡ 0 = ap length (sym e) in omega arith)

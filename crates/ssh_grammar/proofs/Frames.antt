@@ -11,7 +11,7 @@ use Rattle.ssh_grammar.specs.declared.framing.Framing.{Framing}
 use Rattle.ssh_grammar.specs.declared.framing.Framing.TheVariants.{Control, Proxy}
 use Rattle.ssh_grammar.specs.declared.numbers.TheConstants.{LONGEST_FRAME}
 use Rattle.ssh_grammar.specs.Frames.{frame, Front, Frame, More, Faulty, cut_content, shortest, cut_rest, cut_length, first_frame, with_frame, cut}
-use Rattle.ssh_grammar.specs.IsFrame.{IsContent, joined, Cuts}
+use Rattle.ssh_grammar.specs.IsFrame.{IsContent, bytes_of_frames, Cuts}
 use Rattle.ssh_grammar.proofs.Cuts.{IsShorter, first-shorter, cut-at}
 
 -- ---- what is cut is spelled so
@@ -90,7 +90,7 @@ cut-is-at framing bytes (Frame content rest) e is ih =
     let tail = ih content rest refl in
     subst (Cuts framing bytes) (sym (cut-at framing bytes (Frame content rest) e)) (record {
       valid = (is.0, tail.valid);
-      filled = is.1 ∙ (ap (λ x. frame framing content ++ x) tail.filled ∙ sym (append_assoc (frame framing content) (joined framing (cut framing rest).frames) (cut framing rest).rest));
+      filled = is.1 ∙ (ap (λ x. frame framing content ++ x) tail.filled ∙ sym (append_assoc (frame framing content) (bytes_of_frames framing (cut framing rest).frames) (cut framing rest).rest));
       longest = tail.longest;
     })
 cut-is-at framing bytes More e is ih = subst (Cuts framing bytes) (sym (cut-at framing bytes More e)) (record { valid = tt; filled = refl; longest = e })
@@ -113,6 +113,6 @@ pub cut-only : (framing : Framing) (bytes : List ℕ) (frames : List (List ℕ))
 cut-only framing bytes [] rest None is = ap (cut framing) is.filled ∙ cut-at framing rest More is.longest
 cut-only framing bytes [] rest (Some fault) is = ap (cut framing) is.filled ∙ cut-at framing rest (Faulty fault) is.longest
 cut-only framing bytes (content ∷ frames) rest fault is =
-    let more : Cuts framing (joined framing frames ++ rest) (record { frames = frames; rest = rest; fault = fault }) = record { valid = is.valid.1; filled = refl; longest = is.longest } in
-    ap (cut framing) (is.filled ∙ append_assoc (frame framing content) (joined framing frames) rest)
-    ∙ (cut-frame framing content (joined framing frames ++ rest) is.valid.0 ∙ ap (with_frame content) (cut-only framing (joined framing frames ++ rest) frames rest fault more))
+    let more : Cuts framing (bytes_of_frames framing frames ++ rest) (record { frames = frames; rest = rest; fault = fault }) = record { valid = is.valid.1; filled = refl; longest = is.longest } in
+    ap (cut framing) (is.filled ∙ append_assoc (frame framing content) (bytes_of_frames framing frames) rest)
+    ∙ (cut-frame framing content (bytes_of_frames framing frames ++ rest) is.valid.0 ∙ ap (with_frame content) (cut-only framing (bytes_of_frames framing frames ++ rest) frames rest fault more))

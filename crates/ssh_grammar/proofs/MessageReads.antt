@@ -6,21 +6,21 @@ use Rattle.ssh_fields.specs.Fields.{AreBytes, u32, str, is_true}
 use Rattle.ssh_grammar.specs.declared.fault.Bad.{Bad}
 use Rattle.ssh_grammar.specs.declared.numbers.TheConstants as number
 use Rattle.ssh_grammar.specs.Messages.{Key, Tcp, Path, Global, Forward, Cancel, OtherName, Opens, Direct, Forwarded, OtherType, PlainMessage, RequestSuccess, RequestFailure, ChannelMessage, Eof, Close, Success, Failure, Plain, To}
-use Rattle.ssh_grammar.specs.ReadMessage.{on_end, with_reading, read_key, read_path, globals, read_global, read_ends, read_direct_path, read_forwarded_path, types, read_opens, read_transport, read_global_request, read_open, read_confirmation, read_open_failure, read_adjust, read_data, read_extended, read_request, read_as, OfPlain, OfChannel, OfNone, forms, read_message}
-use Rattle.ssh_grammar.specs.SpellMessage.{fields_of, wants, number_of, spell_plain}
+use Rattle.ssh_grammar.specs.ReadMessage.{message_on_end, with_reading, read_key, read_path, globals, read_global, read_ends, read_direct_path, read_forwarded_path, types, read_opens, read_transport, read_global_request, read_open, read_confirmation, read_open_failure, read_adjust, read_data, read_extended, read_request, read_as, OfPlain, OfChannel, OfNone, message_forms, read_message}
+use Rattle.ssh_grammar.specs.SpellMessage.{fields_of, wants_reply, channel_message_number, spell_plain}
 use Rattle.ssh_grammar.specs.IsMessage.{IsKey, IsEnds, IsForwardedPath, IsGlobal, IsOpens, IsPlain, IsChannelMessage, Spells}
 use Rattle.ssh_grammar.proofs.Steps.{u32_step, str_step, bool_step}
 use Rattle.ssh_grammar.proofs.Tables.{by_number-holds, by_name-holds}
 
 -- the message's number, and the fields after the recipient
 record IsFields (n : ℕ) (bytes : List ℕ) (m : ChannelMessage) : Type 0 where
-  number : n ≡ number_of m
+  number : n ≡ channel_message_number m
   is_message : IsChannelMessage m
   flag : ℕ
-  boolean : (recipient : ℕ) → is_true flag ≡ wants (To recipient m)
+  boolean : (recipient : ℕ) → is_true flag ≡ wants_reply (To recipient m)
   spelled : bytes ≡ fields_of flag m
 
-end_step : {A : Type 0} (Q : A → Type 0) (bytes : List ℕ) (at : ℕ) (m : A) → (bytes ≡ [] → Q m) → IfOk (on_end bytes at m) Q
+end_step : {A : Type 0} (Q : A → Type 0) (bytes : List ℕ) (at : ℕ) (m : A) → (bytes ≡ [] → Q m) → IfOk (message_on_end bytes at m) Q
 end_step Q [] at m go = go refl
 end_step Q (b ∷ bytes) at m go = tt
 
@@ -111,7 +111,7 @@ opens_is kind rest at h = by_name-holds (λ r. IfOk r (IsOpens kind rest)) (type
 record IsBehind (n : ℕ) (bytes : List ℕ) (m : PlainMessage) : Type 0 where
   is_message : IsPlain m
   flag : ℕ
-  boolean : is_true flag ≡ wants (Plain m)
+  boolean : is_true flag ≡ wants_reply (Plain m)
   spelled : n ∷ bytes ≡ spell_plain flag m
 
 global_request_is : (rest : List ℕ) → AreBytes rest → IfOk (read_global_request rest) (IsBehind number.GLOBAL_REQUEST rest)
@@ -182,7 +182,7 @@ extended_is rest h = u32_step (IsFields number.CHANNEL_EXTENDED_DATA rest) _ _ r
   spelled = e1 ∙ ap (λ x. u32 code ++ x) (e2 ∙ (ap (λ x. str bytes ++ x) n ∙ append-nil (str bytes)));
 })))
 
-bare_is : (n : ℕ) (m : ChannelMessage) (rest : List ℕ) → IsFields n [] m → IfOk (on_end rest 5 m) (IsFields n rest)
+bare_is : (n : ℕ) (m : ChannelMessage) (rest : List ℕ) → IsFields n [] m → IfOk (message_on_end rest 5 m) (IsFields n rest)
 bare_is n m rest is = end_step (IsFields n rest) rest 5 m (λ e. subst (λ x. IsFields n x m) (sym e) is)
 
 request_is : (rest : List ℕ) → AreBytes rest → IfOk (read_request rest) (IsFields number.CHANNEL_REQUEST rest)
@@ -215,7 +215,7 @@ channel_is n read rest h is = u32_step (λ m. Spells m (n ∷ rest)) _ _ rest h 
 
 -- by number
 message_is : (n : ℕ) (rest : List ℕ) → AreBytes rest → IfOk (read_message (n ∷ rest)) (λ m. Spells m (n ∷ rest))
-message_is n rest h = by_number-holds (λ form. IfOk (read_as n form rest) (λ m. Spells m (n ∷ rest))) (forms n) n OfNone rows tt
+message_is n rest h = by_number-holds (λ form. IfOk (read_as n form rest) (λ m. Spells m (n ∷ rest))) (message_forms n) n OfNone rows tt
   where
     transport : (k : ℕ) → (1 ≤ k) × (k ≤ 4) → n ≡ k → IfOk (read_as n (OfPlain (read_transport n)) rest) (λ m. Spells m (n ∷ rest))
     transport k within same = record { is_message = (omega (arith, within.0), omega (arith, within.1)); flag = 0; boolean = refl; spelled = refl }
@@ -229,13 +229,13 @@ message_is n rest h = by_number-holds (λ form. IfOk (read_as n form rest) (λ m
     success_is : IsBehind number.REQUEST_SUCCESS rest (RequestSuccess rest)
     success_is = record { is_message = tt; flag = 0; boolean = refl; spelled = refl }
 
-    failure_is : IfOk (on_end rest 1 RequestFailure) (IsBehind number.REQUEST_FAILURE rest)
+    failure_is : IfOk (message_on_end rest 1 RequestFailure) (IsBehind number.REQUEST_FAILURE rest)
     failure_is = end_step (IsBehind number.REQUEST_FAILURE rest) rest 1 RequestFailure (λ e. record { is_message = tt; flag = 0; boolean = refl; spelled = ap (λ x. number.REQUEST_FAILURE ∷ x) e })
 
-    bare : (k : ℕ) (m : ChannelMessage) → IsFields k [] m → n ≡ k → IfOk (read_as n (OfChannel (λ rest. on_end rest 5 m)) rest) (λ m. Spells m (n ∷ rest))
-    bare k m is = channel k (λ rest. on_end rest 5 m) (λ bytes _. bare_is k m bytes is)
+    bare : (k : ℕ) (m : ChannelMessage) → IsFields k [] m → n ≡ k → IfOk (read_as n (OfChannel (λ rest. message_on_end rest 5 m)) rest) (λ m. Spells m (n ∷ rest))
+    bare k m is = channel k (λ rest. message_on_end rest 5 m) (λ bytes _. bare_is k m bytes is)
 
-    rows : AllByRecursion (λ row. n ≡ row.0 → IfOk (read_as n row.1 rest) (λ m. Spells m (n ∷ rest))) (forms n)
+    rows : AllByRecursion (λ row. n ≡ row.0 → IfOk (read_as n row.1 rest) (λ m. Spells m (n ∷ rest))) (message_forms n)
     rows = (
       transport 1 (omega arith, omega arith),
       (
@@ -249,7 +249,7 @@ message_is n rest h = by_number-holds (λ form. IfOk (read_as n form rest) (λ m
               (
                 plain number.REQUEST_SUCCESS (λ rest. Ok (RequestSuccess rest)) success_is,
                 (
-                  plain number.REQUEST_FAILURE (λ rest. on_end rest 1 RequestFailure) failure_is,
+                  plain number.REQUEST_FAILURE (λ rest. message_on_end rest 1 RequestFailure) failure_is,
                   (
                     plain number.CHANNEL_OPEN read_open (open_is rest h),
                     (

@@ -4,14 +4,14 @@ use Rattle.std.proofs.lemmas.List.{append-nil, append_assoc}
 use Rattle.ssh_fields.specs.Fields.{u32, str, is_true}
 use Rattle.ssh_grammar.specs.declared.fault.Bad.{Bad}
 use Rattle.ssh_grammar.specs.Messages.{Key, Tcp, Path, Global, Forward, Cancel, KeepAlive, OtherName, Opens, Session, Direct, Forwarded, OtherType, PlainMessage, Transport, GlobalRequest, RequestSuccess, RequestFailure, Open, ChannelMessage, Confirmation, OpenFailure, Adjust, Data, Extended, Eof, Close, Request, Success, Failure, Message, Plain, To}
-use Rattle.ssh_grammar.specs.ReadMessage.{on_end, with_reading, read_key, read_path, globals, read_global, read_ends, read_direct_path, read_forwarded_path, types, read_opens, read_global_request, read_open, read_confirmation, read_open_failure, read_adjust, read_data, read_extended, read_request, read_as, OfChannel, read_message}
-use Rattle.ssh_grammar.specs.SpellMessage.{wants, spell_plain, spell_with}
+use Rattle.ssh_grammar.specs.ReadMessage.{message_on_end, with_reading, read_key, read_path, globals, read_global, read_ends, read_direct_path, read_forwarded_path, types, read_opens, read_global_request, read_open, read_confirmation, read_open_failure, read_adjust, read_data, read_extended, read_request, read_as, OfChannel, read_message}
+use Rattle.ssh_grammar.specs.SpellMessage.{wants_reply, spell_plain, spell_with}
 use Rattle.ssh_grammar.specs.IsMessage.{IsKey, IsEnds, IsForwardedPath, IsGlobal, IsOpens, IsPlain, IsChannelMessage, IsMessage, Spells}
 use Rattle.ssh_grammar.proofs.Steps.{u32_read, str_read, bool_read}
 use Rattle.ssh_grammar.proofs.Tables.{by_name-other}
 
-end_read : {A : Type 0} (bytes : List ℕ) (at : ℕ) (m : A) → bytes ≡ [] → on_end bytes at m ≡ Ok m
-end_read bytes at m e = ap (λ x. on_end x at m) e
+end_read : {A : Type 0} (bytes : List ℕ) (at : ℕ) (m : A) → bytes ≡ [] → message_on_end bytes at m ≡ Ok m
+end_read bytes at m e = ap (λ x. message_on_end x at m) e
 
 -- ---- data that is read further
 
@@ -62,7 +62,7 @@ open_read rest kind sender window maximum more what is e = str_read _ _ _ rest k
     ap (λ r. with_reading (read_opens kind r (1 + 4 + length kind + 4 + 4 + 4)) (Open kind sender window maximum r)) e3
     ∙ ap (λ r. with_reading r (Open kind sender window maximum more)) (opens_read kind more (1 + 4 + length kind + 4 + 4 + 4) what is.4)))))
 
-plain_read : (m : PlainMessage) (flag : ℕ) → IsPlain m → is_true flag ≡ wants (Plain m) → read_message (spell_plain flag m) ≡ Ok (Plain m)
+plain_read : (m : PlainMessage) (flag : ℕ) → IsPlain m → is_true flag ≡ wants_reply (Plain m) → read_message (spell_plain flag m) ≡ Ok (Plain m)
 plain_read (Transport zero rest) flag is same = absurd (omega (arith, is.0))
 plain_read (Transport (suc zero) rest) flag is same = refl
 plain_read (Transport (suc (suc zero)) rest) flag is same = refl
@@ -100,7 +100,7 @@ channel_read read n recipient m fields fits reads = at_bytes (u32 recipient ++ f
     at_bytes : (bytes : List ℕ) → bytes ≡ u32 recipient ++ fields → read_as n (OfChannel read) bytes ≡ Ok (To recipient m)
     at_bytes bytes e = u32_read _ _ _ bytes recipient fields fits e (λ r e. ap (λ r. with_reading (read r) (To recipient)) e ∙ ap (λ r. with_reading r (To recipient)) reads)
 
-to_read : (recipient : ℕ) (m : ChannelMessage) (flag : ℕ) → recipient < 2 ^ 32 → IsChannelMessage m → is_true flag ≡ wants (To recipient m) → read_message (spell_with flag (To recipient m)) ≡ Ok (To recipient m)
+to_read : (recipient : ℕ) (m : ChannelMessage) (flag : ℕ) → recipient < 2 ^ 32 → IsChannelMessage m → is_true flag ≡ wants_reply (To recipient m) → read_message (spell_with flag (To recipient m)) ≡ Ok (To recipient m)
 to_read r (Confirmation sender window maximum rest) flag fits is same = channel_read read_confirmation 91 r (Confirmation sender window maximum rest) (u32 sender ++ (u32 window ++ (u32 maximum ++ rest))) fits (confirmation_read (u32 sender ++ (u32 window ++ (u32 maximum ++ rest))) sender window maximum rest is refl)
 to_read r (OpenFailure reason text language) flag fits is same = channel_read read_open_failure 92 r (OpenFailure reason text language) (u32 reason ++ (str text ++ str language)) fits (open_failure_read (u32 reason ++ (str text ++ str language)) reason text language is refl)
 to_read r (Adjust add) flag fits is same = channel_read read_adjust 93 r (Adjust add) (u32 add) fits (adjust_read (u32 add) refl)
@@ -109,16 +109,16 @@ to_read r (Adjust add) flag fits is same = channel_read read_adjust 93 r (Adjust
     adjust_read bytes e = u32_read _ _ _ bytes add [] is e (λ r0 e0. end_read r0 _ (Adjust add) e0)
 to_read r (Data bytes) flag fits is same = channel_read read_data 94 r (Data bytes) (str bytes) fits (data_read (str bytes) bytes is refl)
 to_read r (Extended code bytes) flag fits is same = channel_read read_extended 95 r (Extended code bytes) (u32 code ++ str bytes) fits (extended_read (u32 code ++ str bytes) code bytes is refl)
-to_read r Eof flag fits is same = channel_read (λ rest. on_end rest 5 Eof) 96 r Eof [] fits refl
-to_read r Close flag fits is same = channel_read (λ rest. on_end rest 5 Close) 97 r Close [] fits refl
+to_read r Eof flag fits is same = channel_read (λ rest. message_on_end rest 5 Eof) 96 r Eof [] fits refl
+to_read r Close flag fits is same = channel_read (λ rest. message_on_end rest 5 Close) 97 r Close [] fits refl
 to_read r (Request kind want rest) flag fits is same = channel_read read_request 98 r (Request kind want rest) (str kind ++ (flag ∷ rest)) fits (request_read (str kind ++ (flag ∷ rest)) kind flag want rest is same refl)
-to_read r Success flag fits is same = channel_read (λ rest. on_end rest 5 Success) 99 r Success [] fits refl
-to_read r Failure flag fits is same = channel_read (λ rest. on_end rest 5 Failure) 100 r Failure [] fits refl
+to_read r Success flag fits is same = channel_read (λ rest. message_on_end rest 5 Success) 99 r Success [] fits refl
+to_read r Failure flag fits is same = channel_read (λ rest. message_on_end rest 5 Failure) 100 r Failure [] fits refl
 
 -- a payload of a message reads as it
 pub spelled_reads : (m : Message) (p : List ℕ) → Spells m p → read_message p ≡ Ok m
 spelled_reads m p is = ap read_message is.spelled ∙ by_case m is.is_message is.boolean
   where
-    by_case : (m : Message) → IsMessage m → is_true is.flag ≡ wants m → read_message (spell_with is.flag m) ≡ Ok m
+    by_case : (m : Message) → IsMessage m → is_true is.flag ≡ wants_reply m → read_message (spell_with is.flag m) ≡ Ok m
     by_case (Plain m) is_message same = plain_read m is.flag is_message same
     by_case (To recipient m) is_message same = to_read recipient m is.flag is_message.0 is_message.1 same

@@ -7,7 +7,7 @@ use Rattle.ssh_fields.proofs.Fields.{of_four-u32}
 use Rattle.ssh_grammar.specs.declared.fault.Bad.{Bad}
 use Rattle.ssh_grammar.specs.Messages.{Transport, GlobalRequest, RequestSuccess, RequestFailure, Open, Confirmation, OpenFailure, Adjust, Data, Extended, Eof, Close, Request, Success, Failure, Message, Plain, To}
 use Rattle.ssh_grammar.specs.ReadMessage.{read_message}
-use Rattle.ssh_grammar.specs.SpellMessage.{spell, spell_with, fields_of, number_of, flag_byte_of, wants, recipient_of, sender_of, recipient_place, sender_place, in_payload, payload_with_number, with_recipient, with_sender, sender_at}
+use Rattle.ssh_grammar.specs.SpellMessage.{spell, spell_with, fields_of, channel_message_number, flag_byte_of, wants_reply, recipient_of, sender_of, recipient_place, sender_place, in_payload, payload_with_number, with_recipient, with_sender, sender_at}
 use Rattle.ssh_grammar.specs.IsMessage.{IsMessage, Spells}
 use Rattle.ssh_grammar.specs.Renumber.{to_recipient, to_sender, NumberStandsAt}
 use Rattle.ssh_grammar.proofs.MessageReads.{reads_is_spelled}
@@ -29,7 +29,7 @@ fits-between front tail n at len = omega (arith, length-append front (u32 n ++ t
 
 recipient_stands : (m : Message) (flag : ℕ) → IsMessage m → NumberStandsAt (recipient_of m) (recipient_place m) (spell_with flag m)
 recipient_stands (Plain m) flag is = tt
-recipient_stands (To recipient m) flag is = (fits-between (number_of m ∷ []) (fields_of flag m) recipient 1 refl, u32_at-between (number_of m ∷ []) (fields_of flag m) recipient 1 refl is.0)
+recipient_stands (To recipient m) flag is = (fits-between (channel_message_number m ∷ []) (fields_of flag m) recipient 1 refl, u32_at-between (channel_message_number m ∷ []) (fields_of flag m) recipient 1 refl is.0)
 
 sender_stands : (m : Message) (flag : ℕ) → IsMessage m → NumberStandsAt (sender_of m) (sender_place m) (spell_with flag m)
 sender_stands (Plain (Transport n rest)) flag is = tt
@@ -64,15 +64,15 @@ numbers_stand p h = by_spelling (λ m. NumberStandsAt (recipient_of m) (recipien
 
 -- ---- replaced numbers
 
-recipient_spells : (m : Message) (flag n : ℕ) → n < 2 ^ 32 → IsMessage m → is_true flag ≡ wants m → Spells (to_recipient n m) (payload_with_number (spell_with flag m) (recipient_place m) n)
+recipient_spells : (m : Message) (flag n : ℕ) → n < 2 ^ 32 → IsMessage m → is_true flag ≡ wants_reply m → Spells (to_recipient n m) (payload_with_number (spell_with flag m) (recipient_place m) n)
 recipient_spells (Plain m) flag n fits is same = record { is_message = is; flag = flag; boolean = same; spelled = refl }
-recipient_spells (To recipient m) flag n fits is same = record { is_message = (fits, is.1); flag = flag; boolean = same; spelled = with_u32-between (number_of m ∷ []) (fields_of flag m) recipient 1 n refl }
+recipient_spells (To recipient m) flag n fits is same = record { is_message = (fits, is.1); flag = flag; boolean = same; spelled = with_u32-between (channel_message_number m ∷ []) (fields_of flag m) recipient 1 n refl }
 
 -- a message without a sender stays
-same_spells : (m : Message) (flag : ℕ) → IsMessage m → is_true flag ≡ wants m → Spells m (spell_with flag m)
+same_spells : (m : Message) (flag : ℕ) → IsMessage m → is_true flag ≡ wants_reply m → Spells m (spell_with flag m)
 same_spells m flag is same = record { is_message = is; flag = flag; boolean = same; spelled = refl }
 
-sender_spells : (m : Message) (flag n : ℕ) → n < 2 ^ 32 → IsMessage m → is_true flag ≡ wants m → Spells (to_sender n m) (payload_with_number (spell_with flag m) (sender_place m) n)
+sender_spells : (m : Message) (flag n : ℕ) → n < 2 ^ 32 → IsMessage m → is_true flag ≡ wants_reply m → Spells (to_sender n m) (payload_with_number (spell_with flag m) (sender_place m) n)
 sender_spells (Plain (Transport k rest)) flag n fits is same = same_spells (Plain (Transport k rest)) flag is same
 sender_spells (Plain (GlobalRequest name want rest what)) flag n fits is same = same_spells (Plain (GlobalRequest name want rest what)) flag is same
 sender_spells (Plain (RequestSuccess rest)) flag n fits is same = same_spells (Plain (RequestSuccess rest)) flag is same
@@ -123,8 +123,8 @@ flag_is false = refl
 
 pub no_payload_for_two : (a b : Message) → IsMessage a → IsMessage b → spell a ≡ spell b → a ≡ b
 no_payload_for_two a b is_a is_b e =
-    let left : read_message (spell a) ≡ Ok a = spelled_reads a (spell a) (record { is_message = is_a; flag = flag_byte_of (wants a); boolean = flag_is (wants a); spelled = refl }) in
-    let right : read_message (spell a) ≡ Ok b = spelled_reads b (spell a) (record { is_message = is_b; flag = flag_byte_of (wants b); boolean = flag_is (wants b); spelled = e }) in
+    let left : read_message (spell a) ≡ Ok a = spelled_reads a (spell a) (record { is_message = is_a; flag = flag_byte_of (wants_reply a); boolean = flag_is (wants_reply a); spelled = refl }) in
+    let right : read_message (spell a) ≡ Ok b = spelled_reads b (spell a) (record { is_message = is_b; flag = flag_byte_of (wants_reply b); boolean = flag_is (wants_reply b); spelled = e }) in
     let both : Ok a ≡ Ok b = sym left ∙ right in
     cc
 

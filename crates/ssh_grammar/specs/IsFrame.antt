@@ -14,9 +14,9 @@ IsContent Control body = (4 ≤ length body) × (length body ≤ LONGEST_FRAME)
 IsContent Proxy payload = (1 ≤ length payload) × (length payload + 1 ≤ LONGEST_FRAME)
 
 -- the bytes of frames, one after the other
-abbrev pub joined : Framing → List (List ℕ) → List ℕ
-joined framing [] = []
-joined framing (content ∷ contents) = frame framing content ++ joined framing contents
+abbrev pub bytes_of_frames : Framing → List (List ℕ) → List ℕ
+bytes_of_frames framing [] = []
+bytes_of_frames framing (content ∷ contents) = frame framing content ++ bytes_of_frames framing contents
 
 -- where a cut ends: at the front of a frame that isn't whole yet, or at a fault
 abbrev pub EndsAt : Option BadFrame → Front → Type 0
@@ -27,5 +27,5 @@ EndsAt (Some fault) front = front ≡ Faulty fault
 -- there
 pub record Cuts (framing : Framing) (bytes : List ℕ) (c : Cut) : Type 0 where
   pub valid : AllByRecursion (IsContent framing) c.frames
-  pub filled : bytes ≡ joined framing c.frames ++ c.rest
+  pub filled : bytes ≡ bytes_of_frames framing c.frames ++ c.rest
   pub longest : EndsAt c.fault (first_frame framing c.rest)

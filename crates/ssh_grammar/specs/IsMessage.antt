@@ -4,7 +4,7 @@ use Rattle.std.specs.Prelude.{◌≡◌, ◌≢◌, ℕ, ◌^◌, ◌<◌, ◌�
 use Rattle.ssh_fields.specs.Fields.{u32, str, is_true}
 use Rattle.ssh_grammar.specs.declared.numbers.TheConstants as number
 use Rattle.ssh_grammar.specs.Messages.{Key, Tcp, Path, Global, Forward, Cancel, KeepAlive, OtherName, Opens, Session, Direct, Forwarded, OtherType, PlainMessage, Transport, GlobalRequest, RequestSuccess, RequestFailure, Open, ChannelMessage, Confirmation, OpenFailure, Adjust, Data, Extended, Eof, Close, Request, Success, Failure, Message, Plain, To, forward_name, cancel_name, forward_path_name, cancel_path_name, keepalive_name, session_type, direct_type, forwarded_type, direct_path_type, forwarded_path_type, forward_name_of, cancel_name_of, direct_type_of, forwarded_type_of}
-use Rattle.ssh_grammar.specs.SpellMessage.{spell_key, spell_with, wants}
+use Rattle.ssh_grammar.specs.SpellMessage.{spell_key, spell_with, wants_reply}
 
 -- a number of four bytes
 abbrev pub IsNumber : ℕ → Type 0
@@ -95,5 +95,5 @@ IsMessage (To recipient m) = IsNumber recipient × IsChannelMessage m
 pub record Spells (m : Message) (p : List ℕ) : Type 0 where
   pub is_message : IsMessage m
   pub flag : ℕ
-  pub boolean : is_true flag ≡ wants m
+  pub boolean : is_true flag ≡ wants_reply m
   pub spelled : p ≡ spell_with flag m

@@ -16,7 +16,7 @@ use Rattle.ssh_grammar.specs.SpellControl.{spell_control, spell_answer}
 use Rattle.ssh_grammar.specs.IsControl.{IsControl, SpellsControl}
 use Rattle.ssh_grammar.specs.ReadAnswer.{read_answer, IsAnswer}
 use Rattle.ssh_grammar.specs.Frames.{Cut, cut, frame}
-use Rattle.ssh_grammar.specs.IsFrame.{IsContent, joined, Cuts}
+use Rattle.ssh_grammar.specs.IsFrame.{IsContent, bytes_of_frames, Cuts}
 use Rattle.ssh_grammar.specs.Said.{Mode, InControl, InProxy, Stopped, Outgoing, Body, Payload, BadFraming, after_body, parse, and_then, said, heard}
 
 -- ---- messages
@@ -139,7 +139,7 @@ abbrev pub ProxyIsSent : Type 0
 ProxyIsSent =
     (bodies : List (List ℕ)) (last rest : List ℕ) → AreBodies bodies → KeepControl bodies
     → IsContent framing.Control last → after_body last ≡ InProxy
-    → said (joined framing.Control bodies ++ (frame framing.Control last ++ rest))
+    → said (bytes_of_frames framing.Control bodies ++ (frame framing.Control last ++ rest))
     ≡ map Body bodies ++ (Body last ∷ says framing.Proxy Payload rest)
 
 -- after the first that ends the reading, nothing is sent
@@ -147,7 +147,7 @@ abbrev pub NothingMoreIsSent : Type 0
 NothingMoreIsSent =
     (bodies : List (List ℕ)) (last rest : List ℕ) → AreBodies bodies → KeepControl bodies
     → IsContent framing.Control last → after_body last ≡ Stopped
-    → said (joined framing.Control bodies ++ (frame framing.Control last ++ rest))
+    → said (bytes_of_frames framing.Control bodies ++ (frame framing.Control last ++ rest))
     ≡ map Body bodies ++ (Body last ∷ [])
 
 -- the server sends payloads from its first byte on

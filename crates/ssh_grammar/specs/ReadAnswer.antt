@@ -6,30 +6,30 @@ use Rattle.ssh_grammar.specs.Tables.{by_number}
 use Rattle.ssh_grammar.specs.Control.{Answer, Greets, Okay, PermissionDenied, Failed, Alive, RemotePort, Proxies}
 use Rattle.ssh_grammar.specs.IsMessage.{IsNumber, IsString}
 
-abbrev pub on_u32 : List ℕ → (ℕ → List ℕ → Option Answer) → Option Answer
-on_u32 bytes next = elim (take_u32 bytes) [ None ↦ None | Some p ↦ next p.0 p.1 ]
+abbrev pub answer_on_u32 : List ℕ → (ℕ → List ℕ → Option Answer) → Option Answer
+answer_on_u32 bytes next = elim (take_u32 bytes) [ None ↦ None | Some p ↦ next p.0 p.1 ]
 
-abbrev pub on_str : List ℕ → (List ℕ → List ℕ → Option Answer) → Option Answer
-on_str bytes next = elim (take_str bytes) [ None ↦ None | Some p ↦ next p.0 p.1 ]
+abbrev pub answer_on_str : List ℕ → (List ℕ → List ℕ → Option Answer) → Option Answer
+answer_on_str bytes next = elim (take_str bytes) [ None ↦ None | Some p ↦ next p.0 p.1 ]
 
 -- nothing is left over
-abbrev pub on_end : List ℕ → Answer → Option Answer
-on_end [] answer = Some answer
-on_end (b ∷ bytes) answer = None
+abbrev pub answer_on_end : List ℕ → Answer → Option Answer
+answer_on_end [] answer = Some answer
+answer_on_end (b ∷ bytes) answer = None
 
 -- a number and nothing after it
 abbrev pub read_one : (ℕ → Answer) → List ℕ → Option Answer
-read_one answer rest = on_u32 rest (λ n rest. on_end rest (answer n))
+read_one answer rest = answer_on_u32 rest (λ n rest. answer_on_end rest (answer n))
 
 abbrev pub read_two : (ℕ → ℕ → Answer) → List ℕ → Option Answer
-read_two answer rest = on_u32 rest (λ id rest. on_u32 rest (λ n rest. on_end rest (answer id n)))
+read_two answer rest = answer_on_u32 rest (λ id rest. answer_on_u32 rest (λ n rest. answer_on_end rest (answer id n)))
 
 abbrev pub read_reason : (ℕ → List ℕ → Answer) → List ℕ → Option Answer
 read_reason answer rest =
-    on_u32 rest (λ id rest. on_str rest (λ reason rest. on_end rest (answer id reason)))
+    answer_on_u32 rest (λ id rest. answer_on_str rest (λ reason rest. answer_on_end rest (answer id reason)))
 
-abbrev pub forms : List (ℕ × (List ℕ → Option Answer))
-forms =
+abbrev pub answer_forms : List (ℕ × (List ℕ → Option Answer))
+answer_forms =
     (number.HELLO, read_one Greets)
     ∷ (number.S_OK, read_one Okay)
     ∷ (number.S_PERMISSION_DENIED, read_reason PermissionDenied)
@@ -41,7 +41,7 @@ forms =
 
 -- the answer that a body is, if it is one
 abbrev pub read_answer : List ℕ → Option Answer
-read_answer body = on_u32 body (λ kind rest. by_number forms kind (λ rest. None) rest)
+read_answer body = answer_on_u32 body (λ kind rest. by_number answer_forms kind (λ rest. None) rest)
 
 -- an answer whose numbers have four bytes
 abbrev pub IsAnswer : Answer → Type 0

@@ -19,17 +19,17 @@ spell_plain flag (Open kind sender window maximum rest what) =
     number.CHANNEL_OPEN ∷ (str kind ++ (u32 sender ++ (u32 window ++ (u32 maximum ++ rest))))
 
 -- the number of a message to a channel
-abbrev pub number_of : ChannelMessage → ℕ
-number_of (Confirmation sender window maximum rest) = number.CHANNEL_OPEN_CONFIRMATION
-number_of (OpenFailure reason text language) = number.CHANNEL_OPEN_FAILURE
-number_of (Adjust add) = number.CHANNEL_WINDOW_ADJUST
-number_of (Data bytes) = number.CHANNEL_DATA
-number_of (Extended code bytes) = number.CHANNEL_EXTENDED_DATA
-number_of Eof = number.CHANNEL_EOF
-number_of Close = number.CHANNEL_CLOSE
-number_of (Request kind want rest) = number.CHANNEL_REQUEST
-number_of Success = number.CHANNEL_SUCCESS
-number_of Failure = number.CHANNEL_FAILURE
+abbrev pub channel_message_number : ChannelMessage → ℕ
+channel_message_number (Confirmation sender window maximum rest) = number.CHANNEL_OPEN_CONFIRMATION
+channel_message_number (OpenFailure reason text language) = number.CHANNEL_OPEN_FAILURE
+channel_message_number (Adjust add) = number.CHANNEL_WINDOW_ADJUST
+channel_message_number (Data bytes) = number.CHANNEL_DATA
+channel_message_number (Extended code bytes) = number.CHANNEL_EXTENDED_DATA
+channel_message_number Eof = number.CHANNEL_EOF
+channel_message_number Close = number.CHANNEL_CLOSE
+channel_message_number (Request kind want rest) = number.CHANNEL_REQUEST
+channel_message_number Success = number.CHANNEL_SUCCESS
+channel_message_number Failure = number.CHANNEL_FAILURE
 
 -- the fields after the recipient
 abbrev pub fields_of : ℕ → ChannelMessage → List ℕ
@@ -49,13 +49,13 @@ fields_of flag Failure = []
 -- byte but 0 is true
 abbrev pub spell_with : ℕ → Message → List ℕ
 spell_with flag (Plain m) = spell_plain flag m
-spell_with flag (To recipient m) = number_of m ∷ (u32 recipient ++ fields_of flag m)
+spell_with flag (To recipient m) = channel_message_number m ∷ (u32 recipient ++ fields_of flag m)
 
 -- whether it wants a reply
-abbrev pub wants : Message → Bool
-wants (Plain (GlobalRequest name want rest what)) = want
-wants (To recipient (Request kind want rest)) = want
-wants _ = false
+abbrev pub wants_reply : Message → Bool
+wants_reply (Plain (GlobalRequest name want rest what)) = want
+wants_reply (To recipient (Request kind want rest)) = want
+wants_reply _ = false
 
 -- the byte that a writer gives
 abbrev pub flag_byte_of : Bool → ℕ
@@ -64,7 +64,7 @@ flag_byte_of false = 0
 
 -- the payload that a writer gives
 abbrev pub spell : Message → List ℕ
-spell m = spell_with (flag_byte_of (wants m)) m
+spell m = spell_with (flag_byte_of (wants_reply m)) m
 
 -- ---- the channel numbers in a message
 

@@ -26,7 +26,7 @@ use Rattle.ssh_mux.specs.declared.status.Status.TheVariants as statuses
 use Rattle.ssh_mux.specs.Answers.{may_write, so_far}
 use Rattle.ssh_mux.specs.Causes.{EndCause, Caused, FaultCause}
 use Rattle.ssh_mux.specs.Commands.{RunsFor, RunsUnless, commands_of}
-use Rattle.ssh_mux.specs.Ending.{shown, refused_as, unlisted_as}
+use Rattle.ssh_mux.specs.Ending.{ending_shown, refused_as, unlisted_as}
 use Rattle.ssh_mux.specs.Master.{EndsMaster}
 use Rattle.ssh_mux.specs.Outcomes.{machine, machine_of}
 use Rattle.ssh_mux.specs.Status.{status_of}
@@ -36,14 +36,14 @@ use Rattle.ssh_mux.proofs.MisreadLemmas.{some-ran}
 -- ---- counts
 
 -- of a configuration that is refused
-pub refused-cause : (e : ResolveError) (f f' r r' : ℕ) → HasCauses {A = List Given} (Err e) f f' r r' → EndCause (shown (refused_as e)) f f' r r'
+pub refused-cause : (e : ResolveError) (f f' r r' : ℕ) → HasCauses {A = List Given} (Err e) f f' r r' → EndCause (ending_shown (refused_as e)) f f' r r'
 refused-cause OutOfMemory f f' r r' h = h
 refused-cause (At file line ReadFault) f f' r r' h = h
 refused-cause (At file line RunFault) f f' r r' h = h
 refused-cause (At file line cause) f f' r r' h = h
 
 -- of settings that can't be listed
-pub unlisted-cause : (e : ListError) (f f' r r' : ℕ) → (f' ≡ f) × (r' ≡ r) → EndCause (shown (unlisted_as e)) f f' r r'
+pub unlisted-cause : (e : ListError) (f f' r r' : ℕ) → (f' ≡ f) × (r' ≡ r) → EndCause (ending_shown (unlisted_as e)) f f' r r'
 unlisted-cause list_errors.OutOfMemory f f' r r' h = h
 unlisted-cause (list_errors.Token key error) f f' r r' h = h
 
@@ -84,19 +84,19 @@ fault-later status f f' r r' h = inr h
 abbrev pub Reaches : Command → Asked → Type 0
 Reaches command asked = (m : Machine) → command_execs m command ≡ execs (recorded_of m asked)
 
-ran-refused : (e : ResolveError) (commands : List Bytes) (before now : Option (List Bytes)) → RanUnless (breaks_off {A = List Given} (Err e)) before now commands → RunsFor (Some commands) (status_of (shown (refused_as e))) before now
+ran-refused : (e : ResolveError) (commands : List Bytes) (before now : Option (List Bytes)) → RanUnless (breaks_off {A = List Given} (Err e)) before now commands → RunsFor (Some commands) (status_of (ending_shown (refused_as e))) before now
 ran-refused OutOfMemory commands before now h = h
 ran-refused (At file line ReadFault) commands before now h = h
 ran-refused (At file line RunFault) commands before now h = h
 ran-refused (At file line cause) commands before now h = h
 
-pub refused-runs : (files : Option (List Pair)) (ends_with : Option (List CommandStatus)) (facts : Facts) (asked : Asked) (command : Command) (e : ResolveError) (before now : Option (List Bytes)) → Reaches command asked → Promise files ends_with facts asked (λ recorded. RanUnless (breaks_off {A = List Given} (Err e)) before now (execs recorded)) → RunsFor (commands_of (machine files ends_with facts) command) (status_of (shown (refused_as e))) before now
+pub refused-runs : (files : Option (List Pair)) (ends_with : Option (List CommandStatus)) (facts : Facts) (asked : Asked) (command : Command) (e : ResolveError) (before now : Option (List Bytes)) → Reaches command asked → Promise files ends_with facts asked (λ recorded. RanUnless (breaks_off {A = List Given} (Err e)) before now (execs recorded)) → RunsFor (commands_of (machine files ends_with facts) command) (status_of (ending_shown (refused_as e))) before now
 unfolding commands_of machine
 refused-runs None ends_with facts asked command e before now is h = tt
 refused-runs (Some files) None facts asked command e before now is h = tt
 refused-runs (Some files) (Some ends_with) facts asked command e before now is h =
     let m = machine_of files ends_with facts in
-    subst (λ cs. RunsFor (Some cs) (status_of (shown (refused_as e))) before now) (sym (is m)) (ran-refused e (execs (recorded_of m asked)) before now (h (recorded_of m asked) refl refl (refl, refl) refl))
+    subst (λ cs. RunsFor (Some cs) (status_of (ending_shown (refused_as e))) before now) (sym (is m)) (ran-refused e (execs (recorded_of m asked)) before now (h (recorded_of m asked) refl refl (refl, refl) refl))
 
 pub resolved-runs : {A : Type 0} (x : A) (files : Option (List Pair)) (ends_with : Option (List CommandStatus)) (facts : Facts) (asked : Asked) (command : Command) (before now : Option (List Bytes)) → Reaches command asked → Promise files ends_with facts asked (λ recorded. RanAll before now (execs recorded)) → RunsUnless (commands_of (machine files ends_with facts) command) (Ok x) before now
 unfolding commands_of machine

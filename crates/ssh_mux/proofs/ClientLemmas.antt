@@ -16,12 +16,12 @@ use Rattle.ssh_mux.specs.declared.ending.Ending.{Ending}
 use Rattle.ssh_mux.specs.declared.ending.Ending.TheVariants as endings
 use Rattle.ssh_mux.specs.declared.status.Status.{Status}
 use Rattle.ssh_mux.specs.declared.status.Status.TheVariants as statuses
-use Rattle.ssh_mux.specs.Answers.{Comes, IsAskDue, may_have_joined, may_open, so_far}
+use Rattle.ssh_mux.specs.Answers.{Comes, IsAskDue, may_have_joined, may_open_wire, so_far}
 use Rattle.ssh_mux.specs.Asks.{FindsAsks, asks_for}
 use Rattle.ssh_mux.specs.Causes.{Caused, OutCause}
 use Rattle.ssh_mux.specs.Client.{ClientLeaves, Converses, ConversesBy, EndsClient, JoinsAt, JoinsOnce, TalkCounts, TalksFor, client_asks_in}
-use Rattle.ssh_mux.specs.Ending.{shown}
-use Rattle.ssh_mux.specs.Outcomes.{Known, Certain, Client, asks, joins_at}
+use Rattle.ssh_mux.specs.Ending.{ending_shown}
+use Rattle.ssh_mux.specs.Outcomes.{KnownCommand, Certain, Client, may_ask_master, joins_at}
 use Rattle.ssh_mux.specs.Places.{Placed}
 use Rattle.ssh_mux.specs.Sharing.{WireCause}
 use Rattle.ssh_mux.specs.Status.{status_of}
@@ -30,43 +30,43 @@ use Rattle.ssh_mux.proofs.StillLemmas.{loud, on_true, quiet-count, still-calls, 
 use Rattle.ssh_mux.proofs.TalkLemmas.{Unjoined, still-asked-cause, still-asked-waits, still-talked}
 
 -- what was found of it
-abbrev pub IsClient : Known → Asked → MasterCommand → Bytes → Type 0
+abbrev pub IsClient : KnownCommand → Asked → MasterCommand → Bytes → Type 0
 IsClient k asked what path = (k ≡ Certain (joins_at asked what path)) ⊎ (k ≡ Client asked what)
 
 -- ---- one that asks no master
 
-pub unasked-leaves : (k : Known) (meant : Ending) (turns : ℕ) (w : WireState) (f : Faults) (out : OutState) → JoinsOnce k (status_of (shown meant)) w.joinings w.joinings → Unjoined k (shown meant) → ClientLeaves k turns (Err meant) w w f f out out
+pub unasked-leaves : (k : KnownCommand) (meant : Ending) (turns : ℕ) (w : WireState) (f : Faults) (out : OutState) → JoinsOnce k (status_of (ending_shown meant)) w.joinings w.joinings → Unjoined k (ending_shown meant) → ClientLeaves k turns (Err meant) w w f f out out
 unasked-leaves k meant turns w f out joined none = record {
   joined = joined;
   openings = refl;
   unopened = refl;
   talked = still-talked k meant w.seen.recorded out.recorded none;
-  wire_cause = still-asked-cause k (shown meant) f f none;
-  out_cause = quiet-count (status_of (shown meant)) out.faults (loud (shown meant));
-  calls = still-calls turns (status_of (shown meant)) w.calls;
-  waited = still-asked-waits k (shown meant) turns w.calls w.calls none;
-  idle = λ z. still-idle (status_of (shown meant)) f;
+  wire_cause = still-asked-cause k (ending_shown meant) f f none;
+  out_cause = quiet-count (status_of (ending_shown meant)) out.faults (loud (ending_shown meant));
+  calls = still-calls turns (status_of (ending_shown meant)) w.calls;
+  waited = still-asked-waits k (ending_shown meant) turns w.calls w.calls none;
+  idle = λ z. still-idle (status_of (ending_shown meant)) f;
 }
 
 -- where its forwardings have no reading, or memory ran out for them
-pub bad-asks-unjoined : (k : Known) (meant : Ending) (reading : Result Asks ResolveError) → FindsAsks {A = Asks} (Err meant) reading → Unjoined k (shown meant)
+pub bad-asks-unjoined : (k : KnownCommand) (meant : Ending) (reading : Result Asks ResolveError) → FindsAsks {A = Asks} (Err meant) reading → Unjoined k (ending_shown meant)
 bad-asks-unjoined k endings.NoMemory reading h = inr refl
 bad-asks-unjoined k (endings.BadLine file line (causes.Value e)) reading h = inl refl
 bad-asks-unjoined k meant reading h = absurd h
 
-certain-unasked : (asked : Asked) (what : MasterCommand) (path : Bytes) (meant : Ending) (before : Option (List Bytes)) → FindsAsks {A = Asks} (Err meant) (asks_for asked what) → JoinsOnce (Certain (joins_at asked what path)) (status_of (shown meant)) before before
+certain-unasked : (asked : Asked) (what : MasterCommand) (path : Bytes) (meant : Ending) (before : Option (List Bytes)) → FindsAsks {A = Asks} (Err meant) (asks_for asked what) → JoinsOnce (Certain (joins_at asked what path)) (status_of (ending_shown meant)) before before
 certain-unasked asked what path endings.NoMemory before h = inl refl
 certain-unasked asked what path (endings.BadLine file line (causes.Value e)) before h = refl
 certain-unasked asked what path meant before h = absurd h
 
-some-unasked : (asked : Asked) (what : MasterCommand) (meant : Ending) (before : Option (List Bytes)) → FindsAsks {A = Asks} (Err meant) (asks_for asked what) → JoinsOnce (Client asked what) (status_of (shown meant)) before before
+some-unasked : (asked : Asked) (what : MasterCommand) (meant : Ending) (before : Option (List Bytes)) → FindsAsks {A = Asks} (Err meant) (asks_for asked what) → JoinsOnce (Client asked what) (status_of (ending_shown meant)) before before
 some-unasked asked what endings.NoMemory before h = inl refl
 some-unasked asked what (endings.BadLine file line (causes.Value e)) before h = refl
 some-unasked asked what meant before h = absurd h
 
-pub bad-asks-joined : (k : Known) (asked : Asked) (what : MasterCommand) (path : Bytes) (meant : Ending) (before : Option (List Bytes)) → IsClient k asked what path → FindsAsks {A = Asks} (Err meant) (asks_for asked what) → JoinsOnce k (status_of (shown meant)) before before
-bad-asks-joined k asked what path meant before (inl e) h = subst (λ x. JoinsOnce x (status_of (shown meant)) before before) (sym e) (certain-unasked asked what path meant before h)
-bad-asks-joined k asked what path meant before (inr e) h = subst (λ x. JoinsOnce x (status_of (shown meant)) before before) (sym e) (some-unasked asked what meant before h)
+pub bad-asks-joined : (k : KnownCommand) (asked : Asked) (what : MasterCommand) (path : Bytes) (meant : Ending) (before : Option (List Bytes)) → IsClient k asked what path → FindsAsks {A = Asks} (Err meant) (asks_for asked what) → JoinsOnce k (status_of (ending_shown meant)) before before
+bad-asks-joined k asked what path meant before (inl e) h = subst (λ x. JoinsOnce x (status_of (ending_shown meant)) before before) (sym e) (certain-unasked asked what path meant before h)
+bad-asks-joined k asked what path meant before (inr e) h = subst (λ x. JoinsOnce x (status_of (ending_shown meant)) before before) (sym e) (some-unasked asked what meant before h)
 
 certain-refused : (asked : Asked) (what : MasterCommand) (path : Bytes) (meant : Ending) → FindsAsks {A = Asks} (Err meant) (asks_for asked what) → Comes (Certain (joins_at asked what path)) (Err meant)
 certain-refused asked what path endings.NoMemory h = tt
@@ -78,7 +78,7 @@ some-refused asked what endings.NoMemory h = tt
 some-refused asked what (endings.BadLine file line (causes.Value e)) h = refl
 some-refused asked what meant h = absurd h
 
-pub bad-asks-come : (k : Known) (asked : Asked) (what : MasterCommand) (path : Bytes) (meant : Ending) → IsClient k asked what path → FindsAsks {A = Asks} (Err meant) (asks_for asked what) → Comes k (Err meant)
+pub bad-asks-come : (k : KnownCommand) (asked : Asked) (what : MasterCommand) (path : Bytes) (meant : Ending) → IsClient k asked what path → FindsAsks {A = Asks} (Err meant) (asks_for asked what) → Comes k (Err meant)
 bad-asks-come k asked what path meant (inl e) h = subst (λ x. Comes x (Err meant)) (sym e) (certain-refused asked what path meant h)
 bad-asks-come k asked what path meant (inr e) h = subst (λ x. Comes x (Err meant)) (sym e) (some-refused asked what meant h)
 
@@ -120,7 +120,7 @@ some-comes asked what (Err endings.MasterRefused) h = refl
 some-comes asked what (Err endings.MasterBroke) h = refl
 some-comes asked what (Err ending) h = absurd cc
 
-pub client-comes : (k : Known) (asked : Asked) (what : MasterCommand) (path : Bytes) (due : Asks) (result : Result Status Ending) → IsClient k asked what path → asks_for asked what ≡ Ok due → EndsClient result → Comes k result
+pub client-comes : (k : KnownCommand) (asked : Asked) (what : MasterCommand) (path : Bytes) (due : Asks) (result : Result Status Ending) → IsClient k asked what path → asks_for asked what ≡ Ok due → EndsClient result → Comes k result
 client-comes k asked what path due result (inl i) e h = subst (λ x. Comes x result) (sym i) (certain-comes asked what path due result e h)
 client-comes k asked what path due result (inr i) e h = subst (λ x. Comes x result) (sym i) (some-comes asked what result h)
 
@@ -131,7 +131,7 @@ client-cause (Err (endings.BadLine file line causes.RunFault)) f f' r r' h e = a
 client-cause (Err ending) f f' r r' h e = e
 
 -- it may have joined its wire
-client-opens : (result : Result Status Ending) → EndsClient result → may_open (so_far result) ≡ true
+client-opens : (result : Result Status Ending) → EndsClient result → may_open_wire (so_far result) ≡ true
 client-opens (Ok statuses.Done) h = refl
 client-opens (Ok statuses.Write) h = refl
 client-opens (Ok status) h = absurd cc
@@ -143,34 +143,34 @@ client-opens (Err endings.MasterRefused) h = refl
 client-opens (Err endings.MasterBroke) h = refl
 client-opens (Err ending) h = absurd cc
 
-asks-for : (k : Known) (asked : Asked) (what : MasterCommand) (path : Bytes) → IsClient k asked what path → asks k ≡ true
-asks-for k asked what path (inl e) = subst (λ x. asks x ≡ true) (sym e) refl
-asks-for k asked what path (inr e) = subst (λ x. asks x ≡ true) (sym e) refl
+asks-for : (k : KnownCommand) (asked : Asked) (what : MasterCommand) (path : Bytes) → IsClient k asked what path → may_ask_master k ≡ true
+asks-for k asked what path (inl e) = subst (λ x. may_ask_master x ≡ true) (sym e) refl
+asks-for k asked what path (inr e) = subst (λ x. may_ask_master x ≡ true) (sym e) refl
 
-pub client-asks : (k : Known) (asked : Asked) (what : MasterCommand) (path : Bytes) (result : Result Status Ending) → IsClient k asked what path → EndsClient result → may_have_joined k (so_far result) ≡ true
+pub client-asks : (k : KnownCommand) (asked : Asked) (what : MasterCommand) (path : Bytes) (result : Result Status Ending) → IsClient k asked what path → EndsClient result → may_have_joined k (so_far result) ≡ true
 client-asks k asked what path result i h = rw (client-opens result h) (asks-for k asked what path i)
 
-certain-joined : (asked : Asked) (what : MasterCommand) (path : Bytes) (status : Status) (before now : Option (List Bytes)) → may_open status ≡ true → JoinsAt path status before now → JoinsOnce (Certain (joins_at asked what path)) status before now
+certain-joined : (asked : Asked) (what : MasterCommand) (path : Bytes) (status : Status) (before now : Option (List Bytes)) → may_open_wire status ≡ true → JoinsAt path status before now → JoinsOnce (Certain (joins_at asked what path)) status before now
 certain-joined asked what path statuses.Config before now o h = absurd cc
 certain-joined asked what path statuses.Outside before now o h = absurd cc
 certain-joined asked what path status before now o h = h
 
-some-joined : (asked : Asked) (what : MasterCommand) (path : Bytes) (status : Status) (before now : Option (List Bytes)) → may_open status ≡ true → JoinsAt path status before now → JoinsOnce (Client asked what) status before now
+some-joined : (asked : Asked) (what : MasterCommand) (path : Bytes) (status : Status) (before now : Option (List Bytes)) → may_open_wire status ≡ true → JoinsAt path status before now → JoinsOnce (Client asked what) status before now
 some-joined asked what path statuses.Config before now o h = absurd cc
 some-joined asked what path statuses.Outside before now o h = absurd cc
 some-joined asked what path statuses.Memory before now o (inl h) = inl h
 some-joined asked what path statuses.Memory before now o (inr h) = inr (record { control = path; once = h })
 some-joined asked what path status before now o h = record { control = path; once = h }
 
-joined-once : (k : Known) (asked : Asked) (what : MasterCommand) (path : Bytes) (status : Status) (before now : Option (List Bytes)) → IsClient k asked what path → may_open status ≡ true → JoinsAt path status before now → JoinsOnce k status before now
+joined-once : (k : KnownCommand) (asked : Asked) (what : MasterCommand) (path : Bytes) (status : Status) (before now : Option (List Bytes)) → IsClient k asked what path → may_open_wire status ≡ true → JoinsAt path status before now → JoinsOnce k status before now
 joined-once k asked what path status before now (inl e) o h = subst (λ x. JoinsOnce x status before now) (sym e) (certain-joined asked what path status before now o h)
 joined-once k asked what path status before now (inr e) o h = subst (λ x. JoinsOnce x status before now) (sym e) (some-joined asked what path status before now o h)
 
-asks-are : (k : Known) (asked : Asked) (what : MasterCommand) (path : Bytes) (due : Asks) → IsClient k asked what path → asks_for asked what ≡ Ok due → client_asks_in k ≡ Some (Ok due)
+asks-are : (k : KnownCommand) (asked : Asked) (what : MasterCommand) (path : Bytes) (due : Asks) → IsClient k asked what path → asks_for asked what ≡ Ok due → client_asks_in k ≡ Some (Ok due)
 asks-are k asked what path due (inl i) e = subst (λ x. client_asks_in x ≡ Some (Ok due)) (sym i) (ap Some e)
 asks-are k asked what path due (inr i) e = subst (λ x. client_asks_in x ≡ Some (Ok due)) (sym i) (ap Some e)
 
-pub asked-leaves : (k : Known) (asked : Asked) (what : MasterCommand) (path : Bytes) (due : Asks) (turns : ℕ) (result : Result Status Ending) (w w' : WireState) (f f' : Faults) (out out' : OutState) → IsClient k asked what path → asks_for asked what ≡ Ok due → EndsClient result → JoinsAt path (so_far result) w.joinings w'.joinings → Converses due w.seen.recorded w'.seen.recorded out.recorded out'.recorded result → OutCause (so_far result) out.faults out'.faults → TalkCounts turns (so_far result) w w' f f' → ClientLeaves k turns result w w' f f' out out'
+pub asked-leaves : (k : KnownCommand) (asked : Asked) (what : MasterCommand) (path : Bytes) (due : Asks) (turns : ℕ) (result : Result Status Ending) (w w' : WireState) (f f' : Faults) (out out' : OutState) → IsClient k asked what path → asks_for asked what ≡ Ok due → EndsClient result → JoinsAt path (so_far result) w.joinings w'.joinings → Converses due w.seen.recorded w'.seen.recorded out.recorded out'.recorded result → OutCause (so_far result) out.faults out'.faults → TalkCounts turns (so_far result) w w' f f' → ClientLeaves k turns result w w' f f' out out'
 asked-leaves k asked what path due turns result w w' f f' out out' i e ends joined talked cause counts = record {
   joined = joined-once k asked what path (so_far result) w.joinings w'.joinings i (client-opens result ends) joined;
   openings = counts.openings;

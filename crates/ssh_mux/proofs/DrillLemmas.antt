@@ -18,15 +18,15 @@ use Rattle.ssh_mux.specs.declared.ending.Ending.{Ending}
 use Rattle.ssh_mux.specs.declared.ending.Ending.TheVariants as endings
 use Rattle.ssh_mux.specs.declared.status.Status.{Status}
 use Rattle.ssh_mux.specs.declared.status.Status.TheVariants as statuses
-use Rattle.ssh_mux.specs.Answers.{Comes, IsRunRefused, may_open, so_far, touches}
+use Rattle.ssh_mux.specs.Answers.{Comes, IsRunRefused, may_open_wire, so_far, touches}
 use Rattle.ssh_mux.specs.Causes.{Caused}
 use Rattle.mux_outside.specs.NoHouse.{no_house}
 use Rattle.ssh_mux.specs.Drill.{AnyCalls, DrillGoes, DrillServes, DrillShares, DrillRecords, EndsDrill, IsDrill, IsDrilled, NoneRests, RefusesAll, RunsDrill, SumsUp, drill_text, drill_transport}
-use Rattle.ssh_mux.specs.Ending.{shown}
+use Rattle.ssh_mux.specs.Ending.{ending_shown}
 use Rattle.ssh_mux.specs.Err.{Reports}
 use Rattle.ssh_mux.specs.Master.{EndsMaster}
 use Rattle.ssh_mux.specs.Out.{HandsOver, OutTakes}
-use Rattle.ssh_mux.specs.Outcomes.{Known, Certain, Listing, Master, Client, drills}
+use Rattle.ssh_mux.specs.Outcomes.{KnownCommand, Certain, Listing, Master, Client, drills}
 use Rattle.ssh_mux.specs.Sharing.{CallsEnd, CameFor, CountsFor, IdleCause, IsShared, OpensAt, Shares, StartCause, WaitsFor, WireCause, recorded_as}
 use Rattle.ssh_mux.specs.Status.{status_of}
 use Rattle.ssh_mux.specs.World.{OutState, Sockets, Sources, world}
@@ -46,7 +46,7 @@ drill-comes seed clients messages (Err endings.TurnsSpent) h = refl
 drill-comes seed clients messages (Err endings.NoMemory) h = tt
 drill-comes seed clients messages (Err ending) h = absurd cc
 
-pub drill-opens : (result : Result Status Ending) → EndsDrill result → may_open (so_far result) ≡ true
+pub drill-opens : (result : Result Status Ending) → EndsDrill result → may_open_wire (so_far result) ≡ true
 drill-opens (Ok statuses.Done) h = refl
 drill-opens (Ok statuses.Write) h = refl
 drill-opens (Ok status) h = absurd cc
@@ -122,7 +122,7 @@ module _ (words : List Bytes) (turns : ℕ) (w w' : WireState) (out out' : Optio
 -- of one that ended badly
 module _ (words : List Bytes) (turns : ℕ) (w w' : WireState) (out : Option (List ℕ)) where
   -- no forwarding of a start is refused
-  drilled : (meant : Ending) → EndsMaster (Err meant) → StartCause (status_of (shown meant)) None → EndsDrill (Err meant)
+  drilled : (meant : Ending) → EndsMaster (Err meant) → StartCause (status_of (ending_shown meant)) None → EndsDrill (Err meant)
   drilled endings.StartRefused e r = absurd cc
   drilled meant e r = e
 
@@ -135,7 +135,7 @@ module _ (words : List Bytes) (turns : ℕ) (w w' : WireState) (out : Option (Li
   unsummed-shared endings.NoMemory (inr h) = inr (unsummed-run endings.NoMemory h)
   unsummed-shared meant h = unsummed-run meant h
 
-  pub unsummed-goes : (meant : Ending) → EndsMaster (Err meant) → StartCause (status_of (shown meant)) None → OpensAt [] (drill_transport words) (status_of (shown meant)) w.openings w'.openings → Shares RefusesAll NoneRests AnyCalls no_house any_policy 0 turns None None w.seen.recorded w'.seen None (Err meant) → DrillGoes words turns (Err meant) w w' out out
+  pub unsummed-goes : (meant : Ending) → EndsMaster (Err meant) → StartCause (status_of (ending_shown meant)) None → OpensAt [] (drill_transport words) (status_of (ending_shown meant)) w.openings w'.openings → Shares RefusesAll NoneRests AnyCalls no_house any_policy 0 turns None None w.seen.recorded w'.seen None (Err meant) → DrillGoes words turns (Err meant) w w' out out
   unsummed-goes meant e r o h = record { ends = drilled meant e r; opened = o; shared = unsummed-shared meant h }
 
 summed-cause : (text : Bytes) (result : Result Status Ending) (before now : Option (List ℕ)) (w w' : Faults) → HandsOver result text before now → WireCause (so_far result) w w'
@@ -207,14 +207,14 @@ drill-takes-from seed clients messages turns start seen tally (Ok statuses.Done)
 drill-takes-from seed clients messages turns start seen tally (Ok statuses.Write) out out' e h = tt
 drill-takes-from seed clients messages turns start seen tally (Ok status) out out' e h = absurd cc
 drill-takes-from seed clients messages turns start seen tally (Err meant) out out' e h =
-    subst (λ o. OutTakes (status_of (shown meant)) (Certain (Drills seed clients messages)) out o) (sym (unwritten turns start seen tally meant out out' h)) (quiet-out (status_of (shown meant)) (Certain (Drills seed clients messages)) out (loud (shown meant)))
+    subst (λ o. OutTakes (status_of (ending_shown meant)) (Certain (Drills seed clients messages)) out o) (sym (unwritten turns start seen tally meant out out' h)) (quiet-out (status_of (ending_shown meant)) (Certain (Drills seed clients messages)) out (loud (ending_shown meant)))
 
 pub drill-takes : (seed clients messages : ℕ) (words : List Bytes) (turns : ℕ) (result : Result Status Ending) (w w' : WireState) (out out' : Option (List ℕ)) → DrillGoes words turns result w w' out out' → OutTakes (so_far result) (Certain (Drills seed clients messages)) out out'
 drill-takes seed clients messages words turns result w w' out out' h = drill-takes-from seed clients messages turns w.seen.recorded w'.seen w'.tally result out out' h.ends h.shared
 
 -- ---- an ending that came before
 
-pub still-drill : (k : Known) (meant : Ending) (words : List Bytes) (turns : ℕ) (w : WireState) (out : Option (List ℕ)) → IsRunRefused k (shown meant) → OnTrue (drills k) (DrillGoes words turns (Err meant) w w out out)
+pub still-drill : (k : KnownCommand) (meant : Ending) (words : List Bytes) (turns : ℕ) (w : WireState) (out : Option (List ℕ)) → IsRunRefused k (ending_shown meant) → OnTrue (drills k) (DrillGoes words turns (Err meant) w w out out)
 still-drill (Certain (Ends due)) meant words turns w out h = tt
 still-drill (Certain (Writes text)) meant words turns w out h = tt
 still-drill (Certain (Opens control transport ps)) meant words turns w out h = tt
@@ -271,21 +271,21 @@ module _ (words : List Bytes) (turns : ℕ) (w w' : WireState) (out out' : Optio
   abbrev RecordedSo : Status → Type 0
   RecordedSo status = DrillServes turns w.seen.recorded w'.seen w'.tally status out out' err err' f f'
 
-  bad-recorded : (meant : Ending) (status : Status) (end : Result Status Ending) → (meant ≡ endings.NoMemory → status ≡ statuses.Memory) → SumsUp end w'.tally (Err meant) out out' → Reports status (shown meant) err err' f f' → DrillRecords end w'.tally status out out' err err' f f'
-  bad-recorded endings.NoMemory status (Ok due) is h r = subst (λ x. DrillRecords (Ok due) w'.tally x out out' err err' f f') (sym (is refl)) (h, subst (λ x. Reports x (shown endings.NoMemory) err err' f f') (is refl) r)
+  bad-recorded : (meant : Ending) (status : Status) (end : Result Status Ending) → (meant ≡ endings.NoMemory → status ≡ statuses.Memory) → SumsUp end w'.tally (Err meant) out out' → Reports status (ending_shown meant) err err' f f' → DrillRecords end w'.tally status out out' err err' f f'
+  bad-recorded endings.NoMemory status (Ok due) is h r = subst (λ x. DrillRecords (Ok due) w'.tally x out out' err err' f f') (sym (is refl)) (h, subst (λ x. Reports x (ending_shown endings.NoMemory) err err' f f') (is refl) r)
   bad-recorded meant status (Ok due) is h r = absurd h
-  bad-recorded meant status (Err ending) is h r = let same : meant ≡ ending = (let e = h.0 in cc) in (h.1, subst (λ m. Reports status (shown m) err err' f f') same r)
+  bad-recorded meant status (Err ending) is h r = let same : meant ≡ ending = (let e = h.0 in cc) in (h.1, subst (λ m. Reports status (ending_shown m) err err' f f') same r)
 
-  bad-run : (meant : Ending) (status : Status) → (meant ≡ endings.NoMemory → status ≡ statuses.Memory) → RunsDrill turns w.seen.recorded w'.seen w'.tally (Err meant) out out' → Reports status (shown meant) err err' f f' → IsDrilled turns w.seen.recorded w'.seen w'.tally status out out' err err' f f'
+  bad-run : (meant : Ending) (status : Status) → (meant ≡ endings.NoMemory → status ≡ statuses.Memory) → RunsDrill turns w.seen.recorded w'.seen w'.tally (Err meant) out out' → Reports status (ending_shown meant) err err' f f' → IsDrilled turns w.seen.recorded w'.seen w'.tally status out out' err err' f f'
   bad-run meant status is h r = record { answer = h.answer; run = h.run; ends = bad-recorded meant status (recorded_as h.answer) is h.ends r }
 
-  memory-recorded : (meant : Ending) → DrillShares turns w.seen.recorded w'.seen w'.tally (Err meant) out out' → Reports statuses.Memory (shown meant) err err' f f' → RecordedSo statuses.Memory
+  memory-recorded : (meant : Ending) → DrillShares turns w.seen.recorded w'.seen w'.tally (Err meant) out out' → Reports statuses.Memory (ending_shown meant) err err' f f' → RecordedSo statuses.Memory
   memory-recorded endings.NotOpened h r = inl h
   memory-recorded endings.NoMemory (inl h) r = inl h
   memory-recorded endings.NoMemory (inr h) r = inr (bad-run endings.NoMemory statuses.Memory (λ e. refl) h r)
   memory-recorded meant h r = inr (bad-run meant statuses.Memory (λ e. refl) h r)
 
-  own-recorded : (meant : Ending) → EndsDrill (Err meant) → DrillShares turns w.seen.recorded w'.seen w'.tally (Err meant) out out' → Reports (status_of (shown meant)) (shown meant) err err' f f' → RecordedSo (status_of (shown meant))
+  own-recorded : (meant : Ending) → EndsDrill (Err meant) → DrillShares turns w.seen.recorded w'.seen w'.tally (Err meant) out out' → Reports (status_of (ending_shown meant)) (ending_shown meant) err err' f f' → RecordedSo (status_of (ending_shown meant))
   own-recorded endings.NotOpened e h r = h
   own-recorded endings.NoMemory e h r = memory-recorded endings.NoMemory h r
   own-recorded endings.TransportFailed e h r = bad-run endings.TransportFailed statuses.Transport (λ x. absurd cc) h r
@@ -300,10 +300,10 @@ module _ (words : List Bytes) (turns : ℕ) (w w' : WireState) (out out' : Optio
   abbrev Drilled : Status → Type 0
   Drilled status = OpensAt [] (drill_transport words) status w.openings w'.openings × RecordedSo status
 
-  bad-goes : (meant : Ending) (status : Status) → (status ≡ statuses.Memory) ⊎ (status ≡ status_of (shown meant)) → DrillGoes words turns (Err meant) w w' out out' → Reports status (shown meant) err err' f f' → Drilled status
-  bad-goes meant status (inl e) h r = subst Drilled (sym e) (memory-opened (status_of (shown meant)) h.opened, memory-recorded meant h.shared (subst (λ x. Reports x (shown meant) err err' f f') e r))
-  bad-goes meant status (inr e) h r = subst Drilled (sym e) (h.opened, own-recorded meant h.ends h.shared (subst (λ x. Reports x (shown meant) err err' f f') e r))
+  bad-goes : (meant : Ending) (status : Status) → (status ≡ statuses.Memory) ⊎ (status ≡ status_of (ending_shown meant)) → DrillGoes words turns (Err meant) w w' out out' → Reports status (ending_shown meant) err err' f f' → Drilled status
+  bad-goes meant status (inl e) h r = subst Drilled (sym e) (memory-opened (status_of (ending_shown meant)) h.opened, memory-recorded meant h.shared (subst (λ x. Reports x (ending_shown meant) err err' f f') e r))
+  bad-goes meant status (inr e) h r = subst Drilled (sym e) (h.opened, own-recorded meant h.ends h.shared (subst (λ x. Reports x (ending_shown meant) err err' f f') e r))
 
-pub drill_after : (drilled : Bool) (words : List Bytes) (turns : ℕ) (meant : Ending) (status : Status) (k k' : Sockets) (s s' : Sources) (out out' err err' : OutState) → Reports status (shown meant) err.recorded err'.recorded err.faults err'.faults → OnTrue drilled (DrillGoes words turns (Err meant) k.wire k'.wire out.recorded out'.recorded) → OnTrue drilled (IsDrill words turns status (world k s out err) (world k' s' out' err'))
-drill_after true words turns meant status k k' s s' out out' err err' r h = let w = bad-goes words turns k.wire k'.wire out.recorded out'.recorded err.recorded err'.recorded err.faults err'.faults meant status (reported status (shown meant) err.recorded err'.recorded err.faults err'.faults r) h r in record { opened = w.0; served = w.1 }
+pub drill_after : (drilled : Bool) (words : List Bytes) (turns : ℕ) (meant : Ending) (status : Status) (k k' : Sockets) (s s' : Sources) (out out' err err' : OutState) → Reports status (ending_shown meant) err.recorded err'.recorded err.faults err'.faults → OnTrue drilled (DrillGoes words turns (Err meant) k.wire k'.wire out.recorded out'.recorded) → OnTrue drilled (IsDrill words turns status (world k s out err) (world k' s' out' err'))
+drill_after true words turns meant status k k' s s' out out' err err' r h = let w = bad-goes words turns k.wire k'.wire out.recorded out'.recorded err.recorded err'.recorded err.faults err'.faults meant status (reported status (ending_shown meant) err.recorded err'.recorded err.faults err'.faults r) h r in record { opened = w.0; served = w.1 }
 drill_after false words turns meant status k k' s s' out out' err err' r h = tt

@@ -25,13 +25,13 @@ use Rattle.ssh_mux.specs.declared.ending.Ending.{Ending as MeantEnding}
 use Rattle.ssh_mux.specs.declared.ending.Ending.TheVariants as endings
 use Rattle.ssh_mux.specs.declared.status.Status.{Status}
 use Rattle.ssh_mux.specs.declared.status.Status.TheVariants as statuses
-use Rattle.ssh_mux.specs.Answers.{IsDue, IsWell, is_silent, may_show, may_open, may_share, reaches, touches}
+use Rattle.ssh_mux.specs.Answers.{IsDue, IsWell, has_no_line, may_show, may_open_wire, may_share, reaches, touches}
 use Rattle.ssh_mux.specs.Causes.{EndCause, FaultCause, OutCause}
 use Rattle.ssh_mux.specs.Commands.{RunsFor}
-use Rattle.ssh_mux.specs.Ending.{shown}
+use Rattle.ssh_mux.specs.Ending.{ending_shown}
 use Rattle.ssh_mux.specs.Err.{Reports, Ended, status_after}
 use Rattle.ssh_mux.specs.Out.{OutStays, OutTakes}
-use Rattle.ssh_mux.specs.Outcomes.{Known, Certain, Listing, Master, Client, asks, drills, opens}
+use Rattle.ssh_mux.specs.Outcomes.{KnownCommand, Certain, Listing, Master, Client, may_ask_master, drills, opens}
 use Rattle.ssh_mux.specs.Master.{ends_sharing}
 use Rattle.ssh_mux.specs.Places.{EndPlace}
 use Rattle.ssh_mux.specs.Sharing.{CallsEnd, CameFor, IdleCause, IsShareServed, IsShared, OpensOnce, Serves, Shares, StartCause, RecordsEnd, WaitsFor, WireCause}
@@ -61,35 +61,35 @@ carried P status ending (inr e) memory held = subst P (sym e) held
 
 -- ---- how it ended
 
-quiet : (status : Status) (ending : Ending) → is_silent status ≡ true → (status ≡ statuses.Memory) ⊎ (status ≡ status_of ending) → ⊥
-quiet status ending silent (inl e) = let k : is_silent statuses.Memory ≡ true = subst (λ (s : Status). is_silent s ≡ true) e silent in absurd cc
-quiet status ending silent (inr e) = let k : is_silent (status_of ending) ≡ true = subst (λ (s : Status). is_silent s ≡ true) e silent in let l = loud ending in absurd cc
+quiet : (status : Status) (ending : Ending) → has_no_line status ≡ true → (status ≡ statuses.Memory) ⊎ (status ≡ status_of ending) → ⊥
+quiet status ending silent (inl e) = let k : has_no_line statuses.Memory ≡ true = subst (λ (s : Status). has_no_line s ≡ true) e silent in absurd cc
+quiet status ending silent (inr e) = let k : has_no_line (status_of ending) ≡ true = subst (λ (s : Status). has_no_line s ≡ true) e silent in let l = loud ending in absurd cc
 
-pub ended : (k : Known) (recorded : Option Recorded) (status : Status) (ending : Ending) (before after : World) → IsDue k ending → EndCause ending before.files.faults after.files.faults before.commands.faults after.commands.faults → EndPlace recorded ending before.commands.ran after.commands.ran before.files.failed after.files.failed → Reports status ending before.err.recorded after.err.recorded before.err.faults after.err.faults
+pub ended : (k : KnownCommand) (recorded : Option Recorded) (status : Status) (ending : Ending) (before after : World) → IsDue k ending → EndCause ending before.files.faults after.files.faults before.commands.faults after.commands.faults → EndPlace recorded ending before.commands.ran after.commands.ran before.files.failed after.files.failed → Reports status ending before.err.recorded after.err.recorded before.err.faults after.err.faults
     → Ended k recorded status before after
 ended k recorded statuses.Done ending before after due cause place r = absurd (quiet statuses.Done ending refl (reported statuses.Done ending before.err.recorded after.err.recorded before.err.faults after.err.faults r))
 ended k recorded statuses.Write ending before after due cause place r = absurd (quiet statuses.Write ending refl (reported statuses.Write ending before.err.recorded after.err.recorded before.err.faults after.err.faults r))
 ended k recorded status ending before after due cause place r = record { ending = ending; is_due = due; reported = r; cause = cause; place = place }
 
 -- without a line
-pub ended-well : (k : Known) (recorded : Option Recorded) (status : Status) (before after : World) → after.err.recorded ≡ before.err.recorded → IsWell k status → Ended k recorded status before after
+pub ended-well : (k : KnownCommand) (recorded : Option Recorded) (status : Status) (before after : World) → after.err.recorded ≡ before.err.recorded → IsWell k status → Ended k recorded status before after
 ended-well k recorded statuses.Done before after e h = (h, e)
 ended-well k recorded statuses.Write before after e h = (h, e)
 ended-well k recorded status before after e h = absurd h
 
-pub well-cause : (k : Known) (status : Status) (f f' r r' : ℕ) → IsWell k status → (f' ≡ f) × (r' ≡ r) → FaultCause status f f' r r'
+pub well-cause : (k : KnownCommand) (status : Status) (f f' r r' : ℕ) → IsWell k status → (f' ≡ f) × (r' ≡ r) → FaultCause status f f' r r'
 well-cause k statuses.Done f f' r r' w h = h
 well-cause k statuses.Write f f' r r' w h = h
 well-cause k status f f' r r' w h = absurd w
 
 -- a status with a line says nothing of what takes none
-pub recorded_after : (P : Type 0) (status : Status) (ending : Ending) (b n : Option (List ℕ)) (f f' : ℕ) → Reports status ending b n f f' → OnTrue (is_silent status) P
-recorded_after P status ending b n f f' r = carried (λ s. OnTrue (is_silent s) P) status ending (reported status ending b n f f' r) tt (not_true (is_silent (status_of ending)) P (loud ending))
+pub recorded_after : (P : Type 0) (status : Status) (ending : Ending) (b n : Option (List ℕ)) (f f' : ℕ) → Reports status ending b n f f' → OnTrue (has_no_line status) P
+recorded_after P status ending b n f f' r = carried (λ s. OnTrue (has_no_line s) P) status ending (reported status ending b n f f' r) tt (not_true (has_no_line (status_of ending)) P (loud ending))
 
 -- ---- what else holds of it
 
 -- what wasn't written stays so if memory runs out, and a client's output is another clause's
-unwritten-stays : (status : Status) (k : Known) (before now : Option (List ℕ)) → OutStays status k before now → OutStays statuses.Memory k before now
+unwritten-stays : (status : Status) (k : KnownCommand) (before now : Option (List ℕ)) → OutStays status k before now → OutStays statuses.Memory k before now
 unwritten-stays status (Certain (Joins control asked what)) before now t = tt
 unwritten-stays status (Client asked what) before now t = tt
 unwritten-stays status (Certain (Ends due)) before now t = t
@@ -99,16 +99,16 @@ unwritten-stays status (Certain (Drills seed clients messages)) before now t = t
 unwritten-stays status Listing before now t = t
 unwritten-stays status (Master transport ps) before now t = t
 
-unwritten : (status : Status) (k : Known) (before now : Option (List ℕ)) → is_silent status ≡ false → OutTakes status k before now → OutTakes statuses.Memory k before now
+unwritten : (status : Status) (k : KnownCommand) (before now : Option (List ℕ)) → has_no_line status ≡ false → OutTakes status k before now → OutTakes statuses.Memory k before now
 unwritten statuses.Done k before now e t = absurd cc
 unwritten statuses.Write k before now e t = absurd cc
 unwritten status k before now e t = unwritten-stays status k before now t
 
-pub out_after : (k : Known) (status : Status) (ending : Ending) (b n : Option (List ℕ)) (f f' : ℕ) (before now : Option (List ℕ)) → Reports status ending b n f f' → OutTakes (status_of ending) k before now → OutTakes status k before now
+pub out_after : (k : KnownCommand) (status : Status) (ending : Ending) (b n : Option (List ℕ)) (f f' : ℕ) (before now : Option (List ℕ)) → Reports status ending b n f f' → OutTakes (status_of ending) k before now → OutTakes status k before now
 out_after k status ending b n f f' before now r t = carried (λ s. OutTakes s k before now) status ending (reported status ending b n f f' r) (unwritten (status_of ending) k before now (loud ending) t) t
 
 -- what stays where nothing may have been written
-pub untouched_after : (k : Known) (P : Type 0) (status : Status) (ending : Ending) (b n : Option (List ℕ)) (f f' : ℕ) → Reports status ending b n f f' → OnFalse (may_show k (status_of ending)) P → OnFalse (may_show k status) P
+pub untouched_after : (k : KnownCommand) (P : Type 0) (status : Status) (ending : Ending) (b n : Option (List ℕ)) (f f' : ℕ) → Reports status ending b n f f' → OnFalse (may_show k (status_of ending)) P → OnFalse (may_show k status) P
 untouched_after k P status ending b n f f' r h = carried (λ s. OnFalse (may_show k s) P) status ending (reported status ending b n f f' r) tt h
 
 pub fault_after : (status : Status) (ending : Ending) (b n : Option (List ℕ)) (f f' files files' runner runner' : ℕ) → Reports status ending b n f f' → EndCause ending files files' runner runner' → FaultCause status files files' runner runner'
@@ -119,7 +119,7 @@ fault_after status ending b n f f' files files' runner runner' r c =
 pub runs_after : (commands : Option (List Bytes)) (status : Status) (ending : Ending) (b n : Option (List ℕ)) (f f' : ℕ) (before now : Option (List Bytes)) → Reports status ending b n f f' → RunsFor commands (status_of ending) before now → RunsFor commands status before now
 runs_after commands status ending b n f f' before now r h = carried (λ s. RunsFor commands s before now) status ending (reported status ending b n f f' r) (runs-starved commands (status_of ending) before now h) h
 
-unraised : (status : Status) (before now : ℕ) → is_silent status ≡ false → OutCause status before now → now ≡ before
+unraised : (status : Status) (before now : ℕ) → has_no_line status ≡ false → OutCause status before now → now ≡ before
 unraised statuses.Write before now e c = absurd cc
 unraised status before now e c = c
 
@@ -128,7 +128,7 @@ sink_after status ending b n f f' before now r c = carried (λ s. OutCause s bef
 
 -- ---- the wire
 
-unopened : (k : Known) (status : Status) (before now : Option (List OpenCall)) → OpensOnce k status before now → OpensOnce k statuses.Memory before now
+unopened : (k : KnownCommand) (status : Status) (before now : Option (List OpenCall)) → OpensOnce k status before now → OpensOnce k statuses.Memory before now
 unopened (Certain (Opens control transport ps)) statuses.Memory before now h = h
 unopened (Certain (Opens control transport ps)) statuses.Outside before now h = inl h
 unopened (Certain (Opens control transport ps)) status before now h = inr h
@@ -143,7 +143,7 @@ unopened (Master transport ps) statuses.Config before now h = inl h
 unopened (Master transport ps) statuses.Outside before now h = inl h
 unopened (Master transport ps) status before now h = inr h
 
-pub opened_after : (k : Known) (status : Status) (ending : Ending) (b n : Option (List ℕ)) (f f' : ℕ) (before now : Option (List OpenCall)) → Reports status ending b n f f' → OpensOnce k (status_of ending) before now → OpensOnce k status before now
+pub opened_after : (k : KnownCommand) (status : Status) (ending : Ending) (b n : Option (List ℕ)) (f f' : ℕ) (before now : Option (List OpenCall)) → Reports status ending b n f f' → OpensOnce k (status_of ending) before now → OpensOnce k status before now
 opened_after k status ending b n f f' before now r h = carried (λ s. OpensOnce k s before now) status ending (reported status ending b n f f' r) (unopened k (status_of ending) before now h) h
 
 module _ (May : HouseReply → Type 0) (Rest : Resting) (stands : List HouseCall → Type 0) (last : HouseState) (policy : Policy) (pid turns : ℕ) (before now : Option (List HouseMark)) (start : Option (List Mark)) (seen : Seen) (refused : Option ℕ) (b n : Option (List ℕ)) (f f' : ℕ) where
@@ -154,10 +154,10 @@ module _ (May : HouseReply → Type 0) (Rest : Resting) (stands : List HouseCall
   Shared result = Shares May Rest stands last policy pid turns before now start seen refused result
 
   -- an end with the line that was handed over
-  with-line : (meant : MeantEnding) (status : Status) → IsShared May Rest stands last policy pid turns before now start seen refused (Err meant) → Reports status (shown meant) b n f f' → IsShareServed May Rest stands last policy pid turns before now start seen refused status b n f f'
+  with-line : (meant : MeantEnding) (status : Status) → IsShared May Rest stands last policy pid turns before now start seen refused (Err meant) → Reports status (ending_shown meant) b n f f' → IsShareServed May Rest stands last policy pid turns before now start seen refused status b n f f'
   with-line meant status h r = record { answer = h.answer; run = h.run; line = subst (λ x. RecordsEnd x status b n f f') h.is_recorded r }
 
-  memory-serves : (meant : MeantEnding) → Shared (Err meant) → Reports statuses.Memory (shown meant) b n f f' → Served statuses.Memory
+  memory-serves : (meant : MeantEnding) → Shared (Err meant) → Reports statuses.Memory (ending_shown meant) b n f f' → Served statuses.Memory
   memory-serves endings.NotOpened h r = inl h
   memory-serves endings.NoMemory (inl h) r = inl h
   memory-serves endings.NoMemory (inr h) r = inr (with-line endings.NoMemory statuses.Memory h r)
@@ -177,7 +177,7 @@ module _ (May : HouseReply → Type 0) (Rest : Resting) (stands : List HouseCall
       by_end answers.Spent t = let m : meant ≡ endings.TurnsSpent = cc in let z : ends_sharing meant ≡ true = ap ends_sharing m in absurd cc
       by_end answers.OutOfMemory t = let m : meant ≡ endings.NoMemory = cc in let z : ends_sharing meant ≡ true = ap ends_sharing m in absurd cc
 
-  own-serves : (meant : MeantEnding) → Shared (Err meant) → Reports (status_of (shown meant)) (shown meant) b n f f' → Served (status_of (shown meant))
+  own-serves : (meant : MeantEnding) → Shared (Err meant) → Reports (status_of (ending_shown meant)) (ending_shown meant) b n f f' → Served (status_of (ending_shown meant))
   own-serves endings.NotOpened h r = h
   own-serves endings.NoMemory h r = memory-serves endings.NoMemory h r
   own-serves endings.TransportFailed h r = with-line endings.TransportFailed statuses.Transport h r
@@ -199,21 +199,21 @@ module _ (May : HouseReply → Type 0) (Rest : Starts → Resting) (last : House
   SharedSo result = Begun here by (λ starts. Shares May (Rest starts) (BeganWith starts) last policy pid turns before now start seen refused result)
 
   -- a wire that wasn't touched is served by no client
-  memory-by : (opened shares drilled asked : Bool) (meant : MeantEnding) → OnTrue (opened && shares) (SharedSo (Err meant)) → OnFalse ((opened && (shares || drilled)) || (opened && asked)) (seen.recorded ≡ start) → OnFalse (opened && shares) (now ≡ before) → Reports statuses.Memory (shown meant) b n f f' → OnTrue shares (ServedSo statuses.Memory)
+  memory-by : (opened shares drilled asked : Bool) (meant : MeantEnding) → OnTrue (opened && shares) (SharedSo (Err meant)) → OnFalse ((opened && (shares || drilled)) || (opened && asked)) (seen.recorded ≡ start) → OnFalse (opened && shares) (now ≡ before) → Reports statuses.Memory (ending_shown meant) b n f f' → OnTrue shares (ServedSo statuses.Memory)
   memory-by opened false drilled asked meant h w g r = tt
   memory-by true true drilled asked meant h w g r = record { starts = h.starts; permitted = h.permitted; due = h.due; so = memory-serves May (Rest h.starts) (BeganWith h.starts) last policy pid turns before now start seen refused b n f f' meant h.so r }
   memory-by false true drilled asked meant h w g r = some-begun here by (λ starts. Serves May (Rest starts) (BeganWith starts) last policy pid turns before now start seen refused statuses.Memory b n f f') (λ starts. inl (record { same_wire = w; same_house = g }))
 
-  own-by : (b' : Bool) (meant : MeantEnding) → OnTrue b' (SharedSo (Err meant)) → Reports (status_of (shown meant)) (shown meant) b n f f' → OnTrue b' (ServedSo (status_of (shown meant)))
+  own-by : (b' : Bool) (meant : MeantEnding) → OnTrue b' (SharedSo (Err meant)) → Reports (status_of (ending_shown meant)) (ending_shown meant) b n f f' → OnTrue b' (ServedSo (status_of (ending_shown meant)))
   own-by false meant h r = tt
   own-by true meant h r = record { starts = h.starts; permitted = h.permitted; due = h.due; so = own-serves May (Rest h.starts) (BeganWith h.starts) last policy pid turns before now start seen refused b n f f' meant h.so r }
 
-  shared-by : (k : Known) (status : Status) (meant : MeantEnding) → (status ≡ statuses.Memory) ⊎ (status ≡ status_of (shown meant)) → Reports status (shown meant) b n f f' → OnTrue (may_share k (status_of (shown meant))) (SharedSo (Err meant)) → OnFalse (reaches k (status_of (shown meant))) (seen.recorded ≡ start) → OnFalse (may_share k (status_of (shown meant))) (now ≡ before) → OnTrue (may_share k status) (ServedSo status)
-  shared-by k status meant (inl e) r h w g = subst (λ s. OnTrue (may_share k s) (ServedSo s)) (sym e) (memory-by (may_open (status_of (shown meant))) (opens k) (drills k) (asks k) meant h w g (subst (λ s. Reports s (shown meant) b n f f') e r))
-  shared-by k status meant (inr e) r h w g = subst (λ s. OnTrue (may_share k s) (ServedSo s)) (sym e) (own-by (may_share k (status_of (shown meant))) meant h (subst (λ s. Reports s (shown meant) b n f f') e r))
+  shared-by : (k : KnownCommand) (status : Status) (meant : MeantEnding) → (status ≡ statuses.Memory) ⊎ (status ≡ status_of (ending_shown meant)) → Reports status (ending_shown meant) b n f f' → OnTrue (may_share k (status_of (ending_shown meant))) (SharedSo (Err meant)) → OnFalse (reaches k (status_of (ending_shown meant))) (seen.recorded ≡ start) → OnFalse (may_share k (status_of (ending_shown meant))) (now ≡ before) → OnTrue (may_share k status) (ServedSo status)
+  shared-by k status meant (inl e) r h w g = subst (λ s. OnTrue (may_share k s) (ServedSo s)) (sym e) (memory-by (may_open_wire (status_of (ending_shown meant))) (opens k) (drills k) (may_ask_master k) meant h w g (subst (λ s. Reports s (ending_shown meant) b n f f') e r))
+  shared-by k status meant (inr e) r h w g = subst (λ s. OnTrue (may_share k s) (ServedSo s)) (sym e) (own-by (may_share k (status_of (ending_shown meant))) meant h (subst (λ s. Reports s (ending_shown meant) b n f f') e r))
 
-  pub shared_after : (k : Known) (status : Status) (meant : MeantEnding) → Reports status (shown meant) b n f f' → OnTrue (may_share k (status_of (shown meant))) (SharedSo (Err meant)) → OnFalse (reaches k (status_of (shown meant))) (seen.recorded ≡ start) → OnFalse (may_share k (status_of (shown meant))) (now ≡ before) → OnTrue (may_share k status) (ServedSo status)
-  shared_after k status meant r h w g = shared-by k status meant (reported status (shown meant) b n f f' r) r h w g
+  pub shared_after : (k : KnownCommand) (status : Status) (meant : MeantEnding) → Reports status (ending_shown meant) b n f f' → OnTrue (may_share k (status_of (ending_shown meant))) (SharedSo (Err meant)) → OnFalse (reaches k (status_of (ending_shown meant))) (seen.recorded ≡ start) → OnFalse (may_share k (status_of (ending_shown meant))) (now ≡ before) → OnTrue (may_share k status) (ServedSo status)
+  shared_after k status meant r h w g = shared-by k status meant (reported status (ending_shown meant) b n f f' r) r h w g
 
 -- an end without a line
 done-is : (status : Status) (x : Rattle.mux_history.specs.declared.ended.Ended.Ended) → Ok status ≡ recorded_as x → status ≡ statuses.Done
@@ -243,22 +243,22 @@ pub on-memory : (b : Bool) → OnTrue b Unit
 on-memory true = tt
 on-memory false = tt
 
-pub wire_after : (k : Known) (status : Status) (ending : Ending) (b n : Option (List ℕ)) (f f' : ℕ) (w w' : Faults) → Reports status ending b n f f' → OnTrue (touches k (status_of ending)) (WireCause (status_of ending) w w') → OnTrue (touches k status) (WireCause status w w')
+pub wire_after : (k : KnownCommand) (status : Status) (ending : Ending) (b n : Option (List ℕ)) (f f' : ℕ) (w w' : Faults) → Reports status ending b n f f' → OnTrue (touches k (status_of ending)) (WireCause (status_of ending) w w') → OnTrue (touches k status) (WireCause status w w')
 wire_after k status ending b n f f' w w' r h = carried (λ x. OnTrue (touches k x) (WireCause x w w')) status ending (reported status ending b n f f' r) (on-memory (opens k || drills k)) h
 
-pub came_after : (k : Known) (status : Status) (ending : Ending) (b n : Option (List ℕ)) (f f' : ℕ) (old calls : CallCounts) → Reports status ending b n f f' → OnTrue (touches k (status_of ending)) (CameFor (status_of ending) old calls) → OnTrue (touches k status) (CameFor status old calls)
+pub came_after : (k : KnownCommand) (status : Status) (ending : Ending) (b n : Option (List ℕ)) (f f' : ℕ) (old calls : CallCounts) → Reports status ending b n f f' → OnTrue (touches k (status_of ending)) (CameFor (status_of ending) old calls) → OnTrue (touches k status) (CameFor status old calls)
 came_after k status ending b n f f' old calls r h = carried (λ x. OnTrue (touches k x) (CameFor x old calls)) status ending (reported status ending b n f f' r) on-memory-of h
   where
     on-memory-of : OnTrue (opens k || drills k) (CameFor statuses.Memory old calls)
     on-memory-of = on-memory (opens k || drills k)
 
-pub start_after : (k : Known) (status : Status) (ending : Ending) (b n : Option (List ℕ)) (f f' : ℕ) (refused : Option ℕ) → Reports status ending b n f f' → OnTrue (may_share k (status_of ending)) (StartCause (status_of ending) refused) → OnTrue (may_share k status) (StartCause status refused)
+pub start_after : (k : KnownCommand) (status : Status) (ending : Ending) (b n : Option (List ℕ)) (f f' : ℕ) (refused : Option ℕ) → Reports status ending b n f f' → OnTrue (may_share k (status_of ending)) (StartCause (status_of ending) refused) → OnTrue (may_share k status) (StartCause status refused)
 start_after k status ending b n f f' refused r h = carried (λ x. OnTrue (may_share k x) (StartCause x refused)) status ending (reported status ending b n f f' r) (on-memory (opens k)) h
 
-pub must_after : (k : Known) (due : Option Bool) (must : Bool) (status : Status) (ending : Ending) (b n : Option (List ℕ)) (f f' : ℕ) → Reports status ending b n f f' → OnTrue (may_share k (status_of ending)) (MustsAs (status_of ending) due must) → OnTrue (may_share k status) (MustsAs status due must)
+pub must_after : (k : KnownCommand) (due : Option Bool) (must : Bool) (status : Status) (ending : Ending) (b n : Option (List ℕ)) (f f' : ℕ) → Reports status ending b n f f' → OnTrue (may_share k (status_of ending)) (MustsAs (status_of ending) due must) → OnTrue (may_share k status) (MustsAs status due must)
 must_after k due must status ending b n f f' r h = carried (λ x. OnTrue (may_share k x) (MustsAs x due must)) status ending (reported status ending b n f f' r) (on-memory (opens k)) h
 
-pub waits_after : (k : Known) (turns : ℕ) (status : Status) (ending : Ending) (b n : Option (List ℕ)) (f f' : ℕ) (old calls : CallCounts) → Reports status ending b n f f' → OnTrue (touches k (status_of ending)) (WaitsFor turns (status_of ending) old calls) → OnTrue (touches k status) (WaitsFor turns status old calls)
+pub waits_after : (k : KnownCommand) (turns : ℕ) (status : Status) (ending : Ending) (b n : Option (List ℕ)) (f f' : ℕ) (old calls : CallCounts) → Reports status ending b n f f' → OnTrue (touches k (status_of ending)) (WaitsFor turns (status_of ending) old calls) → OnTrue (touches k status) (WaitsFor turns status old calls)
 waits_after k turns status ending b n f f' old calls r h = carried (λ x. OnTrue (touches k x) (WaitsFor turns x old calls)) status ending (reported status ending b n f f' r) (on-memory (opens k || drills k)) h
 
 pub idle_after : (status : Status) (ending : Ending) (b n : Option (List ℕ)) (f f' : ℕ) (w w' : Faults) → Reports status ending b n f f' → IdleCause (status_of ending) w w' → IdleCause status w w'
@@ -270,8 +270,8 @@ unshared false true P h = tt
 unshared false false P h = h
 
 -- what stays where nothing may have been opened; `shares` says whether something may be
-pub stays_after : (shares : Bool) (P : Type 0) (status : Status) (ending : Ending) (b n : Option (List ℕ)) (f f' : ℕ) → Reports status ending b n f f' → OnFalse (may_open (status_of ending) && shares) P → OnFalse (may_open status && shares) P
-stays_after shares P status ending b n f f' r h = carried (λ s. OnFalse (may_open s && shares) P) status ending (reported status ending b n f f' r) (unshared (may_open (status_of ending)) shares P h) h
+pub stays_after : (shares : Bool) (P : Type 0) (status : Status) (ending : Ending) (b n : Option (List ℕ)) (f f' : ℕ) → Reports status ending b n f f' → OnFalse (may_open_wire (status_of ending) && shares) P → OnFalse (may_open_wire status && shares) P
+stays_after shares P status ending b n f f' r h = carried (λ s. OnFalse (may_open_wire s && shares) P) status ending (reported status ending b n f f' r) (unshared (may_open_wire (status_of ending)) shares P h) h
 
 unreached : (opened a b : Bool) (P : Type 0) → OnFalse ((opened && a) || (opened && b)) P → OnFalse (a || b) P
 unreached true a b P h = h
@@ -280,8 +280,8 @@ unreached false false true P h = tt
 unreached false false false P h = h
 
 -- the same of the wire
-pub wire_stays_after : (k : Known) (P : Type 0) (status : Status) (ending : Ending) (b n : Option (List ℕ)) (f f' : ℕ) → Reports status ending b n f f' → OnFalse (reaches k (status_of ending)) P → OnFalse (reaches k status) P
-wire_stays_after k P status ending b n f f' r h = carried (λ s. OnFalse (reaches k s) P) status ending (reported status ending b n f f' r) (unreached (may_open (status_of ending)) (opens k || drills k) (asks k) P h) h
+pub wire_stays_after : (k : KnownCommand) (P : Type 0) (status : Status) (ending : Ending) (b n : Option (List ℕ)) (f f' : ℕ) → Reports status ending b n f f' → OnFalse (reaches k (status_of ending)) P → OnFalse (reaches k status) P
+wire_stays_after k P status ending b n f f' r h = carried (λ s. OnFalse (reaches k s) P) status ending (reported status ending b n f f' r) (unreached (may_open_wire (status_of ending)) (opens k || drills k) (may_ask_master k) P h) h
 
 -- what is recorded of what stays
 pub same_recorded : {X Y : Type 0} (b : Bool) (recorded : X → Y) (before now : X) → OnFalse b (now ≡ before) → OnFalse b (recorded now ≡ recorded before)

@@ -12,7 +12,7 @@ use Rattle.conf_rules.specs.declared.causes.ResolveError.TheVariants as errors
 use Rattle.conf_rules.specs.Diagnostics.{Ending, BadLine, BadListing, NoControlPath}
 use Rattle.conf_rules.specs.Listing.{listing_over, control_path_at}
 use Rattle.conf_rules.specs.CommandOutcome.{CommandOutcome, Ends, recorded_of, listed_end, opened_end, joined_end, unrefused, Machine}
-use Rattle.conf_rules.specs.Resolution.{all_rows, refusal_in, refusal}
+use Rattle.conf_rules.specs.Resolution.{all_rows, refusal_in, first_refusal}
 use Rattle.conf_rules.specs.Rows.{LineRow}
 use Rattle.conf_rules.specs.Texts.{Bytes}
 use Rattle.conf_options.specs.Kept.{Given}
@@ -23,10 +23,10 @@ use Rattle.mux_outside.specs.declared.pairs.Pair.{Pair}
 use Rattle.mux_outside.specs.declared.statuses.CommandStatus.{CommandStatus}
 use Rattle.ssh_mux.specs.declared.status.Status.{Status}
 use Rattle.ssh_mux.specs.declared.status.Status.TheVariants as statuses
-use Rattle.ssh_mux.specs.Answers.{IsRunRefused, may_have_joined, may_open}
-use Rattle.ssh_mux.specs.Ending.{shown, refused_as, unlisted_as}
+use Rattle.ssh_mux.specs.Answers.{IsRunRefused, may_have_joined, may_open_wire}
+use Rattle.ssh_mux.specs.Ending.{ending_shown, refused_as, unlisted_as}
 use Rattle.ssh_mux.specs.Out.{OutTakes}
-use Rattle.ssh_mux.specs.Outcomes.{Certain, Client, machine, machine_of, of_command, joins_at, asks, looks, opens, drills, writes_out}
+use Rattle.ssh_mux.specs.Outcomes.{Certain, Client, machine, machine_of, of_command, joins_at, may_ask_master, looks, opens, drills, writes_out}
 use Rattle.ssh_mux.proofs.RefusalLemmas.{Promise, by-cause, kept, looks-rows, refused-rows, settled, shut-rows, undrilled-rows, unrefused-rows}
 use Rattle.conf_rules.specs.declared.command.Permissions.{Permissions}
 
@@ -64,27 +64,27 @@ client-undrilled (Some m) asked what = undrilled-rows (all_rows (recorded_of m a
 
 -- ---- who asks no running master
 
-unasked-rows : (rows : List LineRow) (x : CommandOutcome) → asks (Certain x) ≡ false → asks (Certain (unrefused rows x)) ≡ false
+unasked-rows : (rows : List LineRow) (x : CommandOutcome) → may_ask_master (Certain x) ≡ false → may_ask_master (Certain (unrefused rows x)) ≡ false
 unasked-rows rows x h = on (refusal_in rows) where
-  on : (r : Option ResolveError) → asks (Certain (elim r [ Some e ↦ Ends (BadLine e) | None ↦ x ])) ≡ false
+  on : (r : Option ResolveError) → may_ask_master (Certain (elim r [ Some e ↦ Ends (BadLine e) | None ↦ x ])) ≡ false
   on (Some e) = refl
   on None = h
 
-unasked-listed : (r : Result Bytes ListError) → asks (Certain (listed_end r)) ≡ false
+unasked-listed : (r : Result Bytes ListError) → may_ask_master (Certain (listed_end r)) ≡ false
 unasked-listed (Ok text) = refl
 unasked-listed (Err e) = refl
 
-unasked-opened : (transport : Bytes) (ps : Permissions) (r : Result (Option Bytes) ListError) → asks (Certain (opened_end transport ps r)) ≡ false
+unasked-opened : (transport : Bytes) (ps : Permissions) (r : Result (Option Bytes) ListError) → may_ask_master (Certain (opened_end transport ps r)) ≡ false
 unasked-opened transport ps (Ok (Some path)) = refl
 unasked-opened transport ps (Ok None) = refl
 unasked-opened transport ps (Err e) = refl
 
-pub list-unasked : (m : Option Machine) (asked : Asked) → asks (of_command m (commands.List asked)) ≡ false
+pub list-unasked : (m : Option Machine) (asked : Asked) → may_ask_master (of_command m (commands.List asked)) ≡ false
 unfolding of_command
 list-unasked None asked = refl
 list-unasked (Some m) asked = unasked-rows (all_rows (recorded_of m asked)) (listed_end (listing_over LISTING_ORDER (recorded_of m asked) (all_rows (recorded_of m asked)))) (unasked-listed (listing_over LISTING_ORDER (recorded_of m asked) (all_rows (recorded_of m asked))))
 
-pub master-unasked : (m : Option Machine) (asked : Asked) (transport : Bytes) (ps : Permissions) → asks (of_command m (commands.Master asked transport ps)) ≡ false
+pub master-unasked : (m : Option Machine) (asked : Asked) (transport : Bytes) (ps : Permissions) → may_ask_master (of_command m (commands.Master asked transport ps)) ≡ false
 unfolding of_command
 master-unasked None asked transport ps = refl
 master-unasked (Some m) asked transport ps = unasked-rows (all_rows (recorded_of m asked)) (opened_end transport ps (control_path_at (recorded_of m asked) (all_rows (recorded_of m asked)))) (unasked-opened transport ps (control_path_at (recorded_of m asked) (all_rows (recorded_of m asked))))
@@ -92,7 +92,7 @@ master-unasked (Some m) asked transport ps = unasked-rows (all_rows (recorded_of
 -- ---- what its output accepts
 
 -- where the wire may have been joined another clause says it
-ends-taken : (e : Ending) (status : Status) (before now : Option (List ℕ)) → OnFalse (may_open status && false) (now ≡ before) → OutTakes status (Certain (Ends e)) before now
+ends-taken : (e : Ending) (status : Status) (before now : Option (List ℕ)) → OnFalse (may_open_wire status && false) (now ≡ before) → OutTakes status (Certain (Ends e)) before now
 ends-taken e statuses.Done before now h = h
 ends-taken e statuses.Write before now h = h
 ends-taken e statuses.Usage before now h = h
@@ -107,7 +107,7 @@ ends-taken e statuses.StartRefused before now h = h
 ends-taken e statuses.Refused before now h = h
 ends-taken e statuses.BadMaster before now h = h
 
-joins-taken : (asked : Asked) (what : MasterCommand) (path : Bytes) (status : Status) (before now : Option (List ℕ)) → OnFalse (may_open status && true) (now ≡ before) → OutTakes status (Certain (joins_at asked what path)) before now
+joins-taken : (asked : Asked) (what : MasterCommand) (path : Bytes) (status : Status) (before now : Option (List ℕ)) → OnFalse (may_open_wire status && true) (now ≡ before) → OutTakes status (Certain (joins_at asked what path)) before now
 joins-taken asked what path statuses.Done before now h = tt
 joins-taken asked what path statuses.Write before now h = tt
 joins-taken asked what path statuses.Usage before now h = h
@@ -115,7 +115,7 @@ joins-taken asked what path statuses.Config before now h = h
 joins-taken asked what path statuses.Outside before now h = h
 joins-taken asked what path status before now h = tt
 
-some-taken : (asked : Asked) (what : MasterCommand) (status : Status) (before now : Option (List ℕ)) → OnFalse (may_open status && true) (now ≡ before) → OutTakes status (Client asked what) before now
+some-taken : (asked : Asked) (what : MasterCommand) (status : Status) (before now : Option (List ℕ)) → OnFalse (may_open_wire status && true) (now ≡ before) → OutTakes status (Client asked what) before now
 some-taken asked what statuses.Done before now h = tt
 some-taken asked what statuses.Write before now h = tt
 some-taken asked what statuses.Usage before now h = h
@@ -143,39 +143,39 @@ client-taken (Some m) asked what status before now h =
     rows-taken (all_rows recorded) (joined_end asked what path) status before now (end-taken asked what path status before now) h
 
 -- where nothing may be shown at all, as where the configuration is refused
-ends-unlisted : (asking : Bool) (status : Status) (P : Type 0) → OnFalse (may_open status && asking) P → OnFalse asking P
+ends-unlisted : (asking : Bool) (status : Status) (P : Type 0) → OnFalse (may_open_wire status && asking) P → OnFalse asking P
 ends-unlisted true status P h = tt
-ends-unlisted false status P h = closed-off (may_open status) h where
+ends-unlisted false status P h = closed-off (may_open_wire status) h where
   closed-off : (opened : Bool) → OnFalse (opened && false) P → P
   closed-off true h = h
   closed-off false h = h
 
-writes-joined : (asked : Asked) (what : MasterCommand) (r : Result (Option Bytes) ListError) → writes_out (Certain (joined_end asked what r)) ≡ asks (Certain (joined_end asked what r))
+writes-joined : (asked : Asked) (what : MasterCommand) (r : Result (Option Bytes) ListError) → writes_out (Certain (joined_end asked what r)) ≡ may_ask_master (Certain (joined_end asked what r))
 writes-joined asked what (Ok (Some path)) = refl
 writes-joined asked what (Ok None) = refl
 writes-joined asked what (Err e) = refl
 
-writes-rows : (rows : List LineRow) (x : CommandOutcome) → writes_out (Certain x) ≡ asks (Certain x) → writes_out (Certain (unrefused rows x)) ≡ asks (Certain (unrefused rows x))
+writes-rows : (rows : List LineRow) (x : CommandOutcome) → writes_out (Certain x) ≡ may_ask_master (Certain x) → writes_out (Certain (unrefused rows x)) ≡ may_ask_master (Certain (unrefused rows x))
 writes-rows rows x h = on (refusal_in rows) where
-  on : (r : Option ResolveError) → writes_out (Certain (elim r [ Some e ↦ Ends (BadLine e) | None ↦ x ])) ≡ asks (Certain (elim r [ Some e ↦ Ends (BadLine e) | None ↦ x ]))
+  on : (r : Option ResolveError) → writes_out (Certain (elim r [ Some e ↦ Ends (BadLine e) | None ↦ x ])) ≡ may_ask_master (Certain (elim r [ Some e ↦ Ends (BadLine e) | None ↦ x ]))
   on (Some e) = refl
   on None = h
 
-client-writes : (m : Option Machine) (asked : Asked) (what : MasterCommand) → writes_out (of_command m (commands.Control asked what)) ≡ asks (of_command m (commands.Control asked what))
+client-writes : (m : Option Machine) (asked : Asked) (what : MasterCommand) → writes_out (of_command m (commands.Control asked what)) ≡ may_ask_master (of_command m (commands.Control asked what))
 unfolding of_command
 client-writes None asked what = refl
 client-writes (Some m) asked what = writes-rows (all_rows (recorded_of m asked)) (joined_end asked what (control_path_at (recorded_of m asked) (all_rows (recorded_of m asked)))) (writes-joined asked what (control_path_at (recorded_of m asked) (all_rows (recorded_of m asked))))
 
 pub unlisted-client : (m : Option Machine) (asked : Asked) (what : MasterCommand) (status : Status) (P : Type 0) → OnFalse (may_have_joined (of_command m (commands.Control asked what)) status) P → OnFalse (writes_out (of_command m (commands.Control asked what))) P
-unlisted-client m asked what status P h = subst (λ b. OnFalse b P) (sym (client-writes m asked what)) (ends-unlisted (asks (of_command m (commands.Control asked what))) status P h)
+unlisted-client m asked what status P h = subst (λ b. OnFalse b P) (sym (client-writes m asked what)) (ends-unlisted (may_ask_master (of_command m (commands.Control asked what))) status P h)
 
 -- ---- the control path of a client
 
-refused-client : (asked : Asked) (what : MasterCommand) (e : ResolveError) → IsRunRefused (Client asked what) (shown (refused_as e))
+refused-client : (asked : Asked) (what : MasterCommand) (e : ResolveError) → IsRunRefused (Client asked what) (ending_shown (refused_as e))
 refused-client asked what errors.OutOfMemory = tt
 refused-client asked what (errors.At file line cause) = by-cause (Client asked what) file line cause refl (λ plain. refl)
 
-pub client-refused : (files : Option (List Pair)) (statuses : Option (List CommandStatus)) (facts : Facts) (asked : Asked) (what : MasterCommand) (e : ResolveError) → Promise files statuses facts asked (λ recorded. Resolved recorded (Err e)) → IsRunRefused (of_command (machine files statuses facts) (commands.Control asked what)) (shown (refused_as e))
+pub client-refused : (files : Option (List Pair)) (statuses : Option (List CommandStatus)) (facts : Facts) (asked : Asked) (what : MasterCommand) (e : ResolveError) → Promise files statuses facts asked (λ recorded. Resolved recorded (Err e)) → IsRunRefused (of_command (machine files statuses facts) (commands.Control asked what)) (ending_shown (refused_as e))
 unfolding of_command machine
 client-refused None statuses facts asked what e h = refused-client asked what e
 client-refused (Some files) None facts asked what e h = refused-client asked what e
@@ -188,7 +188,7 @@ path-is : (files : List Pair) (statuses : List CommandStatus) (facts : Facts) (a
     → unrefused (all_rows (recorded_of (machine_of files statuses facts) asked)) (joined_end asked what (control_path_at (recorded_of (machine_of files statuses facts) asked) (all_rows (recorded_of (machine_of files statuses facts) asked)))) ≡ joined_end asked what r
 path-is files statuses facts asked what settings r h is =
     let recorded = recorded_of (machine_of files statuses facts) asked in
-    let none : refusal recorded ≡ None = (kept files statuses facts asked (λ t. Resolved t (Ok settings)) h).0 in
+    let none : first_refusal recorded ≡ None = (kept files statuses facts asked (λ t. Resolved t (Ok settings)) h).0 in
     unrefused-rows (all_rows recorded) (joined_end asked what (control_path_at recorded (all_rows recorded))) none ∙ ap (joined_end asked what) is
 
 pub client-found : (files : Option (List Pair)) (statuses : Option (List CommandStatus)) (facts : Facts) (asked : Asked) (what : MasterCommand) (settings : List Given) (path : Bytes) → Promise files statuses facts asked (λ recorded. Resolved recorded (Ok settings)) → HasControlPath (Ok (Some path)) settings asked.original facts → (of_command (machine files statuses facts) (commands.Control asked what) ≡ Certain (joins_at asked what path)) ⊎ (of_command (machine files statuses facts) (commands.Control asked what) ≡ Client asked what)
@@ -207,7 +207,7 @@ client-unset (Some files) (Some statuses) facts asked what settings h p =
     let recorded = recorded_of (machine_of files statuses facts) asked in
     subst (λ o. IsRunRefused (Certain o) NoControlPath) (sym (path-is files statuses facts asked what settings (Ok None) h (p recorded (all_rows recorded) (settled files statuses facts asked settings h)))) refl
 
-pub client-unlisted : (files : Option (List Pair)) (statuses : Option (List CommandStatus)) (facts : Facts) (asked : Asked) (what : MasterCommand) (settings : List Given) (e : ListError) → Promise files statuses facts asked (λ recorded. Resolved recorded (Ok settings)) → HasControlPath (Err e) settings asked.original facts → IsRunRefused (of_command (machine files statuses facts) (commands.Control asked what)) (shown (unlisted_as e))
+pub client-unlisted : (files : Option (List Pair)) (statuses : Option (List CommandStatus)) (facts : Facts) (asked : Asked) (what : MasterCommand) (settings : List Given) (e : ListError) → Promise files statuses facts asked (λ recorded. Resolved recorded (Ok settings)) → HasControlPath (Err e) settings asked.original facts → IsRunRefused (of_command (machine files statuses facts) (commands.Control asked what)) (ending_shown (unlisted_as e))
 unfolding of_command machine
 client-unlisted files statuses facts asked what settings list_errors.OutOfMemory h p = tt
 client-unlisted None statuses facts asked what settings (list_errors.Token key error) h p = refl

@@ -17,7 +17,7 @@ use Rattle.ssh_mux.specs.declared.status.Status.{Status}
 use Rattle.ssh_mux.specs.declared.status.Status.TheVariants as statuses
 use Rattle.ssh_mux.specs.Answers.{so_far}
 use Rattle.ssh_mux.specs.Causes.{OutCause}
-use Rattle.ssh_mux.specs.Client.{Converses, JoinsAt, TalkCounts, TalksFor, joined, talk_recorded}
+use Rattle.ssh_mux.specs.Client.{Converses, JoinsAt, TalkCounts, TalksFor, with_joined, talk_recorded}
 use Rattle.ssh_mux.specs.Sharing.{CallsEnd, IdleCause, WireCause}
 use Rattle.ssh_mux.proofs.StillLemmas.{still-calls, still-idle}
 
@@ -92,7 +92,7 @@ module _ (turns : ℕ) (control : Bytes) (old new : WireState) (f f' : Faults) w
 
 -- ---- what else follows from the end of a talk
 
-pub joins_end : (talked : Talked) (control : Bytes) (before now : Option (List Bytes)) → now ≡ joined control before → JoinsAt control (so_far (talk_recorded talked)) before now
+pub joins_end : (talked : Talked) (control : Bytes) (before now : Option (List Bytes)) → now ≡ with_joined control before → JoinsAt control (so_far (talk_recorded talked)) before now
 joins_end talks.Done control before now e = e
 joins_end (talks.Refused id) control before now e = e
 joins_end (talks.BadMaster at) control before now e = e

@@ -11,12 +11,12 @@ use Rattle.ssh_mux.specs.declared.ending.Ending.TheVariants as endings
 use Rattle.ssh_mux.specs.declared.status.Status.{Status}
 use Rattle.ssh_mux.specs.declared.status.Status.TheVariants as statuses
 use Rattle.ssh_mux.specs.Answers.{IsDue, IsWell, Comes, may_write, so_far}
-use Rattle.ssh_mux.specs.Ending.{shown}
+use Rattle.ssh_mux.specs.Ending.{ending_shown}
 use Rattle.ssh_mux.specs.Out.{HandsOver, OutTakes}
-use Rattle.ssh_mux.specs.Outcomes.{Known, Certain, Listing, writes_out}
+use Rattle.ssh_mux.specs.Outcomes.{KnownCommand, Certain, Listing, writes_out}
 
 -- what was found of a listing
-abbrev pub IsListing : Known → Bytes → Type 0
+abbrev pub IsListing : KnownCommand → Bytes → Type 0
 IsListing k text = (k ≡ Certain (Writes text)) ⊎ (k ≡ Listing)
 
 well : (text : Bytes) (status : Status) → IsWell (Certain (Writes text)) status → IsWell Listing status
@@ -32,7 +32,7 @@ due text ending h = absurd h
 
 some-comes : (text : Bytes) (result : Result Status MeantEnding) → Comes (Certain (Writes text)) result → Comes Listing result
 some-comes text (Ok status) h = well text status h
-some-comes text (Err ending) h = due text (shown ending) h
+some-comes text (Err ending) h = due text (ending_shown ending) h
 
 some-taken : (text : Bytes) (status : Status) (before now : Option (List ℕ)) → OutTakes status (Certain (Writes text)) before now → OutTakes status Listing before now
 some-taken text statuses.Done before now h = tt
@@ -61,14 +61,14 @@ handed-tried text (Ok status) before now h = absurd h
 handed-tried text (Err endings.NoMemory) before now h = refl
 handed-tried text (Err ending) before now h = absurd h
 
-pub list-comes : (k : Known) (text : Bytes) (result : Result Status MeantEnding) → IsListing k text → Comes (Certain (Writes text)) result → Comes k result
+pub list-comes : (k : KnownCommand) (text : Bytes) (result : Result Status MeantEnding) → IsListing k text → Comes (Certain (Writes text)) result → Comes k result
 list-comes k text result (inl e) h = subst (λ x. Comes x result) (sym e) h
 list-comes k text result (inr e) h = subst (λ x. Comes x result) (sym e) (some-comes text result h)
 
-pub list-taken : (k : Known) (text : Bytes) (status : Status) (before now : Option (List ℕ)) → IsListing k text → OutTakes status (Certain (Writes text)) before now → OutTakes status k before now
+pub list-taken : (k : KnownCommand) (text : Bytes) (status : Status) (before now : Option (List ℕ)) → IsListing k text → OutTakes status (Certain (Writes text)) before now → OutTakes status k before now
 list-taken k text status before now (inl e) h = subst (λ x. OutTakes status x before now) (sym e) h
 list-taken k text status before now (inr e) h = subst (λ x. OutTakes status x before now) (sym e) (some-taken text status before now h)
 
-pub list-writes : (k : Known) (text : Bytes) → IsListing k text → writes_out k ≡ true
+pub list-writes : (k : KnownCommand) (text : Bytes) → IsListing k text → writes_out k ≡ true
 list-writes k text (inl e) = subst (λ x. writes_out x ≡ true) (sym e) refl
 list-writes k text (inr e) = subst (λ x. writes_out x ≡ true) (sym e) refl

@@ -19,7 +19,7 @@ use Rattle.ssh_mux.specs.Client.{EndsClient}
 use Rattle.ssh_mux.specs.Looks.{FoundFor, Looks, coming, machine_of_sources}
 use Rattle.ssh_mux.specs.Master.{EndsMaster}
 use Rattle.ssh_mux.specs.Out.{HandsOver}
-use Rattle.ssh_mux.specs.Outcomes.{Known}
+use Rattle.ssh_mux.specs.Outcomes.{KnownCommand}
 use Rattle.ssh_mux.specs.Places.{Placed, recorded_over}
 use Rattle.ssh_mux.specs.World.{Sources}
 use Rattle.ssh_mux.proofs.CauseLemmas.{all-ran}
@@ -27,11 +27,11 @@ use Rattle.ssh_mux.proofs.ReadLemmas.{all-read}
 use Rattle.ssh_mux.proofs.StillLemmas.{still-due}
 
 -- where nothing was found
-pub found-looks : {A : Type 0} (shows : A → CommandOutcome) (unknown : Known) (facts : Facts) (command : Command) (asked : Asked) (meant : Ending) (s s' : Sources) → FoundFor shows unknown facts command asked (Err meant) s s' → Looks facts command asked (Err meant) s s'
+pub found-looks : {A : Type 0} (shows : A → CommandOutcome) (unknown : KnownCommand) (facts : Facts) (command : Command) (asked : Asked) (meant : Ending) (s s' : Sources) → FoundFor shows unknown facts command asked (Err meant) s s' → Looks facts command asked (Err meant) s s'
 found-looks shows unknown facts command asked meant s s' h = record { exact = still-due _ _ h.exact; ran = h.ran; read = h.read; place = h.place; cause = h.cause }
 
 -- after what was found
-pub looks-on : {A : Type 0} (shows : A → CommandOutcome) (unknown : Known) (facts : Facts) (command : Command) (asked : Asked) (x : A) (s s' : Sources) (result : Result Status Ending) → FoundFor shows unknown facts command asked (Ok x) s s' → Comes (coming s facts command) result
+pub looks-on : {A : Type 0} (shows : A → CommandOutcome) (unknown : KnownCommand) (facts : Facts) (command : Command) (asked : Asked) (x : A) (s s' : Sources) (result : Result Status Ending) → FoundFor shows unknown facts command asked (Ok x) s s' → Comes (coming s facts command) result
     → Placed (recorded_over (machine_of_sources s facts) asked) result s.commands.ran s'.commands.ran s.files.failed s'.files.failed
     → Caused result s.files.faults s'.files.faults s.commands.faults s'.commands.faults → Looks facts command asked result s s'
 looks-on shows unknown facts command asked x s s' result h comes placed caused = record { exact = comes; ran = all-ran x _ _ _ _ h.ran; read = all-read x _ _ _ _ h.read; place = placed; cause = caused }
@@ -46,10 +46,10 @@ reads-alike : {A B : Type 0} (x : A) (y : B) (recorded : Option Recorded) (befor
 reads-alike x y None before now h = tt
 reads-alike x y (Some recorded) before now h = h
 
-pub found-under : {A B : Type 0} (shows : B → CommandOutcome) (part : A → B) (unknown : Known) (facts : Facts) (command : Command) (asked : Asked) (x : A) (s s' : Sources) → FoundFor (λ y. shows (part y)) unknown facts command asked (Ok x) s s' → FoundFor shows unknown facts command asked (Ok (part x)) s s'
+pub found-under : {A B : Type 0} (shows : B → CommandOutcome) (part : A → B) (unknown : KnownCommand) (facts : Facts) (command : Command) (asked : Asked) (x : A) (s s' : Sources) → FoundFor (λ y. shows (part y)) unknown facts command asked (Ok x) s s' → FoundFor shows unknown facts command asked (Ok (part x)) s s'
 found-under shows part unknown facts command asked x s s' h = record { exact = h.exact; ran = runs-alike x (part x) _ _ _ h.ran; read = reads-alike x (part x) _ _ _ h.read; place = tt; cause = h.cause }
 
-pub found-over : {A B : Type 0} (shows : A → CommandOutcome) (shows' : B → CommandOutcome) (unknown : Known) (facts : Facts) (command : Command) (asked : Asked) (meant : Ending) (s s' : Sources) → FoundFor shows unknown facts command asked (Err meant) s s' → FoundFor shows' unknown facts command asked (Err meant) s s'
+pub found-over : {A B : Type 0} (shows : A → CommandOutcome) (shows' : B → CommandOutcome) (unknown : KnownCommand) (facts : Facts) (command : Command) (asked : Asked) (meant : Ending) (s s' : Sources) → FoundFor shows unknown facts command asked (Err meant) s s' → FoundFor shows' unknown facts command asked (Err meant) s s'
 found-over shows shows' unknown facts command asked meant s s' h = record { exact = h.exact; ran = h.ran; read = h.read; place = h.place; cause = h.cause }
 
 -- ---- an ending after that reports no fault

@@ -1,4 +1,4 @@
--- What a master leaves of its wire and its house, from what was opened and served.
+-- What a master leaves of its wire and its forwarder, from what was opened and served.
 use Rattle.std.proofs.Common.{◌≡◌, inr, ℕ, Bool, true, false, List, [], ◌++◌, Option, Some, None, Result, Ok, Err, refl, sym, ap, subst, ◌∙◌}
 use Rattle.std.proofs.lemmas.List.{append-nil}
 use Rattle.std.specs.Prelude.{IsTrue, option_map}
@@ -25,10 +25,10 @@ use Rattle.ssh_mux.specs.declared.ending.Ending.{Ending}
 use Rattle.ssh_mux.specs.declared.status.Status.{Status}
 use Rattle.ssh_mux.specs.declared.status.Status.TheVariants as statuses
 use Rattle.ssh_mux.specs.Answers.{IsRunRefused, may_share, serves_house, so_far}
-use Rattle.ssh_mux.specs.Ending.{shown}
+use Rattle.ssh_mux.specs.Ending.{ending_shown}
 use Rattle.ssh_mux.specs.Here.{here_of}
 use Rattle.ssh_mux.specs.Master.{EndsMaster}
-use Rattle.ssh_mux.specs.Outcomes.{Known, of_command}
+use Rattle.ssh_mux.specs.Outcomes.{KnownCommand, of_command}
 use Rattle.ssh_mux.specs.Sharing.{CameFor, CountsFor, MasterLeaves, OpensAt, SharesWith, StartCause, WireCause, opened, here_in, policy_in, policy_of, recorded_as}
 use Rattle.ssh_mux.specs.Starts.{BeganWith, Begun, BegunRests, MustsAs, SettledFor, must_for, starts_for}
 use Rattle.ssh_mux.specs.Status.{status_of}
@@ -116,19 +116,19 @@ nothing-more (Some xs) = ap Some (append-nil xs)
 
 module _ {T : Type 0} (May : HouseReply → Type 0) (state : T → HouseState) where
   -- of a master that was refused before
-  pub refused-leaves : (known : Known) (by : Option Recorded) (pid turns : ℕ) (meant : Ending) (k : Sockets) → IsRunRefused known (shown meant) → MasterLeaves May state known by pid turns (Err meant) k k
+  pub refused-leaves : (known : KnownCommand) (by : Option Recorded) (pid turns : ℕ) (meant : Ending) (k : Sockets) → IsRunRefused known (ending_shown meant) → MasterLeaves May state known by pid turns (Err meant) k k
   refused-leaves known by pid turns meant k r = record {
-    opened = still-opened known (shown meant) k.wire.openings r;
+    opened = still-opened known (ending_shown meant) k.wire.openings r;
     joinings = refl;
     served = still-shared known meant May (BegunRests state k.house.known.present) k.house (here_in known) by (policy_in known) pid turns k.house.recorded k.wire.seen (refusal_after k.house k.house) r;
-    start = still-start known (shown meant) (refusal_after k.house k.house) r;
-    must = λ p. still-must known (shown meant) (must_for by) k.house.must r;
-    wire_cause = still-wire known (shown meant) k.faults k.faults r;
+    start = still-start known (ending_shown meant) (refusal_after k.house k.house) r;
+    must = λ p. still-must known (ending_shown meant) (must_for by) k.house.must r;
+    wire_cause = still-wire known (ending_shown meant) k.faults k.faults r;
     own_faults = still-own k.wire.seen.recorded k.faults.own;
-    calls = still-calls turns (status_of (shown meant)) k.wire.calls;
-    came = still-came known (shown meant) k.wire.calls k.wire.calls r;
-    waited = unshared-waits (serves_house k.house.known.present known) known (shown meant) turns k.wire.calls k.wire.calls r;
-    idle = λ z. where_false (serves_house k.house.known.present known) _ (still-idle (status_of (shown meant)) k.faults);
+    calls = still-calls turns (status_of (ending_shown meant)) k.wire.calls;
+    came = still-came known (ending_shown meant) k.wire.calls k.wire.calls r;
+    waited = unshared-waits (serves_house k.house.known.present known) known (ending_shown meant) turns k.wire.calls k.wire.calls r;
+    idle = λ z. where_false (serves_house k.house.known.present known) _ (still-idle (status_of (ending_shown meant)) k.faults);
   }
 
   -- of one whose control path was found
@@ -137,7 +137,7 @@ module _ {T : Type 0} (May : HouseReply → Type 0) (state : T → HouseState) w
       → StartCause (so_far result) (refusal_after k.house k'.house) → (IsTrue k.house.known.present → MustsAs (so_far result) (Some (starts_for (here_of ps.here) settings).must) k'.house.must) → CountsFor k.house.known.present turns (so_far result) k.wire k'.wire k.faults k'.faults
       → MasterLeaves May state (of_command m (commands.Master asked transport ps)) by pid turns result k k'
   served-leaves m asked transport ps control by settings pid turns result k k' is settled over once served start must counts =
-      let known : Known = of_command m (commands.Master asked transport ps) in
+      let known : KnownCommand = of_command m (commands.Master asked transport ps) in
       let present : Bool = k.house.known.present in
       let status : Status = so_far result in
       record {

@@ -11,14 +11,14 @@ use Rattle.conf_rules.specs.Reading.{reading}
 use Rattle.conf_rules.specs.Texts.{Bytes}
 use Rattle.conf_command.specs.declared.reader.WordsError.{WordsError}
 use Rattle.conf_command.specs.declared.reader.WordsError.TheVariants as words_errors
-use Rattle.conf_command.specs.Results.{Fails}
+use Rattle.conf_command.specs.Results.{CommandFails}
 use Rattle.conf_match.specs.Evaluated.{RanAll, RanSome}
 use Rattle.ssh_mux.specs.declared.status.Status.{Status}
 use Rattle.ssh_mux.specs.declared.status.Status.TheVariants as statuses
 use Rattle.ssh_mux.specs.Answers.{IsRunRefused}
 use Rattle.ssh_mux.specs.Causes.{EndCause}
 use Rattle.ssh_mux.specs.Commands.{RunsFor, commands_of, commands_for}
-use Rattle.ssh_mux.specs.Ending.{shown, misread_as}
+use Rattle.ssh_mux.specs.Ending.{ending_shown, misread_as}
 use Rattle.ssh_mux.specs.Outcomes.{Certain, of_command, of_words, untold_words}
 use Rattle.ssh_mux.specs.Status.{status_of}
 
@@ -52,7 +52,7 @@ unfolding of_words
 of-drill None words seed clients messages is = ap untold_words is
 of-drill (Some m) words seed clients messages is = ap (λ r. Certain (outcome_by m r)) is
 
-pub misread : (m : Option Machine) (words : List Bytes) (e : WordsError) → Fails e (reading words) → IsRunRefused (of_words m words) (shown (misread_as e))
+pub misread : (m : Option Machine) (words : List Bytes) (e : WordsError) → CommandFails e (reading words) → IsRunRefused (of_words m words) (ending_shown (misread_as e))
 misread m words words_errors.OutOfMemory h = tt
 misread m words (words_errors.Refused e) h = subst (λ k. IsRunRefused k (ends.BadWords e)) (sym (of-refused m words e h)) refl
 
@@ -91,13 +91,13 @@ unfolding commands_for
 no-drill-commands None words seed clients messages is = inl refl
 no-drill-commands (Some m) words seed clients messages is = inr (ap (λ r. Some (execs_by m r)) is)
 
-pub misread-runs : (m : Option Machine) (words : List Bytes) (e : WordsError) (before : Option (List Bytes)) → Fails e (reading words) → RunsFor (commands_for m words) (status_of (shown (misread_as e))) before before
+pub misread-runs : (m : Option Machine) (words : List Bytes) (e : WordsError) (before : Option (List Bytes)) → CommandFails e (reading words) → RunsFor (commands_for m words) (status_of (ending_shown (misread_as e))) before before
 misread-runs m words words_errors.OutOfMemory before h = starved-runs (commands_for m words) before
 misread-runs m words (words_errors.Refused e) before h = idle-runs m words statuses.Usage before (no-commands m words e h)
 
 pub drilled-runs : (m : Option Machine) (words : List Bytes) (seed clients messages : ℕ) (status : Status) (before : Option (List Bytes)) → reading words ≡ Ok (commands.Drill seed clients messages) → RunsFor (commands_for m words) status before before
 drilled-runs m words seed clients messages status before is = idle-runs m words status before (no-drill-commands m words seed clients messages is)
 
-pub misread-cause : (e : WordsError) (f r : ℕ) → EndCause (shown (misread_as e)) f f r r
+pub misread-cause : (e : WordsError) (f r : ℕ) → EndCause (ending_shown (misread_as e)) f f r r
 misread-cause words_errors.OutOfMemory f r = (omega arith, omega arith)
 misread-cause (words_errors.Refused e) f r = (refl, refl)

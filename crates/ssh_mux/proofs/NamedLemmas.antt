@@ -12,8 +12,8 @@ use Rattle.conf_rules.specs.declared.usage.UsageError.{UsageError}
 use Rattle.conf_rules.specs.declared.usage.Usage.TheVariants.{BadEntry, NoForward, OnlyForMaster}
 use Rattle.conf_rules.specs.Results.{◌>>=◌}
 use Rattle.conf_rules.specs.Texts.{Bytes}
-use Rattle.conf_rules.specs.Options.{Mode, Listing, Master, Client, Chooses, Reads, Asks, Connects, Permits, Sessions, Controls, Goes, Fails, Act, Step, Free}
-use Rattle.conf_rules.specs.CommandLine.{ReadCommand, refused, Walk, walk_from, steps_from, walked, not_for_others, first_mode, host_in, transport_in, control_in, command_of, command_with, host_command, master_of, client_of, permitted, bad_permission, asked_of, line_in, is_forwarding, asks_forwarding, is_about_forwardings, permissions_of}
+use Rattle.conf_rules.specs.Options.{CommandMode, Listing, Master, Client, Chooses, Reads, Asks, Connects, Permits, Sessions, Controls, Goes, Fails, WordAct, WordStep, Free}
+use Rattle.conf_rules.specs.CommandLine.{ReadCommand, refused_word, Walk, walk_from, steps_from, walked, not_for_others, first_mode, host_in, transport_in, control_in, command_of, command_with, host_command, master_of, client_of, permitted, bad_permission, asked_of, line_in, is_forwarding, asks_forwarding, is_about_forwardings, permissions_of}
 use Rattle.conf_rules.specs.Reading.{reading, drill_of, drill_number, seed_limit, no_more}
 use Rattle.ssh_mux.specs.Asks.{NamesForwards}
 
@@ -35,7 +35,7 @@ any-right (x ∷ xs) ys h = by_case (is_forwarding x) (any-right xs ys h)
     by_case false later = later
 
 -- a step that asks for a forwarding gives its line
-step-line : (word : ℕ) (act : Act) → asks_forwarding (record { word = word; act = act }) ≡ true → list_any is_forwarding (line_in (record { word = word; act = act })) ≡ true
+step-line : (word : ℕ) (act : WordAct) → asks_forwarding (record { word = word; act = act }) ≡ true → list_any is_forwarding (line_in (record { word = word; act = act })) ≡ true
 step-line word (Asks line) h = by_case (is_forwarding line) h
   where
     by_case : (t : Bool) → t ≡ true → (t || false) ≡ true
@@ -50,7 +50,7 @@ step-line word (Controls control) h = absurd cc
 step-line word (Goes to) h = absurd cc
 step-line word (Fails cause) h = absurd cc
 
-steps-lines : (steps : List Step) → list_any asks_forwarding steps ≡ true → list_any is_forwarding (flat_map line_in steps) ≡ true
+steps-lines : (steps : List WordStep) → list_any asks_forwarding steps ≡ true → list_any is_forwarding (flat_map line_in steps) ≡ true
 steps-lines [] h = absurd cc
 steps-lines (s ∷ ss) h = by_case (asks_forwarding s) refl (steps-lines ss) h
   where
@@ -63,7 +63,7 @@ abbrev OfClient : ReadCommand → Type 0
 OfClient (Ok (commands.Control asked control)) = NamesForwards control asked.lines
 OfClient read = Unit {0}
 
-client-named : (n : ℕ) (host : Bytes) (steps : List Step) (control : MasterCommand) → OfClient (client_of n host steps control)
+client-named : (n : ℕ) (host : Bytes) (steps : List WordStep) (control : MasterCommand) → OfClient (client_of n host steps control)
 client-named n host steps control = by_case (is_about_forwardings control) refl (list_any asks_forwarding steps) refl
   where
     unasked : is_about_forwardings control ≡ false → OfClient (Ok (commands.Control (asked_of host steps) control))
@@ -74,20 +74,20 @@ client-named n host steps control = by_case (is_about_forwardings control) refl 
     named e false = tt
 
     by_case : (about : Bool) → is_about_forwardings control ≡ about → (some : Bool) → list_any asks_forwarding steps ≡ some
-        → OfClient (if about && not some then refused (n + 1) NoForward else Ok (commands.Control (asked_of host steps) control))
+        → OfClient (if about && not some then refused_word (n + 1) NoForward else Ok (commands.Control (asked_of host steps) control))
     by_case true a true s = named s (is_about_forwardings control)
     by_case true a false s = tt
     by_case false a true s = unasked a
     by_case false a false s = unasked a
 
-permitted-none : (steps : List Step) (asked : Asked) (transport : Bytes) → OfClient (permitted steps (commands.Master asked transport (permissions_of steps)))
+permitted-none : (steps : List WordStep) (asked : Asked) (transport : Bytes) → OfClient (permitted steps (commands.Master asked transport (permissions_of steps)))
 permitted-none steps asked transport = by_case (bad_permission steps)
   where
-    by_case : (o : Option ℕ) → OfClient (elim o as (λ _. ReadCommand) [ Some word ↦ refused word BadEntry | None ↦ Ok (commands.Master asked transport (permissions_of steps)) ])
+    by_case : (o : Option ℕ) → OfClient (elim o as (λ _. ReadCommand) [ Some word ↦ refused_word word BadEntry | None ↦ Ok (commands.Master asked transport (permissions_of steps)) ])
     by_case (Some word) = tt
     by_case None = tt
 
-command-named : (n : ℕ) (steps : List Step) → OfClient (command_of n steps)
+command-named : (n : ℕ) (steps : List WordStep) → OfClient (command_of n steps)
 unfolding command_of
 command-named n steps = by_mode (first_mode steps)
   where
@@ -95,13 +95,13 @@ command-named n steps = by_mode (first_mode steps)
     by_transport host None = tt
     by_transport host (Some t) = permitted-none steps (asked_of host steps) t
 
-    by_host : (mode : Mode) (host : Option Bytes) → OfClient (host_command n steps mode host)
+    by_host : (mode : CommandMode) (host : Option Bytes) → OfClient (host_command n steps mode host)
     by_host mode None = tt
     by_host Listing (Some host) = tt
     by_host Master (Some host) = by_transport host (transport_in None steps)
     by_host Client (Some host) = client-named n host steps (control_in Check steps)
 
-    by_mode : (mode : Option Mode) → OfClient (command_with n steps mode)
+    by_mode : (mode : Option CommandMode) → OfClient (command_with n steps mode)
     by_mode None = tt
     by_mode (Some mode) = by_host mode (host_in steps)
 
@@ -112,7 +112,7 @@ walked-named n walk = by_word (not_for_others (first_mode walk.sound) walk.sound
     by_fault (Some e) = tt
     by_fault None = command-named n walk.sound
 
-    by_word : (word : Option ℕ) → OfClient (elim word as (λ _. ReadCommand) [ Some word ↦ refused word OnlyForMaster | None ↦ elim walk.fault [ Some e ↦ Err e | None ↦ command_of n walk.sound ] ])
+    by_word : (word : Option ℕ) → OfClient (elim word as (λ _. ReadCommand) [ Some word ↦ refused_word word OnlyForMaster | None ↦ elim walk.fault [ Some e ↦ Err e | None ↦ command_of n walk.sound ] ])
     by_word (Some word) = tt
     by_word None = by_fault walk.fault
 

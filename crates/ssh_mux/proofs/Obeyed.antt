@@ -3,7 +3,7 @@ use Rattle.std.proofs.Common.{◌≡◌, ◌||◌, ℕ, true, false, List, Optio
 use Rattle.std.specs.Prelude.{IsTrue}
 use Rattle.std.specs.Bool.{OnFalse, OnTrue}
 use Rattle.conf_command.specs.declared.reader.WordsError.{WordsError}
-use Rattle.conf_command.specs.Results.{Fails}
+use Rattle.conf_command.specs.Results.{CommandFails}
 use Rattle.conf_rules.specs.declared.asked.Asked.{Asked}
 use Rattle.conf_rules.specs.declared.command.Command.TheVariants as commands
 use Rattle.conf_rules.specs.declared.control.MasterCommand.{MasterCommand}
@@ -21,16 +21,16 @@ use Rattle.mux_outside.specs.House.{HouseState}
 use Rattle.mux_outside.specs.WireState.{WireState}
 use Rattle.ssh_mux.specs.declared.ending.Ending.{Ending}
 use Rattle.ssh_mux.specs.declared.status.Status.{Status}
-use Rattle.ssh_mux.specs.Answers.{Comes, may_have_joined, may_open, may_share, may_show, may_write, reaches, serves_house, so_far, touches}
+use Rattle.ssh_mux.specs.Answers.{Comes, may_have_joined, may_open_wire, may_share, may_show, may_write, reaches, serves_house, so_far, touches}
 use Rattle.ssh_mux.specs.Causes.{Caused, OutCause}
 use Rattle.ssh_mux.specs.Client.{ClientLeaves, ConversesFor, JoinsOnce, TalksFor}
 use Rattle.ssh_mux.specs.Commands.{RunsFor, commands_for, commands_of}
 use Rattle.ssh_mux.specs.Drill.{DrillGoes}
-use Rattle.ssh_mux.specs.Ending.{misread_as, shown}
+use Rattle.ssh_mux.specs.Ending.{misread_as, ending_shown}
 use Rattle.ssh_mux.specs.Err.{IsRecordedBy, Reports}
 use Rattle.ssh_mux.specs.Looks.{Looks, coming, machine_of_sources}
 use Rattle.ssh_mux.specs.Out.{OutTakes}
-use Rattle.ssh_mux.specs.Outcomes.{Known, Certain, drills, of_words, opens}
+use Rattle.ssh_mux.specs.Outcomes.{KnownCommand, Certain, drills, of_words, opens}
 use Rattle.ssh_mux.specs.Places.{Placed, recorded_for, recorded_over}
 use Rattle.ssh_mux.specs.Puts.{PutsOnce, prints}
 use Rattle.ssh_mux.specs.Reads.{RunReadsFor}
@@ -57,7 +57,7 @@ use Rattle.conf_rules.specs.declared.command.Permissions.{Permissions}
 
 -- By what is known of them, what is recorded for them and the commands that are due: from what
 -- sources, sockets and the output showed to what they show.
-pub record Obeyed {T : Type 0} (known : Known) (recorded : Option Recorded) (due : Option (List Bytes)) (words : List Bytes) (pid turns : ℕ) (May : HouseReply → Type 0) (state : T → HouseState) (result : Result Status Ending) (s s' : Sources) (k k' : Sockets) (out out' : OutState) : Type 0 where
+pub record Obeyed {T : Type 0} (known : KnownCommand) (recorded : Option Recorded) (due : Option (List Bytes)) (words : List Bytes) (pid turns : ℕ) (May : HouseReply → Type 0) (state : T → HouseState) (result : Result Status Ending) (s s' : Sources) (k k' : Sockets) (out out' : OutState) : Type 0 where
   pub exact : Comes known result
   pub place : Placed recorded result s.commands.ran s'.commands.ran s.files.failed s'.files.failed
   pub cause : Caused result s.files.faults s'.files.faults s.commands.faults s'.commands.faults
@@ -89,7 +89,7 @@ pub record Obeyed {T : Type 0} (known : Known) (recorded : Option Recorded) (due
 -- ---- a run
 
 module _ {T : Type 0} (words : List Bytes) (facts : Facts) (turns : ℕ) (May : HouseReply → Type 0) (state : T → HouseState) (s s' : Sources) (k k' : Sockets) (out out' : OutState) where
-  abbrev Known_ : Known
+  abbrev Known_ : KnownCommand
   Known_ = of_words (machine_of_sources s facts) words
 
   abbrev Recorded_ : Option Recorded
@@ -128,8 +128,8 @@ module _ {T : Type 0} (words : List Bytes) (facts : Facts) (turns : ℕ) (May : 
   }
 
   -- with one
-  recorded-runs : (meant : Ending) (status : Status) (err err' : OutState) → Obeys (Err meant) → Reports status (shown meant) err.recorded err'.recorded err.faults err'.faults → err'.puts ≡ counted err.puts → Runs words facts (world k s out err) May state turns status (world k' s' out' err')
-  recorded-runs meant status err err' h r once = let e : Rattle.conf_rules.specs.Diagnostics.Ending = shown meant in record {
+  recorded-runs : (meant : Ending) (status : Status) (err err' : OutState) → Obeys (Err meant) → Reports status (ending_shown meant) err.recorded err'.recorded err.faults err'.faults → err'.puts ≡ counted err.puts → Runs words facts (world k s out err) May state turns status (world k' s' out' err')
+  recorded-runs meant status err err' h r once = let e : Rattle.conf_rules.specs.Diagnostics.Ending = ending_shown meant in record {
     shared = shared_after May (BegunRests state k.house.known.present) k'.house (here_in Known_) Recorded_ (policy_in Known_) (pid_of facts.pid) turns k.house.recorded k'.house.recorded k.wire.seen.recorded k'.wire.seen (refusal_after k.house k'.house) err.recorded err'.recorded err.faults err'.faults Known_ status meant r h.shared h.still_wire h.still_house;
     ended = ended Known_ Recorded_ status e (world k s out err) (world k' s' out' err') h.exact h.cause h.place r;
     err_once = loud-puts _ (err'.puts ≡ counted err.puts) once;
@@ -162,14 +162,14 @@ module _ {T : Type 0} (words : List Bytes) (facts : Facts) (turns : ℕ) (May : 
   obeys-runs (Err meant) h status err err' e = recorded-runs meant status err err' h e.0 e.1
 
   -- where it is so much that is known, recorded and due
-  pub obeyed-runs : (known : Known) (recorded : Option Recorded) (due : Option (List Bytes)) (result : Result Status Ending) → of_words (machine_of_sources s facts) words ≡ known → recorded_for (machine_of_sources s facts) words ≡ recorded → commands_for (machine_of_sources s facts) words ≡ due → Obeyed known recorded due words (pid_of facts.pid) turns May state result s s' k k' out out' → (status : Status) (err err' : OutState) → IsRecordedBy result status err err' → Runs words facts (world k s out err) May state turns status (world k' s' out' err')
+  pub obeyed-runs : (known : KnownCommand) (recorded : Option Recorded) (due : Option (List Bytes)) (result : Result Status Ending) → of_words (machine_of_sources s facts) words ≡ known → recorded_for (machine_of_sources s facts) words ≡ recorded → commands_for (machine_of_sources s facts) words ≡ due → Obeyed known recorded due words (pid_of facts.pid) turns May state result s s' k k' out out' → (status : Status) (err err' : OutState) → IsRecordedBy result status err err' → Runs words facts (world k s out err) May state turns status (world k' s' out' err')
   obeyed-runs known recorded due result a b c h = obeys-runs result (subst (λ x. Obeyed x Recorded_ (commands_for (machine_of_sources s facts) words) words (pid_of facts.pid) turns May state result s s' k k' out out') (sym a) (subst (λ x. Obeyed known x (commands_for (machine_of_sources s facts) words) words (pid_of facts.pid) turns May state result s s' k k' out out') (sym b) (subst (λ x. Obeyed known recorded x words (pid_of facts.pid) turns May state result s s' k k' out out') (sym c) h)))
 
 -- ---- from what each command does
 
 module _ {T : Type 0} (words : List Bytes) (pid turns : ℕ) (May : HouseReply → Type 0) (state : T → HouseState) where
   -- words that have no reading
-  pub misread-obeyed : (m : Option Machine) (e : WordsError) (s : Sources) (k : Sockets) (out : OutState) → Fails e (reading words) → Obeyed (of_words m words) (recorded_for m words) (commands_for m words) words pid turns May state (Err (misread_as e)) s s k k out out
+  pub misread-obeyed : (m : Option Machine) (e : WordsError) (s : Sources) (k : Sockets) (out : OutState) → CommandFails e (reading words) → Obeyed (of_words m words) (recorded_for m words) (commands_for m words) words pid turns May state (Err (misread_as e)) s s k k out out
   misread-obeyed m e s k out fails = let r = misread m words e fails in record {
     exact = still-due _ _ r;
     place = misread-place _ _ _ _ _ _;
@@ -238,7 +238,7 @@ module _ {T : Type 0} (words : List Bytes) (pid turns : ℕ) (May : HouseReply �
       → Obeyed (coming s facts (commands.Master asked transport ps)) (recorded_over (machine_of_sources s facts) asked) (commands_of (machine_of_sources s facts) (commands.Master asked transport ps)) words pid turns May state result s s' k k' out out
   master-obeyed facts asked transport ps result s s' k k' out looks leaves still =
       let m = machine_of_sources s facts in
-      let known : Known = coming s facts (commands.Master asked transport ps) in
+      let known : KnownCommand = coming s facts (commands.Master asked transport ps) in
       let status : Status = so_far result in
       let none : drills known ≡ false = master-undrilled m asked transport ps in
       let quiet = master-quiet m asked transport ps in
@@ -257,18 +257,18 @@ module _ {T : Type 0} (words : List Bytes) (pid turns : ℕ) (May : HouseReply �
         shared = leaves.served;
         start = leaves.start;
         must = leaves.must;
-        wire_cause = for-master (may_open status) (opens known) (drills known) (WireCause status k.faults k'.faults) none leaves.wire_cause;
+        wire_cause = for-master (may_open_wire status) (opens known) (drills known) (WireCause status k.faults k'.faults) none leaves.wire_cause;
         own_faults = on_true _ _ leaves.own_faults;
         asked = not_true _ _ (unasked known status apart);
         asked_cause = not_true _ _ (unasked known status apart);
         asked_waits = not_true _ _ (unasked known status apart);
         calls = leaves.calls;
-        unopened = untouched (may_open status) (opens known) (drills known) (k'.wire.calls.opens ≡ k.wire.calls.opens) (follows (may_share known status) ((k'.wire ≡ k.wire) × (k'.house.recorded ≡ k.house.recorded)) (k'.wire.calls.opens ≡ k.wire.calls.opens) (λ e. ap (λ (w : WireState). w.calls.opens) e.0) still);
-        came = for-master (may_open status) (opens known) (drills known) (CameFor status k.wire.calls k'.wire.calls) none leaves.came;
-        waited = follows (serves_house k.house.known.present known) (OnTrue (may_share known status) (WaitsFor turns status k.wire.calls k'.wire.calls)) (OnTrue (touches known status) (WaitsFor turns status k.wire.calls k'.wire.calls)) (for-master (may_open status) (opens known) (drills known) (WaitsFor turns status k.wire.calls k'.wire.calls) none) leaves.waited;
+        unopened = untouched (may_open_wire status) (opens known) (drills known) (k'.wire.calls.opens ≡ k.wire.calls.opens) (follows (may_share known status) ((k'.wire ≡ k.wire) × (k'.house.recorded ≡ k.house.recorded)) (k'.wire.calls.opens ≡ k.wire.calls.opens) (λ e. ap (λ (w : WireState). w.calls.opens) e.0) still);
+        came = for-master (may_open_wire status) (opens known) (drills known) (CameFor status k.wire.calls k'.wire.calls) none leaves.came;
+        waited = follows (serves_house k.house.known.present known) (OnTrue (may_share known status) (WaitsFor turns status k.wire.calls k'.wire.calls)) (OnTrue (touches known status) (WaitsFor turns status k.wire.calls k'.wire.calls)) (for-master (may_open_wire status) (opens known) (drills known) (WaitsFor turns status k.wire.calls k'.wire.calls) none) leaves.waited;
         idle = leaves.idle;
         drill = not_true _ _ none;
-        still_wire = or-else (touches known status) (may_have_joined known status) (k'.wire.seen.recorded ≡ k.wire.seen.recorded) (untouched (may_open status) (opens known) (drills known) (k'.wire.seen.recorded ≡ k.wire.seen.recorded) (follows (may_share known status) ((k'.wire ≡ k.wire) × (k'.house.recorded ≡ k.house.recorded)) (k'.wire.seen.recorded ≡ k.wire.seen.recorded) (λ e. ap (λ (w : WireState). w.seen.recorded) e.0) still));
+        still_wire = or-else (touches known status) (may_have_joined known status) (k'.wire.seen.recorded ≡ k.wire.seen.recorded) (untouched (may_open_wire status) (opens known) (drills known) (k'.wire.seen.recorded ≡ k.wire.seen.recorded) (follows (may_share known status) ((k'.wire ≡ k.wire) × (k'.house.recorded ≡ k.house.recorded)) (k'.wire.seen.recorded ≡ k.wire.seen.recorded) (λ e. ap (λ (w : WireState). w.seen.recorded) e.0) still));
         still_house = follows (may_share known status) ((k'.wire ≡ k.wire) × (k'.house.recorded ≡ k.house.recorded)) (k'.house.recorded ≡ k.house.recorded) (λ e. e.1) still;
         still_out = on_false _ _;
       }
@@ -278,7 +278,7 @@ module _ {T : Type 0} (words : List Bytes) (pid turns : ℕ) (May : HouseReply �
       → Obeyed (coming s facts (commands.Control asked what)) (recorded_over (machine_of_sources s facts) asked) (commands_of (machine_of_sources s facts) (commands.Control asked what)) words pid turns May state result s s' (record { wire = w; faults = f; house = house }) (record { wire = w'; faults = f'; house = house }) out out'
   client-obeyed facts asked what result s s' w w' f f' house out out' looks leaves still =
       let m = machine_of_sources s facts in
-      let known : Known = coming s facts (commands.Control asked what) in
+      let known : KnownCommand = coming s facts (commands.Control asked what) in
       let status : Status = so_far result in
       let none = client-undrilled m asked what in
       let closed = client-shut m asked what in
@@ -317,7 +317,7 @@ module _ {T : Type 0} (words : List Bytes) (pid turns : ℕ) (May : HouseReply �
   pub drill-obeyed : (m : Option Machine) (seed clients messages : ℕ) (result : Result Status Ending) (s : Sources) (w w' : WireState) (f f' : Faults) (house : HouseState) (out out' : OutState) → reading words ≡ Ok (commands.Drill seed clients messages) → DrillGoes words turns result w w' out.recorded out'.recorded → CountsFor false turns (so_far result) w w' f f' → OutCause (so_far result) out.faults out'.faults → PutsOnce (so_far result) out.puts out'.puts → OnFalse (may_write (so_far result)) (out'.recorded ≡ out.recorded)
       → Obeyed (Certain (Drills seed clients messages)) (recorded_for m words) (commands_for m words) words pid turns May state result s s (record { wire = w; faults = f; house = house }) (record { wire = w'; faults = f'; house = house }) out out'
   drill-obeyed m seed clients messages result s w w' f f' house out out' e goes counts out_cause once unwritten =
-      let known : Known = Certain (Drills seed clients messages) in
+      let known : KnownCommand = Certain (Drills seed clients messages) in
       let status : Status = so_far result in
       let touched : touches known status ≡ true = drill-touches seed clients messages result goes.ends in
       record {

@@ -9,7 +9,7 @@ use Rattle.std.proofs.Math.Dec.{leb-zero}
 use Rattle.conf_rules.specs.Texts.{Bytes, split_at_last, split_last}
 use Rattle.conf_rules.specs.Numbers.{digits_from, number_within}
 use Rattle.conf_rules.specs.Forwardings.{before_bracket}
-use Rattle.conf_rules.specs.Permissions.{is_port}
+use Rattle.conf_rules.specs.Permissions.{is_entry_port}
 use Rattle.mux_history.specs.Policy.{digits, read_number, read_port, before_last}
 use Rattle.mux_history.proofs.Bools.{same-number, self}
 use Rattle.mux_history.proofs.Sends.{and-left, and-right}
@@ -45,7 +45,7 @@ port-by false None = refl
 port-by false (Some n) = refl
 
 -- a port is read where a word may have it
-pub port-same : (text : Bytes) → is_port text ≡ is_some (read_port text)
+pub port-same : (text : Bytes) → is_entry_port text ≡ is_some (read_port text)
 port-same text = ap (λ n. bytes_eq text (codes "*") || not (is_none n)) (sym (number-same text)) ∙ port-by (bytes_eq text (codes "*")) (read_number text)
 
 -- ---- the last byte of a kind
@@ -101,7 +101,7 @@ star-none : (c : ℕ) → 57 < c → before_last c (42 ∷ []) ≡ None
 star-none c above = let other : (42 == c) ≡ false = grind (arith, nat_tests) in rw (other, before_last) refl
 
 -- no port has a byte above the digits
-pub port-none : (c : ℕ) → 57 < c → (text : Bytes) → is_port text ≡ true → before_last c text ≡ None
+pub port-none : (c : ℕ) → 57 < c → (text : Bytes) → is_entry_port text ≡ true → before_last c text ≡ None
 port-none c above text port = by_case (bytes_eq text (codes "*")) refl port
   where
     by_case : (star : Bool) → bytes_eq text (codes "*") ≡ star → (star || not (is_none (number_within 0 65535 text))) ≡ true → before_last c text ≡ None

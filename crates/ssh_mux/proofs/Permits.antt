@@ -11,9 +11,9 @@ use Rattle.conf_rules.specs.declared.usage.UsageError.{UsageError}
 use Rattle.conf_rules.specs.declared.usage.Usage.TheVariants.{BadEntry, NoForward, OnlyForMaster}
 use Rattle.conf_rules.specs.Results.{◌>>=◌}
 use Rattle.conf_rules.specs.Texts.{Bytes}
-use Rattle.conf_rules.specs.Options.{Mode, Listing, Master, Client, Step, Free}
-use Rattle.conf_rules.specs.Permissions.{PermitWord, is_alone, is_entry, first_not_entry, bad_entry, earlier}
-use Rattle.conf_rules.specs.CommandLine.{ReadCommand, refused, Walk, walk_from, steps_from, walked, not_for_others, first_mode, host_in, transport_in, command_of, command_with, host_command, master_of, client_of, control_in, is_about_forwardings, asks_forwarding, permitted, bad_permission, permits, texts_of, asked_of, permissions_of}
+use Rattle.conf_rules.specs.Options.{CommandMode, Listing, Master, Client, WordStep, Free}
+use Rattle.conf_rules.specs.Permissions.{PermitWord, is_alone, is_entry, first_not_entry, bad_entry, earlier_word}
+use Rattle.conf_rules.specs.CommandLine.{ReadCommand, refused_word, Walk, walk_from, steps_from, walked, not_for_others, first_mode, host_in, transport_in, command_of, command_with, host_command, master_of, client_of, control_in, is_about_forwardings, asks_forwarding, permitted, bad_permission, permit_words, texts_of, asked_of, permissions_of}
 use Rattle.conf_rules.specs.Reading.{reading, drill_of, drill_number, seed_limit, no_more}
 use Rattle.mux_history.specs.Policy.{Allow, Anything, Entries, Entry, Policy, read_entry, read_entries, read_word, read_list}
 use Rattle.forward_rules.specs.Allows.{read_policy, read_listens}
@@ -94,20 +94,20 @@ policy-read opens listens sessions opened listened = (record { opens = opened.0;
 
 -- the lists are those of steps, and have no bad text
 record ArePermitted (ps : Permissions) : Type 0 where
-  steps : List Step
-  good_opens : bad_entry (permits Open steps) ≡ None
-  good_listens : bad_entry (permits Listen steps) ≡ None
-  good_here : bad_entry (permits Here steps) ≡ None
-  are_opens : texts_of (permits Open steps) ≡ ps.opens
-  are_listens : texts_of (permits Listen steps) ≡ ps.listens
-  are_here : texts_of (permits Here steps) ≡ ps.here
+  steps : List WordStep
+  good_opens : bad_entry (permit_words Open steps) ≡ None
+  good_listens : bad_entry (permit_words Listen steps) ≡ None
+  good_here : bad_entry (permit_words Here steps) ≡ None
+  are_opens : texts_of (permit_words Open steps) ≡ ps.opens
+  are_listens : texts_of (permit_words Listen steps) ≡ ps.listens
+  are_here : texts_of (permit_words Here steps) ≡ ps.here
 
 -- the lists of a master that was read
 abbrev OfMaster : ReadCommand → Type 0
 OfMaster (Ok (commands.Master asked transport ps)) = ArePermitted ps
 OfMaster read = Unit {0}
 
-none-earlier : (a b : Option ℕ) → earlier a b ≡ None → (a ≡ None) × (b ≡ None)
+none-earlier : (a b : Option ℕ) → earlier_word a b ≡ None → (a ≡ None) × (b ≡ None)
 none-earlier None None e = (refl, refl)
 none-earlier None (Some b) e = absurd cc
 none-earlier (Some a) None e = absurd cc
@@ -118,18 +118,18 @@ none-earlier (Some a) (Some b) e = absurd (by_case (nat_lt a b) e)
     by_case false e = cc
 
 -- the lists of sound steps
-permitted-master : (steps : List Step) (asked : Asked) (transport : Bytes) → OfMaster (permitted steps (commands.Master asked transport (permissions_of steps)))
+permitted-master : (steps : List WordStep) (asked : Asked) (transport : Bytes) → OfMaster (permitted steps (commands.Master asked transport (permissions_of steps)))
 permitted-master steps asked transport = by_case (bad_permission steps) refl
   where
     by_case : (o : Option ℕ) → bad_permission steps ≡ o
-        → OfMaster (elim o as (λ _. ReadCommand) [ Some word ↦ refused word BadEntry | None ↦ Ok (commands.Master asked transport (permissions_of steps)) ])
+        → OfMaster (elim o as (λ _. ReadCommand) [ Some word ↦ refused_word word BadEntry | None ↦ Ok (commands.Master asked transport (permissions_of steps)) ])
     by_case (Some word) e = tt
     by_case None e =
-        let good = none-earlier (bad_entry (permits Open steps)) (earlier (bad_entry (permits Listen steps)) (bad_entry (permits Here steps))) e in
-        let others = none-earlier (bad_entry (permits Listen steps)) (bad_entry (permits Here steps)) good.1 in
+        let good = none-earlier (bad_entry (permit_words Open steps)) (earlier_word (bad_entry (permit_words Listen steps)) (bad_entry (permit_words Here steps))) e in
+        let others = none-earlier (bad_entry (permit_words Listen steps)) (bad_entry (permit_words Here steps)) good.1 in
         record { steps = steps; good_opens = good.0; good_listens = others.0; good_here = others.1; are_opens = refl; are_listens = refl; are_here = refl }
 
-command-master : (n : ℕ) (steps : List Step) → OfMaster (command_of n steps)
+command-master : (n : ℕ) (steps : List WordStep) → OfMaster (command_of n steps)
 unfolding command_of
 command-master n steps = by_mode (first_mode steps)
   where
@@ -140,17 +140,17 @@ command-master n steps = by_mode (first_mode steps)
     by_control : (host : Bytes) (control : MasterCommand) → OfMaster (client_of n host steps control)
     by_control host control = by_named (is_about_forwardings control && not (list_any asks_forwarding steps))
       where
-        by_named : (t : Bool) → OfMaster (if t then refused (n + 1) NoForward else Ok (commands.Control (asked_of host steps) control))
+        by_named : (t : Bool) → OfMaster (if t then refused_word (n + 1) NoForward else Ok (commands.Control (asked_of host steps) control))
         by_named true = tt
         by_named false = tt
 
-    by_host : (mode : Mode) (host : Option Bytes) → OfMaster (host_command n steps mode host)
+    by_host : (mode : CommandMode) (host : Option Bytes) → OfMaster (host_command n steps mode host)
     by_host mode None = tt
     by_host Listing (Some host) = tt
     by_host Master (Some host) = by_transport host (transport_in None steps)
     by_host Client (Some host) = by_control host (control_in Check steps)
 
-    by_mode : (mode : Option Mode) → OfMaster (command_with n steps mode)
+    by_mode : (mode : Option CommandMode) → OfMaster (command_with n steps mode)
     by_mode None = tt
     by_mode (Some mode) = by_host mode (host_in steps)
 
@@ -161,7 +161,7 @@ walked-master n walk = by_word (not_for_others (first_mode walk.sound) walk.soun
     by_fault (Some e) = tt
     by_fault None = command-master n walk.sound
 
-    by_word : (word : Option ℕ) → OfMaster (elim word as (λ _. ReadCommand) [ Some word ↦ refused word OnlyForMaster | None ↦ elim walk.fault [ Some e ↦ Err e | None ↦ command_of n walk.sound ] ])
+    by_word : (word : Option ℕ) → OfMaster (elim word as (λ _. ReadCommand) [ Some word ↦ refused_word word OnlyForMaster | None ↦ elim walk.fault [ Some e ↦ Err e | None ↦ command_of n walk.sound ] ])
     by_word (Some word) = tt
     by_word None = by_fault walk.fault
 
@@ -199,8 +199,8 @@ pub permits-read : (words : List Bytes) (asked : Asked) (transport : Bytes) (ps 
     → (policy : Policy) × (read_policy ps.opens ps.listens ps.sessions ≡ Ok policy)
 permits-read words asked transport ps e =
     let known : ArePermitted ps = subst OfMaster e (reading-master words) in
-    let opened : IsRead ps.opens = subst IsRead known.are_opens (list-read (permits Open known.steps) known.good_opens) in
-    let listened : IsRead ps.listens = subst IsRead known.are_listens (list-read (permits Listen known.steps) known.good_listens) in
+    let opened : IsRead ps.opens = subst IsRead known.are_opens (list-read (permit_words Open known.steps) known.good_opens) in
+    let listened : IsRead ps.listens = subst IsRead known.are_listens (list-read (permit_words Listen known.steps) known.good_listens) in
     policy-read ps.opens ps.listens ps.sessions opened listened
 
 -- and one of where the master may listen that is read
@@ -208,4 +208,4 @@ pub here-read : (words : List Bytes) (asked : Asked) (transport : Bytes) (ps : P
     → (allow : Allow) × (read_list ps.here ≡ Ok allow)
 here-read words asked transport ps e =
     let known : ArePermitted ps = subst OfMaster e (reading-master words) in
-    subst IsRead known.are_here (list-read (permits Here known.steps) known.good_here)
+    subst IsRead known.are_here (list-read (permit_words Here known.steps) known.good_here)

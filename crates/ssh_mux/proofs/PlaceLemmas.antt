@@ -22,7 +22,7 @@ use Rattle.conf_tokens.specs.Known.{known}
 use Rattle.mux_outside.specs.declared.facts.Facts.{Facts}
 use Rattle.mux_outside.specs.declared.pairs.Pair.{Pair}
 use Rattle.mux_outside.specs.declared.statuses.CommandStatus.{CommandStatus}
-use Rattle.ssh_mux.specs.Ending.{shown, misread_as, refused_as, unlisted_as}
+use Rattle.ssh_mux.specs.Ending.{ending_shown, misread_as, refused_as, unlisted_as}
 use Rattle.ssh_mux.specs.Outcomes.{machine}
 use Rattle.ssh_mux.specs.Places.{EndPlace, recorded_over, recorded_by_words, recorded_for}
 use Rattle.conf_rules.specs.declared.command.Permissions.{Permissions}
@@ -30,7 +30,7 @@ use Rattle.conf_rules.specs.declared.command.Permissions.{Permissions}
 -- a resolution that failed
 pub failed-place : (files : Option (List Pair)) (statuses : Option (List CommandStatus)) (facts : Facts) (asked : Asked) (e : ResolveError) (before now : Option (List Bytes)) (failed failed-now : FailedPaths)
     → ((recorded : Recorded) → recorded.asked ≡ asked → recorded.facts ≡ known facts → RecordsFiles files recorded → RecordsStatus statuses recorded.status → FaultStands recorded (all_rows recorded) e before now failed failed-now)
-    → EndPlace (recorded_over (machine files statuses facts) asked) (shown (refused_as e)) before now failed failed-now
+    → EndPlace (recorded_over (machine files statuses facts) asked) (ending_shown (refused_as e)) before now failed failed-now
 unfolding machine
 failed-place None None facts asked e before now failed failed-now f = tt
 failed-place None (Some statuses) facts asked e before now failed failed-now f = tt
@@ -39,13 +39,13 @@ failed-place (Some files) (Some statuses) facts asked errors.OutOfMemory before 
 failed-place (Some files) (Some statuses) facts asked (errors.At file number cause) before now failed failed-now f = f _ refl refl (refl, refl) refl
 
 -- a listing that failed
-pub unlisted-place : (recorded : Option Recorded) (e : ListError) (before now : Option (List Bytes)) (failed failed-now : FailedPaths) → EndPlace recorded (shown (unlisted_as e)) before now failed failed-now
+pub unlisted-place : (recorded : Option Recorded) (e : ListError) (before now : Option (List Bytes)) (failed failed-now : FailedPaths) → EndPlace recorded (ending_shown (unlisted_as e)) before now failed failed-now
 unlisted-place None e before now failed failed-now = tt
 unlisted-place (Some recorded) (list_errors.Token key error) before now failed failed-now = tt
 unlisted-place (Some recorded) list_errors.OutOfMemory before now failed failed-now = tt
 
 -- words that have no reading
-pub misread-place : (recorded : Option Recorded) (e : WordsError) (before now : Option (List Bytes)) (failed failed-now : FailedPaths) → EndPlace recorded (shown (misread_as e)) before now failed failed-now
+pub misread-place : (recorded : Option Recorded) (e : WordsError) (before now : Option (List Bytes)) (failed failed-now : FailedPaths) → EndPlace recorded (ending_shown (misread_as e)) before now failed failed-now
 misread-place None e before now failed failed-now = tt
 misread-place (Some recorded) (words_errors.Refused e) before now failed failed-now = tt
 misread-place (Some recorded) words_errors.OutOfMemory before now failed failed-now = tt

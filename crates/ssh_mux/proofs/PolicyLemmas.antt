@@ -17,7 +17,7 @@ use Rattle.conf_rules.specs.Texts.{Bytes}
 use Rattle.forward_rules.specs.Allows.{read_policy}
 use Rattle.mux_history.specs.Policy.{read_list}
 use Rattle.ssh_mux.specs.declared.status.Status.{Status}
-use Rattle.ssh_mux.specs.Answers.{may_open, may_share}
+use Rattle.ssh_mux.specs.Answers.{may_open_wire, may_share}
 use Rattle.ssh_mux.specs.Outcomes.{Certain, of_command, opens}
 use Rattle.ssh_mux.specs.Sharing.{permissions_in}
 use Rattle.ssh_mux.proofs.Permits.{here-read, permits-read}
@@ -59,4 +59,4 @@ carried false shares P due ps is h = tt
 pub with-permissions : (m : Option Machine) (asked : Asked) (transport : Bytes) (ps : Permissions) (status : Status) (P : Permissions → Type 0) → OnTrue (may_share (of_command m (commands.Master asked transport ps)) status) (P ps) → OnTrue (may_share (of_command m (commands.Master asked transport ps)) status) (P (permissions_in (of_command m (commands.Master asked transport ps))))
 with-permissions m asked transport ps status P h =
     let k = of_command m (commands.Master asked transport ps) in
-    carried (may_open status) (opens k) P ps (permissions_in k) (opened-permits m asked transport ps) h
+    carried (may_open_wire status) (opens k) P ps (permissions_in k) (opened-permits m asked transport ps) h

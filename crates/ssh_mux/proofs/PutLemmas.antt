@@ -17,17 +17,17 @@ use Rattle.ssh_mux.specs.declared.ending.Ending.{Ending as MeantEnding}
 use Rattle.ssh_mux.specs.declared.ending.Ending.TheVariants as endings
 use Rattle.ssh_mux.specs.declared.status.Status.{Status}
 use Rattle.ssh_mux.specs.declared.status.Status.TheVariants as statuses
-use Rattle.ssh_mux.specs.Answers.{IsWell, is_silent, so_far}
+use Rattle.ssh_mux.specs.Answers.{IsWell, has_no_line, so_far}
 use Rattle.ssh_mux.specs.Err.{Reports}
 use Rattle.ssh_mux.specs.Out.{HandsOver}
-use Rattle.ssh_mux.specs.Outcomes.{Known, Certain, Listing, Master, Client, of_command, writes_out}
+use Rattle.ssh_mux.specs.Outcomes.{KnownCommand, Certain, Listing, Master, Client, of_command, writes_out}
 use Rattle.ssh_mux.specs.Puts.{PutsOnce, prints}
 use Rattle.ssh_mux.specs.Status.{status_of}
 use Rattle.ssh_mux.proofs.EndLemmas.{carried, reported}
 use Rattle.ssh_mux.proofs.StillLemmas.{loud}
 
 -- an ending before anything is handed over
-pub quiet-puts : (status : Status) (count : ℕ) → is_silent status ≡ false → PutsOnce status count count
+pub quiet-puts : (status : Status) (count : ℕ) → has_no_line status ≡ false → PutsOnce status count count
 quiet-puts statuses.Done count e = absurd cc
 quiet-puts statuses.Write count e = absurd cc
 quiet-puts statuses.Memory count e = inl refl
@@ -42,13 +42,13 @@ handed-puts text (Err endings.NoMemory) before now n m h e = inr e
 handed-puts text (Err ending) before now n m h e = absurd h
 
 -- after the line
-puts-starved : (status : Status) (n m : ℕ) → is_silent status ≡ false → PutsOnce status n m → PutsOnce statuses.Memory n m
+puts-starved : (status : Status) (n m : ℕ) → has_no_line status ≡ false → PutsOnce status n m → PutsOnce statuses.Memory n m
 puts-starved statuses.Done n m e h = absurd cc
 puts-starved statuses.Write n m e h = absurd cc
 puts-starved statuses.Memory n m e h = h
 puts-starved status n m e h = inl h
 
-on-starved : (b : Bool) (status : Status) (n m : ℕ) → is_silent status ≡ false → OnTrue b (PutsOnce status n m) → OnTrue b (PutsOnce statuses.Memory n m)
+on-starved : (b : Bool) (status : Status) (n m : ℕ) → has_no_line status ≡ false → OnTrue b (PutsOnce status n m) → OnTrue b (PutsOnce statuses.Memory n m)
 on-starved true status n m e h = puts-starved status n m e h
 on-starved false status n m e h = tt
 
@@ -56,7 +56,7 @@ pub puts_after : (b : Bool) (status : Status) (ending : Ending) (x y : Option (L
 puts_after b status ending x y f f' n m r h = carried (λ s. OnTrue b (PutsOnce s n m)) status ending (reported status ending x y f f' r) (on-starved b (status_of ending) n m (loud ending) h) h
 
 -- a status without a line
-pub well-puts : (k : Known) (status : Status) (P : Type 0) → IsWell k status → OnFalse (is_silent status) P
+pub well-puts : (k : KnownCommand) (status : Status) (P : Type 0) → IsWell k status → OnFalse (has_no_line status) P
 well-puts k statuses.Done P w = tt
 well-puts k statuses.Write P w = tt
 well-puts k status P w = absurd w
@@ -66,7 +66,7 @@ loud-puts true P h = tt
 loud-puts false P h = h
 
 -- what neither lists nor drills prints nothing
-pub unprinted : (k : Known) → writes_out k ≡ false → prints k ≡ false
+pub unprinted : (k : KnownCommand) → writes_out k ≡ false → prints k ≡ false
 unprinted (Certain (Ends ending)) e = refl
 unprinted (Certain (Writes text)) e = absurd cc
 unprinted (Certain (Opens control transport ps)) e = refl

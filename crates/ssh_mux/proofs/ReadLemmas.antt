@@ -2,7 +2,7 @@
 use Rattle.std.proofs.Common.{◌≡◌, ℕ, List, Option, Some, None, Ok, Err, refl, sym, ap, subst}
 use Rattle.conf_command.specs.declared.reader.WordsError.{WordsError}
 use Rattle.conf_command.specs.declared.reader.WordsError.TheVariants as words_errors
-use Rattle.conf_command.specs.Results.{Fails}
+use Rattle.conf_command.specs.Results.{CommandFails}
 use Rattle.conf_match.specs.Evaluated.{RecordsStatus}
 use Rattle.conf_reader.specs.Known.{RecordsFiles}
 use Rattle.conf_reader.specs.ToRead.{ReadsSome}
@@ -26,7 +26,7 @@ use Rattle.mux_outside.specs.declared.pairs.Pair.{Pair}
 use Rattle.mux_outside.specs.declared.statuses.CommandStatus.{CommandStatus}
 use Rattle.ssh_mux.specs.declared.status.Status.{Status}
 use Rattle.ssh_mux.specs.declared.status.Status.TheVariants as statuses
-use Rattle.ssh_mux.specs.Ending.{shown, misread_as, refused_as}
+use Rattle.ssh_mux.specs.Ending.{ending_shown, misread_as, refused_as}
 use Rattle.ssh_mux.specs.Err.{Reports}
 use Rattle.ssh_mux.specs.Outcomes.{machine}
 use Rattle.ssh_mux.specs.Places.{recorded_over, recorded_by_words, recorded_for}
@@ -35,7 +35,7 @@ use Rattle.ssh_mux.specs.Status.{status_of}
 use Rattle.ssh_mux.proofs.EndLemmas.{carried, reported}
 
 -- a resolution that failed
-refused-with : (recorded : Recorded) (e : ResolveError) (before now : Readings) → ReadsSome (all_reads recorded) before now → RunReadsFor (Some recorded) (status_of (shown (refused_as e))) before now
+refused-with : (recorded : Recorded) (e : ResolveError) (before now : Readings) → ReadsSome (all_reads recorded) before now → RunReadsFor (Some recorded) (status_of (ending_shown (refused_as e))) before now
 refused-with recorded errors.OutOfMemory before now h = h
 refused-with recorded (errors.At file number ReadFault) before now h = h
 refused-with recorded (errors.At file number RunFault) before now h = h
@@ -43,7 +43,7 @@ refused-with recorded (errors.At file number cause) before now h = h
 
 pub refused-reads : (files : Option (List Pair)) (ends_with : Option (List CommandStatus)) (facts : Facts) (asked : Asked) (e : ResolveError) (before now : Readings)
     → ((recorded : Recorded) → recorded.asked ≡ asked → recorded.facts ≡ known facts → RecordsFiles files recorded → RecordsStatus ends_with recorded.status → ReadsSome (all_reads recorded) before now)
-    → RunReadsFor (recorded_over (machine files ends_with facts) asked) (status_of (shown (refused_as e))) before now
+    → RunReadsFor (recorded_over (machine files ends_with facts) asked) (status_of (ending_shown (refused_as e))) before now
 unfolding machine
 refused-reads None None facts asked e before now h = tt
 refused-reads None (Some ends_with) facts asked e before now h = tt
@@ -88,7 +88,7 @@ none-recorded : (m : Option Machine) (words : List (List ℕ)) (e : UsageError) 
 unfolding recorded_for
 none-recorded m words e is = ap (recorded_by_words m) is
 
-pub misread-reads : (m : Option Machine) (words : List (List ℕ)) (e : WordsError) (before : Readings) → Fails e (reading words) → RunReadsFor (recorded_for m words) (status_of (shown (misread_as e))) before before
+pub misread-reads : (m : Option Machine) (words : List (List ℕ)) (e : WordsError) (before : Readings) → CommandFails e (reading words) → RunReadsFor (recorded_for m words) (status_of (ending_shown (misread_as e))) before before
 misread-reads m words words_errors.OutOfMemory before h = starved-reads (recorded_for m words) before
 misread-reads m words (words_errors.Refused e) before h = subst (λ t. RunReadsFor t statuses.Usage before before) (sym (none-recorded m words e h)) tt
 

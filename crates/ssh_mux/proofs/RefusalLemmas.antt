@@ -13,7 +13,7 @@ use Rattle.conf_rules.specs.declared.causes.ResolveError.TheVariants as errors
 use Rattle.conf_rules.specs.Diagnostics.{Ending, BadLine, BadListing, NoControlPath, is_fault}
 use Rattle.conf_rules.specs.Listing.{listing_over, control_path_at}
 use Rattle.conf_rules.specs.CommandOutcome.{CommandOutcome, Ends, Writes, Opens, Drills, Joins, recorded_of, listed_end, opened_end, unrefused, Machine}
-use Rattle.conf_rules.specs.Resolution.{all_rows, refusal_in, refusal}
+use Rattle.conf_rules.specs.Resolution.{all_rows, refusal_in, first_refusal}
 use Rattle.conf_rules.specs.Rows.{LineRow}
 use Rattle.conf_rules.specs.Texts.{Bytes}
 use Rattle.conf_rules.specs.Recorded.{Recorded}
@@ -27,8 +27,8 @@ use Rattle.mux_outside.specs.declared.facts.Facts.{Facts}
 use Rattle.mux_outside.specs.declared.pairs.Pair.{Pair}
 use Rattle.mux_outside.specs.declared.statuses.CommandStatus.{CommandStatus}
 use Rattle.ssh_mux.specs.Answers.{IsRunRefused, is_refusal_ending, refuses_master}
-use Rattle.ssh_mux.specs.Ending.{shown, refused_as, unlisted_as}
-use Rattle.ssh_mux.specs.Outcomes.{Known, Certain, Listing, Master, Client, machine, machine_of, of_command, opens_at, looks, writes_out, opens, drills}
+use Rattle.ssh_mux.specs.Ending.{ending_shown, refused_as, unlisted_as}
+use Rattle.ssh_mux.specs.Outcomes.{KnownCommand, Certain, Listing, Master, Client, machine, machine_of, of_command, opens_at, looks, writes_out, opens, drills}
 use Rattle.conf_rules.specs.declared.command.Permissions.{Permissions}
 
 -- ---- outcomes of rows
@@ -123,14 +123,14 @@ master-undrilled (Some m) asked transport ps = undrilled-rows (all_rows (recorde
 -- ---- a configuration that is refused
 
 -- an ending that is due, faults and running out of memory aside
-abbrev Plain : Known → Ending → Type 0
+abbrev Plain : KnownCommand → Ending → Type 0
 Plain (Certain (Ends due)) ending = ending ≡ due
 Plain (Certain other) ending = ⊥
 Plain Listing ending = IsTrue (is_refusal_ending ending)
 Plain (Master transport ps) ending = IsTrue (refuses_master ending)
 Plain (Client asked what) ending = IsTrue (refuses_master ending)
 
-pub by-cause : (k : Known) (file : Bytes) (line : ℕ) (cause : Cause) → looks k ≡ true → (is_fault cause ≡ false → Plain k (BadLine (errors.At file line cause))) → IsRunRefused k (BadLine (errors.At file line cause))
+pub by-cause : (k : KnownCommand) (file : Bytes) (line : ℕ) (cause : Cause) → looks k ≡ true → (is_fault cause ≡ false → Plain k (BadLine (errors.At file line cause))) → IsRunRefused k (BadLine (errors.At file line cause))
 by-cause k file line ReadFault l h = l
 by-cause k file line RunFault l h = l
 by-cause (Certain (Ends due)) file line cause l h = h refl
@@ -153,19 +153,19 @@ Promise files statuses facts asked P = (recorded : Recorded) → recorded.asked 
 pub kept : (files : List Pair) (statuses : List CommandStatus) (facts : Facts) (asked : Asked) (P : Recorded → Type 0) → Promise (Some files) (Some statuses) facts asked P → P (recorded_of (machine_of files statuses facts) asked)
 kept files statuses facts asked P h = h (recorded_of (machine_of files statuses facts) asked) refl refl (refl, refl) refl
 
-pub refused-rows : (recorded : Recorded) (x : CommandOutcome) (e : ResolveError) → looks (Certain x) ≡ true → Resolved recorded (Err e) → IsRunRefused (Certain (unrefused (all_rows recorded) x)) (shown (refused_as e))
+pub refused-rows : (recorded : Recorded) (x : CommandOutcome) (e : ResolveError) → looks (Certain x) ≡ true → Resolved recorded (Err e) → IsRunRefused (Certain (unrefused (all_rows recorded) x)) (ending_shown (refused_as e))
 refused-rows recorded x errors.OutOfMemory l h = tt
 refused-rows recorded x (errors.At file line cause) l h = by-cause (Certain (unrefused (all_rows recorded) x)) file line cause (looks-rows (all_rows recorded) x l) (λ plain. plain-rows (all_rows recorded) x (errors.At file line cause) (h plain))
 
-refused-listing : (e : ResolveError) → IsRunRefused Listing (shown (refused_as e))
+refused-listing : (e : ResolveError) → IsRunRefused Listing (ending_shown (refused_as e))
 refused-listing errors.OutOfMemory = tt
 refused-listing (errors.At file line cause) = by-cause Listing file line cause refl (λ plain. refl)
 
-refused-master : (transport : Bytes) (ps : Permissions) (e : ResolveError) → IsRunRefused (Master transport ps) (shown (refused_as e))
+refused-master : (transport : Bytes) (ps : Permissions) (e : ResolveError) → IsRunRefused (Master transport ps) (ending_shown (refused_as e))
 refused-master transport ps errors.OutOfMemory = tt
 refused-master transport ps (errors.At file line cause) = by-cause (Master transport ps) file line cause refl (λ plain. refl)
 
-pub list-refused : (files : Option (List Pair)) (statuses : Option (List CommandStatus)) (facts : Facts) (asked : Asked) (e : ResolveError) → Promise files statuses facts asked (λ recorded. Resolved recorded (Err e)) → IsRunRefused (of_command (machine files statuses facts) (commands.List asked)) (shown (refused_as e))
+pub list-refused : (files : Option (List Pair)) (statuses : Option (List CommandStatus)) (facts : Facts) (asked : Asked) (e : ResolveError) → Promise files statuses facts asked (λ recorded. Resolved recorded (Err e)) → IsRunRefused (of_command (machine files statuses facts) (commands.List asked)) (ending_shown (refused_as e))
 unfolding of_command machine
 list-refused None statuses facts asked e h = refused-listing e
 list-refused (Some files) None facts asked e h = refused-listing e
@@ -174,7 +174,7 @@ list-refused (Some files) (Some statuses) facts asked e h =
     let listed = listing_over LISTING_ORDER recorded (all_rows recorded) in
     refused-rows recorded (listed_end listed) e (looks-listed listed) (kept files statuses facts asked (λ t. Resolved t (Err e)) h)
 
-pub master-refused : (files : Option (List Pair)) (statuses : Option (List CommandStatus)) (facts : Facts) (asked : Asked) (transport : Bytes) (ps : Permissions) (e : ResolveError) → Promise files statuses facts asked (λ recorded. Resolved recorded (Err e)) → IsRunRefused (of_command (machine files statuses facts) (commands.Master asked transport ps)) (shown (refused_as e))
+pub master-refused : (files : Option (List Pair)) (statuses : Option (List CommandStatus)) (facts : Facts) (asked : Asked) (transport : Bytes) (ps : Permissions) (e : ResolveError) → Promise files statuses facts asked (λ recorded. Resolved recorded (Err e)) → IsRunRefused (of_command (machine files statuses facts) (commands.Master asked transport ps)) (ending_shown (refused_as e))
 unfolding of_command machine
 master-refused None statuses facts asked transport ps e h = refused-master transport ps e
 master-refused (Some files) None facts asked transport ps e h = refused-master transport ps e
@@ -198,18 +198,18 @@ list-found None statuses facts asked settings text h l = inr refl
 list-found (Some files) None facts asked settings text h l = inr refl
 list-found (Some files) (Some statuses) facts asked settings text h l =
     let recorded = recorded_of (machine_of files statuses facts) asked in
-    let none : refusal recorded ≡ None = (kept files statuses facts asked (λ t. Resolved t (Ok settings)) h).0 in
+    let none : first_refusal recorded ≡ None = (kept files statuses facts asked (λ t. Resolved t (Ok settings)) h).0 in
     let lists : listing_over LISTING_ORDER recorded (all_rows recorded) ≡ Ok text = l recorded (all_rows recorded) (settled files statuses facts asked settings h) in
     inl (ap (λ o. Certain o) (unrefused-rows (all_rows recorded) (listed_end (listing_over LISTING_ORDER recorded (all_rows recorded))) none ∙ ap listed_end lists))
 
-pub list-unlisted : (files : Option (List Pair)) (statuses : Option (List CommandStatus)) (facts : Facts) (asked : Asked) (settings : List Given) (e : ListError) → Promise files statuses facts asked (λ recorded. Resolved recorded (Ok settings)) → ListsSettings (Err e) settings asked.original facts → IsRunRefused (of_command (machine files statuses facts) (commands.List asked)) (shown (unlisted_as e))
+pub list-unlisted : (files : Option (List Pair)) (statuses : Option (List CommandStatus)) (facts : Facts) (asked : Asked) (settings : List Given) (e : ListError) → Promise files statuses facts asked (λ recorded. Resolved recorded (Ok settings)) → ListsSettings (Err e) settings asked.original facts → IsRunRefused (of_command (machine files statuses facts) (commands.List asked)) (ending_shown (unlisted_as e))
 unfolding of_command machine
 list-unlisted files statuses facts asked settings list_errors.OutOfMemory h l = tt
 list-unlisted None statuses facts asked settings (list_errors.Token key error) h l = refl
 list-unlisted (Some files) None facts asked settings (list_errors.Token key error) h l = refl
 list-unlisted (Some files) (Some statuses) facts asked settings (list_errors.Token key error) h l =
     let recorded = recorded_of (machine_of files statuses facts) asked in
-    let none : refusal recorded ≡ None = (kept files statuses facts asked (λ t. Resolved t (Ok settings)) h).0 in
+    let none : first_refusal recorded ≡ None = (kept files statuses facts asked (λ t. Resolved t (Ok settings)) h).0 in
     let lists : listing_over LISTING_ORDER recorded (all_rows recorded) ≡ Err (list_errors.Token key error) = l recorded (all_rows recorded) (settled files statuses facts asked settings h) in
     let is = unrefused-rows (all_rows recorded) (listed_end (listing_over LISTING_ORDER recorded (all_rows recorded))) none ∙ ap listed_end lists in
     subst (λ o. IsRunRefused (Certain o) (BadListing (list_errors.Token key error))) (sym is) refl
@@ -221,7 +221,7 @@ Path recorded transport ps = unrefused (all_rows recorded) (opened_end transport
 path-is : (files : List Pair) (statuses : List CommandStatus) (facts : Facts) (asked : Asked) (transport : Bytes) (ps : Permissions) (settings : List Given) (r : Result (Option Bytes) ListError) → Promise (Some files) (Some statuses) facts asked (λ recorded. Resolved recorded (Ok settings)) → control_path_at (recorded_of (machine_of files statuses facts) asked) (all_rows (recorded_of (machine_of files statuses facts) asked)) ≡ r → Path (recorded_of (machine_of files statuses facts) asked) transport ps ≡ opened_end transport ps r
 path-is files statuses facts asked transport ps settings r h is =
     let recorded = recorded_of (machine_of files statuses facts) asked in
-    let none : refusal recorded ≡ None = (kept files statuses facts asked (λ t. Resolved t (Ok settings)) h).0 in
+    let none : first_refusal recorded ≡ None = (kept files statuses facts asked (λ t. Resolved t (Ok settings)) h).0 in
     unrefused-rows (all_rows recorded) (opened_end transport ps (control_path_at recorded (all_rows recorded))) none ∙ ap (opened_end transport ps) is
 
 pub path-found : (files : Option (List Pair)) (statuses : Option (List CommandStatus)) (facts : Facts) (asked : Asked) (transport : Bytes) (ps : Permissions) (settings : List Given) (path : Bytes) → Promise files statuses facts asked (λ recorded. Resolved recorded (Ok settings)) → HasControlPath (Ok (Some path)) settings asked.original facts → (of_command (machine files statuses facts) (commands.Master asked transport ps) ≡ Certain (opens_at transport ps path)) ⊎ (of_command (machine files statuses facts) (commands.Master asked transport ps) ≡ Master transport ps)
@@ -240,7 +240,7 @@ path-unset (Some files) (Some statuses) facts asked transport ps settings h p =
     let recorded = recorded_of (machine_of files statuses facts) asked in
     subst (λ o. IsRunRefused (Certain o) NoControlPath) (sym (path-is files statuses facts asked transport ps settings (Ok None) h (p recorded (all_rows recorded) (settled files statuses facts asked settings h)))) refl
 
-pub path-unlisted : (files : Option (List Pair)) (statuses : Option (List CommandStatus)) (facts : Facts) (asked : Asked) (transport : Bytes) (ps : Permissions) (settings : List Given) (e : ListError) → Promise files statuses facts asked (λ recorded. Resolved recorded (Ok settings)) → HasControlPath (Err e) settings asked.original facts → IsRunRefused (of_command (machine files statuses facts) (commands.Master asked transport ps)) (shown (unlisted_as e))
+pub path-unlisted : (files : Option (List Pair)) (statuses : Option (List CommandStatus)) (facts : Facts) (asked : Asked) (transport : Bytes) (ps : Permissions) (settings : List Given) (e : ListError) → Promise files statuses facts asked (λ recorded. Resolved recorded (Ok settings)) → HasControlPath (Err e) settings asked.original facts → IsRunRefused (of_command (machine files statuses facts) (commands.Master asked transport ps)) (ending_shown (unlisted_as e))
 unfolding of_command machine
 path-unlisted files statuses facts asked transport ps settings list_errors.OutOfMemory h p = tt
 path-unlisted None statuses facts asked transport ps settings (list_errors.Token key error) h p = refl

@@ -29,12 +29,12 @@ use Rattle.ssh_mux.specs.declared.ending.Ending.{Ending}
 use Rattle.ssh_mux.specs.declared.ending.Ending.TheVariants as endings
 use Rattle.ssh_mux.specs.declared.status.Status.{Status}
 use Rattle.ssh_mux.specs.declared.status.Status.TheVariants as statuses
-use Rattle.ssh_mux.specs.Answers.{Comes, so_far, may_open, may_share, serves_house}
+use Rattle.ssh_mux.specs.Answers.{Comes, so_far, may_open_wire, may_share, serves_house}
 use Rattle.ssh_mux.specs.Causes.{OutCause}
-use Rattle.ssh_mux.specs.Ending.{shown}
+use Rattle.ssh_mux.specs.Ending.{ending_shown}
 use Rattle.ssh_mux.specs.Master.{EndsMaster}
 use Rattle.ssh_mux.specs.Out.{OutTakes}
-use Rattle.ssh_mux.specs.Outcomes.{Known, Certain, Listing, Master, Client, opens_at, opens, writes_out}
+use Rattle.ssh_mux.specs.Outcomes.{KnownCommand, Certain, Listing, Master, Client, opens_at, opens, writes_out}
 use Rattle.ssh_mux.specs.Sharing.{CallsEnd, CameFor, IdleCause, OpensAt, OpensOnce, Shares, StartCause, WaitsFor, pid_of, recorded_as}
 use Rattle.ssh_mux.specs.Status.{status_of}
 use Rattle.ssh_mux.proofs.StillLemmas.{follows, loud, on_true, quiet-count, served-house}
@@ -169,7 +169,7 @@ pid_is (Some pid) = refl
 -- ---- a master whose control path was found
 
 -- what was found of it
-abbrev pub IsMaster : Known → Bytes → Permissions → Bytes → Type 0
+abbrev pub IsMaster : KnownCommand → Bytes → Permissions → Bytes → Type 0
 IsMaster k transport ps control = (k ≡ Certain (opens_at transport ps control)) ⊎ (k ≡ Master transport ps)
 
 certain-comes : (transport : Bytes) (ps : Permissions) (control : Bytes) (result : Result Status Ending) → EndsMaster result → Comes (Certain (opens_at transport ps control)) result
@@ -194,12 +194,12 @@ some-comes transport ps (Err endings.StartRefused) h = refl
 some-comes transport ps (Err endings.NoMemory) h = tt
 some-comes transport ps (Err ending) h = absurd cc
 
-pub master-comes : (k : Known) (transport : Bytes) (ps : Permissions) (control : Bytes) (result : Result Status Ending) → IsMaster k transport ps control → EndsMaster result → Comes k result
+pub master-comes : (k : KnownCommand) (transport : Bytes) (ps : Permissions) (control : Bytes) (result : Result Status Ending) → IsMaster k transport ps control → EndsMaster result → Comes k result
 master-comes k transport ps control result (inl e) h = subst (λ x. Comes x result) (sym e) (certain-comes transport ps control result h)
 master-comes k transport ps control result (inr e) h = subst (λ x. Comes x result) (sym e) (some-comes transport ps result h)
 
 -- it may have opened its wire
-pub master-opens : (result : Result Status Ending) → EndsMaster result → may_open (so_far result) ≡ true
+pub master-opens : (result : Result Status Ending) → EndsMaster result → may_open_wire (so_far result) ≡ true
 master-opens (Ok statuses.Done) h = refl
 master-opens (Ok status) h = absurd cc
 master-opens (Err endings.NotOpened) h = refl
@@ -210,28 +210,28 @@ master-opens (Err endings.StartRefused) h = refl
 master-opens (Err endings.NoMemory) h = refl
 master-opens (Err ending) h = absurd cc
 
-pub opens-for : (k : Known) (transport : Bytes) (ps : Permissions) (control : Bytes) → IsMaster k transport ps control → opens k ≡ true
+pub opens-for : (k : KnownCommand) (transport : Bytes) (ps : Permissions) (control : Bytes) → IsMaster k transport ps control → opens k ≡ true
 opens-for k transport ps control (inl e) = subst (λ x. opens x ≡ true) (sym e) refl
 opens-for k transport ps control (inr e) = subst (λ x. opens x ≡ true) (sym e) refl
 
-pub master-waits : (k : Known) (transport : Bytes) (ps : Permissions) (control : Bytes) (present : Bool) (turns : ℕ) (status : Status) (old new : CallCounts) → IsMaster k transport ps control → OnFalse present (WaitsFor turns status old new) → OnFalse (serves_house present k) (OnTrue (may_share k status) (WaitsFor turns status old new))
+pub master-waits : (k : KnownCommand) (transport : Bytes) (ps : Permissions) (control : Bytes) (present : Bool) (turns : ℕ) (status : Status) (old new : CallCounts) → IsMaster k transport ps control → OnFalse present (WaitsFor turns status old new) → OnFalse (serves_house present k) (OnTrue (may_share k status) (WaitsFor turns status old new))
 master-waits k transport ps control present turns status old new m h = served-house present (opens k) (OnTrue (may_share k status) (WaitsFor turns status old new)) (opens-for k transport ps control m) (follows present (WaitsFor turns status old new) (OnTrue (may_share k status) (WaitsFor turns status old new)) (on_true (may_share k status) (WaitsFor turns status old new)) h)
 
-pub master-came : (k : Known) (status : Status) (old new : CallCounts) → CameFor status old new → OnTrue (may_share k status) (CameFor status old new)
+pub master-came : (k : KnownCommand) (status : Status) (old new : CallCounts) → CameFor status old new → OnTrue (may_share k status) (CameFor status old new)
 master-came k status old new h = on_true (may_share k status) (CameFor status old new) h
 
-pub master-idle : (k : Known) (transport : Bytes) (ps : Permissions) (control : Bytes) (present : Bool) (status : Status) (w w' : Faults) → IsMaster k transport ps control → OnFalse present (IdleCause status w w') → OnFalse (serves_house present k) (IdleCause status w w')
+pub master-idle : (k : KnownCommand) (transport : Bytes) (ps : Permissions) (control : Bytes) (present : Bool) (status : Status) (w w' : Faults) → IsMaster k transport ps control → OnFalse present (IdleCause status w w') → OnFalse (serves_house present k) (IdleCause status w w')
 master-idle k transport ps control present status w w' m h = served-house present (opens k) (IdleCause status w w') (opens-for k transport ps control m) h
 
-pub master-shares : (k : Known) (transport : Bytes) (ps : Permissions) (control : Bytes) (result : Result Status Ending) → IsMaster k transport ps control → EndsMaster result → may_share k (so_far result) ≡ true
+pub master-shares : (k : KnownCommand) (transport : Bytes) (ps : Permissions) (control : Bytes) (result : Result Status Ending) → IsMaster k transport ps control → EndsMaster result → may_share k (so_far result) ≡ true
 master-shares k transport ps control result (inl e) h = rw (master-opens result h) (subst (λ x. opens x ≡ true) (sym e) refl)
 master-shares k transport ps control result (inr e) h = rw (master-opens result h) (subst (λ x. opens x ≡ true) (sym e) refl)
 
-certain-opened : (transport : Bytes) (ps : Permissions) (control : Bytes) (status : Status) (before now : Option (List OpenCall)) → may_open status ≡ true → OpensAt control transport status before now → OpensOnce (Certain (opens_at transport ps control)) status before now
+certain-opened : (transport : Bytes) (ps : Permissions) (control : Bytes) (status : Status) (before now : Option (List OpenCall)) → may_open_wire status ≡ true → OpensAt control transport status before now → OpensOnce (Certain (opens_at transport ps control)) status before now
 certain-opened transport ps control statuses.Outside before now m h = absurd cc
 certain-opened transport ps control status before now m h = h
 
-some-opened : (transport control : Bytes) (ps : Permissions) (status : Status) (before now : Option (List OpenCall)) → may_open status ≡ true → OpensAt control transport status before now → OpensOnce (Master transport ps) status before now
+some-opened : (transport control : Bytes) (ps : Permissions) (status : Status) (before now : Option (List OpenCall)) → may_open_wire status ≡ true → OpensAt control transport status before now → OpensOnce (Master transport ps) status before now
 some-opened transport control ps statuses.Usage before now m h = absurd cc
 some-opened transport control ps statuses.Config before now m h = absurd cc
 some-opened transport control ps statuses.Outside before now m h = absurd cc
@@ -239,14 +239,14 @@ some-opened transport control ps statuses.Memory before now m (inl h) = inl h
 some-opened transport control ps statuses.Memory before now m (inr h) = inr (record { control = control; once = h })
 some-opened transport control ps status before now m h = record { control = control; once = h }
 
-pub master-opened : (k : Known) (transport : Bytes) (ps : Permissions) (control : Bytes) (status : Status) (before now : Option (List OpenCall)) → IsMaster k transport ps control → may_open status ≡ true → OpensAt control transport status before now → OpensOnce k status before now
+pub master-opened : (k : KnownCommand) (transport : Bytes) (ps : Permissions) (control : Bytes) (status : Status) (before now : Option (List OpenCall)) → IsMaster k transport ps control → may_open_wire status ≡ true → OpensAt control transport status before now → OpensOnce k status before now
 master-opened k transport ps control status before now (inl e) m h = subst (λ x. OpensOnce x status before now) (sym e) (certain-opened transport ps control status before now m h)
 master-opened k transport ps control status before now (inr e) m h = subst (λ x. OpensOnce x status before now) (sym e) (some-opened transport control ps status before now m h)
 
 -- ---- what others leave
 
 -- a command that opens nothing
-pub none-opened : (k : Known) (status : Status) (before : Option (List OpenCall)) → opens k ≡ false → OpensOnce k status before before
+pub none-opened : (k : KnownCommand) (status : Status) (before : Option (List OpenCall)) → opens k ≡ false → OpensOnce k status before before
 none-opened (Certain (Opens control transport ps)) status before e = absurd cc
 none-opened (Certain (Ends ending)) status before e = refl
 none-opened (Certain (Writes text)) status before e = refl
@@ -257,7 +257,7 @@ none-opened (Client asked what) status before e = refl
 none-opened (Master transport ps) status before e = absurd cc
 
 -- one that writes nothing to the output
-pub none-taken : (k : Known) (status : Status) (before : Option (List ℕ)) → writes_out k ≡ false → OutTakes status k before before
+pub none-taken : (k : KnownCommand) (status : Status) (before : Option (List ℕ)) → writes_out k ≡ false → OutTakes status k before before
 none-taken (Certain (Writes text)) status before e = absurd cc
 none-taken Listing status before e = absurd cc
 none-taken (Certain (Joins control asked what)) status before e = absurd cc
@@ -273,7 +273,7 @@ none-taken (Master transport ps) statuses.Done before e = refl
 none-taken (Master transport ps) statuses.Write before e = refl
 none-taken (Master transport ps) status before e = refl
 
-pub none-counted : (k : Known) (result : Result Status Ending) (count : ℕ) → writes_out k ≡ false → Comes k result → OutCause (so_far result) count count
+pub none-counted : (k : KnownCommand) (result : Result Status Ending) (count : ℕ) → writes_out k ≡ false → Comes k result → OutCause (so_far result) count count
 none-counted k (Ok statuses.Write) count e h = let x : false ≡ true = sym e ∙ h in absurd cc
 none-counted k (Ok status) count e h = refl
-none-counted k (Err ending) count e h = quiet-count (status_of (shown ending)) count (loud (shown ending))
+none-counted k (Err ending) count e h = quiet-count (status_of (ending_shown ending)) count (loud (ending_shown ending))

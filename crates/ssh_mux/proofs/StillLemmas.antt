@@ -25,11 +25,11 @@ use Rattle.ssh_mux.specs.declared.ending.Ending.{Ending as MeantEnding}
 use Rattle.ssh_mux.specs.declared.ending.Ending.TheVariants as endings
 use Rattle.ssh_mux.specs.declared.status.Status.{Status}
 use Rattle.ssh_mux.specs.declared.status.Status.TheVariants as statuses
-use Rattle.ssh_mux.specs.Answers.{IsDue, IsRunRefused, is_silent, may_open, may_share, touches, refuses_master, ends_client, ends_master}
+use Rattle.ssh_mux.specs.Answers.{IsDue, IsRunRefused, has_no_line, may_open_wire, may_share, touches, refuses_master, ends_client, ends_master}
 use Rattle.ssh_mux.specs.Causes.{OutCause}
-use Rattle.ssh_mux.specs.Ending.{shown}
+use Rattle.ssh_mux.specs.Ending.{ending_shown}
 use Rattle.ssh_mux.specs.Out.{OutStays, OutTakes}
-use Rattle.ssh_mux.specs.Outcomes.{Known, Certain, Listing, Master, Client, drills, opens}
+use Rattle.ssh_mux.specs.Outcomes.{KnownCommand, Certain, Listing, Master, Client, drills, opens}
 use Rattle.ssh_mux.specs.Sharing.{CallsEnd, CameFor, IdleCause, OpensOnce, Shares, StartCause, WaitsFor, WireCause}
 use Rattle.ssh_mux.specs.Starts.{BeganWith, Begun, MustsAs, starts_due}
 use Rattle.ssh_mux.specs.Status.{status_of, refusal_status, listing_status}
@@ -107,25 +107,25 @@ untouched true false true P h = tt
 untouched true false false P h = h
 
 -- nothing is shared where nothing opens
-pub shut : (k : Known) (status : Status) → opens k ≡ false → may_share k status ≡ false
-shut k status e = rw e (and-false (may_open status)) where
+pub shut : (k : KnownCommand) (status : Status) → opens k ≡ false → may_share k status ≡ false
+shut k status e = rw e (and-false (may_open_wire status)) where
   and-false : (b : Bool) → (b && false) ≡ false
   and-false true = refl
   and-false false = refl
 
 -- ---- an ending has a line
 
-refusal-loud : (e : _) → is_silent (refusal_status e) ≡ false
+refusal-loud : (e : _) → has_no_line (refusal_status e) ≡ false
 refusal-loud (At file line ReadFault) = refl
 refusal-loud (At file line RunFault) = refl
 refusal-loud (At file line cause) = refl
 refusal-loud OutOfMemory = refl
 
-listing-loud : (e : _) → is_silent (listing_status e) ≡ false
+listing-loud : (e : _) → has_no_line (listing_status e) ≡ false
 listing-loud (list_errors.Token key error) = refl
 listing-loud list_errors.OutOfMemory = refl
 
-pub loud : (ending : Ending) → is_silent (status_of ending) ≡ false
+pub loud : (ending : Ending) → has_no_line (status_of ending) ≡ false
 loud (ends.BadWords e) = refl
 loud (ends.BadLine e) = refusal-loud e
 loud (ends.BadListing e) = listing-loud e
@@ -141,7 +141,7 @@ loud ends.NoMemory = refl
 
 -- ---- what it leaves
 
-pub still-due : (k : Known) (ending : Ending) → IsRunRefused k ending → IsDue k ending
+pub still-due : (k : KnownCommand) (ending : Ending) → IsRunRefused k ending → IsDue k ending
 still-due k ends.NoMemory h = tt
 still-due k (ends.BadLine (At file line ReadFault)) h = h
 still-due k (ends.BadLine (At file line RunFault)) h = h
@@ -155,9 +155,9 @@ still-due (Master transport ps) ending h = or-left (refuses_master ending) (ends
 still-due (Client asked what) ending h = or-left (refuses_master ending) (ends_client ending) h
 
 -- nothing more was accepted
-pub out-stays : (status : Status) (k : Known) (before : Option (List ℕ)) → OutStays status k before before
-out-stays status (Certain (Joins control asked what)) before = on_false (may_open status) before
-out-stays status (Client asked what) before = on_false (may_open status) before
+pub out-stays : (status : Status) (k : KnownCommand) (before : Option (List ℕ)) → OutStays status k before before
+out-stays status (Certain (Joins control asked what)) before = on_false (may_open_wire status) before
+out-stays status (Client asked what) before = on_false (may_open_wire status) before
 out-stays status (Certain (Ends due)) before = refl
 out-stays status (Certain (Writes text)) before = refl
 out-stays status (Certain (Opens control transport ps)) before = refl
@@ -165,16 +165,16 @@ out-stays status (Certain (Drills seed clients messages)) before = refl
 out-stays status Listing before = refl
 out-stays status (Master transport ps) before = refl
 
-pub quiet-out : (status : Status) (k : Known) (before : Option (List ℕ)) → is_silent status ≡ false → OutTakes status k before before
+pub quiet-out : (status : Status) (k : KnownCommand) (before : Option (List ℕ)) → has_no_line status ≡ false → OutTakes status k before before
 quiet-out statuses.Done k before e = absurd cc
 quiet-out statuses.Write k before e = absurd cc
 quiet-out status k before e = out-stays status k before
 
-pub quiet-count : (status : Status) (count : ℕ) → is_silent status ≡ false → OutCause status count count
+pub quiet-count : (status : Status) (count : ℕ) → has_no_line status ≡ false → OutCause status count count
 quiet-count statuses.Write count e = absurd cc
 quiet-count status count e = refl
 
-pub still-opened : (k : Known) (ending : Ending) (before : Option (List OpenCall)) → IsRunRefused k ending → OpensOnce k (status_of ending) before before
+pub still-opened : (k : KnownCommand) (ending : Ending) (before : Option (List OpenCall)) → IsRunRefused k ending → OpensOnce k (status_of ending) before before
 still-opened (Certain (Ends due)) ending before h = refl
 still-opened (Certain (Writes text)) ending before h = refl
 still-opened (Certain (Drills seed clients messages)) ending before h = tt
@@ -196,10 +196,10 @@ still-opened (Master transport ps) ends.NoControlPath before h = refl
 still-opened (Master transport ps) ending before h = absurd cc
 
 -- no wire is opened by it, but maybe if memory runs out
-abbrev Unshared : Known → Ending → Type 0
+abbrev Unshared : KnownCommand → Ending → Type 0
 Unshared k ending = (may_share k (status_of ending) ≡ false) ⊎ (status_of ending ≡ statuses.Memory)
 
-unshared : (k : Known) (ending : Ending) → IsRunRefused k ending → Unshared k ending
+unshared : (k : KnownCommand) (ending : Ending) → IsRunRefused k ending → Unshared k ending
 unshared (Certain (Ends due)) ending h = inl (shut (Certain (Ends due)) (status_of ending) refl)
 unshared (Certain (Writes text)) ending h = inl (shut (Certain (Writes text)) (status_of ending) refl)
 unshared (Certain (Drills seed clients messages)) ending h = inl (shut (Certain (Drills seed clients messages)) (status_of ending) refl)
@@ -221,7 +221,7 @@ unshared (Master transport ps) ends.NoControlPath h = inl refl
 unshared (Master transport ps) ending h = absurd cc
 
 -- only running out of memory has its status
-pub only-memory : (meant : MeantEnding) → status_of (shown meant) ≡ statuses.Memory → meant ≡ endings.NoMemory
+pub only-memory : (meant : MeantEnding) → status_of (ending_shown meant) ≡ statuses.Memory → meant ≡ endings.NoMemory
 only-memory endings.NoMemory e = refl
 only-memory (endings.BadWords e) h = absurd cc
 only-memory (endings.BadLine file line ReadFault) h = absurd cc
@@ -237,20 +237,20 @@ only-memory endings.StartRefused h = absurd cc
 only-memory endings.MasterRefused h = absurd cc
 only-memory endings.MasterBroke h = absurd cc
 
--- a house begins somehow, as is due
+-- a forwarder begins somehow, as is due
 pub some-begun : (here : ListenPermit) (by : Option Recorded) (So : Starts → Type 0) → ((starts : Starts) → So starts) → Begun here by So
 some-begun here None So h = let none : Starts = record { asks = []; gateway = false; must = false; here = here } in record { starts = none; permitted = refl; due = tt; so = h none }
 some-begun here (Some recorded) So h = record { starts = starts_due here (all_rows recorded); permitted = refl; due = refl; so = h (starts_due here (all_rows recorded)) }
 
-pub still-shared : (k : Known) (meant : MeantEnding) (May : HouseReply → Type 0) (Rest : Starts → Resting) (last : HouseState) (here : ListenPermit) (by : Option Recorded) (policy : Policy) (pid turns : ℕ) (recorded : Option (List HouseMark)) (seen : Seen) (refused : Option ℕ) → IsRunRefused k (shown meant) → OnTrue (may_share k (status_of (shown meant))) (Begun here by (λ starts. Shares May (Rest starts) (BeganWith starts) last policy pid turns recorded recorded seen.recorded seen refused (Err meant)))
-still-shared k meant May Rest last here by policy pid turns recorded seen refused h = on (unshared k (shown meant) h) where
-  on : Unshared k (shown meant) → OnTrue (may_share k (status_of (shown meant))) (Begun here by (λ starts. Shares May (Rest starts) (BeganWith starts) last policy pid turns recorded recorded seen.recorded seen refused (Err meant)))
-  on (inl e) = not_true (may_share k (status_of (shown meant))) (Begun here by (λ starts. Shares May (Rest starts) (BeganWith starts) last policy pid turns recorded recorded seen.recorded seen refused (Err meant))) e
-  on (inr e) = on_true (may_share k (status_of (shown meant))) (Begun here by (λ starts. Shares May (Rest starts) (BeganWith starts) last policy pid turns recorded recorded seen.recorded seen refused (Err meant)))
+pub still-shared : (k : KnownCommand) (meant : MeantEnding) (May : HouseReply → Type 0) (Rest : Starts → Resting) (last : HouseState) (here : ListenPermit) (by : Option Recorded) (policy : Policy) (pid turns : ℕ) (recorded : Option (List HouseMark)) (seen : Seen) (refused : Option ℕ) → IsRunRefused k (ending_shown meant) → OnTrue (may_share k (status_of (ending_shown meant))) (Begun here by (λ starts. Shares May (Rest starts) (BeganWith starts) last policy pid turns recorded recorded seen.recorded seen refused (Err meant)))
+still-shared k meant May Rest last here by policy pid turns recorded seen refused h = on (unshared k (ending_shown meant) h) where
+  on : Unshared k (ending_shown meant) → OnTrue (may_share k (status_of (ending_shown meant))) (Begun here by (λ starts. Shares May (Rest starts) (BeganWith starts) last policy pid turns recorded recorded seen.recorded seen refused (Err meant)))
+  on (inl e) = not_true (may_share k (status_of (ending_shown meant))) (Begun here by (λ starts. Shares May (Rest starts) (BeganWith starts) last policy pid turns recorded recorded seen.recorded seen refused (Err meant))) e
+  on (inr e) = on_true (may_share k (status_of (ending_shown meant))) (Begun here by (λ starts. Shares May (Rest starts) (BeganWith starts) last policy pid turns recorded recorded seen.recorded seen refused (Err meant)))
       (subst (λ m. Begun here by (λ starts. Shares May (Rest starts) (BeganWith starts) last policy pid turns recorded recorded seen.recorded seen refused (Err m))) (sym (only-memory meant e)) (some-begun here by (λ starts. Shares May (Rest starts) (BeganWith starts) last policy pid turns recorded recorded seen.recorded seen refused (Err endings.NoMemory)) (λ starts. inl (record { same_wire = refl; same_house = refl }))))
 
 -- there may be no memory for anything
-pub starved-due : (k : Known) → IsRunRefused k ends.NoMemory
+pub starved-due : (k : KnownCommand) → IsRunRefused k ends.NoMemory
 starved-due (Certain (Ends due)) = tt
 starved-due (Certain (Writes text)) = tt
 starved-due (Certain (Opens control transport ps)) = tt
@@ -264,38 +264,38 @@ starved-due (Master transport ps) = tt
 pub still-calls : (turns : ℕ) (status : Status) (calls : CallCounts) → CallsEnd turns status calls calls
 still-calls turns status calls = record { few = omega arith; opens = omega arith; wants = omega arith; starved = λ ne. absurd (ne refl); late = λ e. refl }
 
-pub still-wire : (k : Known) (ending : Ending) (w w' : Faults) → IsRunRefused k ending → OnTrue (may_share k (status_of ending)) (WireCause (status_of ending) w w')
+pub still-wire : (k : KnownCommand) (ending : Ending) (w w' : Faults) → IsRunRefused k ending → OnTrue (may_share k (status_of ending)) (WireCause (status_of ending) w w')
 still-wire k ending w w' h = on (unshared k ending h) where
   on : Unshared k ending → OnTrue (may_share k (status_of ending)) (WireCause (status_of ending) w w')
   on (inl e) = not_true (may_share k (status_of ending)) (WireCause (status_of ending) w w') e
   on (inr e) = subst (λ x. OnTrue (may_share k x) (WireCause x w w')) (sym e) (on_true (may_share k statuses.Memory) (WireCause statuses.Memory w w') tt)
 
-pub still-came : (k : Known) (ending : Ending) (old new : CallCounts) → IsRunRefused k ending → OnTrue (may_share k (status_of ending)) (CameFor (status_of ending) old new)
+pub still-came : (k : KnownCommand) (ending : Ending) (old new : CallCounts) → IsRunRefused k ending → OnTrue (may_share k (status_of ending)) (CameFor (status_of ending) old new)
 still-came k ending old new h = on (unshared k ending h) where
   on : Unshared k ending → OnTrue (may_share k (status_of ending)) (CameFor (status_of ending) old new)
   on (inl e) = not_true (may_share k (status_of ending)) (CameFor (status_of ending) old new) e
   on (inr e) = subst (λ x. OnTrue (may_share k x) (CameFor x old new)) (sym e) (on_true (may_share k statuses.Memory) (CameFor statuses.Memory old new) tt)
 
-pub still-start : (k : Known) (ending : Ending) (refused : Option ℕ) → IsRunRefused k ending → OnTrue (may_share k (status_of ending)) (StartCause (status_of ending) refused)
+pub still-start : (k : KnownCommand) (ending : Ending) (refused : Option ℕ) → IsRunRefused k ending → OnTrue (may_share k (status_of ending)) (StartCause (status_of ending) refused)
 still-start k ending refused h = on (unshared k ending h) where
   on : Unshared k ending → OnTrue (may_share k (status_of ending)) (StartCause (status_of ending) refused)
   on (inl e) = not_true (may_share k (status_of ending)) (StartCause (status_of ending) refused) e
   on (inr e) = subst (λ x. OnTrue (may_share k x) (StartCause x refused)) (sym e) (on_true (may_share k statuses.Memory) (StartCause statuses.Memory refused) tt)
 
-pub still-must : (k : Known) (ending : Ending) (due : Option Bool) (must : Bool) → IsRunRefused k ending → OnTrue (may_share k (status_of ending)) (MustsAs (status_of ending) due must)
+pub still-must : (k : KnownCommand) (ending : Ending) (due : Option Bool) (must : Bool) → IsRunRefused k ending → OnTrue (may_share k (status_of ending)) (MustsAs (status_of ending) due must)
 still-must k ending due must h = on (unshared k ending h) where
   on : Unshared k ending → OnTrue (may_share k (status_of ending)) (MustsAs (status_of ending) due must)
   on (inl e) = not_true (may_share k (status_of ending)) (MustsAs (status_of ending) due must) e
   on (inr e) = subst (λ x. OnTrue (may_share k x) (MustsAs x due must)) (sym e) (on_true (may_share k statuses.Memory) (MustsAs statuses.Memory due must) tt)
 
-pub still-waits : (k : Known) (ending : Ending) (turns : ℕ) (old new : CallCounts) → IsRunRefused k ending → OnTrue (may_share k (status_of ending)) (WaitsFor turns (status_of ending) old new)
+pub still-waits : (k : KnownCommand) (ending : Ending) (turns : ℕ) (old new : CallCounts) → IsRunRefused k ending → OnTrue (may_share k (status_of ending)) (WaitsFor turns (status_of ending) old new)
 still-waits k ending turns old new h = on (unshared k ending h) where
   on : Unshared k ending → OnTrue (may_share k (status_of ending)) (WaitsFor turns (status_of ending) old new)
   on (inl e) = not_true (may_share k (status_of ending)) (WaitsFor turns (status_of ending) old new) e
   on (inr e) = subst (λ x. OnTrue (may_share k x) (WaitsFor turns x old new)) (sym e) (on_true (may_share k statuses.Memory) (WaitsFor turns statuses.Memory old new) tt)
 
 -- where a drill is refused memory ran out
-drill-starved : (k : Known) (ending : Ending) → IsRunRefused k ending → drills k ≡ true → status_of ending ≡ statuses.Memory
+drill-starved : (k : KnownCommand) (ending : Ending) → IsRunRefused k ending → drills k ≡ true → status_of ending ≡ statuses.Memory
 drill-starved (Certain (Drills seed clients messages)) ends.NoMemory h d = refl
 drill-starved (Certain (Drills seed clients messages)) (ends.BadLine (At file line ReadFault)) h d = absurd cc
 drill-starved (Certain (Drills seed clients messages)) (ends.BadLine (At file line RunFault)) h d = absurd cc
@@ -315,41 +315,41 @@ for-master true true drilled P e h = h
 for-master true false true P e h = absurd cc
 for-master true false false P e h = h
 
-pub still-waited : (k : Known) (ending : Ending) (turns : ℕ) (old new : CallCounts) → IsRunRefused k ending → OnTrue (touches k (status_of ending)) (WaitsFor turns (status_of ending) old new)
+pub still-waited : (k : KnownCommand) (ending : Ending) (turns : ℕ) (old new : CallCounts) → IsRunRefused k ending → OnTrue (touches k (status_of ending)) (WaitsFor turns (status_of ending) old new)
 still-waited k ending turns old new h = by_drill (drills k) refl where
   by_drill : (d : Bool) → drills k ≡ d → OnTrue (touches k (status_of ending)) (WaitsFor turns (status_of ending) old new)
   by_drill true e = subst (λ x. OnTrue (touches k x) (WaitsFor turns x old new)) (sym (drill-starved k ending h e)) (on_true (touches k statuses.Memory) (WaitsFor turns statuses.Memory old new) tt)
-  by_drill false e = for-master (may_open (status_of ending)) (opens k) (drills k) (WaitsFor turns (status_of ending) old new) e (still-waits k ending turns old new h)
+  by_drill false e = for-master (may_open_wire (status_of ending)) (opens k) (drills k) (WaitsFor turns (status_of ending) old new) e (still-waits k ending turns old new h)
 
-pub still-caused : (k : Known) (ending : Ending) (w w' : Faults) → IsRunRefused k ending → OnTrue (touches k (status_of ending)) (WireCause (status_of ending) w w')
+pub still-caused : (k : KnownCommand) (ending : Ending) (w w' : Faults) → IsRunRefused k ending → OnTrue (touches k (status_of ending)) (WireCause (status_of ending) w w')
 still-caused k ending w w' h = by_drill (drills k) refl where
   by_drill : (d : Bool) → drills k ≡ d → OnTrue (touches k (status_of ending)) (WireCause (status_of ending) w w')
   by_drill true e = subst (λ x. OnTrue (touches k x) (WireCause x w w')) (sym (drill-starved k ending h e)) (on_true (touches k statuses.Memory) (WireCause statuses.Memory w w') tt)
-  by_drill false e = for-master (may_open (status_of ending)) (opens k) (drills k) (WireCause (status_of ending) w w') e (still-wire k ending w w' h)
+  by_drill false e = for-master (may_open_wire (status_of ending)) (opens k) (drills k) (WireCause (status_of ending) w w') e (still-wire k ending w w' h)
 
-pub refused-came : (k : Known) (ending : Ending) (old new : CallCounts) → IsRunRefused k ending → OnTrue (touches k (status_of ending)) (CameFor (status_of ending) old new)
+pub refused-came : (k : KnownCommand) (ending : Ending) (old new : CallCounts) → IsRunRefused k ending → OnTrue (touches k (status_of ending)) (CameFor (status_of ending) old new)
 refused-came k ending old new h = by_drill (drills k) refl where
   by_drill : (d : Bool) → drills k ≡ d → OnTrue (touches k (status_of ending)) (CameFor (status_of ending) old new)
   by_drill true e = subst (λ x. OnTrue (touches k x) (CameFor x old new)) (sym (drill-starved k ending h e)) (on_true (touches k statuses.Memory) (CameFor statuses.Memory old new) tt)
-  by_drill false e = for-master (may_open (status_of ending)) (opens k) (drills k) (CameFor (status_of ending) old new) e (still-came k ending old new h)
+  by_drill false e = for-master (may_open_wire (status_of ending)) (opens k) (drills k) (CameFor (status_of ending) old new) e (still-came k ending old new h)
 
 -- what opens nothing
-pub shut-all : (k : Known) (status : Status) → opens k ≡ false → drills k ≡ false → touches k status ≡ false
-shut-all k status e d = rw (e, d) (and-false (may_open status)) where
+pub shut-all : (k : KnownCommand) (status : Status) → opens k ≡ false → drills k ≡ false → touches k status ≡ false
+shut-all k status e d = rw (e, d) (and-false (may_open_wire status)) where
   and-false : (b : Bool) → (b && false) ≡ false
   and-false true = refl
   and-false false = refl
 
 -- of a command that opens nothing
-pub unopened-waits : (b : Bool) (k : Known) (status : Status) (turns : ℕ) (old new : CallCounts) → opens k ≡ false → drills k ≡ false → OnFalse b (OnTrue (touches k status) (WaitsFor turns status old new))
+pub unopened-waits : (b : Bool) (k : KnownCommand) (status : Status) (turns : ℕ) (old new : CallCounts) → opens k ≡ false → drills k ≡ false → OnFalse b (OnTrue (touches k status) (WaitsFor turns status old new))
 unopened-waits b k status turns old new e d = where_false b (OnTrue (touches k status) (WaitsFor turns status old new)) (not_true (touches k status) (WaitsFor turns status old new) (shut-all k status e d))
 
 -- of one that was refused
-pub refused-waits : (b : Bool) (k : Known) (ending : Ending) (turns : ℕ) (old new : CallCounts) → IsRunRefused k ending → OnFalse b (OnTrue (touches k (status_of ending)) (WaitsFor turns (status_of ending) old new))
+pub refused-waits : (b : Bool) (k : KnownCommand) (ending : Ending) (turns : ℕ) (old new : CallCounts) → IsRunRefused k ending → OnFalse b (OnTrue (touches k (status_of ending)) (WaitsFor turns (status_of ending) old new))
 refused-waits b k ending turns old new h = where_false b (OnTrue (touches k (status_of ending)) (WaitsFor turns (status_of ending) old new)) (still-waited k ending turns old new h)
 
 -- of a master that was refused
-pub unshared-waits : (b : Bool) (k : Known) (ending : Ending) (turns : ℕ) (old new : CallCounts) → IsRunRefused k ending → OnFalse b (OnTrue (may_share k (status_of ending)) (WaitsFor turns (status_of ending) old new))
+pub unshared-waits : (b : Bool) (k : KnownCommand) (ending : Ending) (turns : ℕ) (old new : CallCounts) → IsRunRefused k ending → OnFalse b (OnTrue (may_share k (status_of ending)) (WaitsFor turns (status_of ending) old new))
 unshared-waits b k ending turns old new h = where_false b (OnTrue (may_share k (status_of ending)) (WaitsFor turns (status_of ending) old new)) (still-waits k ending turns old new h)
 
 pub still-idle : (status : Status) (w : Faults) → IdleCause status w w

@@ -7,7 +7,7 @@ use Rattle.mux_outside.specs.Counts.{Rose}
 use Rattle.ssh_mux.specs.declared.ending.Ending.{Ending as MeantEnding}
 use Rattle.ssh_mux.specs.declared.status.Status.{Status}
 use Rattle.ssh_mux.specs.declared.status.Status.TheVariants.{Outside, Write, Memory}
-use Rattle.ssh_mux.specs.Ending.{shown}
+use Rattle.ssh_mux.specs.Ending.{ending_shown}
 
 -- Of the counts of the files' and the runner's faults a fault raises its own alone, and any other
 -- ending none.
@@ -22,7 +22,7 @@ EndCause ending files files' runner runner' = (files' ≡ files) × (runner' ≡
 abbrev pub Caused : {A : Type 0} → Result A MeantEnding → ℕ → ℕ → ℕ → ℕ → Type 0
 Caused (Ok x) files files' runner runner' = (files' ≡ files) × (runner' ≡ runner)
 Caused (Err ending) files files' runner runner' =
-    EndCause (shown ending) files files' runner runner'
+    EndCause (ending_shown ending) files files' runner runner'
 
 -- one of the two counts rose, and the other stays
 abbrev pub OneRose : ℕ → ℕ → ℕ → ℕ → Type 0

@@ -18,9 +18,9 @@ use Rattle.ssh_mux.specs.declared.ending.Ending.TheVariants as endings
 use Rattle.ssh_mux.specs.declared.status.Status.{Status}
 use Rattle.ssh_mux.specs.declared.status.Status.TheVariants.{Done, Config, Outside, Write}
 use Rattle.ssh_mux.specs.declared.status.Status.TheVariants.{Open, Spent, Memory, Refused, BadMaster}
-use Rattle.ssh_mux.specs.Answers.{is_silent, may_have_joined, so_far}
+use Rattle.ssh_mux.specs.Answers.{has_no_line, may_have_joined, so_far}
 use Rattle.ssh_mux.specs.Asks.{asks_for}
-use Rattle.ssh_mux.specs.Outcomes.{Known, Certain, Client}
+use Rattle.ssh_mux.specs.Outcomes.{KnownCommand, Certain, Client}
 use Rattle.ssh_mux.specs.Causes.{OutCause}
 use Rattle.ssh_mux.specs.Sharing.{CallsEnd, IdleCause, RecordsEnd, WireCause}
 use Rattle.ssh_mux.specs.World.{OutState, World}
@@ -28,18 +28,18 @@ use Rattle.ssh_mux.specs.World.{OutState, World}
 -- ---- the joining
 
 -- one joining more
-abbrev pub joined : Bytes → Option (List Bytes) → Option (List Bytes)
-joined control before = option_map (λ js. js ++ control ∷ []) before
+abbrev pub with_joined : Bytes → Option (List Bytes) → Option (List Bytes)
+with_joined control before = option_map (λ js. js ++ control ∷ []) before
 
 -- the wire was joined once, at this control path, unless memory ran out
 abbrev pub JoinsAt : Bytes → Status → Option (List Bytes) → Option (List Bytes) → Type 0
-JoinsAt control Memory before now = (now ≡ before) ⊎ (now ≡ joined control before)
-JoinsAt control status before now = now ≡ joined control before
+JoinsAt control Memory before now = (now ≡ before) ⊎ (now ≡ with_joined control before)
+JoinsAt control status before now = now ≡ with_joined control before
 
 -- the wire was joined once, at some control path
 pub record JoinsBy (before now : Option (List Bytes)) : Type 0 where
   pub control : Bytes
-  pub once : now ≡ joined control before
+  pub once : now ≡ with_joined control before
 
 -- it was joined so, unless the configuration is refused, a fault came before or memory ran out
 abbrev pub JoinsSome : Status → Option (List Bytes) → Option (List Bytes) → Type 0
@@ -50,7 +50,7 @@ JoinsSome status before now = JoinsBy before now
 
 -- the same of the outcome of words: only a client joins the wire, and none whose forwardings are
 -- refused or after a fault
-abbrev pub JoinsOnce : Known → Status → Option (List Bytes) → Option (List Bytes) → Type 0
+abbrev pub JoinsOnce : KnownCommand → Status → Option (List Bytes) → Option (List Bytes) → Type 0
 JoinsOnce (Certain (Joins control asked what)) Config before now = now ≡ before
 JoinsOnce (Certain (Joins control asked what)) Outside before now = now ≡ before
 JoinsOnce (Certain (Joins control asked what)) status before now =
@@ -82,7 +82,7 @@ ends_asking ending = false
 
 -- it ends without a line, or by such an ending
 abbrev pub EndsClient : Result Status MeantEnding → Type 0
-EndsClient (Ok status) = IsTrue (is_silent status)
+EndsClient (Ok status) = IsTrue (has_no_line status)
 EndsClient (Err ending) = IsTrue (ends_asking ending)
 
 -- no master was asked: the wire and the output record what they recorded before
@@ -114,7 +114,7 @@ ConversesOn (Ok asks) start recorded out out' result = Converses asks start reco
 ConversesOn (Err e) start recorded out out' result = IsUnasked start recorded out out'
 
 -- what a client asks: others ask nothing
-abbrev pub client_asks_in : Known → Option (Result Asks ResolveError)
+abbrev pub client_asks_in : KnownCommand → Option (Result Asks ResolveError)
 client_asks_in (Certain (Joins control asked what)) = Some (asks_for asked what)
 client_asks_in (Client asked what) = Some (asks_for asked what)
 client_asks_in known = None
@@ -125,7 +125,7 @@ abbrev pub ConversesBy : Option (Result Asks ResolveError) → Option (List Mark
 ConversesBy (Some asks) start recorded out out' result = ConversesOn asks start recorded out out' result
 ConversesBy None start recorded out out' result = Unit
 
-abbrev pub ConversesFor : Known → Option (List Mark) → Option (List Mark)
+abbrev pub ConversesFor : KnownCommand → Option (List Mark) → Option (List Mark)
     → Option (List ℕ) → Option (List ℕ) → Result Status MeantEnding → Type 0
 ConversesFor known start recorded out out' result =
     OnTrue (may_have_joined known (so_far result)) (ConversesBy (client_asks_in known) start recorded out out' result)
@@ -141,13 +141,13 @@ pub record IsTalkAnswered (asks : Asks) (start recorded : Option (List Mark)) (o
   pub line : RecordsEnd (talk_recorded answer) status err err' faults faults'
 
 -- the same of the program: if its wire wasn't joined no master was asked
-abbrev pub Answers : Asks → Option (List Mark) → Option (List Mark) → Option (List ℕ)
+abbrev pub ProgramAnswers : Asks → Option (List Mark) → Option (List Mark) → Option (List ℕ)
     → Option (List ℕ) → Status → Option (List ℕ) → Option (List ℕ) → ℕ → ℕ → Type 0
-Answers asks start recorded out out' Open err err' faults faults' = IsUnasked start recorded out out'
-Answers asks start recorded out out' Memory err err' faults faults' =
+ProgramAnswers asks start recorded out out' Open err err' faults faults' = IsUnasked start recorded out out'
+ProgramAnswers asks start recorded out out' Memory err err' faults faults' =
     IsUnasked start recorded out out'
     ⊎ IsTalkAnswered asks start recorded out out' Memory err err' faults faults'
-Answers asks start recorded out out' status err err' faults faults' =
+ProgramAnswers asks start recorded out out' status err err' faults faults' =
     IsTalkAnswered asks start recorded out out' status err err' faults faults'
 
 -- the same of what words ask
@@ -155,13 +155,13 @@ abbrev pub AnswersBy : Option (Result Asks ResolveError) → Option (List Mark)
     → Option (List Mark) → Option (List ℕ) → Option (List ℕ) → Status → Option (List ℕ)
     → Option (List ℕ) → ℕ → ℕ → Type 0
 AnswersBy (Some (Ok asks)) start recorded out out' status err err' faults faults' =
-    Answers asks start recorded out out' status err err' faults faults'
+    ProgramAnswers asks start recorded out out' status err err' faults faults'
 AnswersBy (Some (Err e)) start recorded out out' status err err' faults faults' =
     IsUnasked start recorded out out'
 AnswersBy None start recorded out out' status err err' faults faults' = Unit
 
 -- the same of the outcome of words: only a client asks
-abbrev pub AnswersFor : Known → Status → World → World → Type 0
+abbrev pub AnswersFor : KnownCommand → Status → World → World → Type 0
 AnswersFor known status before after = OnTrue (may_have_joined known status) (AnswersBy (client_asks_in known)
     before.wire.seen.recorded after.wire.seen.recorded before.out.recorded after.out.recorded status
     before.err.recorded after.err.recorded before.err.faults after.err.faults)
@@ -193,7 +193,7 @@ pub record TalkCounts (turns : ℕ) (status : Status) (old new : WireState)
   pub idle : turns ≡ 0 → IdleCause status faults faults'
 
 -- what a client of which this is known leaves of its wire and the output
-pub record ClientLeaves (known : Known) (turns : ℕ) (result : Result Status MeantEnding)
+pub record ClientLeaves (known : KnownCommand) (turns : ℕ) (result : Result Status MeantEnding)
     (old new : WireState) (faults faults' : Faults) (out out' : OutState) : Type 0 where
   -- the wire was joined once
   pub joined : JoinsOnce known (so_far result) old.joinings new.joinings

@@ -7,7 +7,7 @@ use Rattle.conf_rules.specs.Texts.{Bytes}
 use Rattle.ssh_mux.specs.declared.ending.Ending.{Ending}
 use Rattle.ssh_mux.specs.declared.status.Status.{Status}
 use Rattle.ssh_mux.specs.declared.status.Status.TheVariants.{Outside, Memory}
-use Rattle.ssh_mux.specs.Ending.{shown}
+use Rattle.ssh_mux.specs.Ending.{ending_shown}
 use Rattle.ssh_mux.specs.Status.{status_of}
 
 -- the commands that a command reaches, if the machine is recorded
@@ -33,6 +33,6 @@ RunsFor None status before now = Unit
 abbrev pub RunsUnless : {A : Type 0} →
     Option (List Bytes) → Result A Ending → Option (List Bytes) → Option (List Bytes) → Type 0
 RunsUnless commands (Err ending) before now =
-    RunsFor commands (status_of (shown ending)) before now
+    RunsFor commands (status_of (ending_shown ending)) before now
 RunsUnless (Some commands) (Ok x) before now = RanAll before now commands
 RunsUnless None (Ok x) before now = Unit

@@ -22,8 +22,8 @@ use Rattle.ssh_mux.specs.declared.ending.Ending.{Ending as MeantEnding}
 use Rattle.ssh_mux.specs.declared.ending.Ending.TheVariants as endings
 use Rattle.ssh_mux.specs.declared.status.Status.{Status}
 use Rattle.ssh_mux.specs.declared.status.Status.TheVariants.{Done, Write, Open, Memory}
-use Rattle.ssh_mux.specs.Answers.{is_silent, so_far}
-use Rattle.ssh_mux.specs.Ending.{shown}
+use Rattle.ssh_mux.specs.Answers.{has_no_line, so_far}
+use Rattle.ssh_mux.specs.Ending.{ending_shown}
 use Rattle.ssh_mux.specs.Err.{Reports}
 use Rattle.ssh_mux.specs.Master.{ends_sharing}
 use Rattle.ssh_mux.specs.Out.{HandsOver}
@@ -78,7 +78,7 @@ DrillRecords (Ok due) tally Memory out out' err err' faults faults' =
     (out' ≡ out) × Reports Memory NoMemory err err' faults faults'
 DrillRecords (Ok due) tally status out out' err err' faults faults' = ⊥
 DrillRecords (Err ending) tally status out out' err err' faults faults' =
-    (out' ≡ out) × Reports status (shown ending) err err' faults faults'
+    (out' ≡ out) × Reports status (ending_shown ending) err err' faults faults'
 
 -- A run that keeps its promises, for clients that are permitted anything and are sent process id 0,
 -- and what was written of its end; `start` is what the wire recorded before, and `seen` is seen of
@@ -126,7 +126,7 @@ ends_drilling ending = ends_sharing ending
 
 -- it ends without a line, or by such an ending
 abbrev pub EndsDrill : Result Status MeantEnding → Type 0
-EndsDrill (Ok status) = IsTrue (is_silent status)
+EndsDrill (Ok status) = IsTrue (has_no_line status)
 EndsDrill (Err ending) = IsTrue (ends_drilling ending)
 
 -- where its run ended well, the summary was handed over

@@ -11,19 +11,19 @@ use Rattle.ssh_mux.specs.declared.ending.Ending.{Ending}
 use Rattle.ssh_mux.specs.declared.ending.Ending.TheVariants as endings
 
 -- the ending that is meant
-abbrev pub shown : Ending → defined.Ending
-shown (endings.BadWords e) = defined.BadWords e
-shown (endings.BadLine file line cause) = defined.BadLine (resolve_errors.At file line cause)
-shown (endings.BadListing key error) = defined.BadListing (list_errors.Token key error)
-shown endings.NoControlPath = defined.NoControlPath
-shown endings.NotOpened = defined.NotOpened
-shown endings.TransportFailed = defined.TransportFailed
-shown (endings.ServerBroke index why) = defined.ServerBroke index (break_text why)
-shown endings.TurnsSpent = defined.TurnsSpent
-shown endings.StartRefused = defined.StartRefused
-shown endings.MasterRefused = defined.MasterRefused
-shown endings.MasterBroke = defined.MasterBroke
-shown endings.NoMemory = defined.NoMemory
+abbrev pub ending_shown : Ending → defined.Ending
+ending_shown (endings.BadWords e) = defined.BadWords e
+ending_shown (endings.BadLine file line cause) = defined.BadLine (resolve_errors.At file line cause)
+ending_shown (endings.BadListing key error) = defined.BadListing (list_errors.Token key error)
+ending_shown endings.NoControlPath = defined.NoControlPath
+ending_shown endings.NotOpened = defined.NotOpened
+ending_shown endings.TransportFailed = defined.TransportFailed
+ending_shown (endings.ServerBroke index why) = defined.ServerBroke index (break_text why)
+ending_shown endings.TurnsSpent = defined.TurnsSpent
+ending_shown endings.StartRefused = defined.StartRefused
+ending_shown endings.MasterRefused = defined.MasterRefused
+ending_shown endings.MasterBroke = defined.MasterBroke
+ending_shown endings.NoMemory = defined.NoMemory
 
 -- the ending of words that have no reading
 abbrev pub misread_as : WordsError → Ending

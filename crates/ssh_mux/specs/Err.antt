@@ -1,4 +1,4 @@
--- What the standard error has taken.
+-- What the standard error has accepted.
 use Rattle.std.specs.Prelude.{◌≡◌, ℕ, Bool, true, false, IsTrue, List, ◌⊎◌, Option, Result, Ok, Err}
 use Rattle.conf_rules.specs.Diagnostics.{Ending, BadWords, BadLine, BadListing, ServerBroke, NoMemory, line_of}
 use Rattle.conf_rules.specs.Recorded.{Recorded}
@@ -11,8 +11,8 @@ use Rattle.ssh_mux.specs.declared.status.Status.{Status}
 use Rattle.ssh_mux.specs.declared.status.Status.TheVariants.{Done, Write, Memory}
 use Rattle.ssh_mux.specs.Answers.{IsDue, IsWell}
 use Rattle.ssh_mux.specs.Causes.{EndCause}
-use Rattle.ssh_mux.specs.Ending.{shown}
-use Rattle.ssh_mux.specs.Outcomes.{Known}
+use Rattle.ssh_mux.specs.Ending.{ending_shown}
+use Rattle.ssh_mux.specs.Outcomes.{KnownCommand}
 use Rattle.ssh_mux.specs.Places.{EndPlace}
 use Rattle.ssh_mux.specs.Status.{status_of}
 use Rattle.ssh_mux.specs.World.{OutState, World}
@@ -57,12 +57,12 @@ Reports result ending before now faults faults' =
 abbrev pub IsRecordedBy : Result Status MeantEnding → Status → OutState → OutState → Type 0
 IsRecordedBy (Ok due) status err err' = (status ≡ due) × (err' ≡ err)
 IsRecordedBy (Err ending) status err err' =
-    Reports status (shown ending) err.recorded err'.recorded err.faults err'.faults
+    Reports status (ending_shown ending) err.recorded err'.recorded err.faults err'.faults
     × (err'.puts ≡ counted err.puts)
 
 -- the run ended by an ending that is due, which was reported with this status, and whose fault, if
 -- it is one, raised its count and is reported where it came up: a failed read with its path
-pub record EndsByEnding (known : Known) (recorded : Option Recorded) (status : Status) (before after : World) :
+pub record EndsByEnding (known : KnownCommand) (recorded : Option Recorded) (status : Status) (before after : World) :
     Type 0 where
   pub ending : Ending
   pub is_due : IsDue known ending
@@ -75,7 +75,7 @@ pub record EndsByEnding (known : Known) (recorded : Option Recorded) (status : S
 
 -- How a run ended: without a word where it went well or `out` failed, and else by an ending, whose
 -- status it has unless there was no memory for its very line.
-abbrev pub Ended : Known → Option Recorded → Status → World → World → Type 0
+abbrev pub Ended : KnownCommand → Option Recorded → Status → World → World → Type 0
 Ended known recorded Done before after = IsWell known Done × (after.err.recorded ≡ before.err.recorded)
 Ended known recorded Write before after = IsWell known Write × (after.err.recorded ≡ before.err.recorded)
 Ended known recorded status before after = EndsByEnding known recorded status before after

@@ -10,7 +10,7 @@ use Rattle.ssh_mux.specs.declared.status.Status.{Status}
 use Rattle.ssh_mux.specs.Answers.{Comes, Finds, so_far}
 use Rattle.ssh_mux.specs.Causes.{Caused}
 use Rattle.ssh_mux.specs.Commands.{RunsFor, RunsUnless, commands_of}
-use Rattle.ssh_mux.specs.Outcomes.{Known, machine, of_command, of_words}
+use Rattle.ssh_mux.specs.Outcomes.{KnownCommand, machine, of_command, of_words}
 use Rattle.ssh_mux.specs.Places.{Placed, recorded_over}
 use Rattle.ssh_mux.specs.Reads.{RunReadsFor, RunReadsUnless}
 use Rattle.ssh_mux.specs.World.{Sources}
@@ -20,11 +20,11 @@ abbrev pub machine_of_sources : Sources → Facts → Option Machine
 machine_of_sources from facts = machine from.files.recorded from.commands.recorded facts
 
 -- what is known of the outcome of a command over them
-abbrev pub coming : Sources → Facts → Command → Known
+abbrev pub coming : Sources → Facts → Command → KnownCommand
 coming from facts command = of_command (machine_of_sources from facts) command
 
 -- what is known of the outcome of words over them
-abbrev pub coming_of_words : Sources → Facts → List Bytes → Known
+abbrev pub coming_of_words : Sources → Facts → List Bytes → KnownCommand
 coming_of_words from facts words = of_words (machine_of_sources from facts) words
 
 -- What a call for a command leaves of them, which asks for the settings of `asked`. Its end is one
@@ -44,7 +44,7 @@ pub record Looks (facts : Facts) (command : Command) (asked : Asked) (result : R
 
 -- The same of a call that finds something of it: what it found is what the outcome shows, and all
 -- was read and run; or the ending is due.
-pub record FoundFor {A : Type 0} (shows : A → CommandOutcome) (unknown : Known) (facts : Facts)
+pub record FoundFor {A : Type 0} (shows : A → CommandOutcome) (unknown : KnownCommand) (facts : Facts)
     (command : Command) (asked : Asked) (result : Result A Ending) (old new : Sources) :
     Type 0 where
   pub exact : Finds shows unknown (coming old facts command) result

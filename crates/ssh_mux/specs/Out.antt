@@ -1,4 +1,4 @@
--- What the standard output has taken.
+-- What the standard output has accepted.
 use Rattle.std.specs.Prelude.{◌≡◌, ℕ, List, Option, Result, Ok, Err}
 use Rattle.std.specs.Bool.{OnFalse}
 use Rattle.conf_rules.specs.CommandOutcome.{Writes, Drills, Joins}
@@ -9,8 +9,8 @@ use Rattle.ssh_mux.specs.declared.ending.Ending.{Ending}
 use Rattle.ssh_mux.specs.declared.ending.Ending.TheVariants as endings
 use Rattle.ssh_mux.specs.declared.status.Status.{Status}
 use Rattle.ssh_mux.specs.declared.status.Status.TheVariants.{Done, Write}
-use Rattle.ssh_mux.specs.Answers.{may_open}
-use Rattle.ssh_mux.specs.Outcomes.{Known, Certain, Listing, Client}
+use Rattle.ssh_mux.specs.Answers.{may_open_wire}
+use Rattle.ssh_mux.specs.Outcomes.{KnownCommand, Certain, Listing, Client}
 
 -- a text was handed over: all of it was accepted, a prefix where that failed, or nothing if memory
 -- ran out
@@ -22,15 +22,15 @@ HandsOver (Err endings.NoMemory) text before now = now ≡ before
 HandsOver result text before now = ⊥
 
 -- nothing more; but for a client that may have joined its wire, of which `AnswersFor` defines what
-abbrev pub OutStays : Status → Known → Option (List ℕ) → Option (List ℕ) → Type 0
+abbrev pub OutStays : Status → KnownCommand → Option (List ℕ) → Option (List ℕ) → Type 0
 OutStays status (Certain (Joins control asked what)) before now =
-    OnFalse (may_open status) (now ≡ before)
-OutStays status (Client asked what) before now = OnFalse (may_open status) (now ≡ before)
+    OnFalse (may_open_wire status) (now ≡ before)
+OutStays status (Client asked what) before now = OnFalse (may_open_wire status) (now ≡ before)
 OutStays status known before now = now ≡ before
 
 -- the listing, of which a prefix where it failed, and nothing with any other status; where it isn't
 -- known, some listing; of a drill that writes, `IsDrill` defines what
-abbrev pub OutTakes : Status → Known → Option (List ℕ) → Option (List ℕ) → Type 0
+abbrev pub OutTakes : Status → KnownCommand → Option (List ℕ) → Option (List ℕ) → Type 0
 OutTakes Done (Certain (Writes text)) before now = TakesRecorded (Ok tt) before now text
 OutTakes Write (Certain (Writes text)) before now = TakesRecorded (Err Failed) before now text
 OutTakes Done (Certain (Drills seed clients messages)) before now = Unit

@@ -20,11 +20,11 @@ use Rattle.conf_rules.specs.declared.command.Permissions.{Permissions}
 
 -- what is known: the whole outcome of words, or only that they ask for a listing, for a master over
 -- a transport with these permissions, or for a client that asks a running master
-pub data Known : Type 0 where
-  Certain : CommandOutcome → Known
-  Listing : Known
-  Master : (transport : Bytes) (permits : Permissions) → Known
-  Client : (asked : Asked) (what : MasterCommand) → Known
+pub data KnownCommand : Type 0 where
+  Certain : CommandOutcome → KnownCommand
+  Listing : KnownCommand
+  Master : (transport : Bytes) (permits : Permissions) → KnownCommand
+  Client : (asked : Asked) (what : MasterCommand) → KnownCommand
 
 -- ---- the machine
 
@@ -46,24 +46,24 @@ machine files statuses facts = None
 -- ---- the outcome of words
 
 -- what is known of a command for itself
-abbrev pub untold : Command → Known
-untold (commands.List asked) = Listing
-untold (commands.Master asked transport permits) = Master transport permits
-untold (commands.Control asked what) = Client asked what
-untold (commands.Drill seed clients messages) = Certain (Drills seed clients messages)
+abbrev pub known_alone : Command → KnownCommand
+known_alone (commands.List asked) = Listing
+known_alone (commands.Master asked transport permits) = Master transport permits
+known_alone (commands.Control asked what) = Client asked what
+known_alone (commands.Drill seed clients messages) = Certain (Drills seed clients messages)
 
 -- what is known of a command over a machine
-unfoldable pub of_command : Option Machine → Command → Known
+unfoldable pub of_command : Option Machine → Command → KnownCommand
 of_command (Some m) command = Certain (command_outcome m command)
-of_command None command = untold command
+of_command None command = known_alone command
 
 -- what is known of words for themselves: all of bad words and of a drill
-abbrev pub untold_words : ReadCommand → Known
-untold_words (Ok command) = untold command
+abbrev pub untold_words : ReadCommand → KnownCommand
+untold_words (Ok command) = known_alone command
 untold_words (Err e) = Certain (Ends (BadWords e))
 
 -- what is known of words over a machine: where it is recorded, all
-unfoldable pub of_words : Option Machine → List Bytes → Known
+unfoldable pub of_words : Option Machine → List Bytes → KnownCommand
 of_words (Some m) words = Certain (outcome m words)
 of_words None words = untold_words (reading words)
 
@@ -78,13 +78,13 @@ joins_at asked what control = Joins control asked what
 -- ---- what it uses
 
 -- whether files are read and commands are run
-abbrev pub looks : Known → Bool
+abbrev pub looks : KnownCommand → Bool
 looks (Certain (Ends (BadWords e))) = false
 looks (Certain (Drills seed clients messages)) = false
 looks other = true
 
 -- whether a listing, the summary of a drill or what a running master answers may be written
-abbrev pub writes_out : Known → Bool
+abbrev pub writes_out : KnownCommand → Bool
 writes_out (Certain (Writes text)) = true
 writes_out (Certain (Drills seed clients messages)) = true
 writes_out (Certain (Joins control asked what)) = true
@@ -93,23 +93,23 @@ writes_out (Client asked what) = true
 writes_out other = false
 
 -- whether a drill was asked for
-abbrev pub drills : Known → Bool
+abbrev pub drills : KnownCommand → Bool
 drills (Certain (Drills seed clients messages)) = true
 drills other = false
 
 -- whether a wire may be opened for a master
-abbrev pub opens : Known → Bool
+abbrev pub opens : KnownCommand → Bool
 opens (Certain (Opens control transport permits)) = true
 opens (Master transport permits) = true
 opens other = false
 
 -- whether a wire may be joined, and a running master asked
-abbrev pub asks : Known → Bool
-asks (Certain (Joins control asked what)) = true
-asks (Client asked what) = true
-asks other = false
+abbrev pub may_ask_master : KnownCommand → Bool
+may_ask_master (Certain (Joins control asked what)) = true
+may_ask_master (Client asked what) = true
+may_ask_master other = false
 
 -- whether it may succeed
-abbrev pub succeeds : Known → Bool
+abbrev pub succeeds : KnownCommand → Bool
 succeeds (Certain (Ends ending)) = false
 succeeds other = true

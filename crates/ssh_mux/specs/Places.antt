@@ -11,7 +11,7 @@ use Rattle.conf_rules.specs.Resolution.{all_rows}
 use Rattle.conf_rules.specs.Texts.{Bytes}
 use Rattle.conf_rules.specs.Recorded.{Recorded}
 use Rattle.ssh_mux.specs.declared.ending.Ending.{Ending as MeantEnding}
-use Rattle.ssh_mux.specs.Ending.{shown}
+use Rattle.ssh_mux.specs.Ending.{ending_shown}
 
 -- what is recorded of what was asked, where the machine is recorded
 abbrev pub recorded_over : Option Machine → Asked → Option Recorded
@@ -42,4 +42,4 @@ abbrev pub Placed : {A : Type 0} →
     → FailedPaths → Type 0
 Placed recorded (Ok x) before now failed failed_now = Unit {0}
 Placed recorded (Err ending) before now failed failed_now =
-    EndPlace recorded (shown ending) before now failed failed_now
+    EndPlace recorded (ending_shown ending) before now failed failed_now

@@ -4,10 +4,10 @@ use Rattle.conf_rules.specs.CommandOutcome.{Writes, Drills}
 use Rattle.mux_outside.specs.Counts.{counted}
 use Rattle.ssh_mux.specs.declared.status.Status.{Status}
 use Rattle.ssh_mux.specs.declared.status.Status.TheVariants.{Done, Write, Memory}
-use Rattle.ssh_mux.specs.Outcomes.{Known, Certain, Listing}
+use Rattle.ssh_mux.specs.Outcomes.{KnownCommand, Certain, Listing}
 
 -- whether a listing or the summary of a drill may be written
-abbrev pub prints : Known → Bool
+abbrev pub prints : KnownCommand → Bool
 prints (Certain (Writes text)) = true
 prints (Certain (Drills seed clients messages)) = true
 prints Listing = true

@@ -11,14 +11,14 @@ use Rattle.mux_outside.specs.declared.facts.Facts.{Facts}
 use Rattle.mux_outside.specs.declared.house.HouseReply.{HouseReply}
 use Rattle.mux_outside.specs.House.{HouseState}
 use Rattle.ssh_mux.specs.declared.status.Status.{Status}
-use Rattle.ssh_mux.specs.Answers.{is_silent, may_have_joined, may_share, serves_house, touches}
+use Rattle.ssh_mux.specs.Answers.{has_no_line, may_have_joined, may_share, serves_house, touches}
 use Rattle.ssh_mux.specs.Causes.{FaultCause, OutCause}
 use Rattle.ssh_mux.specs.Client.{AnswersFor, JoinsOnce, TalksFor}
 use Rattle.ssh_mux.specs.Commands.{RunsFor, commands_for}
 use Rattle.ssh_mux.specs.Drill.{IsDrill}
 use Rattle.ssh_mux.specs.Err.{Ended}
 use Rattle.ssh_mux.specs.Out.{OutTakes}
-use Rattle.ssh_mux.specs.Outcomes.{Known, drills, machine, of_words, opens}
+use Rattle.ssh_mux.specs.Outcomes.{KnownCommand, drills, machine, of_words, opens}
 use Rattle.ssh_mux.specs.Places.{recorded_for}
 use Rattle.ssh_mux.specs.Puts.{PutsOnce, prints}
 use Rattle.ssh_mux.specs.Reads.{RunReadsFor}
@@ -33,9 +33,9 @@ module _ (words : List Bytes) (facts : Facts) (before : World) where
   abbrev pub machine_before : Option Machine
   machine_before = machine before.files.recorded before.commands.recorded facts
 
-  -- what is known to come of the words: where the machine is recorded all, and else what they ask
+  -- what is known of the words' outcome: where the machine is recorded all, and else what they ask
   -- for
-  abbrev pub known : Known
+  abbrev pub known : KnownCommand
   known = of_words machine_before words
 
   -- what files and commands record for them
@@ -59,7 +59,7 @@ module _ (words : List Bytes) (facts : Facts) (before : World) where
     -- the run ends as is due, with the one line of that end or none
     pub ended : Ended known recorded status before after
     -- that line was handed over once
-    pub err_once : OnFalse (is_silent status) (after.err.puts ≡ counted before.err.puts)
+    pub err_once : OnFalse (has_no_line status) (after.err.puts ≡ counted before.err.puts)
     -- a fault of a file or a command was counted exactly where its status says so
     pub fault_cause : FaultCause status before.files.faults after.files.faults
         before.commands.faults after.commands.faults

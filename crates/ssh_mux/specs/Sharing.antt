@@ -32,10 +32,10 @@ use Rattle.ssh_mux.specs.declared.status.Status.{Status}
 use Rattle.ssh_mux.specs.declared.status.Status.TheVariants.{Done, Config, Outside, Write}
 use Rattle.ssh_mux.specs.declared.status.Status.TheVariants.{Open, Transport, Broke, Spent, StartRefused, Memory}
 use Rattle.ssh_mux.specs.Answers.{may_share, serves_house, so_far}
-use Rattle.ssh_mux.specs.Ending.{shown}
+use Rattle.ssh_mux.specs.Ending.{ending_shown}
 use Rattle.ssh_mux.specs.Err.{Reports}
 use Rattle.ssh_mux.specs.Here.{here_of}
-use Rattle.ssh_mux.specs.Outcomes.{Known, Certain, Master}
+use Rattle.ssh_mux.specs.Outcomes.{KnownCommand, Certain, Master}
 use Rattle.ssh_mux.specs.Starts.{BeganWith, Begun, BegunRests, MustsAs, must_for}
 use Rattle.ssh_mux.specs.World.{Sockets, World}
 use Rattle.conf_rules.specs.declared.command.Permissions.{Permissions}
@@ -68,7 +68,7 @@ OpensSome transport status before now = OpensBy transport before now
 
 -- the same of the outcome of words: but for a drill, of which `IsDrill` says it, only a master
 -- opens the wire, and none after a fault
-abbrev pub OpensOnce : Known → Status → Option (List OpenCall) → Option (List OpenCall) → Type 0
+abbrev pub OpensOnce : KnownCommand → Status → Option (List OpenCall) → Option (List OpenCall) → Type 0
 OpensOnce (Certain (Opens control transport permits)) Outside before now = now ≡ before
 OpensOnce (Certain (Opens control transport permits)) status before now =
     OpensAt control transport status before now
@@ -97,17 +97,17 @@ no_permissions = record {
 }
 
 -- the permissions of a master: what is none permits nothing
-abbrev pub permissions_in : Known → Permissions
+abbrev pub permissions_in : KnownCommand → Permissions
 permissions_in (Certain (Opens control transport permits)) = permits
 permissions_in (Master transport permits) = permits
 permissions_in known = no_permissions
 
 -- the policy of a master
-abbrev pub policy_in : Known → Policy
+abbrev pub policy_in : KnownCommand → Policy
 policy_in known = policy_of (permissions_in known)
 
 -- where the own forwardings of a master may listen on this machine
-abbrev pub here_in : Known → ListenPermit
+abbrev pub here_in : KnownCommand → ListenPermit
 here_in known = here_of (permissions_in known).here
 
 -- how the end of a run is recorded
@@ -127,11 +127,11 @@ pub record IsUnserved (before now : Option (List HouseMark)) (start : Option (Li
   pub same_wire : seen.recorded ≡ start
   pub same_house : now ≡ before
 
--- a run that keeps its promises, and its very end; `Rest` is whether a house is present, and what
--- is so of it right before a wait; `stands` are the calls that it represents before the run, and
--- `last` is what it is after the run; `before` and `now` are what it recorded, `start` what the wire
--- did, and `seen` what is seen of it in the end; `refused` is the forwarding of the start that was
--- refused, if none may be
+-- a run that keeps its promises, and its very end; `Rest` is whether a forwarder is present, and
+-- what is so of it right before a wait; `stands` are the calls that it represents before the run,
+-- and `last` is what it is after the run; `before` and `now` are what it recorded, `start` what the
+-- wire did, and `seen` what is seen of it in the end; `refused` is the forwarding of the start that
+-- was refused, if none may be
 pub record IsShared (May : HouseReply → Type 0) (Rest : Resting)
     (stands : List HouseCall → Type 0) (last : HouseState) (policy : Policy) (pid turns : ℕ)
     (before now : Option (List HouseMark)) (start : Option (List Mark)) (seen : Seen)
@@ -164,9 +164,9 @@ SharesWith May Rest stands policy pid turns house house' wire wire' result =
     Shares May Rest stands house' policy pid turns house.recorded house'.recorded wire.seen.recorded
     wire'.seen (refusal_after house house') result
 
--- the same of what comes of words: only a master serves, with a house that begins as is due by what
--- is told of files and commands, and that may listen where its permissions say
-abbrev pub SharesFor : {T : Type 0} → (HouseReply → Type 0) → (T → HouseState) → Known
+-- the same of the words' outcome: only a master serves, with a forwarder that begins as is due by
+-- what is recorded of files and commands, and that may listen where its permissions say
+abbrev pub SharesFor : {T : Type 0} → (HouseReply → Type 0) → (T → HouseState) → KnownCommand
     → Option Recorded → ℕ → ℕ → Sockets → Sockets → Result Status MeantEnding → Type 0
 SharesFor May state known by pid turns old new result =
     OnTrue (may_share known (so_far result)) (Begun (here_in known) by (λ starts. SharesWith May
@@ -178,7 +178,7 @@ abbrev pub RecordsEnd :
     Result Status MeantEnding → Status → Option (List ℕ) → Option (List ℕ) → ℕ → ℕ → Type 0
 RecordsEnd (Ok due) status err err' faults faults' = (status ≡ due) × (err' ≡ err)
 RecordsEnd (Err ending) status err err' faults faults' =
-    Reports status (shown ending) err err' faults faults'
+    Reports status (ending_shown ending) err err' faults faults'
 
 -- a run that keeps its promises, and the line of its very end
 pub record IsShareServed (May : HouseReply → Type 0) (Rest : Resting)
@@ -217,9 +217,9 @@ ServesWith May Rest stands policy pid turns before after status =
     before.wire.seen.recorded after.wire.seen (refusal_after before.house after.house) status
     before.err.recorded after.err.recorded before.err.faults after.err.faults
 
--- the same of what comes of words: only a master serves, with a house that begins as is due by what
--- is told of files and commands, and that may listen where its permissions say
-abbrev pub ServesFor : {T : Type 0} → (HouseReply → Type 0) → (T → HouseState) → Known
+-- the same of the words' outcome: only a master serves, with a forwarder that begins as is due by
+-- what is recorded of files and commands, and that may listen where its permissions say
+abbrev pub ServesFor : {T : Type 0} → (HouseReply → Type 0) → (T → HouseState) → KnownCommand
     → Option Recorded → ℕ → ℕ → World → World → Status → Type 0
 ServesFor May state known by pid turns before after status =
     OnTrue (may_share known status) (Begun (here_in known) by (λ starts. ServesWith May
@@ -301,9 +301,9 @@ pub record CountsFor (housed : Bool) (turns : ℕ) (status : Status) (old new : 
   pub waited : OnFalse housed (WaitsFor turns status old.calls new.calls)
   pub idle : turns ≡ 0 → OnFalse housed (IdleCause status faults faults')
 
--- what a master of which this is known leaves of its wire and its house
+-- what a master of which this is known leaves of its wire and its forwarder
 pub record MasterLeaves {T : Type 0} (May : HouseReply → Type 0) (state : T → HouseState)
-    (known : Known) (by : Option Recorded) (pid turns : ℕ) (result : Result Status MeantEnding)
+    (known : KnownCommand) (by : Option Recorded) (pid turns : ℕ) (result : Result Status MeantEnding)
     (old new : Sockets) : Type 0 where
   -- the wire was opened once
   pub opened : OpensOnce known (so_far result) old.wire.openings new.wire.openings

@@ -41,14 +41,14 @@ connect_of None = no_end
 connect_of (Some end) = asked_end_of end
 
 -- whether an end is a path
-abbrev pub is_path : End → Bool
-is_path (Path path) = true
-is_path (Port host port) = false
+abbrev pub is_path_end : End → Bool
+is_path_end (Path path) = true
+is_path_end (Port host port) = false
 
 -- whether a path is connected to
 abbrev pub connects_path : Option End → Bool
 connects_path None = false
-connects_path (Some end) = is_path end
+connects_path (Some end) = is_path_end end
 
 -- a forwarding as the settings ask for it
 abbrev pub asked_start_of : ℕ → Forward → StartAsk
@@ -58,7 +58,7 @@ asked_start_of kind f = record {
   listen_port = (asked_end_of f.listen).port;
   connect_host = (connect_of f.connect).host;
   connect_port = (connect_of f.connect).port;
-  path = is_path f.listen || connects_path f.connect;
+  path = is_path_end f.listen || connects_path f.connect;
 }
 
 -- ---- the settings

@@ -2,7 +2,7 @@ ghost use Rattle.std.specs.Prelude.{◌≡◌, ◌++◌, OnOk, IfOk, IsTrue, Mat
 ghost use Rattle.conf_rules.specs.Diagnostics.{line_of, text_of, located, cause_text};
 ghost use Rattle.ssh_mux.specs.declared.ending.Ending.TheVariants.{NoMemory};
 ghost use Rattle.ssh_mux.specs.Err.{is_built};
-ghost use Rattle.ssh_mux.specs.Ending.{shown, misread_as, refused_as, unlisted_as};
+ghost use Rattle.ssh_mux.specs.Ending.{ending_shown, misread_as, refused_as, unlisted_as};
 ghost use Rattle.ssh_mux.specs.Status.{status_of};
 
 use crate::diagnostics::{put_break_text, put_cause_text, put_token_text, usage_text};
@@ -90,7 +90,7 @@ impl From<OutOfMemory> for Ending {
 impl Ending {
     /// The status of the run.
     pub fn status(&self) -> Status
-        ensures { result ≡ status_of (shown self.now) }
+        ensures { result ≡ status_of (ending_shown self.now) }
     {
         match self {
             Ending::BadWords(_) => Status::Usage,
@@ -115,8 +115,8 @@ impl Ending {
     /// The line that is written of it, where all of its kind have the same: no memory is needed.
     #[tactic(auto, unfolding(conf_rules::specs::Diagnostics::line_of, conf_rules::specs::Diagnostics::text_of))]
     pub fn fixed_line(&self) -> Option<&'static [u8]>
-        ensures { MatchOption result (IsTrue (is_built (shown self.now)))
-            (λ line. line.now ≡ line_of (shown self.now)) }
+        ensures { MatchOption result (IsTrue (is_built (ending_shown self.now)))
+            (λ line. line.now ≡ line_of (ending_shown self.now)) }
     {
         match self {
             Ending::BadWords(_)
@@ -137,8 +137,8 @@ impl Ending {
     /// The line that is written of it, where it is put together.
     #[tactic(auto, unfolding(conf_rules::specs::Diagnostics::line_of))]
     pub fn built_line(&self, alloc: Global) -> Result<Text, OutOfMemory>
-        requires { IsTrue (is_built (shown self.now)) }
-        ensures { IfOk result (λ line. line ≡ line_of (shown self.now)) }
+        requires { IsTrue (is_built (ending_shown self.now)) }
+        ensures { IfOk result (λ line. line ≡ line_of (ending_shown self.now)) }
     {
         let mut line = Text::copy(alloc, b"ssh-mux: ")?;
         self.put_text(alloc, &mut line)?;
@@ -149,8 +149,8 @@ impl Ending {
     // The text of the line.
     #[tactic(auto, unfolding(conf_rules::specs::Diagnostics::text_of))]
     fn put_text(&self, alloc: Global, out: &mut Text) -> Result<(), OutOfMemory>
-        requires { IsTrue (is_built (shown self.now)) }
-        ensures { OnOk result (out.new ≡ out.old ++ text_of (shown self.now)) }
+        requires { IsTrue (is_built (ending_shown self.now)) }
+        ensures { OnOk result (out.new ≡ out.old ++ text_of (ending_shown self.now)) }
     {
         match self {
             Ending::BadWords(e) => {

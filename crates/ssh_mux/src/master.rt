@@ -51,7 +51,7 @@ struct Grants {
     here: ListenPermit,
 }
 
-/// Shares a connection as the words ask: `-M`. The house begins with the forwardings that their
+/// Shares a connection as the words ask: `-M`. The forwarder begins with the forwardings that their
 /// settings ask for, and with where the words permit them to listen. Then the wire is opened at the
 /// control path of these settings, and is served for so many turns at most, with the permissions of
 /// the words, which have no bad entry.
@@ -173,7 +173,8 @@ fn grants_of(alloc: Global, permits: &Permissions) -> Result<Grants, Ending>
     Ok(Grants { policy, here })
 }
 
-// Begins a house with the forwardings that the settings ask for, and with where they may listen.
+// Begins a forwarder with the forwardings that the settings ask for, and with where they may
+// listen.
 fn begin<H: House>(
     alloc: Global,
     settings: &Settings,
@@ -190,7 +191,7 @@ fn begin<H: House>(
         ((H.state house.new).stands (Begins (starts_for here settings.now) ∷ [])) }
     ensures err { OnlyStarves result }
 {
-    // A forwarder that was never called says by this that it represents no call.
+    // By this a forwarder that was never called represents no call.
     let _fresh = house.present();
     let starts = starts_of(alloc, here, settings)?;
     house.begin(&starts)?;
@@ -264,7 +265,7 @@ pub fn open_and_serve<W: Wire, H: House>(
     ensures wire { CountsFor (H.state house.old).known.present turns (so_far result)
         (W.state wire.old) (W.state wire.new) (W.faults wire.old) (W.faults wire.new) }
 {
-    // A forwarder that has only begun says by this that nothing is known of it.
+    // By this nothing is known of a forwarder that has only begun.
     let _blank = house.present();
     match wire.open(control.as_bytes(), transport.as_bytes()) {
         Ok(()) => ending_of(serve(alloc, policy, pid, wire, house, turns)),

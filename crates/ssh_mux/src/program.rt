@@ -1,7 +1,7 @@
 ghost use Rattle.std.specs.Bool.{OnTrue};
 ghost use Rattle.std.specs.Prelude.{◌≡◌, Ok};
 ghost use Rattle.conf_rules.specs.Reading.{reading};
-ghost use Rattle.ssh_mux.specs.Answers.{RunLeaves, is_silent, so_far};
+ghost use Rattle.ssh_mux.specs.Answers.{RunLeaves, has_no_line, so_far};
 ghost use Rattle.ssh_mux.specs.Err.{IsRecordedBy};
 ghost use Rattle.ssh_mux.specs.Looks.{coming_of_words};
 ghost use Rattle.ssh_mux.specs.Runs.{Runs};
@@ -58,7 +58,7 @@ pub fn run<W: Wire, F: Files, R: Runner, S: Sink, H: House>(
         (coming_of_words (sources F.Files R.Runner files.old runner.old) facts.now words.now)
         result (out.new ≡ out.old) (files.new ≡ files.old) (runner.new ≡ runner.old)
         (wire.new ≡ wire.old) (house.new ≡ house.old) }
-    ensures silent { OnTrue (is_silent result) (err.new ≡ err.old) }
+    ensures silent { OnTrue (has_no_line result) (err.new ≡ err.old) }
 {
     match obey(alloc, words, facts, wire, files, runner, out, house, turns) {
         Ok(status) => status,

@@ -1,6 +1,6 @@
 ghost use Rattle.std.specs.Prelude.{◌≡◌};
 ghost use Rattle.conf_rules.specs.Diagnostics.{line_of, NoMemory};
-ghost use Rattle.ssh_mux.specs.Ending.{shown};
+ghost use Rattle.ssh_mux.specs.Ending.{ending_shown};
 ghost use Rattle.mux_outside.specs.Counts.{counted};
 ghost use Rattle.ssh_mux.specs.Err.{Reports, PutsLine};
 
@@ -12,7 +12,7 @@ use std::alloc::Global;
 /// Reports how the run ended, in one line, and returns its status. Where there is no memory for
 /// that very line, the status is out of memory.
 pub fn report<S: Sink>(alloc: Global, err: &mut S, ending: &Ending) -> Status
-    ensures recorded { Reports result (shown ending.now)
+    ensures recorded { Reports result (ending_shown ending.now)
         (S.recorded err.old) (S.recorded err.new) (S.faults err.old) (S.faults err.new) }
     ensures once { S.puts err.new ≡ counted (S.puts err.old) }
 {

@@ -1,6 +1,6 @@
 //! What the master's own forwardings begin with, by the settings.
 ghost use Rattle.std.specs.Prelude.{◌≡◌, ◌++◌, IfOk, OnOk};
-ghost use Rattle.ssh_mux.specs.Starts.{connect_of, connects_path, asked_end_of, is_path, key_starts, no_end};
+ghost use Rattle.ssh_mux.specs.Starts.{connect_of, connects_path, asked_end_of, is_path_end, key_starts, no_end};
 ghost use Rattle.ssh_mux.specs.Starts.{start_asks, asked_start_of, starts_for, value_starts};
 
 use crate::asks::{AskedEnd, forward_kind_of_key};
@@ -50,7 +50,7 @@ fn connect_of(alloc: Global, connect: &Option<End>) -> Result<AskedEnd, OutOfMem
 
 // Whether an end is a path.
 fn is_path(end: &End) -> bool
-    ensures { result ≡ is_path end.now }
+    ensures { result ≡ is_path_end end.now }
 {
     matches!(end, End::Path(_))
 }

@@ -4,7 +4,7 @@ use Rattle.ssh_grammar.specs.declared.side.Side.{Side}
 use Rattle.ssh_grammar.specs.declared.side.Side.TheVariants.{Up, Down}
 use Rattle.mux_history.specs.Summary as summary
 use Rattle.mux_history.specs.Channels.{Channel, any_by, is_closes}
-use Rattle.mux_history.specs.Ledger.{answered, asked, carried, first_window, granted, maximum_of, other_side, packet, room, unanswered}
+use Rattle.mux_history.specs.Ledger.{reply_count, request_count, carried, first_window, granted_size, maximum_of, other_side, packet, room, unanswered}
 use Rattle.mux_history.specs.Laws.{IsAccounted, IsWithin, with_act}
 use Rattle.window_ledger.specs.Act.{summary_act_of}
 use Rattle.window_ledger.specs.Stands.{account_of, speech_of}
@@ -54,7 +54,7 @@ own-maximum Down act x = by_side x.by
     by_side Up = refl
     by_side Down = refl
 
-own-asks : (way : Side) (act : summary.Act) (x : Channel) → IsAccounted way x → unanswered way (with_act way act x) ≡ unanswered way x + asked act
+own-asks : (way : Side) (act : summary.Act) (x : Channel) → IsAccounted way x → unanswered way (with_act way act x) ≡ unanswered way x + request_count act
 own-asks Up act x sound = let fewer = sound.answered in omega arith
 own-asks Down act x sound = let fewer = sound.answered in omega arith
 
@@ -82,7 +82,7 @@ own-speech Down (Request want) x may = refl
 own-speech Up Reply x may = refl
 own-speech Down Reply x may = refl
 
-own-parts : (act : Act) (a : Account) → AreSame (account_after act a) (record { room = a.room - carried (summary_act_of act); maximum = a.maximum; unanswered = a.unanswered + asked (summary_act_of act); speech = speech_after act a.speech })
+own-parts : (act : Act) (a : Account) → AreSame (account_after act a) (record { room = a.room - carried (summary_act_of act); maximum = a.maximum; unanswered = a.unanswered + request_count (summary_act_of act); speech = speech_after act a.speech })
 own-parts (Data size) a = record { rooms = refl; packets = refl; asks = omega arith; spoken = refl }
 own-parts (Grant add) a = record { rooms = omega arith; packets = refl; asks = omega arith; spoken = refl }
 own-parts Eof a = record { rooms = omega arith; packets = refl; asks = omega arith; spoken = refl }
@@ -103,15 +103,15 @@ own-goes way act x may sound =
 
 -- ---- the other direction
 
-other-room : (way : Side) (act : summary.Act) (x : Channel) → first_window act ≡ 0 → IsWithin (other_side way) x → room (other_side way) (with_act way act x) ≡ room (other_side way) x + granted act
+other-room : (way : Side) (act : summary.Act) (x : Channel) → first_window act ≡ 0 → IsWithin (other_side way) x → room (other_side way) (with_act way act x) ≡ room (other_side way) x + granted_size act
 other-room Up act x none within = by_side x.by within
   where
-    by_side : (side : Side) → IsWithin Down (record x { by = side }) → room Down (record x { by = side; acts = (Up, act) ∷ x.acts }) ≡ room Down (record x { by = side }) + granted act
+    by_side : (side : Side) → IsWithin Down (record x { by = side }) → room Down (record x { by = side; acts = (Up, act) ∷ x.acts }) ≡ room Down (record x { by = side }) + granted_size act
     by_side Up within = omega arith
     by_side Down within = omega arith
 other-room Down act x none within = by_side x.by within
   where
-    by_side : (side : Side) → IsWithin Up (record x { by = side }) → room Up (record x { by = side; acts = (Down, act) ∷ x.acts }) ≡ room Up (record x { by = side }) + granted act
+    by_side : (side : Side) → IsWithin Up (record x { by = side }) → room Up (record x { by = side; acts = (Down, act) ∷ x.acts }) ≡ room Up (record x { by = side }) + granted_size act
     by_side Up within = omega arith
     by_side Down within = omega arith
 
@@ -127,7 +127,7 @@ other-maximum Down act x none = by_side x.by
     by_side Up = omega arith
     by_side Down = refl
 
-other-asks : (way : Side) (act : summary.Act) (x : Channel) → unanswered (other_side way) (with_act way act x) ≡ unanswered (other_side way) x - answered act
+other-asks : (way : Side) (act : summary.Act) (x : Channel) → unanswered (other_side way) (with_act way act x) ≡ unanswered (other_side way) x - reply_count act
 other-asks Up act x = omega arith
 other-asks Down act x = omega arith
 
@@ -135,7 +135,7 @@ other-speech : (way : Side) (act : summary.Act) (x : Channel) → speech_of (oth
 other-speech Up act x = refl
 other-speech Down act x = refl
 
-other-parts : (act : Act) (a : Account) → AreSame (other_after act a) (record { room = a.room + granted (summary_act_of act); maximum = a.maximum; unanswered = a.unanswered - answered (summary_act_of act); speech = a.speech })
+other-parts : (act : Act) (a : Account) → AreSame (other_after act a) (record { room = a.room + granted_size (summary_act_of act); maximum = a.maximum; unanswered = a.unanswered - reply_count (summary_act_of act); speech = a.speech })
 other-parts (Data size) a = record { rooms = omega arith; packets = refl; asks = omega arith; spoken = refl }
 other-parts (Grant add) a = record { rooms = refl; packets = refl; asks = omega arith; spoken = refl }
 other-parts Eof a = record { rooms = omega arith; packets = refl; asks = omega arith; spoken = refl }

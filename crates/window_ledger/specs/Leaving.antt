@@ -17,8 +17,8 @@ sent_close_in (Opened by window maximum) = false
 sent_close_in (Confirmed up down) = is_speech_closed up.speech
 
 -- the client has sent CLOSE
-abbrev pub sent_close : Ledger → Bool
-sent_close ledger = sent_close_in ledger.state
+abbrev pub has_sent_close : Ledger → Bool
+has_sent_close ledger = sent_close_in ledger.state
 
 abbrev pub is_over_in : State → Bool
 is_over_in (Opened by window maximum) = false
@@ -33,5 +33,5 @@ left_state (Opened by window maximum) = Opened by window maximum
 left_state (Confirmed up down) = Confirmed (record up { speech = Closed }) down
 
 -- the account after the client's CLOSE, where its channel is confirmed
-abbrev pub left : Ledger → Ledger
-left ledger = record ledger { state = left_state ledger.state }
+abbrev pub ledger_after_close : Ledger → Ledger
+ledger_after_close ledger = record ledger { state = left_state ledger.state }

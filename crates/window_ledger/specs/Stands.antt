@@ -5,7 +5,7 @@ use Rattle.ssh_grammar.specs.declared.side.Side.TheVariants.{Up, Down}
 use Rattle.ssh_grammar.specs.declared.fault.Breach.{Breach}
 use Rattle.mux_history.specs.Summary.{Act, Confirms}
 use Rattle.mux_history.specs.Channels.{Channel, any_by, is_closes, is_confirmed, is_ends}
-use Rattle.mux_history.specs.Ledger.{breach, carried, granted, initial, maximum_of, other_side, room, sum_of, unanswered}
+use Rattle.mux_history.specs.Ledger.{breach, carried, granted_size, initial, maximum_of, other_side, room, sum_of, unanswered}
 use Rattle.mux_history.specs.Laws.{IsAccounted, with_act}
 use Rattle.window_ledger.specs.declared.account.Account.{Account}
 use Rattle.window_ledger.specs.declared.account.Speech.{Speech}
@@ -49,41 +49,41 @@ IsStateOf (Opened by window maximum) x = IsSideBegun by window maximum x
 IsStateOf (Confirmed up down) x = AreAccounts up down x
 
 -- a ledger represents a channel
-abbrev pub Stands : Ledger → Channel → Type 0
-Stands ledger x = IsStateOf ledger.state x
+abbrev pub LedgerRepresents : Ledger → Channel → Type 0
+LedgerRepresents ledger x = IsStateOf ledger.state x
 
 abbrev pub is_answered : State → Bool
 is_answered (Opened by window maximum) = false
 is_answered (Confirmed up down) = true
 
 -- the open of its channel was confirmed
-abbrev pub confirmed : Ledger → Bool
-confirmed ledger = is_answered ledger.state
+abbrev pub is_open_confirmed : Ledger → Bool
+is_open_confirmed ledger = is_answered ledger.state
 
 -- a call answers with the breach, where there is one
-abbrev pub Answers : {A : Type 0} → Result A Breach → Option Breach → Type 0
-Answers (Ok a) broken = broken ≡ None
-Answers (Err breach) broken = broken ≡ Some breach
+abbrev pub AnswersBreach : {A : Type 0} → Result A Breach → Option Breach → Type 0
+AnswersBreach (Ok a) broken = broken ≡ None
+AnswersBreach (Err breach) broken = broken ≡ Some breach
 
 -- of each channel for which a ledger stands, a call answers with what one more act would break
 -- there
 abbrev pub Judges : {A : Type 0} → Ledger → Side → Act → Result A Breach → Type 0
-Judges ledger way act result = (x : Channel) → Stands ledger x → Answers result (breach way act x)
+Judges ledger way act result = (x : Channel) → LedgerRepresents ledger x → AnswersBreach result (breach way act x)
 
 -- of each channel for which a ledger stood before, it stands afterwards for the channel with one
 -- more act
 abbrev pub LedgerGoesOn : Ledger → Ledger → Side → Act → Type 0
-LedgerGoesOn old new way act = (x : Channel) → Stands old x → Stands new (with_act way act x)
+LedgerGoesOn old new way act = (x : Channel) → LedgerRepresents old x → LedgerRepresents new (with_act way act x)
 
 -- and for the channel that the other side has confirmed with this window and this maximum
 abbrev pub IsConfirmed : Ledger → Ledger → (window maximum : ℕ) → Type 0
-IsConfirmed old new window maximum = (x : Channel) → Stands old x
-    → Stands new (with_act (other_side x.by) (Confirms window maximum) x)
+IsConfirmed old new window maximum = (x : Channel) → LedgerRepresents old x
+    → LedgerRepresents new (with_act (other_side x.by) (Confirms window maximum) x)
 
 -- what is left for a direction and what was carried in it make up all that was granted for it
 abbrev pub AccountAddsUp : (left : ℕ) → Side → Channel → Type 0
 AccountAddsUp left way x = left + sum_of carried way x.acts
-    ≡ initial way x + sum_of granted (other_side way) x.acts
+    ≡ initial way x + sum_of granted_size (other_side way) x.acts
 
 -- both sides have sent CLOSE
 abbrev pub both_closed : Channel → Bool

@@ -32,7 +32,7 @@ pub fn is_speech_closed(speech: Speech) -> bool
 /// One direction of a confirmed channel.
 #[derive(Clone, Copy, PartialEq, Eq)]
 pub struct Account {
-    /// How many bytes of data the receiver takes for now.
+    /// How many bytes of data the receiver accepts for now.
     pub room: u32,
     /// How many it accepts at once.
     pub maximum: u32,

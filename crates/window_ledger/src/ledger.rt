@@ -5,8 +5,8 @@ ghost use Rattle.mux_history.specs.Ledger.{room};
 ghost use Rattle.mux_history.specs.Laws.{with_act};
 ghost use Rattle.ssh_grammar.specs.declared.side.Side.TheVariants.{Up};
 ghost use Rattle.window_ledger.specs.Act.{summary_act_of};
-ghost use Rattle.window_ledger.specs.Leaving.{is_account_over, left, left_state, sent_close};
-ghost use Rattle.window_ledger.specs.Stands.{Stands, IsSideBegun, Judges, LedgerGoesOn, IsConfirmed, AccountAddsUp, both_closed, confirmed};
+ghost use Rattle.window_ledger.specs.Leaving.{is_account_over, ledger_after_close, left_state, has_sent_close};
+ghost use Rattle.window_ledger.specs.Stands.{LedgerRepresents, IsSideBegun, Judges, LedgerGoesOn, IsConfirmed, AccountAddsUp, both_closed, is_open_confirmed};
 ghost use Rattle.window_ledger.specs.Step.{judged, between, account_after, other_after, breach_in, state_after};
 
 use crate::account::{Account, Speech, is_speech_closed};
@@ -18,7 +18,7 @@ use ssh_grammar::{Breach, Side};
 enum State {
     /// One side has opened it, with its own window and maximum; the other hasn't answered.
     Opened { by: Side, window: u32, maximum: u32 },
-    /// Both sides may speak.
+    /// Both sides may send.
     Confirmed { up: Account, down: Account },
 }
 
@@ -74,8 +74,8 @@ pub struct Ledger {
 impl Ledger {
     /// A channel that a side has opened, with the window and the maximum that its OPEN carries.
     pub fn opened(by: Side, window: u32, max: u32) -> Ledger
-        ensures stands { (x : Channel) → IsSideBegun by window max x → Stands result x }
-        ensures confirmed { confirmed result ≡ false }
+        ensures stands { (x : Channel) → IsSideBegun by window max x → LedgerRepresents result x }
+        ensures confirmed { is_open_confirmed result ≡ false }
     {
         Ledger {
             state: State::Opened {
@@ -88,8 +88,8 @@ impl Ledger {
 
     /// Whether the open was confirmed.
     pub fn confirmed(&self) -> bool
-        ensures test { result ≡ confirmed self.now }
-        ensures exact { (x : Channel) → Stands self.now x → result ≡ is_confirmed x }
+        ensures test { result ≡ is_open_confirmed self.now }
+        ensures exact { (x : Channel) → LedgerRepresents self.now x → result ≡ is_confirmed x }
     {
         match self.state {
             State::Opened { .. } => false,
@@ -99,9 +99,9 @@ impl Ledger {
 
     /// The other side's CONFIRMATION, with the window and the maximum that it carries.
     pub fn confirm(&mut self, window: u32, max: u32)
-        requires { confirmed self.old ≡ false }
+        requires { is_open_confirmed self.old ≡ false }
         ensures stands { IsConfirmed self.old self.new window max }
-        ensures confirmed { confirmed self.new ≡ true }
+        ensures confirmed { is_open_confirmed self.new ≡ true }
     {
         let State::Opened {
             by,
@@ -131,7 +131,7 @@ impl Ledger {
         ensures exact { Judges self.old way (summary_act_of act) result }
         ensures ok { OnOk result (LedgerGoesOn self.old self.new way (summary_act_of act)) }
         ensures unchanged { OnErr result (self.new ≡ self.old) }
-        ensures confirmed { confirmed self.new ≡ confirmed self.old }
+        ensures confirmed { is_open_confirmed self.new ≡ is_open_confirmed self.old }
     {
         self.state = after(self.state, way, act)?;
         Ok(())
@@ -142,7 +142,7 @@ impl Ledger {
         ensures exact { Judges self.old way (Carries len) result }
         ensures ok { OnOk result (LedgerGoesOn self.old self.new way (Carries len)) }
         ensures unchanged { OnErr result (self.new ≡ self.old) }
-        ensures confirmed { confirmed self.new ≡ confirmed self.old }
+        ensures confirmed { is_open_confirmed self.new ≡ is_open_confirmed self.old }
     {
         self.take(way, Act::Data(len))
     }
@@ -152,7 +152,7 @@ impl Ledger {
         ensures exact { Judges self.old way (Grants n) result }
         ensures ok { OnOk result (LedgerGoesOn self.old self.new way (Grants n)) }
         ensures unchanged { OnErr result (self.new ≡ self.old) }
-        ensures confirmed { confirmed self.new ≡ confirmed self.old }
+        ensures confirmed { is_open_confirmed self.new ≡ is_open_confirmed self.old }
     {
         self.take(way, Act::Grant(n))
     }
@@ -162,7 +162,7 @@ impl Ledger {
         ensures exact { Judges self.old way Ends result }
         ensures ok { OnOk result (LedgerGoesOn self.old self.new way Ends) }
         ensures unchanged { OnErr result (self.new ≡ self.old) }
-        ensures confirmed { confirmed self.new ≡ confirmed self.old }
+        ensures confirmed { is_open_confirmed self.new ≡ is_open_confirmed self.old }
     {
         self.take(way, Act::Eof)
     }
@@ -172,7 +172,7 @@ impl Ledger {
         ensures exact { Judges self.old way Closes result }
         ensures ok { OnOk result (LedgerGoesOn self.old self.new way Closes) }
         ensures unchanged { OnErr result (self.new ≡ self.old) }
-        ensures confirmed { confirmed self.new ≡ confirmed self.old }
+        ensures confirmed { is_open_confirmed self.new ≡ is_open_confirmed self.old }
     {
         self.take(way, Act::Close)
     }
@@ -182,7 +182,7 @@ impl Ledger {
         ensures exact { Judges self.old way (Asks want) result }
         ensures ok { OnOk result (LedgerGoesOn self.old self.new way (Asks want)) }
         ensures unchanged { OnErr result (self.new ≡ self.old) }
-        ensures confirmed { confirmed self.new ≡ confirmed self.old }
+        ensures confirmed { is_open_confirmed self.new ≡ is_open_confirmed self.old }
     {
         self.take(way, Act::Request(want))
     }
@@ -192,7 +192,7 @@ impl Ledger {
         ensures exact { Judges self.old way Answers result }
         ensures ok { OnOk result (LedgerGoesOn self.old self.new way Answers) }
         ensures unchanged { OnErr result (self.new ≡ self.old) }
-        ensures confirmed { confirmed self.new ≡ confirmed self.old }
+        ensures confirmed { is_open_confirmed self.new ≡ is_open_confirmed self.old }
     {
         self.take(way, Act::Reply)
     }
@@ -200,7 +200,7 @@ impl Ledger {
     /// Whether both sides have sent CLOSE.
     pub fn closed(&self) -> bool
         ensures test { result ≡ is_account_over self.now }
-        ensures exact { (x : Channel) → Stands self.now x → result ≡ both_closed x }
+        ensures exact { (x : Channel) → LedgerRepresents self.now x → result ≡ both_closed x }
     {
         match self.state {
             State::Opened { .. } => false,
@@ -211,8 +211,8 @@ impl Ledger {
 
     /// Whether the client has sent CLOSE.
     pub fn sent_close(&self) -> bool
-        ensures test { result ≡ sent_close self.now }
-        ensures exact { (x : Channel) → Stands self.now x → result ≡ any_by Up is_closes x.acts }
+        ensures test { result ≡ has_sent_close self.now }
+        ensures exact { (x : Channel) → LedgerRepresents self.now x → result ≡ any_by Up is_closes x.acts }
     {
         match self.state {
             State::Opened { .. } => false,
@@ -222,24 +222,24 @@ impl Ledger {
 
     /// What a client that is lost leaves: in a channel that is confirmed its CLOSE.
     pub fn left(self) -> Ledger
-        ensures value { result ≡ left self }
-        ensures closes { (x : Channel) → Stands self x → confirmed self ≡ true
-            → any_by Up is_closes x.acts ≡ false → Stands result (with_act Up Closes x) }
-        ensures again { (x : Channel) → Stands self x → any_by Up is_closes x.acts ≡ true
-            → Stands result x }
-        ensures opened { confirmed self ≡ false → result ≡ self }
+        ensures value { result ≡ ledger_after_close self }
+        ensures closes { (x : Channel) → LedgerRepresents self x → is_open_confirmed self ≡ true
+            → any_by Up is_closes x.acts ≡ false → LedgerRepresents result (with_act Up Closes x) }
+        ensures again { (x : Channel) → LedgerRepresents self x → any_by Up is_closes x.acts ≡ true
+            → LedgerRepresents result x }
+        ensures opened { is_open_confirmed self ≡ false → result ≡ self }
     {
         Ledger {
             state: left(self.state),
         }
     }
 
-    /// How many bytes of data the receiver of a direction takes for now. Before the CONFIRMATION
+    /// How many bytes of data the receiver of a direction accepts for now. Before the CONFIRMATION
     /// that is the opener's window towards the opener, and nothing the other way.
     pub fn room(&self, way: Side) -> u32
-        ensures exact { (x : Channel) → Stands self.now x → result ≡ room way x }
+        ensures exact { (x : Channel) → LedgerRepresents self.now x → result ≡ room way x }
         // No room falls below zero: what is left and what was carried make up all that was granted.
-        ensures sums { (x : Channel) → Stands self.now x → AccountAddsUp result way x }
+        ensures sums { (x : Channel) → LedgerRepresents self.now x → AccountAddsUp result way x }
     {
         match (self.state, way) {
             (State::Confirmed { up, .. }, Side::Up) => up.room,

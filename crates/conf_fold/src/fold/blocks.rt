@@ -6,7 +6,7 @@ ghost use Rattle.conf_rules.specs.Resolution.{is_final};
 ghost use Rattle.conf_rules.specs.Patterns.{answer_of, is_yes};
 ghost use Rattle.conf_rules.specs.Fits.{fits};
 ghost use Rattle.conf_options.specs.Kept.{Given, KeepsSettings};
-ghost use Rattle.conf_fold.specs.FoldRepresents.{block_name, entered, own_mark, does_count, noted, if_counts};
+ghost use Rattle.conf_fold.specs.FoldRepresents.{block_name, marks_in_file, own_mark, does_count, activity_noted, if_counts};
 
 use super::Fold;
 use crate::entries::has_final;
@@ -43,7 +43,7 @@ impl Fold {
     pub(crate) fn enter(&mut self, depth: usize, opens: bool) -> Result<(), OutOfMemory>
         requires { depth < 2 ^ 32 }
         ensures ok { OnOk result
-            (self.new ≡ record self.old { applies = entered depth opens self.old.applies }) }
+            (self.new ≡ record self.old { applies = marks_in_file depth opens self.old.applies }) }
         ensures settings { self.new.settings ≡ self.old.settings }
     {
         if opens {
@@ -64,7 +64,7 @@ impl Fold {
     // Notes whether a line of a key is active, and returns whether its value counts.
     pub(crate) fn note(&mut self, key: Key, active: bool) -> Result<bool, OutOfMemory>
         ensures ok { OnOk result ((result ≡ Ok (does_count key active self.old))
-            × (self.new ≡ noted key active self.old)) }
+            × (self.new ≡ activity_noted key active self.old)) }
         ensures settings { self.new.settings ≡ self.old.settings }
     {
         if !key.is_collected() {
@@ -93,7 +93,7 @@ impl Fold {
             → KeepsSettings self.new.settings
             (given ++ if_counts (does_count key active self.old) key value)) }
         ensures others { OnOk result
-            (self.new ≡ record (noted key active self.old) { settings = self.new.settings }) }
+            (self.new ≡ record (activity_noted key active self.old) { settings = self.new.settings }) }
         ensures settings { OnErr result (self.new.settings ≡ self.old.settings) }
     {
         if self.note(key, active)? {

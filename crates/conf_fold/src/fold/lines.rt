@@ -4,13 +4,13 @@ ghost use Rattle.std.specs.Prelude.{◌≡◌, ◌≤◌, ◌<◌, ◌+◌, [], 
 ghost use Rattle.conf_rules.specs.Texts.{or_text};
 ghost use Rattle.conf_rules.specs.Evaluation.{verdict};
 ghost use Rattle.conf_rules.specs.Rows.{word_in, but_none};
-ghost use Rattle.conf_tokens.specs.Seen.{seen};
+ghost use Rattle.conf_tokens.specs.Seen.{view_as_defined};
 ghost use Rattle.conf_tokens.specs.Known.{known};
-ghost use Rattle.conf_fold.specs.Entries.{entry_fits};
-ghost use Rattle.conf_reader.specs.Results.{RefusesLine, is_line_fault, refused_at};
+ghost use Rattle.conf_fold.specs.Entries.{content_fits};
+ghost use Rattle.conf_reader.specs.Results.{RefusesLine, is_line_fault, resolve_error_at};
 ghost use Rattle.conf_rules.specs.Results.{as_error};
-ghost use Rattle.conf_fold.specs.Results.{Evaluated, GivesLineReading, RanUnless, breaks_line, breaks_off, FailsInLine, FailsAtLine, HasLineCause, HasRunCause};
-ghost use Rattle.conf_fold.specs.FoldRepresents.{OnNext, WhereStatusesRecorded, FoldsEntry, Folds, next_row, setting, fold_view_of, entry_so_far};
+ghost use Rattle.conf_fold.specs.Results.{LineEvaluated, GivesLineReading, RanUnless, breaks_line, breaks_off, FailsInLine, FailsAtLine, HasLineCause, HasRunCause};
+ghost use Rattle.conf_fold.specs.FoldRepresents.{OnNext, WhereStatusesRecorded, FoldsEntry, Folds, next_row, value_of_key, fold_view_of, entry_so_far};
 ghost use Rattle.conf_rules.specs.declared.key.Key.TheVariants as keys;
 
 use super::Fold;
@@ -26,7 +26,7 @@ use std::alloc::Global;
 // The outcome of a line; an error is reported at its file, whose path is given away for it, and
 // its number. It allocates no memory.
 fn placed(taken: Result<(), LineError>, file: Text, number: u64) -> Result<(), ResolveError>
-    ensures { result ≡ as_error (λ e. refused_at e file number) taken }
+    ensures { result ≡ as_error (λ e. resolve_error_at e file number) taken }
 {
     match taken {
         Ok(()) => Ok(()),
@@ -42,13 +42,13 @@ fn evaluate<R: Runner>(
     runner: &mut R,
 ) -> Result<bool, LineError>
     ensures holds { WhereStatusesRecorded (R.recorded runner.old) (λ status.
-        Evaluated result (verdict status (seen view.now) criteria.now).holds) }
+        LineEvaluated result (verdict status (view_as_defined view.now) criteria.now).holds) }
     ensures ran { WhereStatusesRecorded (R.recorded runner.old) (λ status.
         RanUnless (breaks_line result) (R.ran runner.old) (R.ran runner.new)
-        (verdict status (seen view.now) criteria.now).ran) }
+        (verdict status (view_as_defined view.now) criteria.now).ran) }
     ensures failed { WhereStatusesRecorded (R.recorded runner.old) (λ status.
         FailsInLine result (R.ran runner.old) (R.ran runner.new)
-        (verdict status (seen view.now) criteria.now).ran) }
+        (verdict status (view_as_defined view.now) criteria.now).ran) }
     ensures cause { HasLineCause result (R.faults runner.old) (R.faults runner.new) }
     ensures recorded { R.recorded runner.new ≡ R.recorded runner.old }
 {
@@ -64,7 +64,7 @@ impl Fold {
         runner: &mut R,
     ) -> Result<bool, LineError>
         ensures holds { WhereStatusesRecorded (R.recorded runner.old) (λ status.
-            Evaluated result (verdict status (fold_view_of self.now (known facts.now))
+            LineEvaluated result (verdict status (fold_view_of self.now (known facts.now))
             criteria.now).holds) }
         ensures ran { WhereStatusesRecorded (R.recorded runner.old) (λ status.
             RanUnless (breaks_line result) (R.ran runner.old) (R.ran runner.new)
@@ -97,7 +97,7 @@ impl Fold {
 
     // The jump, or nothing.
     pub(crate) fn jump(&self) -> &[u8]
-        ensures { result.now ≡ or_text [] (but_none (word_in (setting keys.ProxyJump self.now))) }
+        ensures { result.now ≡ or_text [] (but_none (word_in (value_of_key keys.ProxyJump self.now))) }
     {
         self.settings.named_word(Key::ProxyJump).unwrap_or(b"")
     }
@@ -111,7 +111,7 @@ impl Fold {
         runner: &mut R,
     ) -> Result<bool, LineError>
         ensures held { WhereStatusesRecorded (R.recorded runner.old) (λ status. active ≡ true
-            → Evaluated result (verdict status (fold_view_of self.now (known facts.now))
+            → LineEvaluated result (verdict status (fold_view_of self.now (known facts.now))
             criteria.now).holds) }
         ensures idle { active ≡ false → result ≡ Ok false }
         ensures ran { WhereStatusesRecorded (R.recorded runner.old) (λ status. active ≡ true
@@ -141,7 +141,7 @@ impl Fold {
     ) -> Result<(), LineError>
         requires known { line.now.opens ≡ false → line.now.depth < length self.old.applies }
         requires opened { line.now.opens ≡ true → line.now.depth ≤ length self.old.applies }
-        requires fits { entry_fits entry ≡ true }
+        requires fits { content_fits entry ≡ true }
         ensures folds { OnNext (known facts.now) (R.recorded runner.old) self.old line.now
             (λ recorded pass rows blocks place l. entry_so_far self.old line.now ≡ Ok entry
             → FoldsEntry recorded pass rows blocks line.now place l result self.new) }
@@ -227,7 +227,7 @@ impl Fold {
     // The content of a line after those given so far.
     #[tactic(auto, unfolding(crate::specs::FoldRepresents::entry_so_far))]
     pub(crate) fn said(&self, line: &ConfLine) -> Result<LineContent, LineError>
-        ensures fits { IfOk result (λ entry. entry_fits entry ≡ true) }
+        ensures fits { IfOk result (λ entry. content_fits entry ≡ true) }
         ensures read { GivesLineReading result (entry_so_far self.now line.now) }
         ensures plain { IfErr result (λ e. is_line_fault e ≡ false) }
     {

@@ -9,8 +9,8 @@ ghost use Rattle.house_forward.specs.ForwardingState.{BeginsWith, IsClientAsk};
 ghost use Rattle.house_forward.specs.RelayTraces.{HasLived, ForwardingStateGoes};
 ghost use Rattle.house_forward.specs.State.{held_in, known_in, due_in, most_due_in, ChangesForwardings};
 
-use super::{ForwarderState, Stage};
-use crate::asks::{Asked, Asks, Outcome};
+use super::{ForwarderStage, ForwarderState};
+use crate::asks::{ImmediateOutcome, PendingRequests, RequestOutcome};
 use crate::forwardings::Forwardings;
 use crate::relays::Relays;
 use crate::rules::{ListenRules, ends_of, of_client};
@@ -33,18 +33,18 @@ impl ForwarderState {
             alloc,
             rules: ListenRules::first(),
             must: false,
-            asks: Asks::new(alloc),
+            asks: PendingRequests::new(alloc),
             ordering: None,
             greeted: false,
-            stage: Stage::Control,
+            stage: ForwarderStage::Control,
             framer: Framer::new(alloc, Framing::Control),
             forwardings: Forwardings::new(alloc),
             relays: Relays::new(alloc),
         }
     }
 
-    /// For how many marks room is needed at most, where so many forwardings, relays and asks may
-    /// come.
+    /// For how many marks room is needed at most, where so many forwardings, relays and requests
+    /// may come.
     pub fn most_due(&self, forwardings: usize, relays: usize, asks: usize) -> Option<usize>
         ensures { IfSome result (λ n. n ≡ most_due_in self.now forwardings relays asks) }
     {
@@ -100,10 +100,10 @@ impl ForwarderState {
             (held_in self.old) (held_in self.new)) }
     {
         match self.asked(client, id, opening, what)? {
-            Asked::Now(Outcome::Done) => Ok(HouseReply::Done),
-            Asked::Now(Outcome::Port(port)) => Ok(HouseReply::Port(port)),
-            Asked::Now(Outcome::Refused) => Ok(HouseReply::Refused),
-            Asked::Later(forwarding) => {
+            ImmediateOutcome::Now(RequestOutcome::Done) => Ok(HouseReply::Done),
+            ImmediateOutcome::Now(RequestOutcome::Port(port)) => Ok(HouseReply::Port(port)),
+            ImmediateOutcome::Now(RequestOutcome::Refused) => Ok(HouseReply::Refused),
+            ImmediateOutcome::Later(forwarding) => {
                 self.asks.push(client, id, opening, forwarding)?;
                 Ok(HouseReply::Later)
             }
@@ -117,14 +117,14 @@ impl ForwarderState {
         id: u32,
         opening: bool,
         what: &FwdAsk<'_>,
-    ) -> Result<Asked, OutOfMemory>
+    ) -> Result<ImmediateOutcome, OutOfMemory>
         requires { self.old.ordering ≡ None }
         ensures comes { IfOk result (λ asked. ComesUnless
             (turns_away client id self.old.asks.waiting.items) self.old.rules opening
             (start_ask_of what.now) self.old.forwardings.serials
             self.old.forwardings.all.items self.new.forwardings.all.items asked) }
         ensures refused { self.new.forwardings.refused ≡ self.old.forwardings.refused }
-        ensures room { (serial : ℕ) → result ≡ Ok (Asked.Later serial)
+        ensures room { (serial : ℕ) → result ≡ Ok (ImmediateOutcome.Later serial)
             → how_many_of client self.new.asks.waiting.items < MOST_ASKS }
         ensures listeners { listeners_of self.new.forwardings.all.items
             ≡ listeners_of self.old.forwardings.all.items }
@@ -138,10 +138,10 @@ impl ForwarderState {
             ≡ self.old.forwardings.requests.items }
     {
         if self.asks.turns_away(client, id) {
-            return Ok(Asked::Now(Outcome::Refused));
+            return Ok(ImmediateOutcome::Now(RequestOutcome::Refused));
         }
         let Some(ends) = ends_of(of_client(what), &self.rules) else {
-            return Ok(Asked::Now(Outcome::Refused));
+            return Ok(ImmediateOutcome::Now(RequestOutcome::Refused));
         };
         if opening {
             self.forwardings.open(ends, None)

@@ -1,6 +1,6 @@
 //! What the forwarder orders.
 ghost use Rattle.std.specs.Prelude.{◌≡◌, ◌≤◌, ◌+◌, length, IsSome, None, Some};
-ghost use Rattle.mux_outside.specs.House.{gives_none, order_marks, OrderFits, NumberFits};
+ghost use Rattle.mux_outside.specs.House.{gives_none, order_marks, OrderFits, HouseNumberFits};
 ghost use Rattle.mux_outside.specs.House.{known_after_order, known_after_ordered};
 ghost use Rattle.house_forward.specs.Known.{ordering_of};
 ghost use Rattle.house_forward.specs.Quiet.{orders_none};
@@ -48,7 +48,7 @@ impl ForwarderState {
 
     /// The number of what was ordered, and none where that failed: its mark.
     pub fn ordered(&mut self, number: Option<u64>) -> Option<Order>
-        requires fits { NumberFits number (known_in self.old) }
+        requires fits { HouseNumberFits number (known_in self.old) }
         ensures mark { result ≡ ordering_of self.old.ordering }
         ensures known { known_in self.new ≡ known_after_ordered number (known_in self.old) }
         ensures due { IsSome self.old.ordering → due_in self.new + 1 ≤ due_in self.old }

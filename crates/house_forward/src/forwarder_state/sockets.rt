@@ -5,7 +5,7 @@ ghost use Rattle.mux_outside.specs.House.{known_after_own_turn, queue_after_took
 ghost use Rattle.mux_outside.specs.OwnStreams.{is_one, new_stream};
 ghost use Rattle.mux_outside.specs.declared.piece.TheConstants.{LONGEST_PIECE};
 ghost use Rattle.house_forward.specs.Forwardings.{has_listener};
-ghost use Rattle.house_forward.specs.Links.{streams_of, queue_at, is_full, has_full_dialogs, IsRelayJoined, IsJoinedAt, IsDialed, Joins};
+ghost use Rattle.house_forward.specs.Links.{streams_of, queue_at, has_all_channels, has_full_dialogs, IsRelayJoined, IsJoinedAt, DialsOrCloses, Joins};
 ghost use Rattle.house_forward.specs.RelayTraces.{GoesFurther, TakesFurther, Follows};
 ghost use Rattle.mux_outside.specs.HouseCalls.{Turns, happening_of};
 ghost use Rattle.house_forward.specs.State.{held_in, known_in, quiet_in, due_in, ChangesRelays};
@@ -50,7 +50,7 @@ impl ForwarderState {
         }
     }
 
-    // A socket was joined at a listener.
+    // A socket was accepted at a listener.
     #[tactic(auto, using(crate::proofs::Changes::streams_more))]
     fn joined(&mut self, listener: u64, stream: u64) -> Result<(), OutOfMemory>
         requires ordering { self.old.ordering ≡ None }
@@ -73,9 +73,9 @@ impl ForwarderState {
         Ok(())
     }
 
-    // The relay of a socket that was joined at a listener.
+    // The relay of a socket that was accepted at a listener.
     fn relay_of(&self, listener: u64, number: u32, stream: u64) -> Result<Relay, OutOfMemory>
-        ensures joined { IfOk result (λ r. IsRelayJoined (is_full self.now.relays.all.items)
+        ensures joined { IfOk result (λ r. IsRelayJoined (has_all_channels self.now.relays.all.items)
             (has_full_dialogs self.now.relays.all.items)
             (find (has_listener listener) self.now.forwardings.all.items) stream r) }
         ensures number { IfOk result (λ r. r.number ≡ number) }
@@ -122,7 +122,7 @@ impl ForwarderState {
     }
 }
 
-// The relay of a socket that was joined at the listener of a forwarding, where the forwarder has
+// The relay of a socket that was accepted at the listener of a forwarding, where the forwarder has
 // all dialogs that it may have or not.
 fn joined_at(
     alloc: Global,
@@ -145,9 +145,10 @@ fn joined_at(
     }
 }
 
-// The relay of a socket whose dialog is to say the end, where there is room for one more or not.
+// The relay of a socket whose dialog is still to name the end, where there is room for one more or
+// not.
 fn dialed(alloc: Global, dialogs_full: bool, number: u32, stream: u64) -> Relay
-    ensures dialed { IsDialed dialogs_full stream result }
+    ensures dialed { DialsOrCloses dialogs_full stream result }
     ensures number { result.number ≡ number }
     ensures few { length result.held.waiting ≤ LONGEST_PIECE }
 {

@@ -10,7 +10,7 @@ ghost use Rattle.proxy_frames.specs.Steps.{pushed};
 ghost use Rattle.ssh_fields.specs.Fields.{take_u32};
 ghost use Rattle.house_forward.specs.State.{held_in, HasSent, KnowsSame, StaysKnown};
 
-use super::{ForwarderState, Stage};
+use super::{ForwarderStage, ForwarderState};
 use crate::forwarding::ForwardingRequest;
 use crate::outgoing;
 use crate::receiving::receive;
@@ -20,7 +20,7 @@ use ssh_fields::{Cursor, OutOfMemory};
 use ssh_grammar::numbers::S_PROXY;
 
 impl ForwarderState {
-    /// Puts the next thing that it has to say into the piece.
+    /// Puts the next thing that it has to send into the piece.
     pub fn send(&mut self, into: &mut Piece) -> Result<bool, OutOfMemory>
         requires { self.old.ordering ≡ None }
         ensures fits { SendsFits result into.new }
@@ -115,14 +115,14 @@ impl ForwarderState {
             (held_in self.old) (held_in self.new))) }
     {
         match self.stage {
-            Stage::Control => {
+            ForwarderStage::Control => {
                 if grants(self.framer.content()) {
-                    self.stage = Stage::Proxy;
+                    self.stage = ForwarderStage::Proxy;
                     self.framer.switch(Framing::Proxy);
                 }
                 Ok(())
             }
-            Stage::Proxy => receive(
+            ForwarderStage::Proxy => receive(
                 self.alloc,
                 self.framer.content(),
                 &mut self.forwardings,

@@ -2,7 +2,7 @@
 
 ghost use Rattle.std.specs.Prelude.{◌≡◌, ◌+◌, ◌++◌, ◌∷◌, [], not, is_some, IfOk, OnErr};
 ghost use Rattle.channel_table.specs.Entries.{IsNumberFree, RefusesAs, changed_at, freed, number_of_own, number_of_remote, own_entry, own_refusal, remote_entry, remote_refusal, with_ledger, entry_with_own, with_remote};
-ghost use Rattle.mux_core.specs.Lookups.{PutsLedger, changed_if, channel_for, confirmed_for, uses_own, waiting_for};
+ghost use Rattle.mux_core.specs.Lookups.{PutsLedger, changed_if, channel_for, confirmed_for, uses_own, open_waiting_for};
 
 use super::{Core, awaits_answer};
 use channel_table::{Channel, Refused};
@@ -27,7 +27,7 @@ impl Core {
     // The number and the account of a server's open that waits for the client's answer, by the
     // server's number.
     pub(crate) fn waiting_for(&self, client: u64, remote: u32) -> Option<(u32, Ledger)>
-        ensures { result ≡ waiting_for self.now.channels client remote }
+        ensures { result ≡ open_waiting_for self.now.channels client remote }
     {
         let number = self.table.by_remote(remote)?;
         let channel = self.table.admitted(number)?;

@@ -4,7 +4,7 @@ ghost use Rattle.std.specs.Prelude.{◌≡◌, ◌+◌, ◌++◌, ◌∷◌, [],
 ghost use Rattle.global_replies.specs.Replies.{FirstAsked, after_reply, is_none_left, or_behind, refusals_behind, request_of, rest_of};
 ghost use Rattle.global_replies.specs.Asks as asks;
 ghost use Rattle.conn_messages.specs.Keys.{IsShort, key_of};
-ghost use Rattle.forward_rules.specs.Step.{answered, asked, cancel_answered, cancelled, forward_owner_at, some_free};
+ghost use Rattle.forward_rules.specs.Step.{forward_answered, asked_forward, cancel_answered, forward_cancelled, forward_owner_at, some_free};
 ghost use Rattle.forward_rules.specs.Taking.{AddsAs};
 ghost use Rattle.mux_core.specs.Requesting.{more_awaited, member_waiting_of, with_waiting};
 
@@ -80,7 +80,7 @@ impl Core {
         ensures exact { AddsAs self.old.forwards client result }
         ensures ok { OnOk result
             (self.new ≡ record self.old {
-              forwards = self.old.forwards ++ asked client (key_of key.entry) ∷ [];
+              forwards = self.old.forwards ++ asked_forward client (key_of key.entry) ∷ [];
             }) }
         ensures unchanged { OnErr result (self.new ≡ self.old) }
     {
@@ -90,7 +90,7 @@ impl Core {
     // The server's answer to a client's request for a forwarding.
     pub(crate) fn answer_forward(&mut self, client: u64, key: Key<'_>, bound: Option<u32>)
         ensures { self.new ≡ record self.old {
-          forwards = answered client (key_of key.entry) bound self.old.forwards;
+          forwards = forward_answered client (key_of key.entry) bound self.old.forwards;
         } }
     {
         self.forwards.answer(client, key, bound);
@@ -102,7 +102,7 @@ impl Core {
         ensures step { self.new
             ≡ record self.old {
               forwards =
-                  cancelled client (key_of key.entry) want self.old.forwards;
+                  forward_cancelled client (key_of key.entry) want self.old.forwards;
             } }
         ensures short { result ≡ true → IsShort (key_of key.entry) }
         ensures none { result ≡ false → self.new ≡ self.old }

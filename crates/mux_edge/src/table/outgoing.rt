@@ -9,7 +9,7 @@ ghost use Rattle.mux_edge.specs.StreamTable.{IsHandedOn, StreamMayRead, Touches}
 
 use super::StreamTable;
 use crate::socket::{TcpSocket, UnixSocket};
-use mux_exchange::Given;
+use mux_exchange::OutboxProgress;
 use mux_outside::Want;
 
 impl<U: UnixSocket, T: TcpSocket> StreamTable<U, T> {
@@ -27,8 +27,8 @@ impl<U: UnixSocket, T: TcpSocket> StreamTable<U, T> {
     }
 
     // Gives the server's socket what it accepts of the outbox.
-    fn give(&mut self) -> Given
-        ensures all { result ≡ Given.All → self.new.outbox ≡ [] }
+    fn give(&mut self) -> OutboxProgress
+        ensures all { result ≡ OutboxProgress.All → self.new.outbox ≡ [] }
         ensures connected { IsConnected 0 self.old.entries → IsConnected 0 self.new.entries }
         ensures unread { recorded_at U.remaining T.remaining 0 self.new.entries
             ≡ recorded_at U.remaining T.remaining 0 self.old.entries }
@@ -39,25 +39,25 @@ impl<U: UnixSocket, T: TcpSocket> StreamTable<U, T> {
     {
         match self.entries.get_mut(&0) {
             Some(entry) => self.outbox.give(&mut entry.stream),
-            None => Given::Waits,
+            None => OutboxProgress::Waits,
         }
     }
 
     // Notes how far the server's socket accepted what it was given.
-    fn note_given(&mut self, given: Given)
-        ensures all { given ≡ Given.All → self.new ≡ self.old }
-        ensures waits { given ≡ Given.Waits → self.new ≡ record self.old { full = true } }
-        ensures failed { given ≡ Given.Failed → IsOpen 0 self.old.entries
+    fn note_given(&mut self, given: OutboxProgress)
+        ensures all { given ≡ OutboxProgress.All → self.new ≡ self.old }
+        ensures waits { given ≡ OutboxProgress.Waits → self.new ≡ record self.old { full = true } }
+        ensures failed { given ≡ OutboxProgress.Failed → IsOpen 0 self.old.entries
             → self.new.broken ≡ true }
-        ensures full { given ≢ Given.All → self.new.full ≡ true }
+        ensures full { given ≢ OutboxProgress.All → self.new.full ≡ true }
         ensures sockets { SocketsStay self.old.entries self.new.entries }
         ensures outbox { self.new.outbox ≡ self.old.outbox }
         ensures rest { Touches 0 self.old self.new }
     {
         match given {
-            Given::All => {}
-            Given::Waits => self.full = true,
-            Given::Failed => self.break_off(),
+            OutboxProgress::All => {}
+            OutboxProgress::Waits => self.full = true,
+            OutboxProgress::Failed => self.break_off(),
         }
     }
 

@@ -1,7 +1,7 @@
 //! What is ready, in the order in which it became so.
 ghost use Rattle.std.specs.Prelude.{◌≡◌, ◌≤◌, ◌+◌, ◌-◌, ◌*◌, ◌^◌, ◌||◌, not, ◌++◌, ◌∷◌, [], false, true, filter, min, IfSome, IsNone, IsSomeAnd, Some, OnErr, OnOk, slice_get};
 ghost use Rattle.std.specs.VecDeque.{deque_capacity, deque_len};
-ghost use Rattle.mux_edge.specs.Ready.{IsReadyFull, IsLookedFor, is_ready_accept, is_join, is_of, is_round_over};
+ghost use Rattle.mux_edge.specs.Ready.{IsReadyFull, IsLookedFor, is_ready_accept, is_join, is_ready_of, is_round_over};
 
 use crate::socket::{TcpSocket, UnixSocket};
 use crate::stream::Stream;
@@ -72,7 +72,7 @@ impl<U: UnixSocket, T: TcpSocket> StreamEntry<U, T> {
     ghost use Rattle.std.specs.Prelude.{if◌then◌else◌};
     ghost use Rattle.mux_edge.specs.Connections.{met_turn};
     ghost use Rattle.mux_edge.specs.Recorded.{ended_once, of_socket};
-    ghost use Rattle.mux_edge.specs.Entries.{is_silent};
+    ghost use Rattle.mux_edge.specs.Entries.{gives_nothing};
 
     /// A stream, whose connection is made or is being made.
     pub fn new(stream: Stream<U, T>, passes: bool, connecting: bool) -> StreamEntry<U, T>
@@ -99,7 +99,7 @@ impl<U: UnixSocket, T: TcpSocket> StreamEntry<U, T> {
 
     /// Whether it gives nothing for now, or nothing more.
     pub fn is_silent(&self) -> bool
-        ensures { result ≡ is_silent self.now }
+        ensures { result ≡ gives_nothing self.now }
     {
         self.paused || (self.connecting || self.ended)
     }
@@ -182,7 +182,7 @@ impl OwnListener {
 
 // Whether this is of a stream.
 fn is_of(number: u64, ready: Ready) -> bool
-    ensures { result ≡ is_of number ready }
+    ensures { result ≡ is_ready_of number ready }
 {
     match ready {
         Ready::Read(n) | Ready::Write(n) | Ready::Connect(n) => n == number,
@@ -205,7 +205,7 @@ fn is_join(number: u64, ready: Ready) -> bool
 }
 
 impl ReadyQueue {
-    ghost use Rattle.mux_edge.specs.Entries.{is_silent};
+    ghost use Rattle.mux_edge.specs.Entries.{gives_nothing};
 
     /// Nothing is ready so far, and no round is begun.
     pub fn new(alloc: Global) -> ReadyQueue
@@ -276,8 +276,8 @@ impl ReadyQueue {
     ) -> Result<(), AllocError>
         ensures entry { entry.new
             ≡ record entry.old { reads = entry.new.reads; held = entry.new.held } }
-        ensures held { is_silent entry.old ≡ true → entry.new.held ≡ true }
-        ensures noted { OnOk result (is_silent entry.old ≡ false → entry.new.reads ≡ true) }
+        ensures held { gives_nothing entry.old ≡ true → entry.new.held ≡ true }
+        ensures noted { OnOk result (gives_nothing entry.old ≡ false → entry.new.reads ≡ true) }
         ensures full { OnErr result (IsReadyFull self.old) }
     {
         if entry.is_silent() {
@@ -295,7 +295,7 @@ impl ReadyQueue {
     ) -> Result<(), AllocError>
         ensures entry { entry.new
             ≡ record entry.old { reads = entry.new.reads; held = entry.new.held } }
-        ensures noted { OnOk result (is_silent entry.old ≡ false → entry.old.held ≡ true
+        ensures noted { OnOk result (gives_nothing entry.old ≡ false → entry.old.held ≡ true
             → entry.new.reads ≡ true) }
         ensures full { OnErr result (IsReadyFull self.old) }
     {
@@ -384,7 +384,7 @@ impl ReadyQueue {
         entry: &StreamEntry<U, T>,
     )
         ensures gone { (entry.now.reads || entry.now.writes) ≡ true → self.new.items.items
-            ≡ filter (λ ready. not (is_of number ready)) self.old.items.items }
+            ≡ filter (λ ready. not (is_ready_of number ready)) self.old.items.items }
         ensures kept { (entry.now.reads || entry.now.writes) ≡ false
             → self.new.items.items ≡ self.old.items.items }
         ensures rest { self.new ≡ record self.old { items = self.new.items } }

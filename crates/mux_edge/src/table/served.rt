@@ -2,7 +2,7 @@
 ghost use Rattle.std.specs.Prelude.{◌≡◌, ◌≢◌, ◌<◌, length, true, IfSome, IfNone, IsNone, IsSome, OnSome};
 ghost use Rattle.mux_outside.specs.Wire.{WroteFits};
 ghost use Rattle.mux_edge.specs.Sockets.{FoundFits, IsTurnOf, ServesReady};
-ghost use Rattle.mux_exchange.specs.Exchange.{IsLastWord, ReceivesBytes, Sends, sent_wrote};
+ghost use Rattle.mux_exchange.specs.Exchange.{IsLastWord, ReadsPiece, Sends, sent_wrote};
 ghost use Rattle.mux_edge.specs.Entries.{EntriesStay, HasEntry, HasFewOwn, IsBlocked, IsConnected, IsOpen, MayPass, Stands};
 ghost use Rattle.mux_edge.specs.Recorded.{RecordsRead, RecordsWrite, ReportsLost, SocketsStay, accepted, recorded_at};
 ghost use Rattle.mux_edge.specs.StreamTable.{ReadsLastWords, ReadsOnce, Touches};
@@ -15,7 +15,7 @@ use crate::numbers::StreamNumbers;
 use crate::socket::{TcpSocket, UnixSocket};
 use crate::stream::Stream;
 use mux_exchange::{
-    Channel, Outbox, ReadResult, Sent, most_read, receive, receive_last_words, send,
+    ByteChannel, Outbox, ReadResult, Sent, most_read, receive, receive_last_words, send,
 };
 use mux_outside::{Piece, Turn, Wrote};
 use std::io;
@@ -195,7 +195,7 @@ impl<U: UnixSocket, T: TcpSocket> StreamTable<U, T> {
 
 // Hands bytes to the socket of a stream of this number. Those to the server go after what is in
 // the outbox, which is for no other stream.
-fn send_to<W: Channel>(number: u64, to: &mut W, outbox: &mut Outbox, bytes: &[u8]) -> Sent
+fn send_to<W: ByteChannel>(number: u64, to: &mut W, outbox: &mut Outbox, bytes: &[u8]) -> Sent
     requires { 0 < length bytes.now }
     ensures sends { Sends result (accepted number (W.contents to.old) outbox.old)
         (accepted number (W.contents to.new) outbox.new) bytes.now }
@@ -211,7 +211,7 @@ fn send_to<W: Channel>(number: u64, to: &mut W, outbox: &mut Outbox, bytes: &[u8
 }
 
 // Reads the socket of a stream once. Where a write to it failed, nothing left to read is a failure.
-fn receive_from<S: Channel>(
+fn receive_from<S: ByteChannel>(
     broken: bool,
     from: &mut S,
     most: usize,
@@ -219,7 +219,7 @@ fn receive_from<S: Channel>(
     into: &mut Piece,
 ) -> ReadResult
     requires { 0 < most }
-    ensures bytes { ReceivesBytes result most (S.remaining from.old) (S.remaining from.new) into.old into.new }
+    ensures bytes { ReadsPiece result most (S.remaining from.old) (S.remaining from.new) into.old into.new }
     ensures apart { S.contents from.new ≡ S.contents from.old }
     ensures last { broken ≡ true → IsLastWord result }
 {

@@ -4,26 +4,26 @@ ghost use Rattle.std.specs.Prelude.{◌≡◌, [], ◌∷◌, ◌++◌, codes, S
 ghost use Rattle.mux_history.specs.declared.why.Why.TheVariants as why;
 ghost use Rattle.mux_history.specs.Rows.{losses};
 ghost use Rattle.mux_history.specs.Pending.{pending};
-ghost use Rattle.mux_history.specs.Log.{open_matters, fitting, overflow};
+ghost use Rattle.mux_history.specs.Log.{open_matters, frames_that_fit, overflow};
 ghost use Rattle.mux_history.specs.Journal.{is_blocked};
-ghost use Rattle.mux_history.specs.Worked.{hex, run, sent, recorded, hello};
-ghost use Rattle.mux_history.specs.WorkedLosses.{leaves, late_confirmation, late_success, all_closed, leaves_opens, sixty_five, dialogs_full, held_back, freed_again};
+ghost use Rattle.mux_history.specs.Worked.{hex, run, sent_to_server, sent_to_client, hello};
+ghost use Rattle.mux_history.specs.WorkedLosses.{leaves, late_confirmation, forwarding_late, all_closed, leaves_opens, sixty_five, dialogs_full, held_back, freed_again};
 
 /// What a client leaves open is closed for it, at once and when the server answers later.
 pub fn the_master_sends_farewell_for_a_lost_client()
-    ensures at_once { drop 90 (sent (run leaves)) ≡ hex (codes "00000006 00 61 00000007") }
-    ensures confirmation { drop 100 (sent (run late_confirmation))
+    ensures at_once { drop 90 (sent_to_server (run leaves)) ≡ hex (codes "00000006 00 61 00000007") }
+    ensures confirmation { drop 100 (sent_to_server (run late_confirmation))
         ≡ hex (codes "00000006 00 61 00000008") }
-    ensures success { drop 110 (sent (run late_success))
+    ensures success { drop 110 (sent_to_server (run forwarding_late))
         ≡ hex (codes "00000023 00 50 00000014") ++ (codes "cancel-tcpip-forward"
         ++ hex (codes "00 00000000 00009c41")) }
-    ensures before { open_matters (run late_success) ≡ 1 }
+    ensures before { open_matters (run forwarding_late) ≡ 1 }
     ensures after { open_matters (run all_closed) ≡ 0 }
 {}
 
 /// Channels come first in a farewell, in the order in which they began, and then forwardings.
 pub fn a_farewell_has_an_order()
-    ensures { drop 54 (sent (run leaves_opens))
+    ensures { drop 54 (sent_to_server (run leaves_opens))
         ≡ hex (codes "00000006 00 61 00000003 00000020 00 5c 00000004 00000002 0000000e")
         ++ (codes "client is gone" ++ (hex (codes "00000000 00000023 00 50 00000014")
         ++ (codes "cancel-tcpip-forward" ++ hex (codes "00 00000000 00001f90")))) }
@@ -32,14 +32,14 @@ pub fn a_farewell_has_an_order()
 /// A client that comes while 64 have open matters is refused, also where one of them is lost.
 pub fn the_sixty_fifth_client_is_refused()
     ensures loss { losses (run sixty_five) ≡ (65, None) ∷ [] }
-    ensures down { recorded 65 (run sixty_five) ≡ [] }
-    ensures last { recorded 64 (run sixty_five) ≡ hello }
+    ensures down { sent_to_client 65 (run sixty_five) ≡ [] }
+    ensures last { sent_to_client 64 (run sixty_five) ≡ hello }
     ensures lost_counts { losses (run dialogs_full) ≡ (1, None) ∷ (65, None) ∷ [] }
 {}
 
 /// A frame that fills the queue is accepted, the next is not.
 pub fn a_full_queue_drops_its_client()
-    ensures fits { fitting 33554421 (replicate 11 0 ∷ replicate 6 0 ∷ []) ≡ replicate 11 0 ∷ [] }
+    ensures fits { frames_that_fit 33554421 (replicate 11 0 ∷ replicate 6 0 ∷ []) ≡ replicate 11 0 ∷ [] }
     ensures full { overflow 33554421 (replicate 11 0 ∷ replicate 6 0 ∷ [])
         ≡ Some (why.QueueFull 33554432 6) }
 {}

@@ -8,26 +8,26 @@ ghost use Rattle.mux_history.specs.declared.broke.Break.TheVariants as broke;
 ghost use Rattle.mux_history.specs.declared.ended.Ended.TheVariants as ended;
 ghost use Rattle.mux_history.specs.Rows.{losses};
 ghost use Rattle.mux_history.specs.Solo.{run_end_of};
-ghost use Rattle.mux_history.specs.Worked.{hex, run, run_of, under, sent, recorded, recorded_in_proxy, greets, hello};
-ghost use Rattle.mux_history.specs.WorkedProxy.{session, two_sessions, sent_after_two, confirmed, past_window, overgrown_down, overgrown_up, data_to_nobody, data_too_early, again_setting, foreign_data, database_only, no_session, to_database, opens_directly, opens_session_too, opens_display, sends_at_once, server_sends, enters_in_pieces, cut_short, server_fails};
+ghost use Rattle.mux_history.specs.Worked.{hex, run, run_of, under, sent_to_server, sent_to_client, recorded_in_proxy, greets, hello};
+ghost use Rattle.mux_history.specs.WorkedProxy.{session, two_sessions, sent_after_two, second_confirmed, past_window, overgrown_down, overgrown_up, data_to_nobody, data_too_early, again_setting, foreign_data, database_only, no_session, to_database, opens_directly, opens_session_too, opens_display, sends_at_once, server_sends, enters_in_pieces, cut_short, server_fails};
 
 /// What follows PROXY in the same piece is read as a payload.
 pub fn a_payload_may_follow_the_request_for_the_proxy()
-    ensures down { recorded 1 (run (greets 1 ++ enters_in_pieces))
+    ensures down { sent_to_client 1 (run (greets 1 ++ enters_in_pieces))
         ≡ hello ++ hex (codes "00000008 8000000f 00000000") }
-    ensures up { sent (run (greets 1 ++ enters_in_pieces)) ≡ session 0 }
+    ensures up { sent_to_server (run (greets 1 ++ enters_in_pieces)) ≡ session 0 }
 {}
 
 /// Both clients call their channel 0; the server sees two numbers.
 pub fn opens_get_different_numbers()
-    ensures { sent (run two_sessions) ≡ session 0 ++ session 1 }
+    ensures { sent_to_server (run two_sessions) ≡ session 0 ++ session 1 }
 {}
 
 /// The confirmation reaches the client that opened, under that client's own number.
 pub fn a_confirmation_reaches_its_client()
-    ensures second { recorded_in_proxy 2 (run confirmed)
+    ensures second { recorded_in_proxy 2 (run second_confirmed)
         ≡ hex (codes "00000012 00 5b 00000000 00000005 00000005 00008000") }
-    ensures first { recorded_in_proxy 1 (run confirmed) ≡ [] }
+    ensures first { recorded_in_proxy 1 (run second_confirmed) ≡ [] }
 {}
 
 /// Data fills the window; one byte more drops the client, and its channel is closed.
@@ -73,7 +73,7 @@ pub fn a_direct_channel_needs_its_permission()
     ensures down { recorded_in_proxy 1 (run_of (under database_only 0 []) opens_directly)
         ≡ hex (codes "0000001f 00 5c 00000004 00000001 0000000d") ++ (codes "not permitted"
         ++ hex (codes "00000000")) }
-    ensures up { sent (run_of (under database_only 0 []) opens_directly) ≡ to_database 0 }
+    ensures up { sent_to_server (run_of (under database_only 0 []) opens_directly) ≡ to_database 0 }
 {}
 
 /// A session is started where the policy permits sessions, and refused to the client elsewhere;
@@ -82,8 +82,8 @@ pub fn a_session_needs_its_permission()
     ensures down { recorded_in_proxy 1 (run_of (under no_session 0 []) opens_session_too)
         ≡ hex (codes "0000001f 00 5c 00000003 00000001 0000000d") ++ (codes "not permitted"
         ++ hex (codes "00000000")) }
-    ensures up { sent (run_of (under no_session 0 []) opens_session_too) ≡ to_database 0 }
-    ensures permitted { sent (run_of (under database_only 0 []) opens_session_too)
+    ensures up { sent_to_server (run_of (under no_session 0 []) opens_session_too) ≡ to_database 0 }
+    ensures permitted { sent_to_server (run_of (under database_only 0 []) opens_session_too)
         ≡ session 0 ++ to_database 1 }
 {}
 
@@ -92,7 +92,7 @@ pub fn an_unknown_channel_type_is_refused()
     ensures down { recorded_in_proxy 1 (run opens_display)
         ≡ hex (codes "00000026 00 5c 00000004 00000003 00000014") ++ (codes "unknown channel type"
         ++ hex (codes "00000000")) }
-    ensures up { sent (run opens_display) ≡ [] }
+    ensures up { sent_to_server (run opens_display) ≡ [] }
 {}
 
 /// A frame that is none drops a client as soon as its header is there.

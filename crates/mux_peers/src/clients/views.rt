@@ -1,7 +1,7 @@
 //! What the clients of a master show.
 
 ghost use Rattle.std.specs.Prelude.{◌≡◌, ◌++◌, [], length, OnOk, false};
-ghost use Rattle.mux_peers.specs.Among.{first_of, in_client, is_received, is_served, waiting_clients};
+ghost use Rattle.mux_peers.specs.Among.{first_lost_client, in_client, is_client_read, is_client_served, waiting_clients};
 
 use super::{Clients, add_waiting, index_of};
 use mux_history::Why;
@@ -11,7 +11,7 @@ use ssh_fields::OutOfMemory;
 impl Clients {
     /// Whether the client of a number is here and isn't lost.
     pub fn is_served(&self, number: u64) -> bool
-        ensures { result ≡ is_served self.now.all number }
+        ensures { result ≡ is_client_served self.now.all number }
     {
         let i = index_of(&self.all, number);
         i < self.all.len() && !self.all[i].is_lost()
@@ -19,7 +19,7 @@ impl Clients {
 
     /// Whether it is here, and what it sends is read.
     pub fn is_received(&self, number: u64) -> bool
-        ensures { result ≡ is_received self.now.all number }
+        ensures { result ≡ is_client_read self.now.all number }
     {
         let i = index_of(&self.all, number);
         i < self.all.len() && self.all[i].is_read()
@@ -40,7 +40,7 @@ impl Clients {
     /// How many bytes of the client of a number are not cut yet: none of one that isn't read.
     pub fn rest_of(&self, number: u64) -> usize
         ensures exact { result ≡ length (in_client [] (λ c. c.rest) self.now.all number) }
-        ensures unheard { is_received self.now.all number ≡ false → result ≡ 0 }
+        ensures unheard { is_client_read self.now.all number ≡ false → result ≡ 0 }
     {
         let i = index_of(&self.all, number);
         if i < self.all.len() {
@@ -61,7 +61,7 @@ impl Clients {
     /// The client that was lost or refused first of those that were not closed, with the cause for
     /// which it was dropped, if it was.
     pub fn closing(&self) -> Option<(u64, Option<Why>)>
-        ensures { result ≡ first_of self.now.leaving }
+        ensures { result ≡ first_lost_client self.now.leaving }
     {
         self.leaving.first().copied()
     }

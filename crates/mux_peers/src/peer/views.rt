@@ -47,7 +47,7 @@ impl Peer {
         )
     }
 
-    /// Whether it speaks to the server.
+    /// Whether it is in proxy mode.
     pub fn is_proxied(&self) -> bool
         ensures { result ≡ is_proxied self.now.standing }
     {

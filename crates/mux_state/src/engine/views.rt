@@ -9,12 +9,12 @@ ghost use Rattle.mux_outside.specs.declared.house.HouseReply.{HouseReply as TheR
 ghost use Rattle.mux_history.specs.Rows.{losses};
 ghost use Rattle.mux_history.specs.Log.{open_matters};
 ghost use Rattle.mux_history.specs.Pending.{pending};
-ghost use Rattle.mux_history.specs.Promises.{listens, has_output};
+ghost use Rattle.mux_history.specs.Promises.{is_still_accepting, has_output};
 ghost use Rattle.mux_history.specs.Journal.{IsLawful};
 ghost use Rattle.mux_bounds.specs.Bounds.{longest_rest};
 ghost use Rattle.mux_state.specs.Bounds.{QueueShort};
-ghost use Rattle.mux_state.specs.Stands.{Closes, GoesAlone, IsFirstLost, Stands, log, not_closed};
-ghost use Rattle.mux_state.specs.State.{closed_by, first_of, queue_in, rest_in, taken, waiting_in};
+ghost use Rattle.mux_state.specs.Stands.{Closes, GoesAlone, IsFirstLost, RepresentsSoFar, log, not_closed};
+ghost use Rattle.mux_state.specs.State.{closed_by, first_lost_client, queue_in, rest_in, took_and_listed, waiting_streams};
 
 use super::Engine;
 use crate::streams::*;
@@ -27,12 +27,12 @@ impl Engine {
         ensures exact { result.now ≡ queue_in self.now stream }
         ensures bytes { AreBytes result.now }
         ensures waits { (picked : List ℕ) (given : List TheReply) (marks : List TheMark)
-            (closed : List ℕ) → Stands picked given self.now marks closed
+            (closed : List ℕ) → RepresentsSoFar picked given self.now marks closed
             → among stream closed ≡ false → (picks : List ℕ) (replies : List TheReply)
             → result.now ≡ pending stream
             (log self.now (picked ++ picks) (given ++ replies) marks) }
         ensures bounded { (picked : List ℕ) (given : List TheReply) (marks : List TheMark)
-            (closed : List ℕ) → Stands picked given self.now marks closed → IsLawful marks
+            (closed : List ℕ) → RepresentsSoFar picked given self.now marks closed → IsLawful marks
             → among stream closed ≡ false
             → QueueShort picked given self.now marks stream result.now }
     {
@@ -53,7 +53,7 @@ impl Engine {
     /// So many bytes that wait for a stream were accepted.
     pub fn took(&mut self, stream: u64, n: usize)
         requires { n ≤ length (queue_in self.old stream) }
-        ensures exact { self.new ≡ taken self.old stream n }
+        ensures exact { self.new ≡ took_and_listed self.old stream n }
         ensures stands { (bytes : List ℕ) (accepts : Bool) → length bytes ≡ n
             → GoesAlone self.old self.new (Takes stream bytes accepts) }
     {
@@ -67,7 +67,7 @@ impl Engine {
     pub fn rest_of(&self, stream: u64) -> usize
         ensures exact { result ≡ length (rest_in self.now stream) }
         ensures short { (picked : List ℕ) (given : List TheReply) (marks : List TheMark)
-            (closed : List ℕ) → Stands picked given self.now marks closed → result ≤ longest_rest }
+            (closed : List ℕ) → RepresentsSoFar picked given self.now marks closed → result ≤ longest_rest }
     {
         if self.ended.is_some() {
             return 0;
@@ -83,13 +83,13 @@ impl Engine {
     pub fn waiting(&self) -> &Streams
         ensures exact { result.now ≡ self.now.waiting }
         ensures waits { (picked : List ℕ) (given : List TheReply) (marks : List TheMark)
-            (closed : List ℕ) → Stands picked given self.now marks closed → (t : ℕ)
+            (closed : List ℕ) → RepresentsSoFar picked given self.now marks closed → (t : ℕ)
             → among t closed ≡ false → (picks : List ℕ) (replies : List TheReply)
             → among t result.now ≡ has_output
             (log self.now (picked ++ picks) (given ++ replies) marks) t }
         ensures listed { (picked : List ℕ) (given : List TheReply) (marks : List TheMark)
-            (closed : List ℕ) → Stands picked given self.now marks closed
-            → result.now ≡ waiting_in self.now }
+            (closed : List ℕ) → RepresentsSoFar picked given self.now marks closed
+            → result.now ≡ waiting_streams self.now }
     {
         &self.waiting
     }
@@ -98,9 +98,9 @@ impl Engine {
     pub fn listening(&self) -> bool
         ensures exact { result ≡ self.now.listening }
         ensures stands { (picked : List ℕ) (given : List TheReply) (marks : List TheMark)
-            (closed : List ℕ) → Stands picked given self.now marks closed
+            (closed : List ℕ) → RepresentsSoFar picked given self.now marks closed
             → (picks : List ℕ) (replies : List TheReply)
-            → result ≡ listens (log self.now (picked ++ picks) (given ++ replies) marks) }
+            → result ≡ is_still_accepting (log self.now (picked ++ picks) (given ++ replies) marks) }
     {
         self.listening
     }
@@ -116,7 +116,7 @@ impl Engine {
     /// reply, forwardings, or a stream.
     pub fn open_matters(&self) -> u32
         ensures stands { (picked : List ℕ) (given : List TheReply) (marks : List TheMark)
-            (closed : List ℕ) → Stands picked given self.now marks closed → self.now.ended ≡ None
+            (closed : List ℕ) → RepresentsSoFar picked given self.now marks closed → self.now.ended ≡ None
             → (picks : List ℕ) (replies : List TheReply)
             → result ≡ open_matters (log self.now (picked ++ picks) (given ++ replies) marks) }
     {
@@ -126,11 +126,11 @@ impl Engine {
     /// The client that was lost or refused first of those that were not closed, with the cause for
     /// which it was dropped, if it was.
     pub fn closing(&self) -> Option<(u64, Option<Why>)>
-        ensures exact { result ≡ first_of self.now.leaving }
+        ensures exact { result ≡ first_lost_client self.now.leaving }
         ensures stands { (picked : List ℕ) (given : List TheReply) (marks : List TheMark)
-            (closed : List ℕ) → Stands picked given self.now marks closed
+            (closed : List ℕ) → RepresentsSoFar picked given self.now marks closed
             → (picks : List ℕ) (replies : List TheReply)
-            → result ≡ first_of (filter (not_closed closed)
+            → result ≡ first_lost_client (filter (not_closed closed)
             (losses (log self.now (picked ++ picks) (given ++ replies) marks))) }
         ensures none { self.now.leaving ≡ [] → self.now.refused ≡ [] }
     {

@@ -1,11 +1,11 @@
 use Rattle.std.proofs.Common.{◌≡◌, ◌<◌, List, [], ◌∷◌, length, refl, arith}
 use Rattle.conf_rules.specs.declared.usage.Usage.TheVariants.{NoValue}
 use Rattle.conf_rules.specs.Texts.{Bytes}
-use Rattle.conf_rules.specs.CommandLine.{refused}
+use Rattle.conf_rules.specs.CommandLine.{refused_word}
 use Rattle.conf_rules.specs.Reading.{drill_of}
 use Rattle.conf_command.proofs.drill.drill_of.Goals as goal
 
-few : (words : List Bytes) → length words < 3 → refused 1 NoValue ≡ drill_of words
+few : (words : List Bytes) → length words < 3 → refused_word 1 NoValue ≡ drill_of words
 unfolding drill_of
 few [] low = refl
 few (a ∷ []) low = refl

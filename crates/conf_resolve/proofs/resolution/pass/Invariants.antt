@@ -7,9 +7,9 @@ use Rattle.conf_reader.specs.Known.{RecordsFiles}
 use Rattle.conf_reader.specs.Firsts.{firsts_of}
 use Rattle.conf_reader.specs.Left.{Bounded}
 use Rattle.conf_rules.specs.ReadOrder.{read_once}
-use Rattle.conf_reader.specs.ToRead.{all_read, ReadsTo}
+use Rattle.conf_reader.specs.ToRead.{all_to_read, ReadsTo}
 use Rattle.conf_tokens.specs.Known.{known}
-use Rattle.conf_resolve.specs.PassGives.{Begins, final_rows}
+use Rattle.conf_resolve.specs.PassGives.{PassBegins, final_rows}
 use Rattle.conf_resolve.proofs.PassLemmas.{Underway}
 use Rattle.conf_resolve.proofs.resolution.pass.Given as goal
 
@@ -23,10 +23,10 @@ invariant-loop-reader g l = record {
   original : l.reader.original ≡ l.asked.original;
   firsts : l.reader.lines.firsts.items ≡ firsts_of l.facts.home l.asked.from;
   failed : (recorded : Recorded) → recorded.asked ≡ l.asked → recorded.facts ≡ known l.facts → RecordsFiles (g.F.Files.recorded l.fn.files) recorded → g.F.Files.failed l.files ≡ g.F.Files.failed l.fn.files;
-  notes : (recorded : Recorded) → recorded.asked ≡ l.asked → recorded.facts ≡ known l.facts → RecordsFiles (g.F.Files.recorded l.fn.files) recorded → ReadsTo (read_once recorded recorded.asked.from) (all_read recorded l.reader.lines) (g.F.Files.readings l.fn.files) (g.F.Files.readings l.files);
+  notes : (recorded : Recorded) → recorded.asked ≡ l.asked → recorded.facts ≡ known l.facts → RecordsFiles (g.F.Files.recorded l.fn.files) recorded → ReadsTo (read_once recorded recorded.asked.from) (all_to_read recorded l.reader.lines) (g.F.Files.readings l.fn.files) (g.F.Files.readings l.files);
   fits : Bounded l.reader.lines.open_files (length l.fold.applies);
   underway : (recorded : Recorded) (pass : Pass) (rows : List LineRow) → recorded.asked ≡ l.asked → recorded.facts ≡ known l.facts → RecordsFiles (g.F.Files.recorded l.fn.files) recorded → RecordsStatus (g.R.Runner.recorded l.fn.runner) recorded.status
-      → Begins recorded pass l.fn.fold rows → Underway recorded pass l.fold l.reader.lines (final_rows recorded pass rows) rows (g.R.Runner.ran l.fn.runner) (g.R.Runner.ran l.runner);
+      → PassBegins recorded pass l.fn.fold rows → Underway recorded pass l.fold l.reader.lines (final_rows recorded pass rows) rows (g.R.Runner.ran l.fn.runner) (g.R.Runner.ran l.runner);
 }
 
 abbrev pub decreases-loop-reader : goal.decreases-loop-reader

@@ -1,6 +1,6 @@
 use Rattle.std.proofs.Common.{◌≡◌}
 use Rattle.mux_client.specs.declared.stage.TalkStage.TheVariants.{Greets}
-use Rattle.mux_client.specs.Counted.{HasReceived, Well}
+use Rattle.mux_client.specs.Counted.{HasReceived, CountsOfWholeTalk}
 use Rattle.mux_client.specs.Talking.{IsBetween, SameWire, ShowsOn, Talking}
 use Rattle.mux_client.proofs.talking.converse.Given as goal
 
@@ -10,7 +10,7 @@ invariant-loop g l = let W = g.W.Wire in let S = g.S.Sink in record {
   between : IsBetween l.client l.held (W.state l.wire).seen;
   first : l.counter ≡ 0 → l.client.stage ≡ Greets;
   heard : HasReceived Greets l.client.stage (W.state l.fn.wire).calls (W.state l.wire).calls;
-  calls : Well l.counter (W.state l.fn.wire).calls (W.state l.wire).calls;
+  calls : CountsOfWholeTalk l.counter (W.state l.fn.wire).calls (W.state l.wire).calls;
   cause : W.faults l.wire ≡ W.faults l.fn.wire;
   sink : S.faults l.out ≡ S.faults l.fn.out;
   wire : SameWire (W.state l.fn.wire) (W.state l.wire);

@@ -1,7 +1,7 @@
 use Rattle.std.proofs.Common.{◌≡◌, [], ℕ, List, Option, length}
 use Rattle.mux_outside.specs.declared.mark.Mark.{Mark}
 use Rattle.mux_client.specs.declared.asks.Asks.{Asks}
-use Rattle.mux_client.specs.Counted.{Well}
+use Rattle.mux_client.specs.Counted.{CountsOfWholeTalk}
 use Rattle.mux_client.specs.Talking.{IsBetween, SameWire, Talking}
 use Rattle.mux_client.proofs.talking.offer.Given as goal
 
@@ -11,7 +11,7 @@ invariant-loop g l = let W = g.W.Wire in record {
   between : IsBetween l.client l.held (W.state l.wire).seen;
   free : l.held ≡ [];
   stage : l.client.stage ≡ l.fn.client.stage;
-  calls : Well 0 (W.state l.fn.wire).calls (W.state l.wire).calls;
+  calls : CountsOfWholeTalk 0 (W.state l.fn.wire).calls (W.state l.wire).calls;
   cause : W.faults l.wire ≡ W.faults l.fn.wire;
   wire : SameWire (W.state l.fn.wire) (W.state l.wire);
 }

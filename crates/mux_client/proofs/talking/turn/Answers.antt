@@ -3,8 +3,8 @@ use Rattle.mux_outside.specs.CallCounts.{CallCounts}
 use Rattle.mux_outside.specs.Streams.{without}
 use Rattle.mux_client.specs.declared.talked.Talked.TheVariants.{BadMaster, OutOfMemory, ServerFailed}
 use Rattle.mux_outside.specs.declared.turn.Turn.TheVariants as turn
-use Rattle.mux_client.specs.Client.{heard}
-use Rattle.mux_client.specs.Counted.{Counts, WentUp}
+use Rattle.mux_client.specs.Client.{talk_received}
+use Rattle.mux_client.specs.Counted.{CountsOfTalk, TalkCountWentUp}
 use Rattle.mux_client.proofs.Counts.{came-off, came-read, counts-wait, end-came, piece-came}
 use Rattle.mux_client.specs.Talking.{IsTalk, Talking}
 use Rattle.mux_client.proofs.ShowLines.{last-none, shows-none}
@@ -23,7 +23,7 @@ returns-in_err-receives-in-Got-clause-talking g c start shown v =
 pub returns-in_ok-receives-in-Got-clause-talking : goal.returns-in_ok-receives-in-Got-clause-talking
 returns-in_ok-receives-in-Got-clause-talking g c start shown v =
     c.read.ensures.talking start (g.W.Wire.state c.wait.new.self).seen.recorded c.args.held.now shown
-    (subst (Talking c.args.asks.now start (g.W.Wire.state c.wait.new.self).seen.recorded c.args.held.now shown) (sym (c.in_ok-receives-in-Got.ensures.exact ∙ ap (λ (b : List ℕ). heard b c.args.client.now) c.as_bytes.ensures.bytes))
+    (subst (Talking c.args.asks.now start (g.W.Wire.state c.wait.new.self).seen.recorded c.args.held.now shown) (sym (c.in_ok-receives-in-Got.ensures.exact ∙ ap (λ (b : List ℕ). talk_received b c.args.client.now) c.as_bytes.ensures.bytes))
     (turn-gets (g.W.Wire.state c.args.wire.now).seen v c.requires.between.settled c.requires.offered c.requires.going (g.W.Wire.state c.wait.new.self).seen c.in-Got.field-0 c.wait.new.into
     (is-zero c.in-Got.field-0 _ c.requires.alone.streams c.in-Got.ensures.turn.1) (ap (λ (s : WireState). s.seen) c.in-Got.ensures.state)))
 
@@ -61,20 +61,20 @@ returns-in-NoMemory-clause-talking g c start shown v =
 -- ---- what came
 
 pub returns-in_ok-receives-in-Got-clause-calls : goal.returns-in_ok-receives-in-Got-clause-calls
-returns-in_ok-receives-in-Got-clause-calls g c = subst (Counts 1 c.read.result (g.W.Wire.state c.args.wire.now).calls) (sym (ap (λ (s : WireState). s.calls) c.in-Got.ensures.state)) (counts-wait c.read.result (turn.Got c.in-Got.field-0) (g.W.Wire.state c.args.wire.now).calls refl)
+returns-in_ok-receives-in-Got-clause-calls g c = subst (CountsOfTalk 1 c.read.result (g.W.Wire.state c.args.wire.now).calls) (sym (ap (λ (s : WireState). s.calls) c.in-Got.ensures.state)) (counts-wait c.read.result (turn.Got c.in-Got.field-0) (g.W.Wire.state c.args.wire.now).calls refl)
 
 pub returns-in_ok-receives-in-Got-clause-came : goal.returns-in_ok-receives-in-Got-clause-came
 returns-in_ok-receives-in-Got-clause-came g c = let W = g.W.Wire in
     came-read c.read.result c.args.client.now.stage c.read.new.client.stage (W.state c.args.wire.now).calls (W.state c.wait.new.self).calls c.read.ensures.own
-    (subst (λ (x : CallCounts). WentUp (W.state c.args.wire.now).calls.server_pieces x.server_pieces) (sym (ap (λ (s : WireState). s.calls) c.in-Got.ensures.state)) (piece-came c.in-Got.field-0 (W.state c.args.wire.now).calls (is-zero c.in-Got.field-0 _ c.requires.alone.streams c.in-Got.ensures.turn.1)))
+    (subst (λ (x : CallCounts). TalkCountWentUp (W.state c.args.wire.now).calls.server_pieces x.server_pieces) (sym (ap (λ (s : WireState). s.calls) c.in-Got.ensures.state)) (piece-came c.in-Got.field-0 (W.state c.args.wire.now).calls (is-zero c.in-Got.field-0 _ c.requires.alone.streams c.in-Got.ensures.turn.1)))
 
 pub returns-in-End-clause-calls : goal.returns-in-End-clause-calls
-returns-in-End-clause-calls g c = subst (Counts 1 c.broken_off.result (g.W.Wire.state c.args.wire.now).calls) (sym (ap (λ (s : WireState). s.calls) c.in-End.ensures.state)) (counts-wait c.broken_off.result (turn.End c.in-End.field-0) (g.W.Wire.state c.args.wire.now).calls refl)
+returns-in-End-clause-calls g c = subst (CountsOfTalk 1 c.broken_off.result (g.W.Wire.state c.args.wire.now).calls) (sym (ap (λ (s : WireState). s.calls) c.in-End.ensures.state)) (counts-wait c.broken_off.result (turn.End c.in-End.field-0) (g.W.Wire.state c.args.wire.now).calls refl)
 
 pub returns-in-End-clause-came : goal.returns-in-End-clause-came
 returns-in-End-clause-came g c = let W = g.W.Wire in
     came-off c.args.client.now c.broken_off.result (W.state c.args.wire.now).calls (W.state c.wait.new.self).calls c.broken_off.ensures
-    (subst (λ (x : CallCounts). WentUp (W.state c.args.wire.now).calls.server_ends x.server_ends) (sym (ap (λ (s : WireState). s.calls) c.in-End.ensures.state)) (end-came c.in-End.field-0 (W.state c.args.wire.now).calls (is-zero c.in-End.field-0 _ c.requires.alone.streams c.in-End.ensures.turn.1)))
+    (subst (λ (x : CallCounts). TalkCountWentUp (W.state c.args.wire.now).calls.server_ends x.server_ends) (sym (ap (λ (s : WireState). s.calls) c.in-End.ensures.state)) (end-came c.in-End.field-0 (W.state c.args.wire.now).calls (is-zero c.in-End.field-0 _ c.requires.alone.streams c.in-End.ensures.turn.1)))
 
 pub returns-in-Failed-clause-cause : goal.returns-in-Failed-clause-cause
 returns-in-Failed-clause-cause g c = failed-server c.in-Failed.field-0 _ _ (is-zero c.in-Failed.field-0 _ c.requires.alone.streams c.in-Failed.ensures.turn) c.in-Failed.ensures.cause

@@ -7,7 +7,7 @@ use Rattle.mux_outside.specs.declared.house_mark.HouseMark.TheVariants.{HouseToo
 use Rattle.mux_history.specs.declared.limits.TheConstants.{HOUSE}
 use Rattle.mux_state.specs.Events.{here}
 use Rattle.mux_engine.specs.Serving.{Serving}
-use Rattle.mux_engine.specs.Sides.{RestsOf, noted}
+use Rattle.mux_engine.specs.Sides.{RestsOf, all_marks_noted}
 use Rattle.mux_engine.proofs.Arms.{empty-is, on-err, some-bytes}
 use Rattle.mux_engine.proofs.Called.{handed-more, handed-none}
 use Rattle.mux_engine.proofs.Cuts.{cut-here}
@@ -44,7 +44,7 @@ returns-clause-serving g c held failed first calls before policy pid start given
     let v = c.stop_accepting.ensures.serving held (H.state c.args.house.now).known.present first before _ policy pid start failed given _ w in
     let bytes : List ℕ = c.queue_of-bytes.result.now in
     handed-more _ (Receives bytes ∷ []) hands c.in_ok-takes.ensures.stands
-    (subst (λ (x : Seen). Serving H.may (RestsOf H.state (H.state c.args.house.now).known.present first) before (noted (H.state c.takes.new.self).recorded (H.state c.takes.new.self).known (calls ++ Receives bytes ∷ [])) policy pid start x held failed (given + 0) (0 ∷ without HOUSE (here c.took.new.self)) c.took.new.self) (sym (ap (λ (x : WireState). x.seen) c.in_ok-note.ensures.state))
+    (subst (λ (x : Seen). Serving H.may (RestsOf H.state (H.state c.args.house.now).known.present first) before (all_marks_noted (H.state c.takes.new.self).recorded (H.state c.takes.new.self).known (calls ++ Receives bytes ∷ [])) policy pid start x held failed (given + 0) (0 ∷ without HOUSE (here c.took.new.self)) c.took.new.self) (sym (ap (λ (x : WireState). x.seen) c.in_ok-note.ensures.state))
     (no-turns (handed (H.state c.takes.new.self).known v c.took.new.self bytes c.in_ok-takes.ensures.recorded c.in_ok-takes.ensures.known c.queue_of-bytes.ensures.exact (some-bytes bytes (sym c.if-is_empty.ensures)) c.queue_of-bytes.ensures.waits c.took.ensures.exact (c.took.ensures.stands bytes true refl))))
 
 -- ---- clients are accepted only as the engine does
@@ -59,8 +59,8 @@ pub returns-clause-silence : goal.returns-clause-silence
 returns-clause-silence g c =
     let same = took-run c.args.engine.now c.took.new.self HOUSE (length c.queue_of-bytes.result.now) c.took.ensures.exact in
     let quiet : Seen = (g.W.Wire.state c.stop_accepting.new.wire).seen in
-    let noted : Seen = (g.W.Wire.state c.note.new.self).seen in
-    accepts-then quiet noted c.args.engine.now c.took.new.self c.stop_accepting.ensures.silence (streams-note c.note.result (HouseTook (length c.queue_of-bytes.result.now)) quiet noted (ap (λ (x : WireState). x.seen) c.note.ensures.state)).places.silence same.ended same.listening
+    let all_marks_noted : Seen = (g.W.Wire.state c.note.new.self).seen in
+    accepts-then quiet all_marks_noted c.args.engine.now c.took.new.self c.stop_accepting.ensures.silence (streams-note c.note.result (HouseTook (length c.queue_of-bytes.result.now)) quiet all_marks_noted (ap (λ (x : WireState). x.seen) c.note.ensures.state)).places.silence same.ended same.listening
 
 -- ---- the wire
 

@@ -6,7 +6,7 @@ use Rattle.mux_outside.specs.WireState.{WireState}
 use Rattle.mux_outside.specs.declared.house_mark.HouseMark.TheVariants.{HouseAnswer}
 use Rattle.mux_state.specs.Events.{here}
 use Rattle.mux_engine.specs.Serving.{Promised, Serving}
-use Rattle.mux_engine.specs.Sides.{RestsOf, noted}
+use Rattle.mux_engine.specs.Sides.{RestsOf, all_marks_noted}
 use Rattle.mux_engine.proofs.Arms.{on-err}
 use Rattle.mux_engine.proofs.Called.{handed-more}
 use Rattle.mux_engine.proofs.Cuts.{cut-here}
@@ -31,7 +31,7 @@ returns-clause-serving g c held failed first calls before policy pid start given
     let H = g.H.Asks in
     let more : List HouseCall = calls_of (HouseAnswer c.in-Some.client c.in-Some.id c.in-Some.given ∷ []) in
     handed-more _ more hands c.in-Some.ensures.gave.stands
-    (subst (λ (x : Seen). Serving H.may (RestsOf H.state (H.state c.args.house.now).known.present first) before (noted (H.state c.answer.new.self).recorded (H.state c.answer.new.self).known (calls ++ more)) policy pid start x held failed (given + 0) (0 ∷ here c.event.new.self) c.event.new.self) (sym (ap (λ (x : WireState). x.seen) c.in_ok-note.ensures.state))
+    (subst (λ (x : Seen). Serving H.may (RestsOf H.state (H.state c.args.house.now).known.present first) before (all_marks_noted (H.state c.answer.new.self).recorded (H.state c.answer.new.self).known (calls ++ more)) policy pid start x held failed (given + 0) (0 ∷ here c.event.new.self) c.event.new.self) (sym (ap (λ (x : WireState). x.seen) c.in_ok-note.ensures.state))
     (no-turns (answered (H.state c.args.house.now).known (H.state c.answer.new.self).known v c.event.new.self c.in-Some.client c.in-Some.id c.in-Some.given c.requires.present c.requires.on c.in-Some.ensures.fits c.in-Some.ensures.gave.recorded c.in-Some.ensures.gave.known c.in_ok-event.ensures.takes.stands c.in_ok-event.ensures.keeps)))
 
 pub returns-clause-on : goal.returns-clause-on

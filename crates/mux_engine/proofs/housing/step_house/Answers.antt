@@ -3,7 +3,7 @@ use Rattle.std.specs.Prelude.{Ok}
 use Rattle.mux_outside.specs.Streams.{without}
 use Rattle.mux_history.specs.declared.limits.TheConstants.{HOUSE}
 use Rattle.mux_state.specs.Events.{here}
-use Rattle.mux_state.specs.State.{State}
+use Rattle.mux_state.specs.State.{EngineState}
 use Rattle.mux_engine.specs.Serving.{scene, scene_of}
 use Rattle.mux_engine.specs.Sides.{SameHouse}
 use Rattle.mux_engine.proofs.Arms.{on-err, on-ok}
@@ -146,7 +146,7 @@ returns-then-branch-clause-alone g c out = both-ways c.ask_house.result (c.in_ok
 pub returns-then-not-present-clause-alone : goal.returns-then-not-present-clause-alone
 returns-then-not-present-clause-alone g c out = record {
   waits = λ is. let z : Ok false ≡ Ok true = is in cc;
-  idle = λ none. ap (λ (s : State). s.ended) (c.flush.ensures.idle (ap (λ (s : State). s.waiting) (c.ask_house.ensures.none out).1 ∙ none)).0 ∙ c.in_ok-ask_house.ensures.on;
+  idle = λ none. ap (λ (s : EngineState). s.ended) (c.flush.ensures.idle (ap (λ (s : EngineState). s.waiting) (c.ask_house.ensures.none out).1 ∙ none)).0 ∙ c.in_ok-ask_house.ensures.on;
 }
 
 pub returns-in_err-ask_house-clause-ended : goal.returns-in_err-ask_house-clause-ended

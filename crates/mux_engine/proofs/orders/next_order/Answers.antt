@@ -3,7 +3,7 @@ use Rattle.mux_outside.specs.House.{Quiet, order_marks}
 use Rattle.mux_outside.specs.HouseCalls.{HouseCall, calls_of}
 use Rattle.mux_outside.proofs.HouseCalls.{hands-then}
 use Rattle.mux_engine.specs.Serving.{Promised, Serving}
-use Rattle.mux_engine.specs.Sides.{RestsOf, noted, noting}
+use Rattle.mux_engine.specs.Sides.{RestsOf, all_marks_noted, noting}
 use Rattle.mux_engine.proofs.Arms.{on-err}
 use Rattle.mux_engine.proofs.Called.{handed-so}
 use Rattle.mux_engine.proofs.HouseCalls.{still-handed}
@@ -30,7 +30,7 @@ returns-clause-serving g c todo s live first calls before policy pid start given
     let obeyed = c.in_ok-obey.ensures.serving todo s live first (calls ++ more) before policy pid start given (hands-then (H.state first).stands (H.state c.args.house.now).stands (H.state c.order.new.self).stands calls more hands c.in-Some.ensures.gave.stands)
     (subst (λ (b : Bool). Serving H.may (RestsOf H.state b first) before (noting (order_marks (Some c.in-Some.order)) (H.state c.order.new.self).recorded (H.state c.order.new.self).known (calls ++ more)) policy pid start (g.W.Wire.state c.args.wire.now).seen c.args.lists.now.held c.args.lists.now.failed given todo s) (sym side.present)
     (order-given c.in-Some.order _ _ _ _ c.in-Some.ensures.gave.recorded c.in-Some.ensures.gave.known v)) in
-    handed-so obeyed (subst (λ (b : Bool). Serving H.may (RestsOf H.state b first) before (noted (H.state c.obey.new.house).recorded (H.state c.obey.new.house).known obeyed.all) policy pid start (g.W.Wire.state c.obey.new.wire).seen c.obey.new.lists.held c.obey.new.lists.failed (given + 1) todo s) side.present obeyed.so)
+    handed-so obeyed (subst (λ (b : Bool). Serving H.may (RestsOf H.state b first) before (all_marks_noted (H.state c.obey.new.house).recorded (H.state c.obey.new.house).known obeyed.all) policy pid start (g.W.Wire.state c.obey.new.wire).seen c.obey.new.lists.held c.obey.new.lists.failed (given + 1) todo s) side.present obeyed.so)
 
 -- ---- no order
 

@@ -7,7 +7,7 @@ use Rattle.mux_outside.specs.declared.house_mark.HouseMark.TheVariants.{HouseOrd
 use Rattle.mux_outside.specs.declared.mark.Mark.{Mark}
 use Rattle.mux_outside.specs.declared.mark.Mark.TheVariants.{House}
 use Rattle.mux_engine.specs.Orders.{more_recorded, seen_carried}
-use Rattle.mux_engine.specs.Sides.{noted}
+use Rattle.mux_engine.specs.Sides.{all_marks_noted}
 use Rattle.mux_engine.proofs.Arms.{on-err}
 use Rattle.mux_engine.proofs.Called.{handed-more}
 use Rattle.mux_engine.proofs.Cuts.{cut-here}
@@ -48,7 +48,7 @@ returns-then-makes-clause-serving g c todo s live first calls before policy pid 
     let more : List HouseCall = calls_of (more_recorded c.args.order c.in_ok-number.number) in
     let carried : Seen = seen_carried c.args.order c.in_ok-number.number (g.W.Wire.state c.args.wire.now).seen in
     handed-more _ more hands o.stands
-    (order-noted v {E = Unit {0}} (Ok tt) c.args.order c.in_ok-number.number (noted (H.state c.carry_out.new.house).recorded (H.state c.carry_out.new.house).known (calls ++ more)) carried _ _ _ c.requires.present live o.made (closes-own c.args.order _ _ _ c.requires.ordered) refl o.recorded side.asks refl side.present refl refl
+    (order-noted v {E = Unit {0}} (Ok tt) c.args.order c.in_ok-number.number (all_marks_noted (H.state c.carry_out.new.house).recorded (H.state c.carry_out.new.house).known (calls ++ more)) carried _ _ _ c.requires.present live o.made (closes-own c.args.order _ _ _ c.requires.ordered) refl o.recorded side.asks refl side.present refl refl
     (carried-recorded c.args.order c.in_ok-number.number _) (o.seen_is ∙ recorded-noted c.args.order c.in_ok-number.number carried (sym c.if-makes.ensures)) o.held o.failed)
 
 pub returns-then-makes-clause-housed : goal.returns-then-makes-clause-housed
@@ -85,7 +85,7 @@ returns-clause-serving g c todo s live first calls before policy pid start given
     let more : List HouseCall = calls_of (more_recorded c.args.order c.in_ok-number.number) in
     let seen_is = o.seen_is ∙ recorded-later c.args.order c.in_ok-number.number _ (sym c.if-makes.ensures) in
     match-more c.note.result _ (λ served. handed-more _ more hands o.stands served)
-    (order-noted v c.note.result c.args.order c.in_ok-number.number (noted (H.state c.carry_out.new.house).recorded (H.state c.carry_out.new.house).known (calls ++ more)) _ _ _ _ c.requires.present live o.made (closes-own c.args.order _ _ _ c.requires.ordered) refl o.recorded side.asks refl side.present refl seen_is
+    (order-noted v c.note.result c.args.order c.in_ok-number.number (all_marks_noted (H.state c.carry_out.new.house).recorded (H.state c.carry_out.new.house).known (calls ++ more)) _ _ _ _ c.requires.present live o.made (closes-own c.args.order _ _ _ c.requires.ordered) refl o.recorded side.asks refl side.present refl seen_is
     (ap (λ (x : Seen). x.recorded) seen_is ∙ carried-recorded c.args.order c.in_ok-number.number _) (ap (λ (x : WireState). x.seen) c.note.ensures.state) o.held o.failed)
 
 pub returns-clause-housed : goal.returns-clause-housed

@@ -2,8 +2,8 @@ use Rattle.std.proofs.Common.{[], ◌+◌, ◌∷◌, ◌∙◌, refl, sym, ap, 
 use Rattle.mux_outside.specs.Streams.{without}
 use Rattle.mux_history.specs.declared.limits.TheConstants.{HOUSE}
 use Rattle.mux_state.specs.Events.{here}
-use Rattle.mux_state.specs.State.{State}
-use Rattle.mux_engine.specs.Sides.{noted}
+use Rattle.mux_state.specs.State.{EngineState}
+use Rattle.mux_engine.specs.Sides.{all_marks_noted}
 use Rattle.mux_engine.proofs.Arms.{on-err, on-ok, stays, then-stays-or-fails}
 use Rattle.mux_engine.proofs.Called.{handed-none, handed-so}
 use Rattle.mux_engine.proofs.HouseCalls.{same-house}
@@ -40,7 +40,7 @@ flush-requires g c = let H = g.H.Asks in let w = c.requires.served in
         present = (H.state c.args.house.now).known.present;
         first = w.first;
         before = w.before;
-        now = noted (H.state c.last_words.new.house).recorded (H.state c.last_words.new.house).known h.all;
+        now = all_marks_noted (H.state c.last_words.new.house).recorded (H.state c.last_words.new.house).known h.all;
         policy = w.policy;
         pid = w.pid;
         start = w.start;
@@ -75,7 +75,7 @@ returns g c = let W = g.W.Wire in let o = c.in_ok-last_words.ensures in let f = 
   own = o.own;
   settled = λ e. true-false (sym e ∙ c.if-lists.false);
   ended = on-ok c.flush.result (λ e. then-stays-or-fails _ _ _ _ _ _ (stays _ _ _ _ o.ended o.wire.no_fault.server) e) f.ended;
-  idle = λ none p. let a = o.alone p in let b = f.idle (ap (λ (s : State). s.waiting) a.0 ∙ none) in
+  idle = λ none p. let a = o.alone p in let b = f.idle (ap (λ (s : EngineState). s.waiting) a.0 ∙ none) in
       (b.0 ∙ a.0, no-fault-then (no-fault-same (ap W.faults a.1)) b.1);
   wire = works-then o.wire.works f.wire;
 }

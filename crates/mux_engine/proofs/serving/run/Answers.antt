@@ -2,7 +2,7 @@ use Rattle.std.proofs.Common.{◌+◌, ◌∙◌, [], refl, sym, ap, subst, arit
 use Rattle.mux_outside.proofs.HouseCalls.{hands-none}
 use Rattle.mux_outside.specs.OwnStreams.{is_one}
 use Rattle.mux_outside.specs.Streams.{among}
-use Rattle.mux_state.specs.State.{State}
+use Rattle.mux_state.specs.State.{EngineState}
 use Rattle.mux_engine.specs.Sides.{Housed, RestsOf}
 use Rattle.mux_engine.proofs.Answering.{answer-is, failed-whole, none-given, none-held, over-still, ran-starved, ran-whole, refused-whole, spent-from, stops-whole}
 use Rattle.mux_engine.proofs.Arms.{on-err}
@@ -107,7 +107,7 @@ returns-in_err-finish g c = let H = g.H.Asks in let r = c.from_residual-in_err-f
   };
   places = places-cut r.result _ _ r.ensures.0 (λ p. f.places.last_own ∙ (t.ended.unopened p ∙ c.enter.ensures.places.last_own));
   idle = λ z p. let a = c.enter.ensures.alone p in let j = t.idle z in
-      no-fault-then (no-fault-then i.untouched.no_fault j.2) (f.idle (ap (λ (s : State). s.waiting) (j.1 ∙ a.0) ∙ c.requires.quiet) (t.house.present ∙ p)).1;
+      no-fault-then (no-fault-then i.untouched.no_fault j.2) (f.idle (ap (λ (s : EngineState). s.waiting) (j.1 ∙ a.0) ∙ c.requires.quiet) (t.house.present ∙ p)).1;
   wire = keeps-then (keeps-then (keeps-idle i) t.wire) f.wire.keeps;
 }
 
@@ -139,7 +139,7 @@ returns g c = let H = g.H.Asks in let W = g.W.Wire in let p = (H.state c.args.ho
         stops = stops-whole p _ (H.state c.finish.new.house).must c.args.turns c.answer_of.result _ _ _ _ c.turns_of.new.engine.ended c.finish.new.engine.ended (W.faults c.turns_of.new.wire) (W.faults c.finish.new.wire) (H.state c.finish.new.house).refused
             i.untouched.calls t.calls f.wire.calls f.ended t.ended.by_row (λ q on. over-still (λ h. (H.state h).known.present) (λ h. (H.state h).must) (λ h. (H.state h).refused) c.turns_of.new.house c.finish.new.house p (f.settled (t.goes.refused q on)) t.house.present (t.goes.over q on))
             (λ out none. let j = t.idle none in let a = c.enter.ensures.alone out in
-            ap (λ (s : State). s.ended) ((f.idle (ap (λ (s : State). s.waiting) (j.1 ∙ a.0) ∙ c.requires.quiet) (t.house.present ∙ out)).0 ∙ (j.1 ∙ a.0)) ∙ c.requires.on)
+            ap (λ (s : EngineState). s.ended) ((f.idle (ap (λ (s : EngineState). s.waiting) (j.1 ∙ a.0) ∙ c.requires.quiet) (t.house.present ∙ out)).0 ∙ (j.1 ∙ a.0)) ∙ c.requires.on)
             is;
       };
       places = record {
@@ -150,6 +150,6 @@ returns g c = let H = g.H.Asks in let W = g.W.Wire in let p = (H.state c.args.ho
         unopened = λ out. f.places.last_own ∙ (t.ended.unopened out ∙ c.enter.ensures.places.last_own);
       };
       idle = λ z out. let a = c.enter.ensures.alone out in let j = t.idle z in
-          no-fault-then (no-fault-then i.untouched.no_fault j.2) (f.idle (ap (λ (s : State). s.waiting) (j.1 ∙ a.0) ∙ c.requires.quiet) (t.house.present ∙ out)).1;
+          no-fault-then (no-fault-then i.untouched.no_fault j.2) (f.idle (ap (λ (s : EngineState). s.waiting) (j.1 ∙ a.0) ∙ c.requires.quiet) (t.house.present ∙ out)).1;
       wire = keeps-then (keeps-then (keeps-idle i) t.wire) f.wire.keeps;
     }

@@ -1,5 +1,5 @@
 use Rattle.std.proofs.Common.{◌+◌, ◌∙◌, refl, sym, ap, arith}
-use Rattle.mux_state.specs.State.{State}
+use Rattle.mux_state.specs.State.{EngineState}
 use Rattle.mux_engine.specs.Sides.{RestsOf}
 use Rattle.mux_engine.proofs.Arms.{on-err}
 use Rattle.mux_engine.proofs.Called.{handed-none, handed-so}
@@ -79,7 +79,7 @@ returns-then-not-branch g c = let H = g.H.Asks in let W = g.W.Wire in let i = c.
       (W.faults c.args.wire.now) (W.faults c.loop.wire) (W.faults c.one_turn.new.wire) i.present i.wire.later i.calls.came i.unopened
       record { failed = e.failed; by_row = e.by_row; by_count = e.by_count; unopened = e.unopened };
   calls = spent-over _ c.loop.counter c.args.turns _ _ _ (omega arith) i.calls (turned-is _ _ _ _ _ _ i.present c.if-not-branch.true o.calls)
-      (λ z p. o.idle (ap (λ (s : State). s.waiting) (i.first z).1 ∙ c.requires.quiet p) (i.present ∙ p));
+      (λ z p. o.idle (ap (λ (s : EngineState). s.waiting) (i.first z).1 ∙ c.requires.quiet p) (i.present ∙ p));
   idle = λ z. absurd (omega (arith, z));
   wire = keeps-then i.wire o.wire;
 }

@@ -1,5 +1,5 @@
 use Rattle.std.proofs.Common.{◌∙◌, refl, ap, inl}
-use Rattle.mux_state.specs.State.{State, queue_in}
+use Rattle.mux_state.specs.State.{EngineState, queue_in}
 use Rattle.mux_engine.specs.Serving.{IsOfferedTo}
 use Rattle.mux_engine.proofs.Arms.{on-err, on-ok, stays, then-stays-or-fails}
 use Rattle.mux_engine.proofs.Following.{served-on}
@@ -57,7 +57,7 @@ returns-clause-ended g c = on-ok c.offer.result (λ (o : IsOfferedTo 0 c.offer_c
 pub returns-clause-idle : goal.returns-clause-idle
 returns-clause-idle g c = λ none.
     let a = c.offer_clients.ensures.idle none in
-    let b = c.offer.ensures.idle (ap (λ (s : State). queue_in s 0) a.0 ∙ server-idle c.requires.served.serving none) in
+    let b = c.offer.ensures.idle (ap (λ (s : EngineState). queue_in s 0) a.0 ∙ server-idle c.requires.served.serving none) in
     (b.0 ∙ a.0, no-fault-then c.stop_accepting.ensures.wire.untouched.no_fault (no-fault-same (ap g.W.Wire.faults (b.1 ∙ a.1))))
 
 -- ---- the wire

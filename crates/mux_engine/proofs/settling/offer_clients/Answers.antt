@@ -1,7 +1,7 @@
 use Rattle.std.proofs.Common.{◌≡◌, ◌+◌, ◌∷◌, ◌++◌, ◌∙◌, sym, ap, subst, refl, ℕ, List, get_or, drop, true, arith}
 use Rattle.mux_outside.specs.Streams.{among, without}
 use Rattle.mux_history.specs.declared.limits.TheConstants.{HOUSE}
-use Rattle.mux_state.specs.State.{State, waiting_in}
+use Rattle.mux_state.specs.State.{EngineState, waiting_streams}
 use Rattle.mux_engine.proofs.Arms.{none-there, on-err}
 use Rattle.mux_engine.proofs.Cuts.{cut-still}
 use Rattle.mux_engine.proofs.Following.{served-on}
@@ -13,10 +13,10 @@ use Rattle.mux_engine.proofs.settling.offer_clients.Goals as goal
 
 pub loop-stream-init : goal.loop-stream-init
 loop-stream-init g c =
-    let s : State = c.args.engine.now in
+    let s : EngineState = c.args.engine.now in
     let w = c.requires.served in
     let items : c.as_slice-stream-items.result.now ≡ clients-of c.waiting.result.now = c.as_slice-stream-items.ensures ∙ (c.remove-2.ensures ∙ ap (without HOUSE) (c.remove.ensures ∙ ap (without 0) (c.in_ok-refill.ensures.ok ∙ c.as_slice.ensures))) in
-    let listed : c.waiting.result.now ≡ waiting_in s = c.waiting.ensures.listed w.serving.picked w.serving.replies w.serving.journal w.serving.closed w.serving.stands in
+    let listed : c.waiting.result.now ≡ waiting_streams s = c.waiting.ensures.listed w.serving.picked w.serving.replies w.serving.journal w.serving.closed w.serving.stands in
     record {
       serving = λ left present first before now policy pid start failed given v. todo-is (clients-of c.waiting.result.now ++ (0 ∷ left)) (c.as_slice-stream-items.result.now ++ (0 ∷ left)) (ap (λ l. l ++ (0 ∷ left)) (sym items)) (only-waiting left v c.waiting.result.now (c.waiting.ensures.waits v.picked v.replies v.journal v.closed v.stands));
       streams = refl;

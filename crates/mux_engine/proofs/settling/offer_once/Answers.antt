@@ -4,7 +4,7 @@ use Rattle.mux_outside.specs.Seen.{Seen, seen_after_write}
 use Rattle.mux_outside.specs.Streams.{among, without}
 use Rattle.mux_outside.specs.declared.mark.Mark.TheVariants.{Takes, Holds, WriteFails}
 use Rattle.mux_outside.specs.declared.turn.Wrote.TheVariants as wrote
-use Rattle.mux_state.specs.State.{State}
+use Rattle.mux_state.specs.State.{EngineState}
 use Rattle.mux_engine.specs.Serving.{Serving}
 use Rattle.mux_engine.specs.Sides.{RestsOf}
 use Rattle.mux_engine.specs.SilentAnswers.{AcceptsAs}
@@ -42,7 +42,7 @@ write-requires g c = let w = c.requires.served in record {
 
 pub returns-in-Took-clause-serving : goal.returns-in-Took-clause-serving
 returns-in-Took-clause-serving g c todo zero present first before now policy pid start failed given v =
-    let s : State = c.args.engine.now in
+    let s : EngineState = c.args.engine.now in
     let k : ℕ = c.args.stream in
     let n : ℕ = c.in-Took.n in
     let bytes : List ℕ = c.queue_of-bytes.result.now in
@@ -63,7 +63,7 @@ took-requires g c = subst (λ (b : List ℕ). c.in-Took.n ≤ length b) c.queue_
 
 pub returns-in_ok-push-in-Later-clause-serving : goal.returns-in_ok-push-in-Later-clause-serving
 returns-in_ok-push-in-Later-clause-serving g c todo zero present first before now policy pid start failed given v =
-    let s : State = c.args.engine.now in
+    let s : EngineState = c.args.engine.now in
     let k : ℕ = c.args.stream in
     let bytes : List ℕ = c.queue_of-bytes.result.now in
     subst (λ (x : Seen). Serving g.H.Asks.may (RestsOf g.H.Asks.state present first) before now policy pid start x c.push.new.self failed given (without k todo) s) (sym (seen-is c.in-Later.ensures.state))
@@ -89,7 +89,7 @@ lost g c =
 
 pub returns-in_ok-event-in-Failed-clause-serving : goal.returns-in_ok-event-in-Failed-clause-serving
 returns-in_ok-event-in-Failed-clause-serving g c todo zero present first before now policy pid start failed given v =
-    let s : State = c.args.engine.now in
+    let s : EngineState = c.args.engine.now in
     let k : ℕ = c.args.stream in
     let bytes : List ℕ = c.queue_of-bytes.result.now in
     let at : AtStream s v.journal v.closed k = at-stream v.stands k c.requires.stream.opened in
@@ -181,7 +181,7 @@ returns-in_ok-event-in-Failed-clause-silence g c = λ nz.
     accepts-then (g.W.Wire.state c.args.wire.now).seen (g.W.Wire.state c.write.new.self).seen c.args.engine.now c.event.new.self c.requires.silence (places-write wrote.Failed k c.queue_of-bytes.result.now _ _ (seen-is c.in-Failed.ensures.state)).silence (f.client nz)
     (listening-lost v.stands c.event.new.self k on.picks on.replies f.policy f.pid on.stands nz client)
 
--- ---- the engine, and what it can take more
+-- ---- the engine, and what it can still apply
 
 pub returns-then-is_empty-clause-engine : goal.returns-then-is_empty-clause-engine
 returns-then-is_empty-clause-engine g c = offered-none _ _ _

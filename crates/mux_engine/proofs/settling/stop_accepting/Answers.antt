@@ -2,7 +2,7 @@ use Rattle.std.proofs.Common.{◌≡◌, ◌∙◌, None, false, refl, sym, ap, 
 use Rattle.std.specs.Prelude.{is_some}
 use Rattle.mux_outside.specs.Seen.{Seen}
 use Rattle.mux_engine.specs.Serving.{Serving}
-use Rattle.mux_engine.specs.Sides.{RestsOf, SameStreams}
+use Rattle.mux_engine.specs.Sides.{RestsOf, SameStreamsSeen}
 use Rattle.mux_engine.proofs.Lists.{true-false}
 use Rattle.mux_engine.proofs.Loops.{serve-hushed}
 use Rattle.mux_engine.proofs.Wired.{idle-silence, seen-is}
@@ -24,7 +24,7 @@ pub returns-clause-silence : goal.returns-clause-silence
 returns-clause-silence g c l = true-false (sym l ∙ ap (λ (x : Seen). x.listens) (seen-is c.stop_listening.ensures.state))
 
 pub returns-clause-streams : goal.returns-clause-streams
-returns-clause-streams g c = subst (SameStreams (g.W.Wire.state c.args.wire.now).seen) (sym (seen-is c.stop_listening.ensures.state)) record { places = record { streams = refl; listeners = refl; own = refl; last_own = refl; silence = λ l. true-false (sym l) }; blocked = refl }
+returns-clause-streams g c = subst (SameStreamsSeen (g.W.Wire.state c.args.wire.now).seen) (sym (seen-is c.stop_listening.ensures.state)) record { places = record { streams = refl; listeners = refl; own = refl; last_own = refl; silence = λ l. true-false (sym l) }; blocked = refl }
 
 -- ---- the wire
 

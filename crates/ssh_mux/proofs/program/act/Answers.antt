@@ -2,7 +2,7 @@ use Rattle.std.proofs.Common.{◌≡◌, refl}
 use Rattle.std.proofs.lemmas.Result.{err_from_is_err_and}
 use Rattle.conf_rules.specs.declared.command.Command.TheVariants as commands
 use Rattle.conf_rules.specs.CommandOutcome.{Drills}
-use Rattle.ssh_mux.specs.Answers.{may_have_joined, may_open, may_write, so_far, touches}
+use Rattle.ssh_mux.specs.Answers.{may_have_joined, may_open_wire, may_write, so_far, touches}
 use Rattle.ssh_mux.specs.Looks.{coming, coming_of_words, machine_of_sources}
 use Rattle.ssh_mux.specs.Outcomes.{Certain, drills, opens}
 use Rattle.ssh_mux.specs.Sharing.{pid_of}
@@ -49,7 +49,7 @@ returns-in-Master-clause-leaves g c = record {
   unlisted = on_false _ _;
   files = rw (of-read _ _ _ (rw c.in-Master.is at c.requires.read)) (not_false _ _ (master-looks _ _ _ _));
   runner = rw (of-read _ _ _ (rw c.in-Master.is at c.requires.read)) (not_false _ _ (master-looks _ _ _ _));
-  wire = rw (of-read _ _ _ (rw c.in-Master.is at c.requires.read)) (or-else (touches (coming (sources g.F.Files g.R.Runner c.args.files.now c.args.runner.now) c.args.facts.now (commands.Master c.in-Master.asked c.in-Master.transport c.in-Master.permits)) (so_far c.share.result)) (may_have_joined (coming (sources g.F.Files g.R.Runner c.args.files.now c.args.runner.now) c.args.facts.now (commands.Master c.in-Master.asked c.in-Master.transport c.in-Master.permits)) (so_far c.share.result)) (c.share.new.wire ≡ c.args.wire.now) (untouched (may_open (so_far c.share.result)) (opens (coming (sources g.F.Files g.R.Runner c.args.files.now c.args.runner.now) c.args.facts.now (commands.Master c.in-Master.asked c.in-Master.transport c.in-Master.permits))) (drills (coming (sources g.F.Files g.R.Runner c.args.files.now c.args.runner.now) c.args.facts.now (commands.Master c.in-Master.asked c.in-Master.transport c.in-Master.permits))) (c.share.new.wire ≡ c.args.wire.now) (first-still _ _ _ c.share.ensures.untouched)));
+  wire = rw (of-read _ _ _ (rw c.in-Master.is at c.requires.read)) (or-else (touches (coming (sources g.F.Files g.R.Runner c.args.files.now c.args.runner.now) c.args.facts.now (commands.Master c.in-Master.asked c.in-Master.transport c.in-Master.permits)) (so_far c.share.result)) (may_have_joined (coming (sources g.F.Files g.R.Runner c.args.files.now c.args.runner.now) c.args.facts.now (commands.Master c.in-Master.asked c.in-Master.transport c.in-Master.permits)) (so_far c.share.result)) (c.share.new.wire ≡ c.args.wire.now) (untouched (may_open_wire (so_far c.share.result)) (opens (coming (sources g.F.Files g.R.Runner c.args.files.now c.args.runner.now) c.args.facts.now (commands.Master c.in-Master.asked c.in-Master.transport c.in-Master.permits))) (drills (coming (sources g.F.Files g.R.Runner c.args.files.now c.args.runner.now) c.args.facts.now (commands.Master c.in-Master.asked c.in-Master.transport c.in-Master.permits))) (c.share.new.wire ≡ c.args.wire.now) (first-still _ _ _ c.share.ensures.untouched)));
   house = rw (of-read _ _ _ (rw c.in-Master.is at c.requires.read)) (second-still _ _ _ c.share.ensures.untouched);
 }
 

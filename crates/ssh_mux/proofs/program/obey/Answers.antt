@@ -2,7 +2,7 @@ use Rattle.std.proofs.Common.{◌≡◌, refl}
 use Rattle.std.proofs.lemmas.Result.{err_from_is_err_and}
 use Rattle.conf_rules.specs.declared.command.Command.TheVariants as commands
 use Rattle.conf_rules.specs.CommandOutcome.{Drills}
-use Rattle.ssh_mux.specs.Answers.{may_have_joined, may_open, may_write, so_far, touches}
+use Rattle.ssh_mux.specs.Answers.{may_have_joined, may_open_wire, may_write, so_far, touches}
 use Rattle.ssh_mux.specs.Looks.{coming, coming_of_words, machine_of_sources}
 use Rattle.ssh_mux.specs.Outcomes.{Certain, drills, opens}
 use Rattle.ssh_mux.specs.Sharing.{pid_of}

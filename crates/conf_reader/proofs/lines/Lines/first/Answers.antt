@@ -5,7 +5,7 @@ use Rattle.conf_rules.specs.declared.causes.Cause.TheVariants as causes
 use Rattle.conf_reader.specs.declared.files.FoundFile.{FoundFile}
 use Rattle.conf_reader.specs.declared.files.FoundFile.TheVariants.{Holds}
 use Rattle.conf_reader.specs.declared.lines.Lines.{Lines}
-use Rattle.conf_reader.specs.Left.{left, IsFound}
+use Rattle.conf_reader.specs.Left.{lines_to_give, IsFound}
 use Rattle.conf_reader.specs.Looking.{all_meet}
 use Rattle.conf_reader.specs.Moving.{ReadingGoesOn}
 use Rattle.conf_reader.proofs.RefusalLemmas.{moves-refused}
@@ -39,7 +39,7 @@ returns-then-required-clause-lines g c =
     record {
       moves = λ recorded place blocks records.
           let none = rw (c.in-Nothing.is, c.as_bytes.ensures) at (c.in_ok-first_found.ensures.found recorded records) in
-          moves-refused (left recorded place blocks c.args.self.now) [] f.path 0 causes.NoFile c.file_refusal.result (rw named at c.file_refusal.ensures)
+          moves-refused (lines_to_give recorded place blocks c.args.self.now) [] f.path 0 causes.NoFile c.file_refusal.result (rw named at c.file_refusal.ensures)
           (lack-refused recorded place blocks c.args.self.now f c.requires.none (c.requires.ready.none c.requires.none) named none c.if-required.true);
       goes_on = tt;
       firsts = refl;

@@ -1,7 +1,7 @@
 use Rattle.std.proofs.Common.{◌≡◌, ◌∙◌, ◌+◌, [], ap, refl, subst, sym, length, Ok, arith}
 use Rattle.std.proofs.lemmas.Result.{err_from_is_err_and}
 use Rattle.conf_reader.specs.Known.{RecordsFiles}
-use Rattle.conf_reader.specs.Left.{left}
+use Rattle.conf_reader.specs.Left.{lines_to_give}
 use Rattle.conf_reader.proofs.MovingLemmas.{goes-same, goes-then}
 use Rattle.conf_reader.proofs.NextLemmas.{more, gives, ends, fails}
 use Rattle.conf_reader.proofs.UsesLemmas.{uses-fails, uses-none, uses-then}
@@ -56,7 +56,7 @@ loop-line-init g c = record {
   files = uses-none (λ recorded test h. h) (λ recorded. refl);
   far = λ recorded place blocks records at bounded.
       let z : place ≡ place + 0 = omega arith in
-      record { comments = []; is = ap (λ n. left recorded n blocks c.args.self.now) z; idle = tt; count = omega (arith, at); bounded = bounded };
+      record { comments = []; is = ap (λ n. lines_to_give recorded n blocks c.args.self.now) z; idle = tt; count = omega (arith, at); bounded = bounded };
 }
 
 pub returns-in-End-clause-files : goal.returns-in-End-clause-files

@@ -2,7 +2,7 @@ use Rattle.std.proofs.Common.{◌≡◌, ◌∙◌, ◌≤◌, ◌+◌, Ok, sym,
 use Rattle.std.proofs.lemmas.Result.{err_from_is_err_and}
 use Rattle.conf_rules.specs.declared.causes.Cause.TheVariants as causes
 use Rattle.conf_reader.specs.declared.lines.Lines.{Lines}
-use Rattle.conf_reader.specs.Left.{left}
+use Rattle.conf_reader.specs.Left.{lines_to_give}
 use Rattle.conf_reader.specs.Blocks.{open_behind}
 use Rattle.conf_reader.proofs.OneLemmas.{reach-failed, limit-reached, head-failed, same-line, comment-idle, left-on, within-limit}
 use Rattle.conf_reader.proofs.LookingLemmas.{all-on, files-meet}
@@ -18,7 +18,7 @@ returns-in_err-reach-clause-one g c = λ recorded place blocks records at bounde
 pub returns-then-self-ge-MAX_LINES-clause-one : goal.returns-then-self-ge-MAX_LINES-clause-one
 returns-then-self-ge-MAX_LINES-clause-one g c = λ recorded place blocks records at bounded.
     let r = c.reach.new.self in
-    let same : left recorded place blocks c.args.self.now ≡ left recorded place blocks r = c.in_ok-reach.ensures.lines.moves recorded place blocks records in
+    let same : lines_to_give recorded place blocks c.args.self.now ≡ lines_to_give recorded place blocks r = c.in_ok-reach.ensures.lines.moves recorded place blocks records in
     let at' : place ≡ length recorded.asked.lines + r.read = at ∙ ap (λ n. length recorded.asked.lines + n) (sym c.in_ok-reach.ensures.lines.count) in
     let line = rw c.if-not-branch.false at c.in_ok-reach.ensures.line in
     same-line recorded place blocks c.args.self.now r r c.line_refusal.result same (limit-reached recorded place r.read blocks r r r.open_files.top c.line_refusal.result refl line.1 line.0 c.line_refusal.ensures at' c.if-self-ge-MAX_LINES.true)
@@ -26,7 +26,7 @@ returns-then-self-ge-MAX_LINES-clause-one g c = λ recorded place blocks records
 pub returns-in_err-take_line-clause-one : goal.returns-in_err-take_line-clause-one
 returns-in_err-take_line-clause-one g c = λ recorded place blocks records at bounded.
     let r = c.reach.new.self in
-    let same : left recorded place blocks c.args.self.now ≡ left recorded place blocks r = c.in_ok-reach.ensures.lines.moves recorded place blocks records in
+    let same : lines_to_give recorded place blocks c.args.self.now ≡ lines_to_give recorded place blocks r = c.in_ok-reach.ensures.lines.moves recorded place blocks records in
     let at' : place ≡ length recorded.asked.lines + r.read = at ∙ ap (λ n. length recorded.asked.lines + n) (sym c.in_ok-reach.ensures.lines.count) in
     let few = c.in_ok-reach.ensures.lines.goes_on.bounded (length blocks) bounded in
     let size : length r.open_files.below.items ≤ length blocks = omega (arith, few) in
@@ -37,7 +37,7 @@ pub returns-in-None-clause-one : goal.returns-in-None-clause-one
 returns-in-None-clause-one g c = λ recorded place blocks records at bounded.
     let r = c.reach.new.self in
     let new : Lines = record r { open_files = c.take_line.new.self; read = r.read + 1 } in
-    let same : left recorded place blocks c.args.self.now ≡ left recorded place blocks r = c.in_ok-reach.ensures.lines.moves recorded place blocks records in
+    let same : lines_to_give recorded place blocks c.args.self.now ≡ lines_to_give recorded place blocks r = c.in_ok-reach.ensures.lines.moves recorded place blocks records in
     let at' : place ≡ length recorded.asked.lines + r.read = at ∙ ap (λ n. length recorded.asked.lines + n) (sym c.in_ok-reach.ensures.lines.count) in
     let few = c.in_ok-reach.ensures.lines.goes_on.bounded (length blocks) bounded in
     let size : length r.open_files.below.items ≤ length blocks = omega (arith, few) in
@@ -48,7 +48,7 @@ pub returns-in-Some-clause-one : goal.returns-in-Some-clause-one
 returns-in-Some-clause-one g c = λ recorded place blocks records at bounded.
     let r = c.reach.new.self in
     let new : Lines = record r { open_files = c.take_line.new.self; read = r.read + 1 } in
-    let same : left recorded place blocks c.args.self.now ≡ left recorded place blocks r = c.in_ok-reach.ensures.lines.moves recorded place blocks records in
+    let same : lines_to_give recorded place blocks c.args.self.now ≡ lines_to_give recorded place blocks r = c.in_ok-reach.ensures.lines.moves recorded place blocks records in
     let at' : place ≡ length recorded.asked.lines + r.read = at ∙ ap (λ n. length recorded.asked.lines + n) (sym c.in_ok-reach.ensures.lines.count) in
     let few = c.in_ok-reach.ensures.lines.goes_on.bounded (length blocks) bounded in
     let size : length r.open_files.below.items ≤ length blocks = omega (arith, few) in

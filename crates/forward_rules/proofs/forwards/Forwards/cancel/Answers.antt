@@ -7,7 +7,7 @@ use Rattle.ssh_grammar.specs.Messages.{Key}
 use Rattle.conn_messages.specs.Keys.{IsShort, key_of, own_key_of}
 use Rattle.forward_rules.specs.Listing.{listed_forward_of}
 use Rattle.forward_rules.specs.State.{Forward}
-use Rattle.forward_rules.specs.Step.{cancelled, cancels, is_free_at, is_live_at, is_of, some_free}
+use Rattle.forward_rules.specs.Step.{forward_cancelled, unanswered_cancels, is_free_at, is_live_at, is_forward_of, some_free}
 use Rattle.forward_rules.specs.Taking.{AreFew}
 use Rattle.forward_rules.specs.declared.listed.Listed.{Listed}
 use Rattle.forward_rules.proofs.Counts.{few-first, few-without}
@@ -15,20 +15,20 @@ use Rattle.forward_rules.proofs.Places.{NonePasses, found, missed, passes, remov
 use Rattle.forward_rules.proofs.forwards.Forwards.cancel.Goals as goal
 
 -- where none is free nothing changes
-none-free : (k : ℕ) (key : Key) (want : Bool) (fs : List Forward) → NonePasses (is_free_at k key) fs → (false ≡ some_free k key fs) × (fs ≡ cancelled k key want fs)
-none-free k key true fs none = (sym (ap is_some none.found), sym (none.changed (λ f. record f { cancel = Some (cancels k fs) })))
+none-free : (k : ℕ) (key : Key) (want : Bool) (fs : List Forward) → NonePasses (is_free_at k key) fs → (false ≡ some_free k key fs) × (fs ≡ forward_cancelled k key want fs)
+none-free k key true fs none = (sym (ap is_some none.found), sym (none.changed (λ f. record f { cancel = Some (unanswered_cancels k fs) })))
 none-free k key false fs none = (sym (ap is_some none.found), sym none.without)
 
 free-found : (k : ℕ) (key : Key) (fs : List Listed) (i : ℕ) (d : Listed) → position (sees (is_free_at k key)) fs ≡ Some i → true ≡ some_free k key (map listed_forward_of fs)
 free-found k key fs i d h = sym (ap is_some (found (is_free_at k key) fs i d h))
 
 -- one that waits after the others
-leaves : (k : ℕ) (key : Key) (fs : List Listed) (i r : ℕ) (x d : Listed) → position (sees (is_free_at k key)) fs ≡ Some i → listed_forward_of x ≡ record (listed_forward_of d) { cancel = Some r } → r ≡ cancels k (map listed_forward_of fs) → d ≡ slice_index_or fs i d → map listed_forward_of (slice_set fs i x) ≡ cancelled k key true (map listed_forward_of fs)
+leaves : (k : ℕ) (key : Key) (fs : List Listed) (i r : ℕ) (x d : Listed) → position (sees (is_free_at k key)) fs ≡ Some i → listed_forward_of x ≡ record (listed_forward_of d) { cancel = Some r } → r ≡ unanswered_cancels k (map listed_forward_of fs) → d ≡ slice_index_or fs i d → map listed_forward_of (slice_set fs i x) ≡ forward_cancelled k key true (map listed_forward_of fs)
 leaves k key fs i r x d h is rank at =
-    set-found (is_free_at k key) (λ f. record f { cancel = Some (cancels k (map listed_forward_of fs)) }) fs i x d h (is ∙ (ap (λ (q : ℕ). record (listed_forward_of d) { cancel = Some q }) rank ∙ ap (λ (e : Listed). record (listed_forward_of e) { cancel = Some (cancels k (map listed_forward_of fs)) }) at))
+    set-found (is_free_at k key) (λ f. record f { cancel = Some (unanswered_cancels k (map listed_forward_of fs)) }) fs i x d h (is ∙ (ap (λ (q : ℕ). record (listed_forward_of d) { cancel = Some q }) rank ∙ ap (λ (e : Listed). record (listed_forward_of e) { cancel = Some (unanswered_cancels k (map listed_forward_of fs)) }) at))
 
-few-leaves : (k : ℕ) (key : Key) (fs : List Forward) → AreFew fs → AreFew (cancelled k key true fs)
-few-leaves k key fs few = few-first (is_free_at k key) (λ f. record f { cancel = Some (cancels k fs) }) (λ f. refl) fs few
+few-leaves : (k : ℕ) (key : Key) (fs : List Forward) → AreFew fs → AreFew (forward_cancelled k key true fs)
+few-leaves k key fs few = few-first (is_free_at k key) (λ f. record f { cancel = Some (unanswered_cancels k fs) }) (λ f. refl) fs few
 
 -- the key of one that is listed is short
 short-found : (k : ℕ) (key : Key) (fs : List Listed) (i : ℕ) (d : Listed) → position (sees (is_free_at k key)) fs ≡ Some i → IsShort key
@@ -40,7 +40,7 @@ short-found k key fs i d h = subst IsShort (key-is (own_key_of f.key) key same) 
     same : is_key (own_key_of (slice_index_or fs i d).key) key ≡ true
     same =
         let all = passes (is_free_at k key) fs i d h in
-        let live = and-right (is_none (slice_index_or fs i d).cancel) (is_live_at key (listed_forward_of (slice_index_or fs i d))) (and-right (is_of k (listed_forward_of (slice_index_or fs i d))) (is_none (slice_index_or fs i d).cancel && is_live_at key (listed_forward_of (slice_index_or fs i d))) all) in
+        let live = and-right (is_none (slice_index_or fs i d).cancel) (is_live_at key (listed_forward_of (slice_index_or fs i d))) (and-right (is_forward_of k (listed_forward_of (slice_index_or fs i d))) (is_none (slice_index_or fs i d).cancel && is_live_at key (listed_forward_of (slice_index_or fs i d))) all) in
         and-right (slice_index_or fs i d).live (is_key (own_key_of (slice_index_or fs i d).key) key) live
 
 pub returns-in_default-clause-exact : goal.returns-in_default-clause-exact

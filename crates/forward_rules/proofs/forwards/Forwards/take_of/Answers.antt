@@ -3,7 +3,7 @@ use Rattle.std.specs.Prelude.{option_map, is_some}
 use Rattle.mux_history.proofs.Sends.{and-left}
 use Rattle.forward_rules.specs.Listing.{listed_forward_of}
 use Rattle.forward_rules.specs.State.{Forward}
-use Rattle.forward_rules.specs.Step.{forward_count_of, is_of, forwards_without_client, without_first_forward}
+use Rattle.forward_rules.specs.Step.{forward_count_of, is_forward_of, forwards_without_client, without_first_forward}
 use Rattle.forward_rules.specs.Taking.{AreFew, after_taking, closed_up, first_live, is_live_of, moved_up_of, rest_after, recorded_forward_of}
 use Rattle.forward_rules.specs.declared.listed.Listed.{Listed}
 use Rattle.forward_rules.proofs.Counts.{few-without, one-less, same-map, moved-client}
@@ -27,7 +27,7 @@ taking : (k : ℕ) (fs : List Listed) (x : Listed) → first_live k (map listed_
 taking k fs x h = sym (ap (rest_after k (map listed_forward_of fs)) h)
 
 fewer : (k : ℕ) (fs : List Listed) (x : Listed) → first_live k (map listed_forward_of fs) ≡ Some (listed_forward_of x) → forward_count_of (closed_up k x.cancel (without_first_forward (is_live_of k) (map listed_forward_of fs))) k + 1 ≡ forward_count_of (map listed_forward_of fs) k
-fewer k fs x h = ap (λ n. n + 1) (same-closed k x.cancel (without_first_forward (is_live_of k) (map listed_forward_of fs)) k) ∙ one-less (is_live_of k) k (λ f t. and-left (is_of k f) f.live t) (map listed_forward_of fs) (listed_forward_of x) h
+fewer k fs x h = ap (λ n. n + 1) (same-closed k x.cancel (without_first_forward (is_live_of k) (map listed_forward_of fs)) k) ∙ one-less (is_live_of k) k (λ f t. and-left (is_forward_of k f) f.live t) (map listed_forward_of fs) (listed_forward_of x) h
 
 pub returns-in_default-clause-exact : goal.returns-in_default-clause-exact
 returns-in_default-clause-exact c =

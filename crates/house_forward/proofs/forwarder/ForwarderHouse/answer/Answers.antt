@@ -1,7 +1,7 @@
 use Rattle.std.proofs.Common.{rules, refl, ap, Some, None, arith}
 use Rattle.mux_outside.specs.HouseCalls.{Marks}
 use Rattle.mux_outside.specs.declared.house_mark.HouseMark.TheVariants.{HouseAnswer}
-use Rattle.house_forward.specs.ForwardingState.{Answers}
+use Rattle.house_forward.specs.ForwardingState.{GivesFirstAnswer}
 use Rattle.house_forward.specs.State.{held_in, known_in}
 use Rattle.house_forward.proofs.Answering.{is-answer}
 use Rattle.house_forward.proofs.Calling.{no-ordering}
@@ -22,7 +22,7 @@ returns-clause-gave g c =
       must = refl;
       recorded = first_of (search rules, grind arith);
       stands = hands-on (Marks (HouseAnswer a.client a.id a.reply)) has _ none none refl refl refl
-          (forwarding_state-goes (Answers a.client a.id a.reply) (held_in has) _
+          (forwarding_state-goes (GivesFirstAnswer a.client a.id a.reply) (held_in has) _
           (gives-answer a.client a.id a.reply (Some (a.client, a.id, a.reply)) has.relays has.framer has.stage has.rules has.greeted has.forwardings has.asks asks refl
           a.ensures.exact a.ensures.taken a.ensures.done));
     }

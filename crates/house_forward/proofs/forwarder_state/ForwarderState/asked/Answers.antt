@@ -1,8 +1,8 @@
 use Rattle.std.proofs.Common.{◌≡◌, ◌∙◌, sym, None, arith}
 use Rattle.mux_outside.specs.House.{start_ask_of}
 use Rattle.house_forward.specs.Asks.{turns_away}
-use Rattle.house_forward.specs.Forwardings.{ComesUnless, Opens, is_new, standing, opens_of}
-use Rattle.house_forward.specs.declared.asks.Asked.{Asked}
+use Rattle.house_forward.specs.Forwardings.{ComesUnless, OpensForwarding, is_new, standing, opens_of}
+use Rattle.house_forward.specs.declared.asks.ImmediateOutcome.{ImmediateOutcome}
 use Rattle.house_forward.proofs.Coming.{turned-away, refused-alone, by-ends, opens-there, opens-leaves, closes-there, closes-leaves, if-ok}
 use Rattle.house_forward.proofs.Leaving.{closes-same, opens-most}
 use Rattle.house_forward.proofs.forwarder_state.ForwarderState.asked.Goals as goal
@@ -27,9 +27,9 @@ returns-then-opening-clause-comes c =
     let new = c.«open».new.self.all.items in
     let ends = c.in-Some.ends in
     let away = turns_away c.args.client c.args.id now.asks.waiting.items in
-    if-ok (λ (asked : Asked). asked ≡ opens_of now.forwardings.serials ends fs (standing ends fs))
-    (λ (asked : Asked). ComesUnless away now.rules c.args.opening ask now.forwardings.serials fs new asked)
-    (Opens (is_new ends fs (standing ends fs)) ends now.forwardings.serials None fs new) c.«open».result
+    if-ok (λ (asked : ImmediateOutcome). asked ≡ opens_of now.forwardings.serials ends fs (standing ends fs))
+    (λ (asked : ImmediateOutcome). ComesUnless away now.rules c.args.opening ask now.forwardings.serials fs new asked)
+    (OpensForwarding (is_new ends fs (standing ends fs)) ends now.forwardings.serials None fs new) c.«open».result
     (λ asked same leaves. by-ends away now.rules c.args.opening ask now.forwardings.serials fs new (sym c.turns_away.ensures ∙ c.if-turns_away.false)
     (c.in-Some.ensures.exact ask c.of_client.ensures) ends (c.in-Some.ensures.ends ask c.of_client.ensures) asked
     (opens-there c.args.opening now.forwardings.serials ends fs asked c.if-opening.true same)

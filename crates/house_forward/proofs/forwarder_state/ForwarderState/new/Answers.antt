@@ -1,6 +1,6 @@
 use Rattle.std.proofs.Common.{refl, false}
 use Rattle.house_forward.specs.RelayTraces.{forwarder_held_of}
-use Rattle.house_forward.specs.declared.forwarder_state.Stage.TheVariants.{Control}
+use Rattle.house_forward.specs.declared.forwarder_state.ForwarderStage.TheVariants.{Control}
 use Rattle.house_forward.proofs.Calling.{lived-first}
 use Rattle.house_forward.proofs.forwarder_state.ForwarderState.new.Goals as goal
 

@@ -3,7 +3,7 @@ use Rattle.std.specs.Prelude.{find}
 use Rattle.std.specs.List.{position}
 use Rattle.house_forward.specs.ForwardingState.{forwarding_state_of}
 use Rattle.house_forward.specs.Going.{RelayGoesAt, TakesOf}
-use Rattle.house_forward.specs.Links.{is_of, link_queue_in, queue_at}
+use Rattle.house_forward.specs.Links.{is_relay_stream, link_queue_in, queue_at}
 use Rattle.house_forward.proofs.Queues.{front-at, none-taken}
 use Rattle.house_forward.proofs.Traces.{takes}
 use Rattle.house_forward.proofs.forwarder_state.ForwarderState.took.Goals as goal
@@ -17,5 +17,5 @@ returns-clause-takes c =
     let front = front-at ls t c.args.n c.requires.fits in
     takes t (take c.args.n (queue_at ls t)) ls new now.framer now.stage
     (forwarding_state_of now.rules now.greeted now.forwardings now.asks)
-    (λ none. front ∙ none-taken ls t c.args.n (link_queue_in (find (is_of t) ls)) refl none)
-    (subst (λ (bytes : List ℕ). RelayGoesAt (position (is_of t) ls) (TakesOf bytes) ls new) (sym front) c.took.ensures.takes)
+    (λ none. front ∙ none-taken ls t c.args.n (link_queue_in (find (is_relay_stream t) ls)) refl none)
+    (subst (λ (bytes : List ℕ). RelayGoesAt (position (is_relay_stream t) ls) (TakesOf bytes) ls new) (sym front) c.took.ensures.takes)

@@ -1,7 +1,7 @@
 use Rattle.std.proofs.Common.{refl, sym, ap, take}
 use Rattle.std.specs.Prelude.{find}
 use Rattle.house_relay.specs.declared.relay.Relay.{Relay}
-use Rattle.house_forward.specs.Links.{is_of, link_queue_in}
+use Rattle.house_forward.specs.Links.{is_relay_stream, link_queue_in}
 use Rattle.house_forward.specs.declared.link.Link.{Link}
 use Rattle.house_forward.proofs.Changes.{fits-at, changes-at}
 use Rattle.house_forward.proofs.Queues.{Took, took-queues, none-took, queue-first, takes-of}
@@ -22,16 +22,16 @@ pub invariant_of-self : goal.invariant_of-self
 invariant_of-self c =
     let x = c.index_mut-link.result.now in
     let y : Link = record { relay = c.took.new.self; stream = x.stream } in
-    let fits = fits-at (is_of c.args.stream) c.args.self.now.all.items c.in-Some.i x (sym c.in-Some.ensures) c.index_mut-link.ensures.value c.args.self.now.few in
-    let k = changes-at (is_of c.args.stream) c.args.self.now.all.items c.in-Some.i x y (sym c.in-Some.ensures) c.index_mut-link.ensures.value c.args.self.now.few c.args.self.now.distinct (rw c.took.ensures.others fits) refl in
+    let fits = fits-at (is_relay_stream c.args.stream) c.args.self.now.all.items c.in-Some.i x (sym c.in-Some.ensures) c.index_mut-link.ensures.value c.args.self.now.few in
+    let k = changes-at (is_relay_stream c.args.stream) c.args.self.now.all.items c.in-Some.i x y (sym c.in-Some.ensures) c.index_mut-link.ensures.value c.args.self.now.few c.args.self.now.distinct (rw c.took.ensures.others fits) refl in
     record { few = k.few; distinct = k.distinct }
 
 pub returns-clause-streams : goal.returns-clause-streams
 returns-clause-streams c =
     let x = c.index_mut-link.result.now in
     let y : Link = record { relay = c.took.new.self; stream = x.stream } in
-    let fits = fits-at (is_of c.args.stream) c.args.self.now.all.items c.in-Some.i x (sym c.in-Some.ensures) c.index_mut-link.ensures.value c.args.self.now.few in
-    let k = changes-at (is_of c.args.stream) c.args.self.now.all.items c.in-Some.i x y (sym c.in-Some.ensures) c.index_mut-link.ensures.value c.args.self.now.few c.args.self.now.distinct (rw c.took.ensures.others fits) refl in
+    let fits = fits-at (is_relay_stream c.args.stream) c.args.self.now.all.items c.in-Some.i x (sym c.in-Some.ensures) c.index_mut-link.ensures.value c.args.self.now.few in
+    let k = changes-at (is_relay_stream c.args.stream) c.args.self.now.all.items c.in-Some.i x y (sym c.in-Some.ensures) c.index_mut-link.ensures.value c.args.self.now.few c.args.self.now.distinct (rw c.took.ensures.others fits) refl in
     k.streams
 
 pub returns-clause-queues : goal.returns-clause-queues
@@ -55,6 +55,6 @@ returns-clause-takes c =
     let ls = c.args.self.now.all.items in
     let x = c.index_mut-link.result.now in
     let queued = queue-first ls c.in-Some.i c.args.stream x (sym c.in-Some.ensures) c.index_mut-link.ensures.value in
-    goes-at (position (is_of c.args.stream) ls) c.in-Some.i (TakesOf (take c.args.n (link_queue_in (find (is_of c.args.stream) ls)))) ls x c.took.new.self (sym c.in-Some.ensures) c.index_mut-link.ensures.value
-    (takes-of x.relay c.took.new.self c.args.n (link_queue_in (find (is_of c.args.stream) ls)) queued c.requires
+    goes-at (position (is_relay_stream c.args.stream) ls) c.in-Some.i (TakesOf (take c.args.n (link_queue_in (find (is_relay_stream c.args.stream) ls)))) ls x c.took.new.self (sym c.in-Some.ensures) c.index_mut-link.ensures.value
+    (takes-of x.relay c.took.new.self c.args.n (link_queue_in (find (is_relay_stream c.args.stream) ls)) queued c.requires
     (λ small. (c.took.ensures.exact small, c.took.ensures.stands small)))

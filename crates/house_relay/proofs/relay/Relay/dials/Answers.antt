@@ -1,5 +1,5 @@
 use Rattle.std.proofs.Common.{◌≡◌, ◌∙◌, refl, sym, ap, subst, Bool, true, false, ℕ, List, ◌∷◌, drop, Some, if◌then◌else◌}
-use Rattle.socks_dialog.specs.State.{State}
+use Rattle.socks_dialog.specs.State.{DialogState}
 use Rattle.house_relay.specs.Acts.{Reads}
 use Rattle.house_relay.specs.Relay.{RelayRepresents, holding}
 use Rattle.house_relay.specs.Steps.{no_channel_left_of}
@@ -8,13 +8,13 @@ use Rattle.house_relay.specs.declared.dialing.Came.TheVariants.{Connect}
 use Rattle.house_relay.specs.declared.line.ChannelState.{ChannelState}
 use Rattle.house_relay.specs.declared.line.ChannelState.TheVariants.{Dialing, Asked, Over}
 use Rattle.house_relay.specs.declared.relay.Relay.{Relay}
-use Rattle.house_relay.specs.declared.relay.Socket.{Socket}
+use Rattle.house_relay.specs.declared.relay.RelaySocket.{RelaySocket}
 use Rattle.house_relay.proofs.Comings.{SidesAfter, LineAfter, comes, line-of}
 use Rattle.house_relay.proofs.Readings.{reads-more, reads-dialog}
 use Rattle.house_relay.proofs.relay.Relay.dials.Goals as goal
 
 -- the sides where the dialog asks for a channel
-asked : (free : Bool) (host host' : List ℕ) (port port' version : ℕ) (new : State) (socket socket' : Socket) (line : ChannelState)
+asked : (free : Bool) (host host' : List ℕ) (port port' version : ℕ) (new : DialogState) (socket socket' : RelaySocket) (line : ChannelState)
     → line ≡ (if free then Asked host' port' (Some version) else Over)
     → socket' ≡ (if free then socket else no_channel_left_of socket) → host' ≡ host → port' ≡ port
     → SidesAfter (Connect host port version) free new socket line socket'

@@ -1,12 +1,12 @@
 use Rattle.std.proofs.Common.{◌∙◌, ap, subst, sym, None, arith}
-use Rattle.mux_client.specs.Client.{TalkState, ReadsNextTo, place_of}
+use Rattle.mux_client.specs.Client.{TalkState, ReadsNextTo, awaited_place}
 use Rattle.mux_client.specs.declared.stage.TalkStage.TheVariants.{Broken}
 use Rattle.mux_client.specs.declared.verdict.OutLine.TheVariants.{Nothing}
 use Rattle.mux_client.proofs.ReadFrames.{IsCut, bad-hello, cut-frame, cut-goes, cut-stops, hello-goes, none-cut}
 use Rattle.mux_client.proofs.client.Client.greet.Goals as goal
 
 pub returns-then-not-cut : goal.returns-then-not-cut
-returns-then-not-cut c = record { reads = none-cut _ _ _ 0 _ (ap place_of c.requires.stage) c.cut.ensures.exact c.cut.ensures.frame c.if-not-cut.true }
+returns-then-not-cut c = record { reads = none-cut _ _ _ 0 _ (ap awaited_place c.requires.stage) c.cut.ensures.exact c.cut.ensures.frame c.if-not-cut.true }
 
 pub returns-then-not-is_hello_of_4 : goal.returns-then-not-is_hello_of_4
 returns-then-not-is_hello_of_4 c =

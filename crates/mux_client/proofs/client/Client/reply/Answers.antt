@@ -1,11 +1,11 @@
 use Rattle.std.proofs.Common.{◌∙◌, ap, refl, subst, sym, None}
-use Rattle.mux_client.specs.Client.{TalkState, ReadsNextTo, place_of}
+use Rattle.mux_client.specs.Client.{TalkState, ReadsNextTo, awaited_place}
 use Rattle.mux_client.specs.declared.stage.TalkStage.TheVariants.{Broken, Refused}
 use Rattle.mux_client.proofs.ReadFrames.{IsCut, breaks, cut-frame, cut-goes, cut-stops, refuses, reply-goes, none-cut}
 use Rattle.mux_client.proofs.client.Client.reply.Goals as goal
 
 pub returns-then-not-cut : goal.returns-then-not-cut
-returns-then-not-cut c = record { reads = none-cut _ _ _ c.args.at _ (ap place_of c.requires.stage) c.cut.ensures.exact c.cut.ensures.frame c.if-not-cut.true }
+returns-then-not-cut c = record { reads = none-cut _ _ _ c.args.at _ (ap awaited_place c.requires.stage) c.cut.ensures.exact c.cut.ensures.frame c.if-not-cut.true }
 
 pub returns-in-Refuses : goal.returns-in-Refuses
 returns-in-Refuses c =

@@ -3,12 +3,12 @@ use Rattle.std.specs.Prelude.{is_some}
 use Rattle.ssh_grammar.specs.Frames.{frame_payload}
 use Rattle.ssh_grammar.specs.SpellMessage.{close}
 use Rattle.proxy_frames.specs.State.{QueueState}
-use Rattle.window_ledger.specs.Leaving.{left}
+use Rattle.window_ledger.specs.Leaving.{ledger_after_close}
 use Rattle.window_ledger.specs.Stands.{IsConfirmed}
 use Rattle.channel_table.specs.Entries.{changed_at, number_of_remote, with_ledger}
 use Rattle.mux_core.specs.State.{CoreState}
 use Rattle.mux_core.specs.Lookups.{waits}
-use Rattle.mux_core.specs.Settling.{is_lost_in, settled}
+use Rattle.mux_core.specs.Settling.{is_lost_in, client_settled}
 use Rattle.mux_core.proofs.Confirms.{confirm_remote}
 use Rattle.mux_core.proofs.Naming.{is-unused, is-used, remote-named}
 use Rattle.mux_core.proofs.ReceivesConfirmation.{confirmation-early, confirmation-given, confirmation-lost, confirmation-none, confirmation-used, idle-ledger}
@@ -38,11 +38,11 @@ returns-then-is_lost-clause-stands c = λ rows st e.
     let sent : c.push_payload.new.self.waiting ≡ c.args.up.now.waiting ++ frame_payload (close c.args.remote) =
     ap (λ (q : QueueState). q.waiting) c.in_ok-push_payload.ensures.ok ∙ ap (λ p. c.args.up.now.waiting ++ frame_payload p) payload in
     let given : IsConfirmed c.in-Some.ledger c.confirmed_ledger-given.result c.args.window c.args.maximum = c.confirmed_ledger-given.ensures.stands (idle-ledger c.in-Some.channel c.in-Some.ledger pend) in
-    let set : c.set_ledger.new.self ≡ record c.name_remote.new.self { channels = changed_at c.args.number (with_ledger (left c.confirmed_ledger-given.result)) c.name_remote.new.self.channels } =
+    let set : c.set_ledger.new.self ≡ record c.name_remote.new.self { channels = changed_at c.args.number (with_ledger (ledger_after_close c.confirmed_ledger-given.result)) c.name_remote.new.self.channels } =
     c.set_ledger.ensures ∙ ap (λ l. let u : CoreState = record c.name_remote.new.self { channels = changed_at c.args.number (with_ledger l) c.name_remote.new.self.channels } in u) c.left.ensures.value in
-    let named = remote-named c.args.self.now c.name_remote.new.self c.set_ledger.new.self c.in_ok-name_remote.field-0 c.args.number c.args.remote (left c.confirmed_ledger-given.result) c.if-not-branch.false c.in_ok-name_remote.ensures.ok set in
-    let after : c.settle.new.self ≡ settled (record c.args.self.now { channels = changed_at c.args.number (confirm_remote c.args.remote (left c.confirmed_ledger-given.result)) c.args.self.now.channels }) c.in-Some.channel.client =
-    c.settle.ensures ∙ ap (λ (s : CoreState). settled s c.in-Some.channel.client) named in
+    let named = remote-named c.args.self.now c.name_remote.new.self c.set_ledger.new.self c.in_ok-name_remote.field-0 c.args.number c.args.remote (ledger_after_close c.confirmed_ledger-given.result) c.if-not-branch.false c.in_ok-name_remote.ensures.ok set in
+    let after : c.settle.new.self ≡ client_settled (record c.args.self.now { channels = changed_at c.args.number (confirm_remote c.args.remote (ledger_after_close c.confirmed_ledger-given.result)) c.args.self.now.channels }) c.in-Some.channel.client =
+    c.settle.ensures ∙ ap (λ (s : CoreState). client_settled s c.in-Some.channel.client) named in
     confirmation-lost c.args.self.now c.settle.new.self c.args.number c.args.remote c.args.window c.args.maximum c.args.payload.now c.args.payload.now c.args.up.now c.push_payload.new.self c.in-Some.channel c.in-Some.ledger c.confirmed_ledger-given.result rows st (search rules) lost pend unused small given c.confirmed_ledger-given.ensures.confirmed c.confirmed_ledger-given.ensures.left sent after e
 
 pub returns-clause-stands : goal.returns-clause-stands

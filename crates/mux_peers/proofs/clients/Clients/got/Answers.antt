@@ -117,5 +117,5 @@ returns-in_err-note_loss-clause-cut g c =
     on-err c.from_residual-in_err-note_loss.result
     (subst (λ (s : ClientsState). OneIs c.args.number P s.all) c.self.view_is
     (cut-noted g.H.Asks.may c.args.pid c.args.bytes.now c.args.core.now c.got.new.core c.args.up.now c.got.new.up c.in_ok-change.change c.args.number c.index_of-i.result c.index_mut-client.result.now c.got.new.self c.self.inside.all.items f
-    (ap stands.is_lost (sym c.standing-before.ensures) ∙ c.in_err-note_loss.ensures.lost.0, ap stands.is_lost (sym c.standing.ensures) ∙ c.in_err-note_loss.ensures.lost.1)
+    (ap stands.is_standing_lost (sym c.standing-before.ensures) ∙ c.in_err-note_loss.ensures.lost.0, ap stands.is_standing_lost (sym c.standing.ensures) ∙ c.in_err-note_loss.ensures.lost.1)
     c.in_ok-change.ensures.receives c.in_ok-change.ensures.applies))

@@ -1,7 +1,7 @@
 use Rattle.std.proofs.Common.{◌≡◌, ◌≤◌, [], ℕ, length, false, sym, ap, ◌∙◌}
 use Rattle.mux_peers.specs.State.{ClientsState}
 use Rattle.mux_peers.specs.Stands.{is_read}
-use Rattle.mux_peers.specs.Among.{client_index, in_client, is_received}
+use Rattle.mux_peers.specs.Among.{client_index, in_client, is_client_read}
 use Rattle.mux_peers.proofs.Found.{Found, found, found-look, none-found}
 use Rattle.mux_peers.proofs.Places.{look_absent}
 use Rattle.mux_peers.proofs.clients.Clients.rest_of.Goals as goal
@@ -17,7 +17,7 @@ returns-then-i-len-clause-unheard c =
     let f : Found c.args.number c.index_of-i.result c.index.result.now c.self.inside.all.items =
     found c.args.number c.index_of-i.result c.len.result c.self.inside.all.len c.index.result.now c.deref.result.now c.self.inside.all.items c.index_of-i.ensures c.deref.ensures.value c.if-i-len.true c.len.ensures c.self.inside.all.ok.0 c.index.ensures in
     λ e.
-    let unread : is_read c.index.result.now.peer.standing ≡ false = sym (found-look false (λ x. is_read x.peer.standing) c.args.number c.index_of-i.result c.index.result.now c.self.inside.all.items f) ∙ (ap (λ (s : ClientsState). is_received s.all c.args.number) c.self.view_is ∙ e) in
+    let unread : is_read c.index.result.now.peer.standing ≡ false = sym (found-look false (λ x. is_read x.peer.standing) c.args.number c.index_of-i.result c.index.result.now c.self.inside.all.items f) ∙ (ap (λ (s : ClientsState). is_client_read s.all c.args.number) c.self.view_is ∙ e) in
     c.rest_len.ensures.exact ∙ ap (length {A = ℕ}) (c.rest_len.ensures.unread unread)
 
 pub returns-else-i-len-clause-exact : goal.returns-else-i-len-clause-exact

@@ -1,6 +1,6 @@
 use Rattle.std.proofs.Common.{Some, sym, ap, ◌∙◌}
 use Rattle.mux_state.specs.Shown.{state_of}
-use Rattle.mux_state.specs.State.{State}
+use Rattle.mux_state.specs.State.{EngineState}
 use Rattle.mux_state.proofs.TakingIn.{over-takes, takes-shown}
 use Rattle.mux_peers.proofs.Heeding.{applies_none}
 use Rattle.mux_peers.proofs.Starved.{on-err}
@@ -9,7 +9,7 @@ use Rattle.mux_state.proofs.Starved.{cut-alone, cut-shown}
 use Rattle.mux_state.proofs.engine.Engine.event.Goals as goal
 
 pub returns-in-Some-clause-takes : goal.returns-in-Some-clause-takes
-returns-in-Some-clause-takes g c = over-takes g.H.Asks.may (Some c.args.asks.now) c.args.self.now c.args.e c.in-Some.cause (sym (ap (λ (x : State). x.ended) c.self.view_is) ∙ c.in-Some.is)
+returns-in-Some-clause-takes g c = over-takes g.H.Asks.may (Some c.args.asks.now) c.args.self.now c.args.e c.in-Some.cause (sym (ap (λ (x : EngineState). x.ended) c.self.view_is) ∙ c.in-Some.is)
 
 pub returns-clause-takes : goal.returns-clause-takes
 returns-clause-takes g c = takes-shown g.H.Asks.may (Some c.args.asks.now) (Some c.step.new.asks) (state_of c.self.inside) c.args.self.now (state_of c.self-2.inside) c.step.new.self c.args.e c.self.view_is c.self-2.view_is c.in_ok-step.ensures.takes

@@ -4,8 +4,8 @@ use Rattle.mux_peers.proofs.Heeding.{applies_any}
 use Rattle.mux_peers.proofs.Starved.{on-err}
 use Rattle.mux_state.specs.Ready.{IsEngineReady}
 use Rattle.mux_state.specs.Shown.{state_of}
-use Rattle.mux_state.specs.State.{State, numbers}
-use Rattle.mux_state.specs.Steps.{is_received}
+use Rattle.mux_state.specs.State.{EngineState, numbers}
+use Rattle.mux_state.specs.Steps.{is_client_read}
 use Rattle.mux_state.proofs.Lists.{true_false}
 use Rattle.mux_state.proofs.Starved.{some-heard, some-shown}
 use Rattle.mux_state.proofs.Written.{gain-written, gain_new}
@@ -13,20 +13,20 @@ use Rattle.mux_state.proofs.engine.Engine.got_from_client.Goals as goal
 
 pub returns-clause-gains : goal.returns-clause-gains
 returns-clause-gains g c =
-    let parts : State = state_of c.self.inside in
-    let here : is_received c.args.self.now.clients c.args.client ≡ true = ap (λ (x : State). is_received x.clients c.args.client) (sym c.self.view_is) ∙ (sym c.is_received.ensures ∙ c.if-not-is_received.false) in
+    let parts : EngineState = state_of c.self.inside in
+    let here : is_client_read c.args.self.now.clients c.args.client ≡ true = ap (λ (x : EngineState). is_client_read x.clients c.args.client) (sym c.self.view_is) ∙ (sym c.is_received.ensures ∙ c.if-not-is_received.false) in
     on_ok_weaker c.list_waiting.result
     (λ waits. record {
       gains = λ read. gain-written g.H.Asks.may (Some c.args.asks.now) (Some c.got.new.asks) c.args.self.now parts (gain_new parts c.got.new.self c.got.new.core c.got.new.up c.in_ok-heard.heard c.list_waiting.new.list (c.self.inside.listening && not c.in_ok-heard.heard.stops))
           c.args.client c.args.bytes.now c.got.new.self c.got.new.core c.got.new.up c.in_ok-heard.heard c.list_waiting.new.list (c.self.inside.listening && not c.in_ok-heard.heard.stops) c.self.view_is refl record {
-            read = ap (λ (x : State). is_received x.clients c.args.client) c.self.view_is ∙ read;
+            read = ap (λ (x : EngineState). is_client_read x.clients c.args.client) c.self.view_is ∙ read;
             receives = c.in_ok-heard.ensures.receives;
             listens = refl;
             waits = waits;
           };
       stays = λ gone. true_false (sym here ∙ gone);
-      policy = c.in_ok-heard.ensures.policy ∙ ap (λ (x : State). x.core.policy) c.self.view_is;
-      numbers_are = c.in_ok-heard.ensures.keeps.numbers_same ∙ ap (λ (x : State). numbers x.clients) c.self.view_is;
+      policy = c.in_ok-heard.ensures.policy ∙ ap (λ (x : EngineState). x.core.policy) c.self.view_is;
+      numbers_are = c.in_ok-heard.ensures.keeps.numbers_same ∙ ap (λ (x : EngineState). numbers x.clients) c.self.view_is;
     }) c.list_waiting.ensures
 
 pub returns-clause-applies : goal.returns-clause-applies
@@ -56,10 +56,10 @@ returns-clause-ready g c =
 
 pub returns-clause-untold : goal.returns-clause-untold
 returns-clause-untold g c =
-    let here : is_received c.args.self.now.clients c.args.client ≡ true = ap (λ (x : State). is_received x.clients c.args.client) (sym c.self.view_is) ∙ (sym c.is_received.ensures ∙ c.if-not-is_received.false) in
+    let here : is_client_read c.args.self.now.clients c.args.client ≡ true = ap (λ (x : EngineState). is_client_read x.clients c.args.client) (sym c.self.view_is) ∙ (sym c.is_received.ensures ∙ c.if-not-is_received.false) in
     λ gone. true_false (sym here ∙ gone)
 
 pub returns-in_err-heard-clause-untold : goal.returns-in_err-heard-clause-untold
 returns-in_err-heard-clause-untold g c =
-    let here : is_received c.args.self.now.clients c.args.client ≡ true = ap (λ (x : State). is_received x.clients c.args.client) (sym c.self.view_is) ∙ (sym c.is_received.ensures ∙ c.if-not-is_received.false) in
+    let here : is_client_read c.args.self.now.clients c.args.client ≡ true = ap (λ (x : EngineState). is_client_read x.clients c.args.client) (sym c.self.view_is) ∙ (sym c.is_received.ensures ∙ c.if-not-is_received.false) in
     λ gone. true_false (sym here ∙ gone)

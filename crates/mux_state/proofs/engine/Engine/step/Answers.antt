@@ -2,7 +2,7 @@ use Rattle.std.proofs.Common.{List, Some, sym, ap, ◌∙◌, subst}
 use Rattle.std.proofs.lemmas.Result.{on_ok_weaker}
 use Rattle.mux_peers.specs.Server.{stream_end}
 use Rattle.mux_outside.specs.declared.house_mark.HouseMark.{HouseMark}
-use Rattle.mux_state.specs.State.{State, over}
+use Rattle.mux_state.specs.State.{EngineState, run_ended_by}
 use Rattle.mux_peers.proofs.Heeding.{applies_none}
 use Rattle.mux_state.proofs.Kept.{asking-keeps, did-keeps}
 use Rattle.mux_state.proofs.Stepped.{DidAlone, DidAsking, cause-as, gained-on, lost-on, replied-on}
@@ -42,7 +42,7 @@ pub returns-in-FromServer-clause-keeps : goal.returns-in-FromServer-clause-keeps
 returns-in-FromServer-clause-keeps g c = on_ok_weaker c.got_from_server.result (λ d. did-keeps c.args.self.now c.got_from_server.new.self c.args.e c.requires.goes (subst (DidAlone c.args.self.now c.got_from_server.new.self) (sym c.in-FromServer.is) d)) c.got_from_server.ensures.heard
 
 pub returns-in-ServerEnd-clause-takes : goal.returns-in-ServerEnd-clause-takes
-returns-in-ServerEnd-clause-takes g c = did-takes g.H.Asks.may (Some c.args.asks.now) c.args.self.now c.end.new.self c.args.e c.requires.goes (subst (DidAlone c.args.self.now c.end.new.self) (sym c.in-ServerEnd.is) (c.end.ensures ∙ ap (over c.args.self.now) (c.end-cause.ensures ∙ (ap (λ (x : State). stream_end x.server.rest x.server.index) c.self.view_is ∙ cause-as c.args.self.now))))
+returns-in-ServerEnd-clause-takes g c = did-takes g.H.Asks.may (Some c.args.asks.now) c.args.self.now c.end.new.self c.args.e c.requires.goes (subst (DidAlone c.args.self.now c.end.new.self) (sym c.in-ServerEnd.is) (c.end.ensures ∙ ap (run_ended_by c.args.self.now) (c.end-cause.ensures ∙ (ap (λ (x : EngineState). stream_end x.server.rest x.server.index) c.self.view_is ∙ cause-as c.args.self.now))))
 
 pub returns-in-ServerFailed-clause-takes : goal.returns-in-ServerFailed-clause-takes
 returns-in-ServerFailed-clause-takes g c = did-takes g.H.Asks.may (Some c.args.asks.now) c.args.self.now c.end-in-ServerFailed.new.self c.args.e c.requires.goes (subst (DidAlone c.args.self.now c.end-in-ServerFailed.new.self) (sym c.in-ServerFailed.is) c.end-in-ServerFailed.ensures)

@@ -1,5 +1,5 @@
 use Rattle.std.proofs.Common.{◌≡◌, ◌∙◌, ap, arith, ℕ, ◌+◌, ◌≤◌, List, ◌++◌, length, take, subst, sym, length-append, length-take}
-use Rattle.socks_dialog.specs.State.{State, DialogGoesOn, HasConnect, and_dialog_bytes}
+use Rattle.socks_dialog.specs.State.{DialogState, DialogGoesOn, HasConnect, and_dialog_bytes}
 use Rattle.socks_dialog.proofs.Stand.{stands_push, rest_push, connect_stays}
 use Rattle.socks_dialog.proofs.dialog.Dialog.push.Goals as goal
 
@@ -11,13 +11,13 @@ kept_count kept bytes new n e le =
 
 pub returns-clause-stands : goal.returns-clause-stands
 returns-clause-stands c =
-    subst (λ (d : State). DialogGoesOn c.args.self.now d (and_dialog_bytes c.args.bytes.now)) (sym c.keep.ensures.exact)
+    subst (λ (d : DialogState). DialogGoesOn c.args.self.now d (and_dialog_bytes c.args.bytes.now)) (sym c.keep.ensures.exact)
     (stands_push c.args.bytes.now c.args.self.now)
 
 pub returns-clause-rest : goal.returns-clause-rest
 returns-clause-rest c =
     rest_push c.args.bytes.now c.args.self.now c.keep.result
-    (kept_count _ _ _ _ c.keep.ensures.front c.keep.ensures.within ∙ ap (λ (d : State). length d.bytes) c.keep.ensures.exact)
+    (kept_count _ _ _ _ c.keep.ensures.front c.keep.ensures.within ∙ ap (λ (d : DialogState). length d.bytes) c.keep.ensures.exact)
 
 pub returns-clause-connect : goal.returns-clause-connect
 returns-clause-connect c = λ there.

@@ -1,5 +1,5 @@
 use Rattle.std.proofs.Common.{subst, sym}
-use Rattle.socks_dialog.specs.State.{State, DialogGoesOn, HasConnect, GivesConnect, IsNextStep, and_step, stepped}
+use Rattle.socks_dialog.specs.State.{DialogState, DialogGoesOn, HasConnect, GivesConnect, IsNextStep, and_step, dialog_stepped}
 use Rattle.socks_dialog.specs.declared.step.DialogStep.{DialogStep}
 use Rattle.socks_dialog.proofs.Stand.{stands_next, stands_step, connect_given}
 use Rattle.socks_dialog.proofs.dialog.Dialog.step.Goals as goal
@@ -9,8 +9,8 @@ returns-clause-next c = subst (IsNextStep c.args.self.now) (sym c.next.ensures.e
 
 pub returns-clause-stands : goal.returns-clause-stands
 returns-clause-stands c =
-    subst (λ (d : State). DialogGoesOn c.args.self.now d (and_step c.next.result)) (sym c.next.ensures.given)
-    (subst (λ (s : DialogStep). DialogGoesOn c.args.self.now (stepped c.args.self.now) (and_step s)) (sym c.next.ensures.exact)
+    subst (λ (d : DialogState). DialogGoesOn c.args.self.now d (and_step c.next.result)) (sym c.next.ensures.given)
+    (subst (λ (s : DialogStep). DialogGoesOn c.args.self.now (dialog_stepped c.args.self.now) (and_step s)) (sym c.next.ensures.exact)
     (stands_step c.args.self.now))
 
 pub returns-clause-connect : goal.returns-clause-connect

@@ -1,5 +1,5 @@
 use Rattle.house_forward.proofs.Counting.{few-settled}
-use Rattle.house_forward.proofs.asks.Asks.settle.Goals as goal
+use Rattle.house_forward.proofs.asks.PendingRequests.settle.Goals as goal
 
 pub invariant_of-self : goal.invariant_of-self
 invariant_of-self c =

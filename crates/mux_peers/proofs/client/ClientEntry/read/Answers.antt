@@ -6,7 +6,7 @@ use Rattle.mux_peers.specs.Nexts.{SendsNext}
 use Rattle.mux_peers.proofs.Heeding.{applies_any, applies_err, applies_none, applies_then, ordering_kept}
 use Rattle.mux_peers.proofs.Looped.{receiving_goes, receives_rest, loop_pushed, nothing, room-on, room-read}
 use Rattle.mux_peers.proofs.Starved.{receives-none, receives-some, on-err}
-use Rattle.mux_peers.proofs.client.Client.read.Goals as goal
+use Rattle.mux_peers.proofs.client.ClientEntry.read.Goals as goal
 
 pub loop-self-init : goal.loop-self-init
 loop-self-init g c = record {

@@ -4,7 +4,7 @@ use Rattle.mux_peers.specs.Stands.{framing_of}
 use Rattle.mux_peers.proofs.Fronts.{sends_fault, sends_decided, frame_kept, control_of, reads_now}
 use Rattle.mux_peers.proofs.Heeding.{applies_any, applies_none}
 use Rattle.mux_peers.proofs.Starved.{asks-decided, asks-front, on-err}
-use Rattle.mux_peers.proofs.client.Client.send_next.Goals as goal
+use Rattle.mux_peers.proofs.client.ClientEntry.send_next.Goals as goal
 
 pub invariant_of-self-in_err-says-in-Frame : goal.invariant_of-self-in_err-says-in-Frame
 invariant_of-self-in_err-says-in-Frame g c = λ r. frame_kept c.self.inside.peer.standing c.says.new.self.standing c.self.inside.framer c.next.new.self

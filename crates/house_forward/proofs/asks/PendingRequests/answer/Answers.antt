@@ -2,7 +2,7 @@ use Rattle.std.proofs.Common.{◌≡◌, sym, Some}
 use Rattle.house_forward.specs.Asks.{earliest}
 use Rattle.house_forward.proofs.Answering.{is-there}
 use Rattle.house_forward.proofs.Counting.{few-removed}
-use Rattle.house_forward.proofs.asks.Asks.answer.Goals as goal
+use Rattle.house_forward.proofs.asks.PendingRequests.answer.Goals as goal
 
 pub returns-in_err-i-clause-exact : goal.returns-in_err-i-clause-exact
 returns-in_err-i-clause-exact c =
