@@ -10,6 +10,7 @@ list_crates() {
   local -A uses=() listed=()
   crates=()
   while IFS= read -r line; do
+    line=${line%%#*}
     name=${line%%:*}
     [ "$name" = "$line" ] || uses[$name]=${line#*:}
   done <"$top/crates.txt"
