@@ -40,9 +40,9 @@ pub record IsTriedAddress (old new : Target) (to : SocketAddr) : Type 0 where
   pub tried_now : old.tried < new.tried
 
 -- a stream goes over a socket that was begun to such an address, where it is recorded to which
-abbrev pub ConnectsTo : {U T : Type 0} → (U → U → Type 0) → (T → T → Type 0)
+abbrev pub IsBegunTo : {U T : Type 0} → (U → U → Type 0) → (T → T → Type 0)
     → (T → Option SocketAddr) → (SocketAddr → Type 0) → Stream U T → Type 0
-ConnectsTo {U} {T} unix tcp target Is stream = (begun : Stream U T)
+IsBegunTo {U} {T} unix tcp target Is stream = (begun : Stream U T)
     × IfSome (of_socket (λ _. None) target begun) Is × KeepsSocket unix tcp begun stream
 
 -- the addresses of a name are known: a target that waits for them has exactly these, and any other

@@ -1,6 +1,6 @@
 //! Names that are looked up, and the streams that connect to them.
 ghost use Rattle.std.specs.Prelude.{◌≡◌, ◌≢◌, ◌<◌, ◌≤◌, ◌↔◌, ℕ, length, max, None, Ok, is_some, true, IfOk, IfSome, IsErr, IsNone, IsSome, IsSomeAnd, IsTrue, OnOk, nat_eq};
-ghost use Rattle.mux_edge.specs.Targets.{ConnectsTo, IsNewTarget, IsTriedAddress, ReportsRows, ResolvesAt, has_addresses};
+ghost use Rattle.mux_edge.specs.Targets.{IsBegunTo, IsNewTarget, IsTriedAddress, ReportsRows, ResolvesAt, has_addresses};
 ghost use Rattle.indexmap.specs.IndexMap.{get, index_map_len};
 
 use crate::lookup::{Lookup, is_within};
@@ -156,7 +156,7 @@ impl Lookups {
             (λ target. IsNone target.addresses) → (result ≡ Ok tt) × (stream.new ≡ stream.old) }
         ensures connects { OnOk result (IfSome (get nat_eq self.old.targets number) (λ old.
             IsSome old.addresses → IsSomeAnd (get nat_eq self.new.targets number) (λ new.
-            ConnectsTo U.keeps T.keeps T.target (IsTriedAddress old new) stream.new))) }
+            IsBegunTo U.keeps T.keeps T.target (IsTriedAddress old new) stream.new))) }
         ensures rest { ((n : ℕ) → n ≢ number
             → get nat_eq self.new.targets n ≡ get nat_eq self.old.targets n) }
         ensures running { self.new.running ≡ self.old.running }

@@ -1,7 +1,7 @@
 //! Where a stream connects to by a name: the addresses of the name, tried in turn.
 ghost use Rattle.std.specs.Prelude.{◌≡◌, ◌<◌, ◌+◌, Some, OnErr, OnOk, OnSome, IfNone, IfOk, IfSome, slice_get};
 ghost use Rattle.std.specs.Net.Socket.{IsPlainSocket, socket_ip};
-ghost use Rattle.mux_edge.specs.Targets.{ConnectsTo};
+ghost use Rattle.mux_edge.specs.Targets.{IsBegunTo};
 
 use crate::socket::{TcpSocket, UnixSocket};
 use crate::stream::Stream;
@@ -48,7 +48,7 @@ impl Target {
         number: u64,
     ) -> io::Result<Stream<U, T>>
         ensures connects { IfOk result
-            (ConnectsTo U.keeps T.keeps T.target (IsTriedAddress self.old self.new)) }
+            (IsBegunTo U.keeps T.keeps T.target (IsTriedAddress self.old self.new)) }
         ensures rest { self.new ≡ record self.old { tried = self.new.tried } }
         ensures none_left { OnErr result (addresses_left_of self.new ≡ 0) }
     {
@@ -91,7 +91,7 @@ fn connected<N: Net, U: UnixSocket, T: TcpSocket>(
     number: u64,
     address: SocketAddr,
 ) -> io::Result<Stream<U, T>>
-    ensures { IfOk result (ConnectsTo U.keeps T.keeps T.target (λ to. to ≡ address)) }
+    ensures { IfOk result (IsBegunTo U.keeps T.keeps T.target (λ to. to ≡ address)) }
 {
     let mut stream = Stream::connect(rt, address)?;
     stream.register(registry, Token(number as usize))?;
