@@ -194,7 +194,7 @@ begins recorded fold e = record {
   is = refl;
 }
   where
-    nothing-kept : (how : Rattle.conf_rules.specs.Kinds.Keeping) (key : Key) → Rattle.conf_rules.specs.Rows.values_among key [] ≡ Rattle.conf_rules.specs.Rows.kept how key []
+    nothing-kept : (how : Rattle.conf_rules.specs.Kinds.Keeping) (key : Key) → Rattle.conf_rules.specs.Rows.values_among key [] ≡ Rattle.conf_rules.specs.Rows.kept_values how key []
     nothing-kept Rattle.conf_rules.specs.Kinds.TheFirst key = refl
     nothing-kept Rattle.conf_rules.specs.Kinds.Every key = refl
     nothing-kept Rattle.conf_rules.specs.Kinds.Patterns key = refl

@@ -98,7 +98,7 @@ pub may-let-in : {May : HouseReply → Type 0} {Rest : Resting} {before : Option
     → AcceptsAs seen s → seen.listens ≡ true → (picks : List ℕ) (later : List HouseReply) → MayLetIn (log_of_journal (by_lists policy pid (v.picked ++ picks) (v.replies ++ later)) v.journal)
 may-let-in {policy = policy} {pid = pid} {s = s} v accepts l picks later = record {
   goes_on = rows-go-on v (accepts l).0 picks later;
-  listening = ap Rattle.mux_history.specs.Promises.listens (sym (log-is s policy pid (v.picked ++ picks) (v.replies ++ later) v.journal v.policy_is v.pid_is)) ∙ (sym (v.stands.at picks later).rows.listening_is ∙ (accepts l).1);
+  listening = ap Rattle.mux_history.specs.Promises.is_still_accepting (sym (log-is s policy pid (v.picked ++ picks) (v.replies ++ later) v.journal v.policy_is v.pid_is)) ∙ (sym (v.stands.at picks later).rows.listening_is ∙ (accepts l).1);
 }
 
 -- clients are accepted as before where the engine goes on as before
@@ -212,7 +212,7 @@ pub receives-before : {picked : List ℕ} {replies : List HouseReply} {s : Engin
 receives-before {s = s} {marks = marks} {closed = closed} st s' mark p r picked' replies' e f g h st' l =
     let old = stood-at st p r picked' replies' e f [] [] in
     let new = st'.at [] [] in
-    old.rows.listening_is ∙ log-listens (by_lists s.core.policy s.pid (picked' ++ []) (replies' ++ [])) mark marks (ap Rattle.mux_history.specs.Promises.listens (sym (log-same s s' (picked' ++ []) (replies' ++ []) (mark ∷ marks) g h)) ∙ (sym new.rows.listening_is ∙ l))
+    old.rows.listening_is ∙ log-listens (by_lists s.core.policy s.pid (picked' ++ []) (replies' ++ [])) mark marks (ap Rattle.mux_history.specs.Promises.is_still_accepting (sym (log-same s s' (picked' ++ []) (replies' ++ []) (mark ∷ marks) g h)) ∙ (sym new.rows.listening_is ∙ l))
 
 -- a client that is lost requests nothing
 pub listening-lost : {picked : List ℕ} {replies : List HouseReply} {s : EngineState} {marks : List Mark} {closed : List ℕ} (st : RepresentsSoFar picked replies s marks closed) (s' : EngineState) (k : ℕ) (p : List ℕ) (r : List HouseReply)
@@ -222,7 +222,7 @@ listening-lost {picked} {replies} {s} {marks} st s' k p r g h st' nz client =
     let rs : List HouseReply = (replies ++ r) ++ [] in
     let old = stood-at st p r (picked ++ p) (replies ++ r) refl refl [] [] in
     let new = st'.at [] [] in
-    new.rows.listening_is ∙ (ap Rattle.mux_history.specs.Promises.listens (log-same s s' ps rs (WriteFails k ∷ marks) g h) ∙ (lost-listens s.core.policy s.pid ps rs k marks nz client ∙ sym old.rows.listening_is))
+    new.rows.listening_is ∙ (ap Rattle.mux_history.specs.Promises.is_still_accepting (log-same s s' ps rs (WriteFails k ∷ marks) g h) ∙ (lost-listens s.core.policy s.pid ps rs k marks nz client ∙ sym old.rows.listening_is))
 
 -- the marks of the forwarder with those that are not noted
 pub noted-more : (old mark unnoted' unnoted more : List HouseMark) → mark ++ unnoted' ≡ unnoted ++ more → (old ++ unnoted) ++ more ≡ (old ++ mark) ++ unnoted'
@@ -244,7 +244,7 @@ serve-on {May} {Rest} {before} {now} {policy} {pid} {start} {seen} {held} {faile
       may = subst (MayGive May) (sym f) (may-more May v.replies r v.may may);
       stands = st;
       house = subst (RecordsAsks before now'.recorded) same (records-then before now.recorded now'.recorded (house_marks v.journal ++ now.unnoted) n.notes.more v.house n.notes.recorded_is);
-      asked = ap ask_marks_in (sym same) ∙ (filter-append Rattle.mux_history.specs.Promises.is_asked (house_marks v.journal ++ now.unnoted) n.notes.more ∙ (ap (λ l. l ++ ask_marks_in n.notes.more) v.asked ∙ (ap (λ l. v.stands.asks ++ l) n.notes.asks_are ∙ sym a)));
+      asked = ap ask_marks_in (sym same) ∙ (filter-append Rattle.mux_history.specs.Promises.is_house_request (house_marks v.journal ++ now.unnoted) n.notes.more ∙ (ap (λ l. l ++ ask_marks_in n.notes.more) v.asked ∙ (ap (λ l. v.stands.asks ++ l) n.notes.asks_are ∙ sym a)));
       called = λ picks later. n.called picks later (calls_in (by_lists policy pid (picked' ++ picks) (replies' ++ later)) v.journal) (called-at v p r picked' replies' e f picks later);
       askers = n.askers;
       opens = n.notes.opens_are ∙ (ap (opens_after n.notes.more) v.opens ∙ (sym (opens-append (house_marks v.journal ++ now.unnoted) n.notes.more []) ∙ ap (λ (l : List HouseMark). opens_after l []) same));

@@ -148,7 +148,7 @@ rows_closed taken dn s k closed rows out nz st = record {
   listening_is = st.listening_is;
   waiting_is = ap (without k) st.waiting_is ∙ waiting_closed k s nz;
   leaving_are = ap (filter (λ (l : ℕ × Option Why). not (l.0 == k))) st.leaving_are ∙ filter_twice (λ (l : ℕ × Option Why). not (l.0 == k)) (not_closed closed) (not_closed (k ∷ closed)) (losses rows) (λ l. both_tests k l.0 closed);
-  served_are = lost_less rows k s.clients (λ c num v. sym (out_is (rows_of c.peer.number rows) ∙ ap Rattle.mux_peers.specs.Stands.is_lost (sym v.peer.standing_is)) ∙ (ap (λ j. is_out (rows_of j rows)) num ∙ out)) st.fit.each ∙ st.served_are;
+  served_are = lost_less rows k s.clients (λ c num v. sym (out_is (rows_of c.peer.number rows) ∙ ap Rattle.mux_peers.specs.Stands.is_standing_lost (sym v.peer.standing_is)) ∙ (ap (λ j. is_out (rows_of j rows)) num ∙ out)) st.fit.each ∙ st.served_are;
   place_is = st.place_is;
   absent = λ j z p q. elim (eqb_tells k j) [
     | inl t ↦ true_false (sym (closed_test k j closed true t.0) ∙ q)

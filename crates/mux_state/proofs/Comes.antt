@@ -111,11 +111,11 @@ ended-new : (k : ℕ) (b : Bool) (rows : List Row) → is_run_over (new_row k b 
 ended-new k true rows = refl
 ended-new k false rows = refl
 
-listens-new : (k : ℕ) (b : Bool) (rows : List Row) → Rattle.mux_history.specs.Promises.listens (new_row k b ∷ rows) ≡ Rattle.mux_history.specs.Promises.listens rows
+listens-new : (k : ℕ) (b : Bool) (rows : List Row) → Rattle.mux_history.specs.Promises.is_still_accepting (new_row k b ∷ rows) ≡ Rattle.mux_history.specs.Promises.is_still_accepting rows
 listens-new k true rows = refl
 listens-new k false rows = refl
 
-place-new : (k : ℕ) (b : Bool) (rows : List Row) → Rattle.mux_state.specs.Stands.place (new_row k b ∷ rows) ≡ Rattle.mux_state.specs.Stands.place rows
+place-new : (k : ℕ) (b : Bool) (rows : List Row) → Rattle.mux_state.specs.Stands.next_frame_place (new_row k b ∷ rows) ≡ Rattle.mux_state.specs.Stands.next_frame_place rows
 place-new k true rows = refl
 place-new k false rows = refl
 

@@ -110,14 +110,14 @@ are-here : (taken : ℕ) (dn : List Asked) (s : EngineState) (marks : List Mark)
 are-here taken dn s marks closed rows live st k a l = by_present (is_present s.clients k) refl
   where
     -- it has rows, so it is here or closed; a closed or refused one is out
-    known : among k (Rattle.mux_history.specs.Log.entered rows) ≡ true
+    known : among k (Rattle.mux_history.specs.Log.admitted_clients rows) ≡ true
     known = Rattle.mux_peers.proofs.Steps.entered-among k rows a
 
     still : is_out (rows_of k rows) ≡ false
     still = (st.known k known).out_is ∙ l
 
     nonzero : k ≢ 0
-    nonzero e = true_false (sym known ∙ (ap (λ j. among j (Rattle.mux_history.specs.Log.entered rows)) e ∙ st.unentered))
+    nonzero e = true_false (sym known ∙ (ap (λ j. among j (Rattle.mux_history.specs.Log.admitted_clients rows)) e ∙ st.unentered))
 
     by_present : (b : Bool) → is_present s.clients k ≡ b → b ≡ true
     by_present true e = refl

@@ -86,7 +86,7 @@ lost-goes s new k mark nz gone live h = by_served (is_client_served s.clients k)
     by_served : (b : Bool) → is_client_served s.clients k ≡ b → GoesAlone s new mark
     by_served true e = goes-lost s new k mark nz gone live (so-here not_lost k s.clients e) (h.loses e)
     by_served false e = λ picked given marks closed st al.
-        subst (λ (t : EngineState). Rattle.mux_state.specs.Stands.Stands picked given t (mark ∷ marks) closed) (sym (h.stays e))
+        subst (λ (t : EngineState). Rattle.mux_state.specs.Stands.RepresentsSoFar picked given t (mark ∷ marks) closed) (sym (h.stays e))
         (goes-unlost s k mark nz gone live (none-so not_lost k s.clients (st.at [] []).rows.fit.apart e) picked given marks closed st al)
 
 lost-pid : (s new : EngineState) (k : ℕ) → Lost s new k → (new.pid ≡ s.pid) × (new.core.policy ≡ s.core.policy)
@@ -104,7 +104,7 @@ replied-goes s new k id given nz live h = by_served (is_client_served s.clients 
     by_served : (b : Bool) → is_client_served s.clients k ≡ b → GoesAlone s new (House (HouseAnswer k id given))
     by_served true e = goes-replied s new k id given nz live (so-here not_lost k s.clients e) (h.answers e)
     by_served false e = λ picked used marks closed st al.
-        subst (λ (t : EngineState). Rattle.mux_state.specs.Stands.Stands picked used t (House (HouseAnswer k id given) ∷ marks) closed) (sym (h.stays e))
+        subst (λ (t : EngineState). Rattle.mux_state.specs.Stands.RepresentsSoFar picked used t (House (HouseAnswer k id given) ∷ marks) closed) (sym (h.stays e))
         (goes-unreplied s k id given live (none-so not_lost k s.clients (st.at [] []).rows.fit.apart e) picked used marks closed st al)
 
 replied-pid : (s new : EngineState) (k id : ℕ) (given : HouseReply) → Replied s new k id given → (new.pid ≡ s.pid) × (new.core.policy ≡ s.core.policy)
