@@ -5,6 +5,7 @@
 
 mod address;
 mod children;
+mod closing;
 mod faults;
 mod lookup;
 mod lookups;

@@ -11,25 +11,27 @@ ghost use Rattle.mux_edge.specs.StreamTable.{StaysFew, Touches};
 ghost use Rattle.mux_edge.specs.declared.numbers.StreamNumbers.{StreamNumbers};
 
 use crate::children::Children;
+use crate::closing::ClosingStreams;
 use crate::lookups::{Known, Lookups};
 use crate::numbers::StreamNumbers;
 use crate::socket::{TcpSocket, UnixSocket};
 use crate::stream::Stream;
 use crate::table::StreamTable;
 use crate::turns::failure_of;
-use mux_outside::{Piece, Turn, Want};
+use mux_outside::{Piece, Turn, Want, is_own};
 use std::alloc::{AllocError, Global};
 use std::io;
 use std::net::Net;
 use std::time::{Clock, Instant};
 
-/// The sockets of a run, the names that are looked up to connect to them, and the children that
-/// look these up.
+/// The sockets of a run, the names that are looked up to connect to them, the children that look
+/// these up, and the streams of the master's own that were closed and are read on for a while.
 #[derive(Drop)]
 pub struct Sockets<C: Children + Drop, U: UnixSocket, T: TcpSocket> {
     pub table: StreamTable<U, T>,
     lookups: Lookups,
     children: C,
+    closing: ClosingStreams<U, T>,
 }
 
 impl<C: Children + Drop, U: UnixSocket, T: TcpSocket> Sockets<C, U, T> {
@@ -42,10 +44,11 @@ impl<C: Children + Drop, U: UnixSocket, T: TcpSocket> Sockets<C, U, T> {
             table,
             lookups: Lookups::new(alloc),
             children,
+            closing: ClosingStreams::new(alloc),
         }
     }
 
-    /// Drops a stream.
+    /// Drops a stream. One of the master's own whose peer may still send is read on for a while.
     pub fn remove(&mut self, number: u64)
         ensures gone { get nat_eq self.new.table.entries number ≡ None }
         ensures apart { number ≢ 0 → self.new.table.outbox ≡ self.old.table.outbox }
@@ -54,7 +57,11 @@ impl<C: Children + Drop, U: UnixSocket, T: TcpSocket> Sockets<C, U, T> {
         if let Some(lookup) = self.lookups.forget(number) {
             self.children.end(lookup);
         }
-        self.table.remove(number);
+        if let Some(entry) = self.table.remove(number) {
+            if is_own(number) {
+                self.closing.add(entry);
+            }
+        }
     }
 
     /// What happens next. A turn is given for the writes of the waiting streams alone, or for all
@@ -109,11 +116,23 @@ impl<C: Children + Drop, U: UnixSocket, T: TcpSocket> Sockets<C, U, T> {
         ensures few { StaysFew self.old.table self.new.table }
         ensures listener { self.new.table.listener ≡ self.old.table.listener }
     {
-        let is_busy = self.lookups.is_busy() || self.children.is_busy();
+        let is_busy = self.lookups.is_busy() || self.children.is_busy() || self.closing.is_busy();
         self.table.look(&mut self.lookups, want, some, is_busy)?;
+        read_on(rt, &mut self.closing, &mut self.table.spare);
         let is_one_over = look_up(rt, &mut self.lookups, &mut self.children)?;
         self.table.begin_round(is_one_over);
         Ok(())
+    }
+}
+
+// Reads on what was closed, if anything was.
+fn read_on<U: UnixSocket, T: TcpSocket, N: Clock>(
+    rt: &N,
+    closing: &mut ClosingStreams<U, T>,
+    spare: &mut Piece,
+) {
+    if closing.is_busy() {
+        closing.go_on(spare, Instant::now(rt).ok());
     }
 }
 

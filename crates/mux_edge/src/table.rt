@@ -239,21 +239,20 @@ impl<U: UnixSocket, T: TcpSocket> StreamTable<U, T> {
         self.ready.reserve(all.saturating_add(1))
     }
 
-    /// Drops a stream.
-    pub fn remove(&mut self, number: u64)
+    /// Takes a stream out.
+    pub fn remove(&mut self, number: u64) -> Option<StreamEntry<U, T>>
         ensures gone { get nat_eq self.new.entries number ≡ None }
         ensures apart { number ≢ 0 → self.new.outbox ≡ self.old.outbox }
         ensures rest { Touches number self.old self.new }
     {
         self.give_last(number);
-        let Some(entry) = self.entries.swap_remove(&number) else {
-            return;
-        };
+        let entry = self.entries.swap_remove(&number)?;
         self.ready.drop_stream(number, &entry);
         if self.pauses {
             self.accept_again();
         }
         self.joins_pause = false;
+        Some(entry)
     }
 
     /// Takes in the listener of clients.
