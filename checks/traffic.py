@@ -203,10 +203,17 @@ class Loop:
             self.selector.unregister(peer.stream)
 
     def listen(
-        self, serve: Callable[[Peer], None] = ignore, host: str = HERE, port: int = 0
+        self,
+        serve: Callable[[Peer], None] = ignore,
+        host: str = HERE,
+        port: int = 0,
+        buffer: int = 0,
     ) -> Listener:
+        """A listener, whose peers have a small buffer for what they read, if one is named."""
         family = socket.AF_INET6 if ":" in host else socket.AF_INET
         stream = socket.create_server((host, port), family=family, backlog=512)
+        if buffer:
+            stream.setsockopt(socket.SOL_SOCKET, socket.SO_RCVBUF, buffer)
         listener = Listener(self, serve, stream)
         self.listeners.append(listener)
         return listener
